@@ -1,8 +1,10 @@
 -- What may be found after one call more, and after more of them.
-use Rattle.std.proofs.Common.{◌≡◌, ◌≢◌, ◌⊎◌, inl, inr, ⊎_elim, ℕ, ◌≤◌, ◌<◌, Bool, true, false, cond, List, [], ◌∷◌, ◌++◌, length, Option, Some, bytes_eq, refl, sym, ap, subst, ◌∙◌, arith, append_assoc, length-append}
+use Rattle.std.proofs.Common.{◌≡◌, ◌≢◌, ◌⊎◌, inl, inr, ⊎_elim, ℕ, ◌≤◌, ◌<◌, Bool, true, false, cond, List, [], ◌∷◌, ◌++◌, length, Option, Some, bytes_eq, refl}
+use Rattle.std.proofs.Common.{sym, ap, subst, ◌∙◌, arith, append_assoc, length-append}
 use Rattle.std.proofs.lemmas.Bool.{cond-true, cond-false, cases_lt, false_from_ne_true}
 use Rattle.std.proofs.lemmas.Slice.Eq.{bytes_eq-Decides}
-use Rattle.atomic_save.specs.Crash.{Call, removed, made, synced, compared, renamed, folder_synced, none_refused, Standing, file, nothing, Names, with_name, after_call, Found, Disk, held, Stand, MayStand, IsDisk, MayBeFound, kept}
+use Rattle.atomic_save.specs.Crash.{Call, removed, made, synced, compared, renamed, folder_synced, none_refused, Standing, file, nothing, Names, with_name}
+use Rattle.atomic_save.specs.Crash.{after_call, Found, Disk, held, Stand, MayStand, IsDisk, MayBeFound, kept}
 use Rattle.atomic_save.specs.Saving.{IsOldOrNew, LosesNothing, IsKept, IsInPlace, Only}
 use Rattle.atomic_save.proofs.Sure.{StaysSure}
 
@@ -45,7 +47,8 @@ module _ (IsBeside : List ℕ → Type 0) (path bytes : List ℕ) where
   as_it_was : (calls : List Call) (start found : Found) → MayBeFound start calls found → Result calls start found
   as_it_was calls start found m = (found, m, record { whole = inl refl; others = λ other a b. refl })
 
-  module _ (call : Call) (calls : List Call) (others : LeavesOthers call calls) (at_path : LeavesPath call calls) (stays : StaysSure calls (call ∷ calls)) (start found : Found) (m : MayBeFound start (call ∷ calls) found) where
+  module _ (call : Call) (calls : List Call) (others : LeavesOthers call calls) (at_path : LeavesPath call calls) (stays : StaysSure calls (call ∷ calls))
+      (start found : Found) (m : MayBeFound start (call ∷ calls) found) where
     -- what is found is what could have been found where these names stood
     from : (before : Names) → MayStand start m.disk calls before → ((other : List ℕ) → other ≢ path → (IsBeside other → ⊥) → m.names other ≡ before other)
         → ((m.names path ≡ before path) ⊎ (held start m.disk (m.names path) ≡ Some bytes)) → Result calls start found
@@ -61,43 +64,59 @@ module _ (IsBeside : List ℕ → Type 0) (path bytes : List ℕ) where
     found_after : MayStand start m.disk (call ∷ calls) m.names → Result calls start found
     found_after (inl (before, s, shows, inl e)) = from before (stand_may start m.disk calls before s)
         (λ other a b. ap (λ (f : Names). f other) e ∙ others before other a b)
-        (⊎_elim (λ q. inl (ap (λ (f : Names). f path) e ∙ q)) (λ q. inr (ap (λ (f : Names). held start m.disk (f path)) e ∙ q)) (at_path start m.disk before m.sure s))
-    found_after (inl (before, s, shows, inr (failed, e))) = from before (stand_may start m.disk calls before s) (λ other a b. ap (λ (f : Names). f other) e) (inl (ap (λ (f : Names). f path) e))
+        (⊎_elim (λ q. inl (ap (λ (f : Names). f path) e ∙ q)) (λ q. inr (ap (λ (f : Names). held start m.disk (f path)) e ∙ q))
+        (at_path start m.disk before m.sure s))
+    found_after (inl (before, s, shows, inr (failed, e))) = from before (stand_may start m.disk calls before s) (λ other a b. ap (λ (f : Names). f other) e)
+        (inl (ap (λ (f : Names). f path) e))
     found_after (inr (unsynced, may)) = from m.names may (λ other a b. refl) (inl refl)
 
     pub after_it : Result calls start found
     after_it = found_after m.stand
 
-  pub one_call : (call : Call) (calls : List Call) → LeavesOthers call calls → LeavesPath call calls → StaysSure calls (call ∷ calls) → LosesNothing IsBeside path bytes calls (call ∷ calls)
+  pub one_call : (call : Call) (calls : List Call) → LeavesOthers call calls → LeavesPath call calls → StaysSure calls (call ∷ calls)
+      → LosesNothing IsBeside path bytes calls (call ∷ calls)
   one_call call calls others at_path stays = record { calls = (call ∷ [], refl); each = each }
     where
-      each : (later sofar : List Call) → call ∷ calls ≡ later ++ sofar → length calls ≤ length sofar → (start found : Found) → MayBeFound start sofar found → Result calls start found
-      each [] sofar e long start found m = subst (λ (l : List Call). MayBeFound start l found → Result calls start found) e (λ n. after_it call calls others at_path stays start found n) m
-      each (c ∷ []) sofar e long start found m = let rest : calls ≡ sofar = cc in subst (λ (l : List Call). MayBeFound start l found → Result calls start found) rest (λ n. as_it_was calls start found n) m
+      each : (later sofar : List Call) → call ∷ calls ≡ later ++ sofar → length calls ≤ length sofar → (start found : Found) → MayBeFound start sofar found
+          → Result calls start found
+      each [] sofar e long start found m = subst (λ (l : List Call). MayBeFound start l found → Result calls start found) e
+          (λ n. after_it call calls others at_path stays start found n) m
+      each (c ∷ []) sofar e long start found m = let rest : calls ≡ sofar = cc in
+          subst (λ (l : List Call). MayBeFound start l found → Result calls start found) rest (λ n. as_it_was calls start found n) m
       each (c ∷ d ∷ later) sofar e long start found m = absurd (omega (arith, ap length e, length-append (c ∷ d ∷ later) sofar, long))
 
   -- a call that changes no name but those beside the path
-  pub harmless : (call : Call) (calls : List Call) → (IsBeside path → ⊥) → ((names : Names) (other : List ℕ) → (IsBeside other → ⊥) → after_call call (length calls) names other ≡ names other)
+  pub harmless : (call : Call) (calls : List Call) → (IsBeside path → ⊥)
+      → ((names : Names) (other : List ℕ) → (IsBeside other → ⊥) → after_call call (length calls) names other ≡ names other)
       → StaysSure calls (call ∷ calls) → LosesNothing IsBeside path bytes calls (call ∷ calls)
-  harmless call calls apart leaves stays = one_call call calls (λ names other a b. leaves names other b) (λ start disk names is s. inl (leaves names path apart)) stays
+  harmless call calls apart leaves stays = one_call call calls (λ names other a b. leaves names other b)
+      (λ start disk names is s. inl (leaves names path apart)) stays
 
   -- ---- more calls
   pub none : (calls : List Call) → LosesNothing IsBeside path bytes calls calls
   none calls = record { calls = ([], refl); each = each }
     where
-      each : (later sofar : List Call) → calls ≡ later ++ sofar → length calls ≤ length sofar → (start found : Found) → MayBeFound start sofar found → Result calls start found
-      each [] sofar e long start found m = subst (λ (l : List Call). MayBeFound start l found → Result calls start found) e (λ n. as_it_was calls start found n) m
+      each : (later sofar : List Call) → calls ≡ later ++ sofar → length calls ≤ length sofar → (start found : Found) → MayBeFound start sofar found
+          → Result calls start found
+      each [] sofar e long start found m = subst (λ (l : List Call). MayBeFound start l found → Result calls start found) e
+          (λ n. as_it_was calls start found n) m
       each (c ∷ later) sofar e long start found m = absurd (omega (arith, ap length e, length-append (c ∷ later) sofar, long))
 
-  one_after_another : (before middle found : Found) → IsOldOrNew IsBeside path bytes before middle → IsOldOrNew IsBeside path bytes middle found → IsOldOrNew IsBeside path bytes before found
+  one_after_another : (before middle found : Found) → IsOldOrNew IsBeside path bytes before middle → IsOldOrNew IsBeside path bytes middle found
+      → IsOldOrNew IsBeside path bytes before found
   one_after_another before middle found r q = record {
     whole = ⊎_elim (λ (e : found path ≡ middle path). ⊎_elim (λ d. inl (e ∙ d)) (λ d. inr (e ∙ d)) r.whole) (λ n. inr n) q.whole;
     others = λ other a b. q.others other a b ∙ r.others other a b;
   }
 
-  pub both : (old middle new : List Call) → LosesNothing IsBeside path bytes old middle → LosesNothing IsBeside path bytes middle new → LosesNothing IsBeside path bytes old new
+  pub both : (old middle new : List Call) → LosesNothing IsBeside path bytes old middle → LosesNothing IsBeside path bytes middle new
+      → LosesNothing IsBeside path bytes old new
   both old middle new first second = record {
-    calls = (second.calls.0 ++ first.calls.0, second.calls.1 ∙ ap (λ (l : List Call). second.calls.0 ++ l) first.calls.1 ∙ sym (append_assoc second.calls.0 first.calls.0 old));
+    calls = (
+      second.calls.0 ++ first.calls.0,
+      second.calls.1 ∙ ap (λ (l : List Call). second.calls.0 ++ l) first.calls.1
+          ∙ sym (append_assoc second.calls.0 first.calls.0 old),
+    );
     each = each;
   }
     where
@@ -107,23 +126,28 @@ module _ (IsBeside : List ℕ → Type 0) (path bytes : List ℕ) where
       at_middle : (start found : Found) → MayBeFound start middle found → Result old start found
       at_middle start found m = first.each [] middle refl longer start found m
 
-      late : (later sofar : List Call) → new ≡ later ++ sofar → length middle ≤ length sofar → (start found : Found) → MayBeFound start sofar found → Result old start found
+      late : (later sofar : List Call) → new ≡ later ++ sofar → length middle ≤ length sofar → (start found : Found) → MayBeFound start sofar found
+          → Result old start found
       late later sofar e long start found m =
           let q = second.each later sofar e long start found m in
           let r = at_middle start q.0 q.1 in
           (r.0, r.1, one_after_another r.0 q.0 found r.2 q.2)
 
-      each : (later sofar : List Call) → new ≡ later ++ sofar → length old ≤ length sofar → (start found : Found) → MayBeFound start sofar found → Result old start found
+      each : (later sofar : List Call) → new ≡ later ++ sofar → length old ≤ length sofar → (start found : Found) → MayBeFound start sofar found
+          → Result old start found
       each later sofar e long start found m = ⊎_elim
-          (λ (h : length sofar < length middle). let tail = suffix second.calls.0 middle later sofar (sym second.calls.1 ∙ e) (omega (arith, h)) in first.each tail.0 sofar tail.1 long start found m)
+          (λ (h : length sofar < length middle). let tail = suffix second.calls.0 middle later sofar (sym second.calls.1 ∙ e) (omega (arith, h)) in
+          first.each tail.0 sofar tail.1 long start found m)
           (λ (h : length middle ≤ length sofar). late later sofar e h start found m)
           (cases_lt (length sofar) (length middle))
 
 -- more paths may be beside the path
-pub weaken : (IsBeside IsMore : List ℕ → Type 0) (path bytes : List ℕ) (old new : List Call) → ((other : List ℕ) → IsBeside other → IsMore other) → LosesNothing IsBeside path bytes old new → LosesNothing IsMore path bytes old new
+pub weaken : (IsBeside IsMore : List ℕ → Type 0) (path bytes : List ℕ) (old new : List Call) → ((other : List ℕ) → IsBeside other → IsMore other)
+    → LosesNothing IsBeside path bytes old new → LosesNothing IsMore path bytes old new
 weaken IsBeside IsMore path bytes old new more loses = record { calls = loses.calls; each = each }
   where
-    each : (later sofar : List Call) → new ≡ later ++ sofar → length old ≤ length sofar → (start found : Found) → MayBeFound start sofar found → Result IsMore path bytes old start found
+    each : (later sofar : List Call) → new ≡ later ++ sofar → length old ≤ length sofar → (start found : Found) → MayBeFound start sofar found
+        → Result IsMore path bytes old start found
     each later sofar e long start found m =
         let r = loses.each later sofar e long start found m in
         (r.0, r.1, record { whole = r.2.whole; others = λ other a b. r.2.others other a (λ is. b (more other is)) })

@@ -1,7 +1,10 @@
 -- The calls of a save: the new file is filled, put in place, and kept there.
-use Rattle.std.proofs.Common.{◌≡◌, ◌≢◌, inl, inr, ℕ, Bool, true, false, List, [], ◌∷◌, ◌++◌, length, Option, Some, None, option_map, refl, sym, ap, subst, ◌∙◌, arith}
+use Rattle.std.proofs.Common.{◌≡◌, ◌≢◌, inl, inr, ℕ, Bool, true, false, List, [], ◌∷◌, ◌++◌, length, Option, Some, None, option_map, refl, sym, ap, subst, ◌∙◌}
+use Rattle.std.proofs.Common.{arith}
 use Rattle.std.proofs.lemmas.Bool.{cond-true}
-use Rattle.atomic_save.specs.Crash.{Call, looked, folder_opened, listed, seized, claimed, compared, removed, made, access_set, wrote, synced, renamed, folder_synced, none_refused, Standing, file, nothing, Names, with_name, after_call, Found, Disk, held, Stand, MayStand, IsDisk, MayBeFound, newest, kept}
+use Rattle.atomic_save.specs.Crash.{Call, looked, folder_opened, listed, seized, claimed, compared, removed, made, access_set, wrote, synced, renamed}
+use Rattle.atomic_save.specs.Crash.{folder_synced, none_refused, Standing, file, nothing, Names, with_name, after_call, Found, Disk, held, Stand, MayStand}
+use Rattle.atomic_save.specs.Crash.{IsDisk, MayBeFound, newest, kept}
 use Rattle.atomic_save.specs.Saving.{LosesNothing, IsKept, IsInPlace, IsMade, IsBeside, Only, NoPath}
 use Rattle.atomic_save.proofs.Sure.{StaysSure, itself, kept_none, wrote_stays, synced_stays}
 use Rattle.atomic_save.proofs.Calls.{with_same, with_other, one_call, harmless, both, none}
@@ -14,19 +17,23 @@ made_stands : (path : List ℕ) (calls : List Call) → StandsAt path (file (len
 made_stands path calls start disk names (before, s, shows, inl e) = ap (λ (f : Names). f path) e ∙ with_same path (file (length calls)) before
 made_stands path calls start disk names (before, s, shows, inr (failed, e)) = absurd (cc)
 
-claimed_stands : (path other : List ℕ) (standing : Standing) (ok : Bool) (calls : List Call) → StandsAt path standing calls → StandsAt path standing (claimed other ok ∷ calls)
+claimed_stands : (path other : List ℕ) (standing : Standing) (ok : Bool) (calls : List Call) → StandsAt path standing calls
+    → StandsAt path standing (claimed other ok ∷ calls)
 claimed_stands path other standing ok calls at start disk names (before, s, shows, inl e) = ap (λ (f : Names). f path) e ∙ at start disk before s
 claimed_stands path other standing ok calls at start disk names (before, s, shows, inr (failed, e)) = ap (λ (f : Names). f path) e ∙ at start disk before s
 
-access_stands : (path : List ℕ) (standing : Standing) (ok : Bool) (calls : List Call) → StandsAt path standing calls → StandsAt path standing (access_set ok ∷ calls)
+access_stands : (path : List ℕ) (standing : Standing) (ok : Bool) (calls : List Call) → StandsAt path standing calls
+    → StandsAt path standing (access_set ok ∷ calls)
 access_stands path standing ok calls at start disk names (before, s, shows, inl e) = ap (λ (f : Names). f path) e ∙ at start disk before s
 access_stands path standing ok calls at start disk names (before, s, shows, inr (failed, e)) = ap (λ (f : Names). f path) e ∙ at start disk before s
 
-wrote_stands : (path : List ℕ) (standing : Standing) (bytes : List ℕ) (ok : Bool) (calls : List Call) → StandsAt path standing calls → StandsAt path standing (wrote bytes ok ∷ calls)
+wrote_stands : (path : List ℕ) (standing : Standing) (bytes : List ℕ) (ok : Bool) (calls : List Call) → StandsAt path standing calls
+    → StandsAt path standing (wrote bytes ok ∷ calls)
 wrote_stands path standing bytes ok calls at start disk names (before, s, shows, inl e) = ap (λ (f : Names). f path) e ∙ at start disk before s
 wrote_stands path standing bytes ok calls at start disk names (before, s, shows, inr (failed, e)) = ap (λ (f : Names). f path) e ∙ at start disk before s
 
-synced_stands : (path : List ℕ) (standing : Standing) (ok : Bool) (calls : List Call) → StandsAt path standing calls → StandsAt path standing (synced ok ∷ calls)
+synced_stands : (path : List ℕ) (standing : Standing) (ok : Bool) (calls : List Call) → StandsAt path standing calls
+    → StandsAt path standing (synced ok ∷ calls)
 synced_stands path standing ok calls at start disk names (before, s, shows, inl e) = ap (λ (f : Names). f path) e ∙ at start disk before s
 synced_stands path standing ok calls at start disk names (before, s, shows, inr (failed, e)) = ap (λ (f : Names). f path) e ∙ at start disk before s
 
@@ -36,17 +43,20 @@ module _ (IsBeside : List ℕ → Type 0) (path bytes : List ℕ) (apart : IsBes
   Loses old new = LosesNothing IsBeside path bytes old new
 
   -- a call that changes no name, and leaves what is sure of each file
-  pub and_asked : (call : Call) (old calls : List Call) → ((names : Names) → after_call call (length calls) names ≡ names) → StaysSure calls (call ∷ calls) → Loses old calls → Loses old (call ∷ calls)
+  pub and_asked : (call : Call) (old calls : List Call) → ((names : Names) → after_call call (length calls) names ≡ names) → StaysSure calls (call ∷ calls)
+      → Loses old calls → Loses old (call ∷ calls)
   and_asked call old calls leaves stays so_far = both IsBeside path bytes old calls (call ∷ calls) so_far
       (harmless IsBeside path bytes call calls apart (λ names other b. ap (λ (f : Names). f other) (leaves names)) stays)
 
   pub and_removed : (at : List ℕ) (ok : Bool) (old calls : List Call) → IsBeside at → Loses old calls → Loses old (removed at ok ∷ calls)
   and_removed at ok old calls beside so_far = both IsBeside path bytes old calls (removed at ok ∷ calls) so_far
-      (harmless IsBeside path bytes (removed at ok) calls apart (λ names other b. with_other at nothing names other (λ q. b (subst IsBeside (sym q) beside))) (λ number sure e. e))
+      (harmless IsBeside path bytes (removed at ok) calls apart (λ names other b. with_other at nothing names other (λ q. b (subst IsBeside (sym q) beside)))
+      (λ number sure e. e))
 
   pub and_made : (at : List ℕ) (ok : Bool) (old calls : List Call) → IsBeside at → Loses old calls → Loses old (made at ok ∷ calls)
   and_made at ok old calls beside so_far = both IsBeside path bytes old calls (made at ok ∷ calls) so_far
-      (harmless IsBeside path bytes (made at ok) calls apart (λ names other b. with_other at (file (length calls)) names other (λ q. b (subst IsBeside (sym q) beside))) (λ number sure e. e))
+      (harmless IsBeside path bytes (made at ok) calls apart
+      (λ names other b. with_other at (file (length calls)) names other (λ q. b (subst IsBeside (sym q) beside))) (λ number sure e. e))
 
   -- a write to, or a sync of, a file of which nothing is sure
   pub and_wrote : (more : List ℕ) (ok : Bool) (old calls : List Call) → kept (newest calls) calls ≡ None → Loses old calls → Loses old (wrote more ok ∷ calls)
@@ -56,22 +66,26 @@ module _ (IsBeside : List ℕ → Type 0) (path bytes : List ℕ) (apart : IsBes
   and_synced ok old calls unsure = and_asked (synced ok) old calls (λ names. refl) (synced_stays ok calls unsure)
 
   -- the new file takes the old one's place
-  pub and_renamed : (beside : List ℕ) (ok : Bool) (old calls : List Call) → IsBeside beside → IsInPlace beside bytes calls → Loses old calls → Loses old (renamed beside path ok ∷ calls)
+  pub and_renamed : (beside : List ℕ) (ok : Bool) (old calls : List Call) → IsBeside beside → IsInPlace beside bytes calls → Loses old calls
+      → Loses old (renamed beside path ok ∷ calls)
   and_renamed beside ok old calls is_beside in_place so_far = both IsBeside path bytes old calls (renamed beside path ok ∷ calls) so_far
       (one_call IsBeside path bytes (renamed beside path ok) calls
-      (λ names other a b. with_other beside nothing (with_name path (names beside) names) other (λ q. b (subst IsBeside (sym q) is_beside)) ∙ with_other path (names beside) names other a)
+      (λ names other a b. with_other beside nothing (with_name path (names beside) names) other (λ q. b (subst IsBeside (sym q) is_beside))
+      ∙ with_other path (names beside) names other a)
       (λ start disk names is s. inr (ap (held start disk) (moved beside names is_beside) ∙ in_place start disk names is s))
       (λ number sure e. e))
     where
       moved : (beside : List ℕ) (names : Names) → IsBeside beside → with_name beside nothing (with_name path (names beside) names) path ≡ names beside
-      moved beside names is_beside = with_other beside nothing (with_name path (names beside) names) path (λ q. apart (subst IsBeside (sym q) is_beside)) ∙ with_same path (names beside) names
+      moved beside names is_beside = with_other beside nothing (with_name path (names beside) names) path (λ q. apart (subst IsBeside (sym q) is_beside))
+          ∙ with_same path (names beside) names
 
 -- ---- the new bytes in place
 module _ (beside path bytes : List ℕ) (apart : beside ≢ path) where
   pub renamed_in_place : (calls : List Call) → IsInPlace beside bytes calls → IsInPlace path bytes (renamed beside path true ∷ calls)
   renamed_in_place calls in_place start disk names is (before, s, shows, inl e) =
       ap (λ (f : Names). held start disk (f path)) e
-      ∙ ap (held start disk) (with_other beside nothing (with_name path (before beside) before) path (λ q. apart (sym q)) ∙ with_same path (before beside) before)
+      ∙ ap (held start disk) (with_other beside nothing (with_name path (before beside) before) path (λ q. apart (sym q)) ∙ with_same path (before beside)
+      before)
       ∙ in_place start disk before is s
   renamed_in_place calls in_place start disk names is (before, s, shows, inr (failed, e)) = absurd (cc)
 
@@ -88,7 +102,8 @@ folder_kept path bytes false calls e in_place = absurd (cc)
 folder_kept path bytes true calls e in_place = folder_synced_kept path bytes calls in_place
 
 -- what was read as these bytes, and synced
-pub compared_in_place : (path bytes : List ℕ) (calls : List Call) → none_refused calls ≡ true → IsInPlace path bytes (synced true ∷ compared path bytes true ∷ calls)
+pub compared_in_place : (path bytes : List ℕ) (calls : List Call) → none_refused calls ≡ true
+    → IsInPlace path bytes (synced true ∷ compared path bytes true ∷ calls)
 compared_in_place path bytes calls none start disk names is (before, s, shows, inl e) = ap (λ (f : Names). held start disk (f path)) e ∙ shows none
 compared_in_place path bytes calls none start disk names is (before, s, shows, inr (failed, e)) = absurd (cc)
 
@@ -111,11 +126,13 @@ module _ (beside bytes : List ℕ) (claimed_ok access_ok : Bool) (old : List Cal
 
   sure : kept (length old) (synced true ∷ wrote_calls true) ≡ Some bytes
   sure =
-      cond-true _ _ _ (itself (length old)) ∙ cond-true _ _ _ (itself (length old)) ∙ ap (λ (w : Option (List ℕ)). option_map (λ before. before ++ bytes) w) (cond-true _ _ _ (itself (length old)))
+      cond-true _ _ _ (itself (length old)) ∙ cond-true _ _ _ (itself (length old))
+      ∙ ap (λ (w : Option (List ℕ)). option_map (λ before. before ++ bytes) w) (cond-true _ _ _ (itself (length old)))
 
   stands : StandsAt beside (file (length old)) (synced true ∷ wrote_calls true)
   stands = synced_stands beside (file (length old)) true (wrote_calls true) (wrote_stands beside (file (length old)) bytes true set_calls
-      (access_stands beside (file (length old)) access_ok made_calls (claimed_stands beside beside (file (length old)) claimed_ok (made beside true ∷ old) (made_stands beside old))))
+      (access_stands beside (file (length old)) access_ok made_calls
+      (claimed_stands beside beside (file (length old)) claimed_ok (made beside true ∷ old) (made_stands beside old))))
 
   pub filled_in_place : IsInPlace beside bytes (synced true ∷ wrote_calls true)
   filled_in_place start disk names is s = ap (held start disk) (stands start disk names s) ∙ ap (λ (b : List ℕ). Some b) (is (length old) bytes sure)
@@ -144,17 +161,23 @@ module _ (beside path bytes : List ℕ) (apart : beside ≢ path) where
   folder_exit ok old calls = and_asked (Only beside) path bytes off (folder_synced ok) old calls (λ names. refl) (λ number sure e. e)
 
   access_exit : (ok : Bool) (old : List Call) → Leaves old (access_set ok ∷ claimed beside true ∷ old)
-  access_exit ok old = and_asked (Only beside) path bytes off (access_set ok) old (claimed beside true ∷ old) (λ names. refl) (λ number sure e. e) (claimed_exit true old)
+  access_exit ok old = and_asked (Only beside) path bytes off (access_set ok) old (claimed beside true ∷ old) (λ names. refl) (λ number sure e. e)
+      (claimed_exit true old)
 
-  wrote_exit : (ok : Bool) (earlier : List Call) → let old : List Call = made beside true ∷ earlier in Leaves old (wrote bytes ok ∷ access_set true ∷ claimed beside true ∷ old)
-  wrote_exit ok earlier = and_wrote (Only beside) path bytes off bytes ok (made beside true ∷ earlier) (set_calls beside bytes true true earlier) (unsure_made beside bytes true true earlier) (access_exit true (made beside true ∷ earlier))
+  wrote_exit : (ok : Bool) (earlier : List Call) → let old : List Call = made beside true ∷ earlier in
+      Leaves old (wrote bytes ok ∷ access_set true ∷ claimed beside true ∷ old)
+  wrote_exit ok earlier = and_wrote (Only beside) path bytes off bytes ok (made beside true ∷ earlier) (set_calls beside bytes true true earlier)
+      (unsure_made beside bytes true true earlier) (access_exit true (made beside true ∷ earlier))
 
-  synced_exit : (ok : Bool) (earlier : List Call) → let old : List Call = made beside true ∷ earlier in Leaves old (synced ok ∷ wrote bytes true ∷ access_set true ∷ claimed beside true ∷ old)
-  synced_exit ok earlier = and_synced (Only beside) path bytes off ok (made beside true ∷ earlier) (wrote_calls beside bytes true true earlier true) (unsure_wrote beside bytes true true earlier true) (wrote_exit true earlier)
+  synced_exit : (ok : Bool) (earlier : List Call) → let old : List Call = made beside true ∷ earlier in
+      Leaves old (synced ok ∷ wrote bytes true ∷ access_set true ∷ claimed beside true ∷ old)
+  synced_exit ok earlier = and_synced (Only beside) path bytes off ok (made beside true ∷ earlier) (wrote_calls beside bytes true true earlier true)
+      (unsure_wrote beside bytes true true earlier true) (wrote_exit true earlier)
 
   renamed_exit : (ok : Bool) (earlier : List Call) → let old : List Call = made beside true ∷ earlier in
       Leaves old (renamed beside path ok ∷ synced true ∷ wrote bytes true ∷ access_set true ∷ claimed beside true ∷ old)
-  renamed_exit ok earlier = and_renamed (Only beside) path bytes off beside ok (made beside true ∷ earlier) (synced true ∷ wrote_calls beside bytes true true earlier true) refl (filled_in_place beside bytes true true earlier) (synced_exit true earlier)
+  renamed_exit ok earlier = and_renamed (Only beside) path bytes off beside ok (made beside true ∷ earlier)
+      (synced true ∷ wrote_calls beside bytes true true earlier true) refl (filled_in_place beside bytes true true earlier) (synced_exit true earlier)
 
   -- a claim that was made of the list with the file that was made is one of the list at the start
   at_old : (old : List Call) → IsMade beside old → (P : List Call → Type 0) → ((earlier : List Call) → P (made beside true ∷ earlier)) → P old
@@ -170,26 +193,36 @@ module _ (beside path bytes : List ℕ) (apart : beside ≢ path) where
   not_written old is = at_old old is (λ (l : List Call). Leaves l (wrote bytes false ∷ access_set true ∷ claimed beside true ∷ l)) (wrote_exit false)
 
   pub not_synced : (old : List Call) → IsMade beside old → Leaves old (synced false ∷ wrote bytes true ∷ access_set true ∷ claimed beside true ∷ old)
-  not_synced old is = at_old old is (λ (l : List Call). Leaves l (synced false ∷ wrote bytes true ∷ access_set true ∷ claimed beside true ∷ l)) (synced_exit false)
+  not_synced old is = at_old old is (λ (l : List Call). Leaves l (synced false ∷ wrote bytes true ∷ access_set true ∷ claimed beside true ∷ l))
+      (synced_exit false)
 
-  pub renamed_or_not : (ok : Bool) (old : List Call) → IsMade beside old → Leaves old (renamed beside path ok ∷ synced true ∷ wrote bytes true ∷ access_set true ∷ claimed beside true ∷ old)
-  renamed_or_not ok old is = at_old old is (λ (l : List Call). Leaves l (renamed beside path ok ∷ synced true ∷ wrote bytes true ∷ access_set true ∷ claimed beside true ∷ l)) (renamed_exit ok)
+  pub renamed_or_not : (ok : Bool) (old : List Call) → IsMade beside old
+      → Leaves old (renamed beside path ok ∷ synced true ∷ wrote bytes true ∷ access_set true ∷ claimed beside true ∷ old)
+  renamed_or_not ok old is = at_old old is (λ (l : List Call). Leaves l
+      (renamed beside path ok ∷ synced true ∷ wrote bytes true ∷ access_set true ∷ claimed beside true ∷ l)) (renamed_exit ok)
 
-  pub placed : (ok : Bool) → ok ≡ true → (old : List Call) → IsMade beside old → IsInPlace path bytes (renamed beside path ok ∷ synced true ∷ wrote bytes true ∷ access_set true ∷ claimed beside true ∷ old)
+  pub placed : (ok : Bool) → ok ≡ true → (old : List Call) → IsMade beside old
+      → IsInPlace path bytes (renamed beside path ok ∷ synced true ∷ wrote bytes true ∷ access_set true ∷ claimed beside true ∷ old)
   placed false e old is = absurd (cc)
-  placed true e old is = at_old old is (λ (l : List Call). IsInPlace path bytes (renamed beside path true ∷ synced true ∷ wrote bytes true ∷ access_set true ∷ claimed beside true ∷ l))
-      (λ earlier. renamed_in_place beside path bytes apart (synced true ∷ wrote_calls beside bytes true true earlier true) (filled_in_place beside bytes true true earlier))
+  placed true e old is = at_old old is (λ (l : List Call). IsInPlace path bytes
+      (renamed beside path true ∷ synced true ∷ wrote bytes true ∷ access_set true ∷ claimed beside true ∷ l))
+      (λ earlier. renamed_in_place beside path bytes apart (synced true ∷ wrote_calls beside bytes true true earlier true)
+      (filled_in_place beside bytes true true earlier))
 
 -- ---- where a comparison may end
 module _ (path bytes : List ℕ) where
   pub compared_exit : (same : Bool) (old : List Call) → LosesNothing NoPath path bytes old (compared path bytes same ∷ old)
-  compared_exit same old = and_asked NoPath path bytes (λ q. q) (compared path bytes same) old old (λ names. refl) (λ number sure e. e) (none NoPath path bytes old)
+  compared_exit same old = and_asked NoPath path bytes (λ q. q) (compared path bytes same) old old (λ names. refl) (λ number sure e. e)
+      (none NoPath path bytes old)
 
   pub compared_synced_exit : (same ok : Bool) (old : List Call) → LosesNothing NoPath path bytes old (synced ok ∷ compared path bytes same ∷ old)
-  compared_synced_exit same ok old = and_synced NoPath path bytes (λ q. q) ok old (compared path bytes same ∷ old) (kept_none (length old) old (omega arith)) (compared_exit same old)
+  compared_synced_exit same ok old = and_synced NoPath path bytes (λ q. q) ok old (compared path bytes same ∷ old) (kept_none (length old) old (omega arith))
+      (compared_exit same old)
 
-  pub compared_kept_exit : (same ok kept_now : Bool) (old : List Call) → LosesNothing NoPath path bytes old (folder_synced kept_now ∷ synced ok ∷ compared path bytes same ∷ old)
-  compared_kept_exit same ok kept_now old = and_asked NoPath path bytes (λ q. q) (folder_synced kept_now) old (synced ok ∷ compared path bytes same ∷ old) (λ names. refl) (λ number sure e. e) (compared_synced_exit same ok old)
+  pub compared_kept_exit : (same ok kept_now : Bool) (old : List Call)
+      → LosesNothing NoPath path bytes old (folder_synced kept_now ∷ synced ok ∷ compared path bytes same ∷ old)
+  compared_kept_exit same ok kept_now old = and_asked NoPath path bytes (λ q. q) (folder_synced kept_now) old (synced ok ∷ compared path bytes same ∷ old)
+      (λ names. refl) (λ number sure e. e) (compared_synced_exit same ok old)
 
 -- ---- what else a save asks
 module _ (front path bytes : List ℕ) (apart : IsBeside front path → ⊥) where
@@ -212,4 +245,5 @@ module _ (front path bytes : List ℕ) (apart : IsBeside front path → ⊥) whe
   looked_exit at ok old = and_asked (IsBeside front) path bytes apart (looked at ok) old old (λ names. refl) (λ number sure e. e) (begun old)
 
   pub opened_exit : (at : List ℕ) (look ok : Bool) (old : List Call) → Saves old (folder_opened ok ∷ looked at look ∷ old)
-  opened_exit at look ok old = and_asked (IsBeside front) path bytes apart (folder_opened ok) old (looked at look ∷ old) (λ names. refl) (λ number sure e. e) (looked_exit at look old)
+  opened_exit at look ok old = and_asked (IsBeside front) path bytes apart (folder_opened ok) old (looked at look ∷ old) (λ names. refl) (λ number sure e. e)
+      (looked_exit at look old)

@@ -1,8 +1,10 @@
 -- What is sure of files after some calls.
-use Rattle.std.proofs.Common.{◌≡◌, ℕ, ◌≤◌, ◌==◌, Bool, true, false, cond, List, [], ◌∷◌, ◌++◌, length, Option, Some, None, option_map, refl, sym, ap, ◌∙◌, arith}
+use Rattle.std.proofs.Common.{◌≡◌, ℕ, ◌≤◌, ◌==◌, Bool, true, false, cond, List, [], ◌∷◌, ◌++◌, length, Option, Some, None, option_map, refl, sym, ap, ◌∙◌}
+use Rattle.std.proofs.Common.{arith}
 use Rattle.std.proofs.lemmas.Bool.{cond-false, false_from_ne_true}
 use Rattle.std.proofs.lemmas.Bool.Decides.{Decides-eqb}
-use Rattle.atomic_save.specs.Crash.{Call, looked, folder_opened, listed, seized, claimed, compared, removed, made, access_set, wrote, synced, renamed, folder_synced, newest, written, kept}
+use Rattle.atomic_save.specs.Crash.{Call, looked, folder_opened, listed, seized, claimed, compared, removed, made, access_set, wrote, synced, renamed}
+use Rattle.atomic_save.specs.Crash.{folder_synced, newest, written, kept}
 
 pub itself : (number : ℕ) → (number == number) ≡ true
 itself number = (Decides-eqb number number).1 refl
@@ -25,13 +27,16 @@ before : (call : Call) (calls : List Call) (number : ℕ) → length (call ∷ c
 before call calls number long = omega (arith, long)
 
 made_elsewhere : (path : List ℕ) (ok : Bool) (calls : List Call) (number : ℕ) → length (made path ok ∷ calls) ≤ number → (length calls == number) ≡ false
-made_elsewhere path ok calls number long = false_from_ne_true (length calls == number) (λ e. let same = (Decides-eqb (length calls) number).0 e in omega (arith, long))
+made_elsewhere path ok calls number long = false_from_ne_true (length calls == number)
+    (λ e. let same = (Decides-eqb (length calls) number).0 e in omega (arith, long))
 
 -- nothing was written to a file that no call has made yet
 written_none : (number : ℕ) (calls : List Call) → length calls ≤ number → written number calls ≡ None
 written_none number [] long = refl
-written_none number (made path ok ∷ calls) long = cond-false _ _ _ (made_elsewhere path ok calls number long) ∙ written_none number calls (before (made path ok) calls number long)
-written_none number (wrote bytes ok ∷ calls) long = wrote_none (newest calls == number) ok bytes (written number calls) (written_none number calls (before (wrote bytes ok) calls number long))
+written_none number (made path ok ∷ calls) long = cond-false _ _ _ (made_elsewhere path ok calls number long)
+    ∙ written_none number calls (before (made path ok) calls number long)
+written_none number (wrote bytes ok ∷ calls) long = wrote_none (newest calls == number) ok bytes (written number calls)
+    (written_none number calls (before (wrote bytes ok) calls number long))
 written_none number (synced ok ∷ calls) long =
     let none = written_none number calls (before (synced ok) calls number long) in
     synced_none (newest calls == number) ok (written number calls) (written number calls) none none
@@ -40,7 +45,8 @@ written_none number (call ∷ calls) long = written_none number calls (before ca
 -- nothing is sure of a file that no call has made yet
 pub kept_none : (number : ℕ) (calls : List Call) → length calls ≤ number → kept number calls ≡ None
 kept_none number [] long = refl
-kept_none number (wrote bytes ok ∷ calls) long = kept_wrote_none (newest calls == number) (kept number calls) (kept_none number calls (before (wrote bytes ok) calls number long))
+kept_none number (wrote bytes ok ∷ calls) long = kept_wrote_none (newest calls == number) (kept number calls)
+    (kept_none number calls (before (wrote bytes ok) calls number long))
 kept_none number (synced ok ∷ calls) long =
     let short = before (synced ok) calls number long in
     synced_none (newest calls == number) ok (written number calls) (kept number calls) (written_none number calls short) (kept_none number calls short)
@@ -50,7 +56,8 @@ kept_none number (call ∷ calls) long = kept_none number calls (before call cal
 abbrev pub StaysSure : List Call → List Call → Type 0
 StaysSure calls more = (number : ℕ) (sure : List ℕ) → kept number calls ≡ Some sure → kept number more ≡ Some sure
 
-other_file : (calls : List Call) → kept (newest calls) calls ≡ None → (number : ℕ) (sure : List ℕ) → kept number calls ≡ Some sure → (newest calls == number) ≡ false
+other_file : (calls : List Call) → kept (newest calls) calls ≡ None → (number : ℕ) (sure : List ℕ) → kept number calls ≡ Some sure
+    → (newest calls == number) ≡ false
 other_file calls none number sure e = false_from_ne_true (newest calls == number) (λ h.
     let same : newest calls ≡ number = (Decides-eqb (newest calls) number).0 h in
     let both : None ≡ Some sure = sym none ∙ ap (λ (n : ℕ). kept n calls) same ∙ e in

@@ -94,7 +94,8 @@ Shows start disk call earlier names = Unit {0}
 abbrev pub Stand : Found → Disk → List Call → Names → Type 0
 Stand start disk [] names = names ≡ first
 Stand start disk (call ∷ earlier) names =
-    (before : Names) × Stand start disk earlier before × Shows start disk call earlier before × ((names ≡ after_call call (length earlier) before) ⊎ ((is_done call ≡ false) × (names ≡ before)))
+    (before : Names) × Stand start disk earlier before × Shows start disk call earlier before
+    × ((names ≡ after_call call (length earlier) before) ⊎ ((is_done call ≡ false) × (names ≡ before)))
 
 -- The names that are found where the machine stops: those after all of the calls, or after fewer of them, but none fewer than came before a sync of the folder.
 abbrev pub MayStand : Found → Disk → List Call → Names → Type 0

@@ -1,9 +1,11 @@
 -- How a request to a folder is noted as a call, and how the note is coded.
 use Rattle.std.specs.Prelude.{◌≡◌, ℕ, ◌==◌, Bool, List, [], refl, if◌then◌else◌}
 use Rattle.std.specs.Coded.{Coded, code_by, coded×, coded_ℕ, coded_bool, coded_list}
-use Rattle.atomic_save.specs.Crash.{Call, looked, folder_opened, listed, seized, claimed, compared, removed, made, access_set, wrote, synced, renamed, folder_synced}
+use Rattle.atomic_save.specs.Crash.{Call, looked, folder_opened, listed, seized, claimed, compared, removed, made, access_set, wrote, synced, renamed}
+use Rattle.atomic_save.specs.Crash.{folder_synced}
 use Rattle.atomic_save.specs.declared.request.Request.{Request}
-use Rattle.atomic_save.specs.declared.request.Request.TheVariants.{Access, OpenFolder, LeftOvers, Seize, Claim, Compare, Remove, Create, SetAccess, Write, Sync, Rename, SyncFolder}
+use Rattle.atomic_save.specs.declared.request.Request.TheVariants.{Access, OpenFolder, LeftOvers, Seize, Claim, Compare, Remove, Create, SetAccess, Write, Sync}
+use Rattle.atomic_save.specs.declared.request.Request.TheVariants.{Rename, SyncFolder}
 
 -- the call of a request, and whether it was answered that it is done
 abbrev pub call_of : Request → Bool → Call

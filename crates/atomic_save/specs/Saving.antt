@@ -20,7 +20,8 @@ IsKept path bytes calls = (start found : Found) → MayBeFound start calls found
 
 -- the new bytes stand under the path, if the machine goes on: where it stops, another file may be found there
 abbrev pub IsInPlace : List ℕ → List ℕ → List Call → Type 0
-IsInPlace path bytes calls = (start : Found) (disk : Disk) (names : Names) → IsDisk disk calls → Stand start disk calls names → held start disk (names path) ≡ Some bytes
+IsInPlace path bytes calls = (start : Found) (disk : Disk) (names : Names) → IsDisk disk calls → Stand start disk calls names
+    → held start disk (names path) ≡ Some bytes
 
 -- this path, and no other
 abbrev pub Only : List ℕ → List ℕ → Type 0

@@ -33,7 +33,8 @@ linked_in {s = s} {d = d} laws fits (Some x) holds none is =
     )
 
 -- the item is taken out
-pub linked_out : {X : Type 0} {names : Names} {s : Slot X} {held : Option (Option X)} {loose : Option X} {d e : DocumentParts} → IsLawfulSlot s → FitsLink s held d
+pub linked_out : {X : Type 0} {names : Names} {s : Slot X} {held : Option (Option X)} {loose : Option X} {d e : DocumentParts} → IsLawfulSlot s
+    → FitsLink s held d
     → held ≡ None → loose ≡ s.item d → e ≡ s.without_item d → IsExchanged (link names s held) (link names s (Some loose)) d e
 linked_out {s = s} {d = d} laws fits holds given is =
     let f : FitsLink s None d = rw holds at fits in
@@ -52,7 +53,8 @@ linked_out {s = s} {d = d} laws fits holds given is =
     )
 
 -- an edit puts the held link in, or takes the item out
-pub link_made : {X E : Type 0} {names : Names} {s : Slot X} {held : Option (Option X)} {d : DocumentParts} {after : Result DocumentParts E} → names.vanishing ≡ Never
+pub link_made : {X E : Type 0} {names : Names} {s : Slot X} {held : Option (Option X)} {d : DocumentParts} {after : Result DocumentParts E}
+    → names.vanishing ≡ Never
     → FitsLink s held d → after ≡ Ok (linked s held d) → Makes names d after (change_of (link names s held))
 link_made never fits is = record {
   fits = (λ e. cc, record { fits = fits; settled = rw never refl });
@@ -61,7 +63,8 @@ link_made never fits is = record {
 }
 
 -- a thing more in a list changes the document
-pub place_in-differs : {X : Type 0} (p : Lens DocumentParts (List X)) → IsLawfulLens p → (k : ℕ) (x : X) (d : DocumentParts) → IsSomeAnd (p.get d) (λ xs. k ≤ length xs)
+pub place_in-differs : {X : Type 0} (p : Lens DocumentParts (List X)) → IsLawfulLens p → (k : ℕ) (x : X) (d : DocumentParts)
+    → IsSomeAnd (p.get d) (λ xs. k ≤ length xs)
     → (place_in p k).with_item x d ≡ d → ⊥
 place_in-differs {X = X} p laws k x d free same = by_list (p.get d) refl free
   where

@@ -26,7 +26,8 @@ some_tag kind subject = Some (record { kind = kind; subject = subject })
 pub OfObject-same : (kind own id : ℕ) → some_tag kind (OfObject own) ≡ some_tag kind (OfObject id) → own ≡ id
 OfObject-same kind own id e = ap (λ t. subject_id (tag_subject t)) e
 
-pub OfName-same : (kind : ℕ) (own owner : Owner) (name text : List ℕ) → some_tag kind (OfName own name) ≡ some_tag kind (OfName owner text) → (own ≡ owner) × (name ≡ text)
+pub OfName-same : (kind : ℕ) (own owner : Owner) (name text : List ℕ) → some_tag kind (OfName own name) ≡ some_tag kind (OfName owner text)
+    → (own ≡ owner) × (name ≡ text)
 OfName-same kind own owner name text e =
     let same = ap (λ t. subject_name (tag_subject t)) e in
     (ap (λ (s : Owner × List ℕ). s.0) same, ap (λ (s : Owner × List ℕ). s.1) same)

@@ -27,7 +27,8 @@ IsGiven p false after held d = IsSome (p.get d) × (held ≡ after)
 IsGiven p true after held d = p.get d ≡ Some after
 
 -- the held value is one that the document allows, and the maps on the two sides are well formed
-pub record FitsShown {V : Type 0} (p : Lens DocumentParts V) (Allows : DocumentParts → V → Type 0) (made : Bool) (after held : V) (d : DocumentParts) : Type 0 where
+pub record FitsShown {V : Type 0} (p : Lens DocumentParts V) (Allows : DocumentParts → V → Type 0) (made : Bool) (after held : V)
+    (d : DocumentParts) : Type 0 where
   pub given : IsGiven p made after held d
   pub allowed : Allows d held
   pub here : IsWellFormed d.map

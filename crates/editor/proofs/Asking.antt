@@ -25,5 +25,6 @@ unasked line m (planned.Reply reply) asked about = unasked-reply line m reply as
 unasked line m (planned.Push edit) asked about = refl
 
 -- a document that is active was saved, or not
-pub active-AsksToSave : (file : List ℕ) (active : Option History) (h : History) (reply : Reply) (old new : List Asked) → active ≡ Some h → AsksOutside file (clean_answer h) reply old new → AsksToSave file active reply old new
+pub active-AsksToSave : (file : List ℕ) (active : Option History) (h : History) (reply : Reply) (old new : List Asked) → active ≡ Some h
+    → AsksOutside file (clean_answer h) reply old new → AsksToSave file active reply old new
 active-AsksToSave file active h reply old new e asks = let P : Option History → Type 0 = λ o. AsksToSave file o reply old new in subst P (sym e) asks

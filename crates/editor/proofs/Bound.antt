@@ -6,7 +6,8 @@ use Rattle.object_commands.proofs.Placements.{place_object-WhenEqual}
 use Rattle.paint_commands.proofs.Merges.{paint-WhenEqual}
 use Rattle.property_commands.proofs.Settings.{set-names}
 use Rattle.editor.specs.declared.planned.Edit.{Edit}
-use Rattle.editor.specs.declared.planned.Edit.TheVariants.{Paint, AddLayer, RemoveLayer, RenameLayer, ShowLayer, MoveLayer, Select, ResizeMap, AddObject, RemoveObject, PlaceObject, SetProperty, RemoveProperty, AddTileset, RemoveTileset}
+use Rattle.editor.specs.declared.planned.Edit.TheVariants.{Paint, AddLayer, RemoveLayer, RenameLayer, ShowLayer, MoveLayer, Select, ResizeMap, AddObject}
+use Rattle.editor.specs.declared.planned.Edit.TheVariants.{RemoveObject, PlaceObject, SetProperty, RemoveProperty, AddTileset, RemoveTileset}
 use Rattle.editor.specs.Planning.{edit_change}
 
 pub edit-bound : (e : Edit) → is_free (edit_change e).names.vanishing ≡ false

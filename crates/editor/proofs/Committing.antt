@@ -37,7 +37,8 @@ commit_by (Edits names edit) (Some h) old new stored c w reply e asks same (inr 
     subst Q (sym p.0) (rw (e, p.1) ((h, inr (refl, refl), refl), refl))
 
 -- a command that was pushed
-pub Commits-pushed : (c : Change) (h n : History) (old new : Machine) (reply : Reply) → active_of old ≡ Some h → IsPushed h (step_of c (current h)) n → reply ≡ state_reply n → new ≡ with_active n old
+pub Commits-pushed : (c : Change) (h n : History) (old new : Machine) (reply : Reply) → active_of old ≡ Some h → IsPushed h (step_of c (current h)) n
+    → reply ≡ state_reply n → new ≡ with_active n old
     → Commits (active_of old) c reply old new
 Commits-pushed c h n old new reply e pushed is left =
     let Q : Option History → Type 0 = λ o. Commits o c reply old new in
@@ -49,7 +50,8 @@ Commits-refused c h old new e left =
     let Q : Option History → Type 0 = λ o. Commits o c (Refused NoMemory) old new in
     subst Q (sym e) (inr (refl, left))
 
-pub commit_step : (line : Line) (old new : Machine) (stored : StoreParts) (c w : Change) (reply : Reply) → IsEditOf (rule_of line) (active_of old) c → IsSame c w → Commits (active_of old) w reply old new
+pub commit_step : (line : Line) (old new : Machine) (stored : StoreParts) (c w : Change) (reply : Reply) → IsEditOf (rule_of line) (active_of old) c
+    → IsSame c w → Commits (active_of old) w reply old new
     → Step line (workspace old stored) (Some reply) (workspace new stored)
 commit_step line old new stored c w reply asks same p = commit_by (rule_of line) (active_of old) old new stored c w reply refl asks same p
 
@@ -62,5 +64,6 @@ no_memory (OnActive act) active old stored c e asks = absurd asks
 no_memory (Edits names edit) None old stored c e asks = absurd asks
 no_memory (Edits names edit) (Some h) old stored c e asks = rw e ((h, inr (refl, refl), refl), refl)
 
-pub uncommitted : (line : Line) (old : Machine) (stored : StoreParts) (c : Change) → IsEditOf (rule_of line) (active_of old) c → Step line (workspace old stored) (Some (Refused NoMemory)) (workspace old stored)
+pub uncommitted : (line : Line) (old : Machine) (stored : StoreParts) (c : Change) → IsEditOf (rule_of line) (active_of old) c
+    → Step line (workspace old stored) (Some (Refused NoMemory)) (workspace old stored)
 uncommitted line old stored c asks = no_memory (rule_of line) (active_of old) old stored c refl asks

@@ -1,5 +1,6 @@
 -- Planned edits, and the lines that ask for them.
-use Rattle.std.proofs.Common.{◌≡◌, ℕ, ◌+◌, ◌^◌, ◌<◌, ◌≤◌, List, [], ◌∷◌, length, map, Result, Ok, Err, Bool, ◌⊎◌, inl, inr, refl, sym, ap, subst, arith, length-append}
+use Rattle.std.proofs.Common.{◌≡◌, ℕ, ◌+◌, ◌^◌, ◌<◌, ◌≤◌, List, [], ◌∷◌, length, map, Result, Ok, Err, Bool, ◌⊎◌, inl, inr, refl, sym, ap, subst, arith}
+use Rattle.std.proofs.Common.{length-append}
 use Rattle.std.proofs.lemmas.List.{length-map}
 use Rattle.std.specs.Prelude.{ℤ, decimal, codes, IfOk, IfErr, MatchResult, IsOkAnd}
 use Rattle.std.specs.Fmt.{signed_decimal}
@@ -8,7 +9,8 @@ use Rattle.map_model.specs.Document.{DocumentParts}
 use Rattle.map_model.specs.WellFormed.{IsPixels}
 use Rattle.edits.specs.Stamping.{IsBlock}
 use Rattle.command_api.specs.declared.fault.EditFault.{EditFault}
-use Rattle.command_api.specs.declared.fault.EditFault.TheVariants.{NoSuchLayer, LayerOfAnotherKind, OutsideTheMap, UnknownTile, NoSuchObject, NoSuchProperty, NoSuchTileset, TilesetInUse, FirstIdNotAbove, OutOfRange, TooMany, NoMemory}
+use Rattle.command_api.specs.declared.fault.EditFault.TheVariants.{NoSuchLayer, LayerOfAnotherKind, OutsideTheMap, UnknownTile, NoSuchObject, NoSuchProperty}
+use Rattle.command_api.specs.declared.fault.EditFault.TheVariants.{NoSuchTileset, TilesetInUse, FirstIdNotAbove, OutOfRange, TooMany, NoMemory}
 use Rattle.command_api.specs.Names.{Names}
 use Rattle.command_api.specs.Making.{IsRefusalOf, Makes}
 use Rattle.session.specs.declared.limits.TheConstants.{MAX_LINE}
@@ -45,7 +47,8 @@ made-PlansEdit names d after (Err fault) is r = elim (IsRefusalOf-cases after fa
 ]
 
 -- a command that was made, or refused, and then put into an edit
-pub mapped-PlansEdit : {K : Type 0} (wrap : K → Edit) (names : Names) (d : DocumentParts) (after : Result DocumentParts EditFault) (made : Result K EditFault) (edit : Result Edit EditFault)
+pub mapped-PlansEdit : {K : Type 0} (wrap : K → Edit) (names : Names) (d : DocumentParts) (after : Result DocumentParts EditFault) (made : Result K EditFault)
+    (edit : Result Edit EditFault)
     → IfOk made (λ k. Makes names d after (edit_change (wrap k))) → IfErr made (IsRefusalOf after)
     → MatchResult made (λ k. IsOkAnd edit (λ e. e ≡ wrap k)) (λ e. edit ≡ Err e) → PlansEdit (answer_of names after) d (plan_of edit)
 mapped-PlansEdit wrap names d after (Ok k) (Ok e) is r m =
@@ -57,7 +60,8 @@ mapped-PlansEdit wrap names d after (Err fault) edit is r m =
     subst P (sym m) (made-PlansEdit names d after (Err fault) tt r)
 
 -- a command that takes no memory, and so is refused exactly as its edit is, and was then put into an edit
-pub exact-PlansEdit : {K : Type 0} (wrap : K → Edit) (names : Names) (d : DocumentParts) (after : Result DocumentParts EditFault) (made : Result K EditFault) (edit : Result Edit EditFault)
+pub exact-PlansEdit : {K : Type 0} (wrap : K → Edit) (names : Names) (d : DocumentParts) (after : Result DocumentParts EditFault) (made : Result K EditFault)
+    (edit : Result Edit EditFault)
     → IfOk made (λ k. Makes names d after (edit_change (wrap k))) → IfErr made (λ fault. after ≡ Err fault)
     → MatchResult made (λ k. IsOkAnd edit (λ e. e ≡ wrap k)) (λ e. edit ≡ Err e) → PlansEdit (answer_of names after) d (plan_of edit)
 exact-PlansEdit wrap names d after (Ok k) (Ok e) is r m =
@@ -92,12 +96,14 @@ values-few layer x y width values follows h =
     let row = length-join_rest 32 (signed_decimal y) (decimal width) (commas values ∷ []) in
     let column = length-join_rest 32 (signed_decimal x) (signed_decimal y) (decimal width ∷ commas values ∷ []) in
     let id = length-join_rest 32 (decimal layer) (signed_decimal x) (signed_decimal y ∷ decimal width ∷ commas values ∷ []) in
-    let all = length-join_rest 32 (leading (codes "stamp") follows) (decimal layer) (signed_decimal x ∷ signed_decimal y ∷ decimal width ∷ commas values ∷ []) in
+    let all = length-join_rest 32 (leading (codes "stamp") follows) (decimal layer)
+    (signed_decimal x ∷ signed_decimal y ∷ decimal width ∷ commas values ∷ []) in
     let short : length (spelling (Stamp layer x y width values follows)) ≤ MAX_LINE = h.1 refl in
     omega (arith, short)
 
 -- its values are a block
-pub stamp-IsBlock : (layer : ℕ) (x y : ℤ) (width : ℕ) (values : List ℕ) (follows : Bool) → CanBeSpelled (Stamp layer x y width values follows) → IsBlock (record { x = x; y = y; width = width; values = values })
+pub stamp-IsBlock : (layer : ℕ) (x y : ℤ) (width : ℕ) (values : List ℕ) (follows : Bool) → CanBeSpelled (Stamp layer x y width values follows)
+    → IsBlock (record { x = x; y = y; width = width; values = values })
 stamp-IsBlock layer x y width values follows h =
     let rows : AreRows width values = h.0.1.1.1.1.0 in
     record { wide = rows.some; narrow = rows.narrow; whole = rows.rows; few = values-few layer x y width values follows h }

@@ -19,7 +19,8 @@ use Rattle.editor.proofs.Steady.{active-steady, with_active-AreSteady}
 
 module _ {C : Type 0} (f : C → Change) where
   -- the editor stands for this group
-  pub group-IsSound : (editor : Editor C) (group : GroupParts) → IsHeld f editor → group_of f editor.group ≡ group → AreSteady group.documents → IsSound f editor
+  pub group-IsSound : (editor : Editor C) (group : GroupParts) → IsHeld f editor → group_of f editor.group ≡ group → AreSteady group.documents
+      → IsSound f editor
   group-IsSound editor group held is steady = record { held = held; steady = subst (λ (g : GroupParts). AreSteady g.documents) (sym is) steady }
 
   -- the position of a stack is among its steps
@@ -36,7 +37,8 @@ module _ {C : Type 0} (f : C → Change) (old new : Editor C) (s : Stack C) (sam
 
   pub left-IsSound : IsSteady (history f s) → IsSound f old → IsSound f new
   left-IsSound steady sound =
-      group-IsSound f new (groups.with_active (history f s) (group_of f old.group)) (left-IsHeld sound.held) left.group (with_active-AreSteady (history f s) (group_of f old.group) steady sound.steady)
+      group-IsSound f new (groups.with_active (history f s) (group_of f old.group)) (left-IsHeld sound.held) left.group
+      (with_active-AreSteady (history f s) (group_of f old.group) steady sound.steady)
 
   pub left-machine : machine_of f new ≡ with_active (history f s) (machine_of f old)
   left-machine = rw (same, left.group) refl

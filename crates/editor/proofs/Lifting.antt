@@ -26,12 +26,14 @@ pub with_active-unchanged : (h n : History) (old : Machine) → IsGroup old.grou
 with_active-unchanged h n old w e k =
     ap (machine_at old.limit) (ap (λ x. groups.with_active x old.group) k ∙ with_active-same h old.group w e)
 
-pub with_active-moved_to : (reply : Reply) (h n : History) (old : Machine) → IsGroup old.group → active_of old ≡ Some h → KeepsReply reply h n → with_active n old ≡ moved_to (Some reply) n old
+pub with_active-moved_to : (reply : Reply) (h n : History) (old : Machine) → IsGroup old.group → active_of old ≡ Some h → KeepsReply reply h n
+    → with_active n old ≡ moved_to (Some reply) n old
 with_active-moved_to (Refused refusal) h n old w e k = with_active-unchanged h n old w e k
 with_active-moved_to reply h n old w e k = refl
 
 -- what was done with the active history was done with the machine
-with_active-done : (act : Act History) (h n : History) (reply : Reply) (old : Machine) → IsGroup old.group → active_of old ≡ Some h → act h (Some reply) n → KeepsReply reply h n
+with_active-done : (act : Act History) (h n : History) (reply : Reply) (old : Machine) → IsGroup old.group → active_of old ≡ Some h → act h (Some reply) n
+    → KeepsReply reply h n
     → WithActive act (active_of old) old (Some reply) (with_active n old)
 with_active-done act h n reply old w e p k =
     let Q : Option History → Type 0 = λ o. WithActive act o old (Some reply) (with_active n old) in
@@ -39,7 +41,8 @@ with_active-done act h n reply old w e p k =
 
 -- ---- plans
 -- an edit that is refused was done so
-refused_edit : (answer : Result Step Refusal) (h : History) (reply : Reply) → PlansEdit answer (current h) (planned.Reply reply) → OrNoMemory (Pushes answer) h (Some reply) h × KeepsReply reply h h
+refused_edit : (answer : Result Step Refusal) (h : History) (reply : Reply) → PlansEdit answer (current h) (planned.Reply reply)
+    → OrNoMemory (Pushes answer) h (Some reply) h × KeepsReply reply h h
 refused_edit answer h reply (inl e) = rw e (inr (refl, refl), refl)
 refused_edit answer h reply (inr p) = rw (p.1, p.2) (inl (refl, refl), refl)
 
@@ -54,7 +57,8 @@ replied-unchanged (Edits names edit) h n reply p =
 
 -- what a plan says of the active document, it says of the machine
 module _ (h n : History) (old : Machine) (whole : IsGroup old.group) (active : active_of old ≡ Some h) where
-  replied : (rule : Rule) (reply : Reply) (stored : StoreParts) → PlansOn rule h (planned.Reply reply) n → Allows rule (workspace old stored) (Some reply) (workspace (with_active n old) stored)
+  replied : (rule : Rule) (reply : Reply) (stored : StoreParts) → PlansOn rule h (planned.Reply reply) n
+      → Allows rule (workspace old stored) (Some reply) (workspace (with_active n old) stored)
   replied (OnFiles act) reply stored p = absurd p
   replied (OnDocuments act) reply stored p = absurd p
   replied (OnActive act) reply stored p = (with_active-done act h n reply old whole active p.0 p.1, refl)
@@ -64,7 +68,8 @@ module _ (h n : History) (old : Machine) (whole : IsGroup old.group) (active : a
       let done = refused_edit (answer_of names (edit (current h))) h reply p.0 in
       (with_active-done act h n reply old whole active (subst R (sym p.1) done.0) (replied-unchanged (Edits names edit) h n reply p), refl)
 
-  pushed : (rule : Rule) (e : Edit) → PlansOn rule h (planned.Push e) n → (n ≡ h) × IsEditOf rule (Some h) (edit_change e) × (edit_change e).fits_redo (current h)
+  pushed : (rule : Rule) (e : Edit) → PlansOn rule h (planned.Push e) n
+      → (n ≡ h) × IsEditOf rule (Some h) (edit_change e) × (edit_change e).fits_redo (current h)
   pushed (OnFiles act) e p = absurd p
   pushed (OnDocuments act) e p = absurd p
   pushed (OnActive act) e p = absurd p
@@ -76,7 +81,8 @@ module _ (h n : History) (old : Machine) (whole : IsGroup old.group) (active : a
   quiet (OnActive act) p = p
   quiet (Edits names edit) p = p.0
 
-  pub on-PlansBy : (rule : Rule) (plan : Planned) (stored : StoreParts) → PlansOn rule h plan n → PlansBy rule (workspace old stored) plan (workspace (with_active n old) stored)
+  pub on-PlansBy : (rule : Rule) (plan : Planned) (stored : StoreParts) → PlansOn rule h plan n
+      → PlansBy rule (workspace old stored) plan (workspace (with_active n old) stored)
   on-PlansBy rule planned.Quiet stored p = absurd (quiet rule p)
   on-PlansBy rule (planned.Reply reply) stored p = replied rule reply stored p
   on-PlansBy rule (planned.Push e) stored p =
@@ -103,17 +109,20 @@ module _ (h n : History) (old : Machine) (whole : IsGroup old.group) (active : a
       subst Q (sym (with_active-unchanged h n old whole active is.0)) (subst R (sym active) is.2)
 
 -- a line about the active document, where none is active
-none-Allows : (rule : Rule) (old : Machine) (stored : StoreParts) → IsOfActive rule → active_of old ≡ None → Allows rule (workspace old stored) (Some (Refused NoActiveDocument)) (workspace old stored)
+none-Allows : (rule : Rule) (old : Machine) (stored : StoreParts) → IsOfActive rule → active_of old ≡ None
+    → Allows rule (workspace old stored) (Some (Refused NoActiveDocument)) (workspace old stored)
 none-Allows (OnFiles act) old stored s e = absurd s
 none-Allows (OnDocuments act) old stored s e = absurd s
 none-Allows (OnActive act) old stored s e = rw e ((refl, refl), refl)
 none-Allows (Edits names edit) old stored s e = rw e ((refl, refl), refl)
 
-pub none-PlansBy : (rule : Rule) (old : Machine) (stored : StoreParts) → IsOfActive rule → active_of old ≡ None → PlansBy rule (workspace old stored) (refused NoActiveDocument) (workspace old stored)
+pub none-PlansBy : (rule : Rule) (old : Machine) (stored : StoreParts) → IsOfActive rule → active_of old ≡ None
+    → PlansBy rule (workspace old stored) (refused NoActiveDocument) (workspace old stored)
 none-PlansBy rule old stored s e = none-Allows rule old stored s e
 
 -- a document was saved, or not
-pub saves : (act : FileAct History) (h n : History) (reply : Reply) (old new : Machine) (before after : StoreParts) → IsGroup old.group → active_of old ≡ Some h → act before after h (Some reply) n
+pub saves : (act : FileAct History) (h n : History) (reply : Reply) (old new : Machine) (before after : StoreParts) → IsGroup old.group → active_of old ≡ Some h
+    → act before after h (Some reply) n
     → KeepsReply reply h n → new ≡ with_active n old → OfActive act before after old (Some reply) new
 saves act h n reply old new before after w e p k left =
     let Q : Option History → Type 0 = λ o. IfActive act o before after old (Some reply) new in

@@ -24,8 +24,10 @@ refused-NewName name file bytes old before after (Refused refusal) free is says 
     rw free (inl (inl (called, Some bytes, is, inr (refusal, says, (refl, refl)))))
 
 -- a file whose bytes say a map
-pub opened-NewName : (name file bytes : List ℕ) (m : MapParts) (old new : Machine) (before after : StoreParts) (reply : Reply) → history_named name old.group.documents ≡ None
-    → (IsTrue before.honest → Some bytes ≡ get before.files file) → Says bytes (Ok m) → IsCalled FilesStay before after → OrNoMemory (Opens name (new_history (document_of m) old.limit)) old (Some reply) new
+pub opened-NewName : (name file bytes : List ℕ) (m : MapParts) (old new : Machine) (before after : StoreParts) (reply : Reply)
+    → history_named name old.group.documents ≡ None
+    → (IsTrue before.honest → Some bytes ≡ get before.files file) → Says bytes (Ok m) → IsCalled FilesStay before after
+    → OrNoMemory (Opens name (new_history (document_of m) old.limit)) old (Some reply) new
     → NewName name (OrStoreFails FilesStay (OrNoMemoryForFile (Loads name file))) before after old (Some reply) new
 opened-NewName name file bytes m old new before after reply free is says called (inl opens) = rw free (inl (inl (called, Some bytes, is, inl (m, says, opens))))
 opened-NewName name file bytes m old new before after reply free is says called (inr lacks) = rw free (inl (inr (called, lacks)))

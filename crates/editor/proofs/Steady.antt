@@ -23,7 +23,8 @@ named-steady name h [] all at = absurd cc
 named-steady name h (d ∷ ds) all at =
     first-steady (bytes_eq name d.name) h d.history (history_named name ds) (All-head steady d ds all) (named-steady name h ds (All-tail steady d ds all)) at
 
-active_among-steady : (active : Option (List ℕ)) (h : History) (ds : List OpenDocument) → AreSteady ds → active_history (record { documents = ds; active = active }) ≡ Some h → IsSteady h
+active_among-steady : (active : Option (List ℕ)) (h : History) (ds : List OpenDocument) → AreSteady ds
+    → active_history (record { documents = ds; active = active }) ≡ Some h → IsSteady h
 active_among-steady None h ds all at = absurd cc
 active_among-steady (Some name) h ds all at = named-steady name h ds all at
 
@@ -31,7 +32,8 @@ pub active-steady : (h : History) (g : GroupParts) → AreSteady g.documents →
 active-steady h g all at = active_among-steady g.active h g.documents all at
 
 -- ---- what becomes of the documents
-chosen-steady : (b : Bool) (h : History) (d : OpenDocument) → IsSteady h → IsSteady d.history → IsSteady (cond b (record { name = d.name; history = h }) d).history
+chosen-steady : (b : Bool) (h : History) (d : OpenDocument) → IsSteady h → IsSteady d.history
+    → IsSteady (cond b (record { name = d.name; history = h }) d).history
 chosen-steady true h d new old = new
 chosen-steady false h d new old = old
 
@@ -40,14 +42,16 @@ with_history-AreSteady name h ds new all =
     let put : OpenDocument → OpenDocument = λ d. cond (bytes_eq name d.name) (record { name = d.name; history = h }) d in
     All-map steady put ds (All-weaker steady (λ d. steady (put d)) (λ d old. chosen-steady (bytes_eq name d.name) h d new old) ds all)
 
-with_history_of-AreSteady : (active : Option (List ℕ)) (h : History) (ds : List OpenDocument) → IsSteady h → AreSteady ds → AreSteady (with_history_of active h ds)
+with_history_of-AreSteady : (active : Option (List ℕ)) (h : History) (ds : List OpenDocument) → IsSteady h → AreSteady ds
+    → AreSteady (with_history_of active h ds)
 with_history_of-AreSteady None h ds new all = all
 with_history_of-AreSteady (Some name) h ds new all = with_history-AreSteady name h ds new all
 
 pub with_active-AreSteady : (h : History) (g : GroupParts) → IsSteady h → AreSteady g.documents → AreSteady (with_active h g).documents
 with_active-AreSteady h g new all = with_history_of-AreSteady g.active h g.documents new all
 
-pub added-AreSteady : (name : List ℕ) (h : History) (ds : List OpenDocument) → IsSteady h → AreSteady ds → AreSteady (ds ++ record { name = name; history = h } ∷ [])
+pub added-AreSteady : (name : List ℕ) (h : History) (ds : List OpenDocument) → IsSteady h → AreSteady ds
+    → AreSteady (ds ++ record { name = name; history = h } ∷ [])
 added-AreSteady name h ds new all = All-push steady ds (record { name = name; history = h }) all new
 
 pub without-AreSteady : (name : List ℕ) (ds : List OpenDocument) → AreSteady ds → AreSteady (without name ds)

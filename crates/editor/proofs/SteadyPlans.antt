@@ -5,9 +5,13 @@ use Rattle.undo_stack.specs.History.{History, count}
 use Rattle.undo_stack.specs.Moving.{Answer, clean_answer}
 use Rattle.undo_stack.specs.Turning.{IsSteady}
 use Rattle.undo_stack.specs.declared.limits.TheConstants.{MAX_LIMIT}
-use Rattle.undo_stack.proofs.Steadiness.{Begins-steady, Clears-steady, Ends-steady, GoesTo-steady, MarksClean-steady, SetsLimit-steady, StepsBack-steady, StepsOn-steady, UnmarksClean-steady}
+use Rattle.undo_stack.proofs.Steadiness.{Begins-steady, Clears-steady, Ends-steady, GoesTo-steady, MarksClean-steady, SetsLimit-steady, StepsBack-steady}
+use Rattle.undo_stack.proofs.Steadiness.{StepsOn-steady, UnmarksClean-steady}
 use Rattle.session.specs.declared.line.Line.{Line}
-use Rattle.session.specs.declared.line.Line.TheVariants.{Quiet, New, Open, Save, Close, Discard, Use, Documents, Stamp, Erase, Fill, Select, SelectNone, Tile, AddLayer, RemoveLayer, RenameLayer, ShowLayer, MoveLayer, Resize, AddObject, MoveObject, ResizeObject, RemoveObject, SetProperty, RemoveProperty, AddTileset, RemoveTileset, Undo, Redo, Goto, Clean, Begin, End, Limit, Dirty, Clear, Show, Status, UndoText, RedoText, StepText}
+use Rattle.session.specs.declared.line.Line.TheVariants.{Quiet, New, Open, Save, Close, Discard, Use, Documents, Stamp, Erase, Fill, Select, SelectNone, Tile}
+use Rattle.session.specs.declared.line.Line.TheVariants.{AddLayer, RemoveLayer, RenameLayer, ShowLayer, MoveLayer, Resize, AddObject, MoveObject, ResizeObject}
+use Rattle.session.specs.declared.line.Line.TheVariants.{RemoveObject, SetProperty, RemoveProperty, AddTileset, RemoveTileset, Undo, Redo, Goto, Clean, Begin}
+use Rattle.session.specs.declared.line.Line.TheVariants.{End, Limit, Dirty, Clear, Show, Status, UndoText, RedoText, StepText}
 use Rattle.session.specs.declared.reply.Reply.{Reply}
 use Rattle.editor.specs.declared.planned.Planned.{Planned}
 use Rattle.editor.specs.declared.planned.Planned.TheVariants as planned
@@ -23,7 +27,8 @@ same_or : (h n : History) (P Q : Type 0) → IsSteady h → (P × (n ≡ h)) ⊎
 same_or h n P Q steady (inl a) = rw a.1 steady
 same_or h n P Q steady (inr a) = rw a.1 steady
 
-limited-steady : (steps : ℕ) (within : Bool) (limit : ℕ) (h n : History) (reply : Option Reply) → IsSteady h → LimitsAt steps within limit h reply n → IsSteady n
+limited-steady : (steps : ℕ) (within : Bool) (limit : ℕ) (h n : History) (reply : Option Reply) → IsSteady h → LimitsAt steps within limit h reply n
+    → IsSteady n
 limited-steady (suc steps) within limit h n reply steady a = rw a.1 steady
 limited-steady zero true limit h n reply steady a = SetsLimit-steady limit h a.0 n steady a.1
 limited-steady zero false limit h n reply steady a = rw a.1 steady

@@ -20,7 +20,8 @@ use Rattle.session.specs.declared.reply.Refusal.TheVariants as refusals
 use Rattle.session.specs.declared.reply.Reply.{Reply}
 use Rattle.session.specs.declared.reply.Reply.TheVariants as replies
 use Rattle.editor.specs.declared.planned.Edit.{Edit}
-use Rattle.editor.specs.declared.planned.Edit.TheVariants.{Paint, AddLayer, RemoveLayer, RenameLayer, ShowLayer, MoveLayer, Select, ResizeMap, AddObject, RemoveObject, PlaceObject, SetProperty, RemoveProperty, AddTileset, RemoveTileset}
+use Rattle.editor.specs.declared.planned.Edit.TheVariants.{Paint, AddLayer, RemoveLayer, RenameLayer, ShowLayer, MoveLayer, Select, ResizeMap, AddObject}
+use Rattle.editor.specs.declared.planned.Edit.TheVariants.{RemoveObject, PlaceObject, SetProperty, RemoveProperty, AddTileset, RemoveTileset}
 use Rattle.editor.specs.declared.planned.Planned.{Planned}
 use Rattle.editor.specs.declared.planned.Planned.TheVariants as planned
 use Rattle.editor.specs.Acts.{Act, Refuses, answer_of}

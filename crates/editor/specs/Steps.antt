@@ -24,13 +24,18 @@ use Rattle.undo_stack.specs.Moving.{StepsBack, StepsOn, GoesTo, MarksClean, Unma
 use Rattle.undo_stack.specs.Reading.{text_at, undo_text_of, redo_text_of}
 use Rattle.undo_group.specs.Groups.{removed}
 use Rattle.session.specs.declared.line.Line.{Line}
-use Rattle.session.specs.declared.line.Line.TheVariants.{Quiet, New, Open, Save, Close, Discard, Use, Documents, Stamp, Erase, Fill, Select, SelectNone, Tile, AddLayer, RemoveLayer, RenameLayer, ShowLayer, MoveLayer, Resize, AddObject, MoveObject, ResizeObject, RemoveObject, SetProperty, RemoveProperty, AddTileset, RemoveTileset, Undo, Redo, Goto, Clean, Begin, End, Limit, Dirty, Clear, Show, Status, UndoText, RedoText, StepText}
+use Rattle.session.specs.declared.line.Line.TheVariants.{Quiet, New, Open, Save, Close, Discard, Use, Documents, Stamp, Erase, Fill, Select, SelectNone, Tile}
+use Rattle.session.specs.declared.line.Line.TheVariants.{AddLayer, RemoveLayer, RenameLayer, ShowLayer, MoveLayer, Resize, AddObject, MoveObject, ResizeObject}
+use Rattle.session.specs.declared.line.Line.TheVariants.{RemoveObject, SetProperty, RemoveProperty, AddTileset, RemoveTileset, Undo, Redo, Goto, Clean, Begin}
+use Rattle.session.specs.declared.line.Line.TheVariants.{End, Limit, Dirty, Clear, Show, Status, UndoText, RedoText, StepText}
 use Rattle.session.specs.declared.line.LineFault.{LineFault}
 use Rattle.session.specs.declared.reply.Refusal.TheVariants as refusals
 use Rattle.session.specs.declared.reply.Reply.TheVariants as replies
 use Rattle.session.specs.Grammar.{line_of}
 use Rattle.session.specs.TypedValues.{property_value, type_name}
-use Rattle.editor.specs.Acts.{Act, Refuses, Answers, Passes, OrNoMemory, action_or, LimitsTo, Calls, Becomes, Pushes, WithActive, answer_of, GoesOn, Named, Closes, NotTaken, Creates, Uses, TellsText, FileAct, Alone, NewName, OfActive, OutsideMacros, FilesStay, OrStoreFails, OrNoMemoryForFile, Loads, Saves}
+use Rattle.editor.specs.Acts.{Act, Refuses, Answers, Passes, OrNoMemory, action_or, LimitsTo, Calls, Becomes, Pushes, WithActive, answer_of, GoesOn, Named}
+use Rattle.editor.specs.Acts.{Closes, NotTaken, Creates, Uses, TellsText, FileAct, Alone, NewName, OfActive, OutsideMacros, FilesStay, OrStoreFails}
+use Rattle.editor.specs.Acts.{OrNoMemoryForFile, Loads, Saves}
 use Rattle.editor.specs.Answers.{documents_text, status_reply, step_text_reply, tile_reply}
 use Rattle.editor.specs.Machine.{Machine, Workspace, active_of}
 
@@ -47,12 +52,14 @@ Allows (OnFiles act) old reply new = act old.stored new.stored old.machine reply
 Allows (OnDocuments act) old reply new = Alone act old.stored new.stored old.machine reply new.machine
 Allows (OnActive act) old reply new = Alone (WithActive act (active_of old.machine)) old.stored new.stored old.machine reply new.machine
 Allows (Edits names edit) old reply new =
-    Alone (WithActive (OrNoMemory (λ h. Pushes (answer_of names (edit (current h))) h)) (active_of old.machine)) old.stored new.stored old.machine reply new.machine
+    Alone (WithActive (OrNoMemory (λ h. Pushes (answer_of names (edit (current h))) h)) (active_of old.machine)) old.stored new.stored old.machine reply
+    new.machine
 
 abbrev pub rule_of : Line → Rule
 rule_of Quiet = OnDocuments Passes
 -- the open documents, and the files
-rule_of (New name width height tile_width tile_height source) = OnDocuments (NotTaken name (OrNoMemory (Creates name width height tile_width tile_height source)))
+rule_of (New name width height tile_width tile_height source) =
+    OnDocuments (NotTaken name (OrNoMemory (Creates name width height tile_width tile_height source)))
 rule_of (Open name file) = OnFiles (NewName name (OrStoreFails FilesStay (OrNoMemoryForFile (Loads name file))))
 rule_of (Save file) = OnFiles (OfActive (OutsideMacros (OrStoreFails (SameOthers file) (OrNoMemoryForFile (Saves file)))))
 rule_of (Close name) = OnDocuments (Named name (Closes name))
@@ -63,8 +70,10 @@ rule_of Status = OnDocuments (Answers λ m. status_reply (active_of m))
 rule_of UndoText = OnDocuments (TellsText undo_text_of)
 rule_of RedoText = OnDocuments (TellsText redo_text_of)
 -- cells and the selection
-rule_of (Stamp layer x y width values follows) = Edits (stamp_names layer follows) (λ d. after_stamp d layer (record { x = x; y = y; width = width; values = values }))
-rule_of (Erase layer x y width height follows) = Edits (erase_names layer follows) (λ d. after_erase d layer (record { x = x; y = y; width = width; height = height }))
+rule_of (Stamp layer x y width values follows) = Edits (stamp_names layer follows)
+    (λ d. after_stamp d layer (record { x = x; y = y; width = width; values = values }))
+rule_of (Erase layer x y width height follows) = Edits (erase_names layer follows)
+    (λ d. after_erase d layer (record { x = x; y = y; width = width; height = height }))
 rule_of (Fill layer x y value) = Edits fill_names (λ d. after_fill d layer x y value)
 rule_of (Select mode x y width height) = Edits select_names (λ d. after_select d (Rectangle mode (record { x = x; y = y; width = width; height = height })))
 rule_of SelectNone = Edits select_names (λ d. after_select d Nothing)
@@ -82,7 +91,8 @@ rule_of (MoveObject object x y follows) = Edits (move_object_names object follow
 rule_of (ResizeObject object width height) = Edits resize_object_names (λ d. after_resize_object d object width height)
 rule_of (RemoveObject object) = Edits remove_object_names (λ d. after_remove_object d object)
 -- properties and tilesets
-rule_of (SetProperty owner name value follows) = Edits (set_property_names owner name follows) (λ d. after_set_property d owner name (type_name value) (property_value value))
+rule_of (SetProperty owner name value follows) = Edits (set_property_names owner name follows)
+    (λ d. after_set_property d owner name (type_name value) (property_value value))
 rule_of (RemoveProperty owner name) = Edits remove_property_names (λ d. after_remove_property d owner name)
 rule_of (AddTileset first_id source) = Edits add_tileset_names (λ d. after_add_tileset d first_id source)
 rule_of (RemoveTileset first_id) = Edits remove_tileset_names (λ d. after_remove_tileset d first_id)

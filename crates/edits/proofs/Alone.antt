@@ -1,5 +1,6 @@
 -- A fill whose start has no free neighbour.
-use Rattle.std.proofs.Common.{◌≡◌, ◌≢◌, ◌↔◌, ℕ, suc, ◌+◌, ◌-◌, ◌*◌, ◌/◌, ◌%◌, ◌<◌, List, [], ◌∷◌, ◌++◌, length, Bool, true, false, cond, ◌&&◌, nat_eq, nat_lt, get_or, Some, None, refl, subst, sym, ap, ◌∙◌, arith}
+use Rattle.std.proofs.Common.{◌≡◌, ◌≢◌, ◌↔◌, ℕ, suc, ◌+◌, ◌-◌, ◌*◌, ◌/◌, ◌%◌, ◌<◌, List, [], ◌∷◌, ◌++◌, length, Bool, true, false, cond, ◌&&◌, nat_eq, nat_lt}
+use Rattle.std.proofs.Common.{get_or, Some, None, refl, subst, sym, ap, ◌∙◌, arith}
 use Rattle.std.specs.List.{slice_get}
 use Rattle.std.proofs.lemmas.Bool.{and_from, and_parts, eq-eqb, eqb-true, false_from_ne_true}
 use Rattle.std.proofs.lemmas.Nat.{div-add-mod', div-mul-add, mod-mul-add}
@@ -93,7 +94,8 @@ module _ (g : Ground) where
         ∙ difference-skip w g.tiles.now ys 0 at (λ i l. elsewhere (0 + i) (omega (arith, within)) (λ e. omega (arith, e, l)))
 
     -- the difference is that of the start, where it is free
-    pub difference-start : g.value ≢ value → difference w g.tiles.now ys (length g.tiles.now) ≡ cond (free_in g (x, y)) (record { x = x; y = y; before = g.value; after = value } ∷ []) []
+    pub difference-start : g.value ≢ value → difference w g.tiles.now ys (length g.tiles.now)
+        ≡ cond (free_in g (x, y)) (record { x = x; y = y; before = g.value; after = value } ∷ []) []
     difference-start other =
         let rest = length g.tiles.now - suc at in
         let all : suc at + rest ≡ length g.tiles.now = omega (arith, within) in
@@ -103,7 +105,8 @@ module _ (g : Ground) where
         ∙ ap (change_at w at (get_or g.tiles.now at 0)) here
         ∙ by_free (free_in g (x, y)) refl
       where
-        by_free : (b : Bool) → free_in g (x, y) ≡ b → change_at w at (get_or g.tiles.now at 0) (cond b value (get_or g.tiles.now at 0)) ≡ cond b (record { x = x; y = y; before = g.value; after = value } ∷ []) []
+        by_free : (b : Bool) → free_in g (x, y) ≡ b → change_at w at (get_or g.tiles.now at 0) (cond b value (get_or g.tiles.now at 0))
+            ≡ cond b (record { x = x; y = y; before = g.value; after = value } ∷ []) []
         by_free false e = change_at-same w at (get_or g.tiles.now at 0) (get_or g.tiles.now at 0) refl
         by_free true e =
             let both = and_parts (nat_lt x w) (is_value (slice_get g.tiles.now at) g.value && lets_change g.selection.now (x, y)) e in

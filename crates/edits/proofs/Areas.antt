@@ -1,5 +1,6 @@
 -- The cells of a map that lie in an area.
-use Rattle.std.proofs.Common.{◌≡◌, ◌⊎◌, inl, inr, ℕ, ℤ, ◌+◌, ◌-◌, ◌≤◌, ◌<◌, Bool, true, false, ◌&&◌, ◌||◌, nat_lt, Result, Ok, Err, IfOk, refl, sym, ap, subst, ◌∙◌, arith}
+use Rattle.std.proofs.Common.{◌≡◌, ◌⊎◌, inl, inr, ℕ, ℤ, ◌+◌, ◌-◌, ◌≤◌, ◌<◌, Bool, true, false, ◌&&◌, ◌||◌, nat_lt, Result, Ok, Err, IfOk, refl, sym, ap, subst}
+use Rattle.std.proofs.Common.{◌∙◌, arith}
 use Rattle.std.proofs.lemmas.Bool.{or_cases}
 use Rattle.std.specs.Prelude.{nat_le}
 use Rattle.std.specs.FinSet as set
@@ -23,7 +24,8 @@ contains-cells_in m a q =
     ∙ ap (λ b. b && in_area a q.0 q.1) (contains-rectangle 0 0 m.width m.height q)
 
 -- a column or a row of the map lies in the span exactly where it lies under the area
-is_below-span : (start : ℤ) (size limit : ℕ) (s : Span) → IsSpan start size limit s → (at : ℕ) → (nat_le s.first at && nat_lt at (s.first + (s.end - s.first))) ≡ (nat_lt at limit && is_below (offset start at) size)
+is_below-span : (start : ℤ) (size limit : ℕ) (s : Span) → IsSpan start size limit s → (at : ℕ)
+    → (nat_le s.first at && nat_lt at (s.first + (s.end - s.first))) ≡ (nat_lt at limit && is_below (offset start at) size)
 is_below-span start size limit s h at = by_tests (nat_lt at s.first) (nat_lt at s.end) (nat_lt at limit) refl refl refl
   where
     early : at < s.first → (nat_le s.first at && nat_lt at (s.first + (s.end - s.first))) ≡ false
@@ -39,8 +41,10 @@ is_below-span start size limit s h at = by_tests (nat_lt at s.first) (nat_lt at 
     and_false true = refl
     and_false false = refl
 
-    by_tests : (a b c : Bool) → nat_lt at s.first ≡ a → nat_lt at s.end ≡ b → nat_lt at limit ≡ c → (nat_le s.first at && nat_lt at (s.first + (s.end - s.first))) ≡ (nat_lt at limit && is_below (offset start at) size)
-    by_tests true b c p q r = let l : at < s.first = grind (arith, nat_tests) in early l ∙ and_false (nat_lt at limit) ∙ ap (λ t. nat_lt at limit && t) (sym (h.before at l))
+    by_tests : (a b c : Bool) → nat_lt at s.first ≡ a → nat_lt at s.end ≡ b → nat_lt at limit ≡ c
+        → (nat_le s.first at && nat_lt at (s.first + (s.end - s.first))) ≡ (nat_lt at limit && is_below (offset start at) size)
+    by_tests true b c p q r = let l : at < s.first = grind (arith, nat_tests) in early l ∙ and_false (nat_lt at limit)
+        ∙ ap (λ t. nat_lt at limit && t) (sym (h.before at l))
     by_tests false true c p q r =
         let l : s.first ≤ at = grind (arith, nat_tests) in
         let k : at < s.end = grind (arith, nat_tests) in
@@ -73,9 +77,12 @@ in_rectangle-spans m a columns rows cs rs q =
     ∙ sym (contains-cells_in m a q)
 
 -- a set with these cells is the one of the area
-pub cells_in-rectangle : (m : MapParts) (a : Area) (columns rows : Span) (o : Result (set.FinSet cell_cmp) AllocError) → IsSpan a.x a.width m.width columns → IsSpan a.y a.height m.height rows
-    → IfOk o (λ s. (q : ℕ × ℕ) → set.contains s q ≡ in_rectangle columns.first rows.first (columns.end - columns.first) (rows.end - rows.first) q) → IfOk o (λ s. s ≡ cells_in m a)
-cells_in-rectangle m a columns rows (Ok s) cs rs h = set.same_set cell_cmp_total cell_cmp-same s (cells_in m a) (λ q. h q ∙ in_rectangle-spans m a columns rows cs rs q)
+pub cells_in-rectangle : (m : MapParts) (a : Area) (columns rows : Span) (o : Result (set.FinSet cell_cmp) AllocError) → IsSpan a.x a.width m.width columns
+    → IsSpan a.y a.height m.height rows
+    → IfOk o (λ s. (q : ℕ × ℕ) → set.contains s q ≡ in_rectangle columns.first rows.first (columns.end - columns.first) (rows.end - rows.first) q)
+    → IfOk o (λ s. s ≡ cells_in m a)
+cells_in-rectangle m a columns rows (Ok s) cs rs h = set.same_set cell_cmp_total cell_cmp-same s (cells_in m a)
+    (λ q. h q ∙ in_rectangle-spans m a columns rows cs rs q)
 cells_in-rectangle m a columns rows (Err e) cs rs h = tt
 
 -- ---- selections
@@ -99,14 +106,16 @@ in_map m q e = let both = whole_map m q ∙ e in (column (and_left _ _ both), ro
 cells_in-IsSelectionOf : (m : MapParts) (a : Area) → IsSelectionOf m (cells_in m a)
 cells_in-IsSelectionOf m a q e = in_map m q (and_left _ _ (sym (contains-cells_in m a q) ∙ e))
 
-combined-IsSelectionOf : (m : MapParts) (mode : SelectionMode) (s t : set.FinSet cell_cmp) → IsSelectionOf m s → IsSelectionOf m t → IsSelectionOf m (combined mode s t)
+combined-IsSelectionOf : (m : MapParts) (mode : SelectionMode) (s t : set.FinSet cell_cmp) → IsSelectionOf m s → IsSelectionOf m t
+    → IsSelectionOf m (combined mode s t)
 combined-IsSelectionOf m Replace s t h k q e = k q e
 combined-IsSelectionOf m Add s t h k q e = elim (or_cases _ _ (sym (set.contains-union cell_cmp_total s t q) ∙ e)) [ inl one ↦ h q one | inr one ↦ k q one ]
 combined-IsSelectionOf m Subtract s t h k q e = h q (and_left _ _ (sym (set.contains-difference cell_cmp_total s t q) ∙ e))
 combined-IsSelectionOf m Intersect s t h k q e = h q (and_left _ _ (sym (set.contains-intersection cell_cmp_total s t q) ∙ e))
 
 -- a selection of the map and cells in an area lead to one of the map
-pub combined-selected : (d : DocumentParts) (m : MapParts) (mode : SelectionMode) (a : Area) (s t : set.FinSet cell_cmp) (o : Result (set.FinSet cell_cmp) AllocError) → IsDocument d → s ≡ d.selection → m ≡ d.map
+pub combined-selected : (d : DocumentParts) (m : MapParts) (mode : SelectionMode) (a : Area) (s t : set.FinSet cell_cmp)
+    (o : Result (set.FinSet cell_cmp) AllocError) → IsDocument d → s ≡ d.selection → m ≡ d.map
     → t ≡ cells_in m a → IfOk o (λ r. r ≡ combined mode s t) → IfOk o (IsSelectionOf d.map)
 combined-selected d m mode a s t (Ok r) h own same cells is =
     let own_is : IsSelectionOf d.map s = subst (IsSelectionOf d.map) (sym own) h.selection in

@@ -1,5 +1,6 @@
 -- What the calls of an edit hand on: the layer of a well-formed map, the extent of an edit in it, and its change.
-use Rattle.std.proofs.Common.{◌≡◌, inl, inr, ℕ, ◌/◌, ◌%◌, ◌*◌, ◌<◌, List, length, Bor, Option, Some, None, false, Result, Ok, Err, IfOk, IsSomeAnd, ℤ, mul_comm, sym, ap, ◌∙◌, subst, arith}
+use Rattle.std.proofs.Common.{◌≡◌, inl, inr, ℕ, ◌/◌, ◌%◌, ◌*◌, ◌<◌, List, length, Bor, Option, Some, None, false, Result, Ok, Err, IfOk, IsSomeAnd, ℤ, mul_comm}
+use Rattle.std.proofs.Common.{sym, ap, ◌∙◌, subst, arith}
 use Rattle.std.specs.FinSet as set
 use Rattle.region.specs.Cells.{cell_cmp}
 use Rattle.map_model.specs.declared.parts.Body.{Body}
@@ -35,7 +36,8 @@ pub record IsTheLayer (m : MapParts) (id : ℕ) (tiles : List ℕ) : Type 0 wher
   pub has : HasTiles m id
   pub is : tiles ≡ tiles_in m id
 
-tiles_of_found : (found : Option Layer) (tiles : List ℕ) → tiles_or_fault found ≡ Ok tiles → IsSomeAnd found (λ l. IsTiles l.body) × (tiles ≡ tiles_of_layer found)
+tiles_of_found : (found : Option Layer) (tiles : List ℕ) → tiles_or_fault found ≡ Ok tiles
+    → IsSomeAnd found (λ l. IsTiles l.body) × (tiles ≡ tiles_of_layer found)
 tiles_of_found None tiles e = cc
 tiles_of_found (Some l) tiles e = by_body l.body e
   where
@@ -70,7 +72,8 @@ IsLayerOf-map m id tiles h =
 -- an edit puts nothing over the columns and rows outside its spans
 module _ (m : MapParts) (id : ℕ) (tiles : Bor (List ℕ)) (selection : Bor (set.FinSet cell_cmp)) (layer : IsTheLayer m id tiles.now)
     (over : ℕ → ℕ → Option ℕ) (x y : ℤ) (width height : ℕ) (columns rows : Span)
-    (past_column : (a b : ℕ) → is_below (offset x a) width ≡ false → over a b ≡ None) (past_row : (a b : ℕ) → is_below (offset y b) height ≡ false → over a b ≡ None)
+    (past_column : (a b : ℕ) → is_below (offset x a) width ≡ false → over a b ≡ None)
+    (past_row : (a b : ℕ) → is_below (offset y b) height ≡ false → over a b ≡ None)
     (is_columns : IsSpan x width m.width columns) (is_rows : IsSpan y height m.height rows) where
   pub IsExtent-spans : IsExtent over (record { tiles = tiles; width = m.width; columns = columns; rows = rows; selection = selection })
   unfolding IsLayerOf-map
@@ -87,14 +90,16 @@ module _ (m : MapParts) (id : ℕ) (tiles : Bor (List ℕ)) (selection : Bor (se
 whole_rows : (n w : ℕ) → 0 < w → n % w ≡ 0 → n ≡ n / w * w
 whole_rows n w l e = omega arith
 
-pub IsExtent-stamp : (m : MapParts) (id : ℕ) (tiles : Bor (List ℕ)) (selection : Bor (set.FinSet cell_cmp)) (columns rows : Span) (b : ValueBlock) → IsTheLayer m id tiles.now → IsBlock b
+pub IsExtent-stamp : (m : MapParts) (id : ℕ) (tiles : Bor (List ℕ)) (selection : Bor (set.FinSet cell_cmp)) (columns rows : Span) (b : ValueBlock)
+    → IsTheLayer m id tiles.now → IsBlock b
     → IsSpan b.x b.width m.width columns → IsSpan b.y (length b.values / b.width) m.height rows
     → IsExtent (stamp_over b) (record { tiles = tiles; width = m.width; columns = columns; rows = rows; selection = selection })
 IsExtent-stamp m id tiles selection columns rows b layer h cs rs =
     IsExtent-spans m id tiles selection layer (stamp_over b) b.x b.y b.width (length b.values / b.width) columns rows
     (stamp_over-column b) (λ x y. stamp_over-row b x y (length b.values / b.width) (whole_rows (length b.values) b.width (omega (arith, h.wide)) h.whole)) cs rs
 
-pub IsExtent-erase : (m : MapParts) (id : ℕ) (tiles : Bor (List ℕ)) (selection : Bor (set.FinSet cell_cmp)) (columns rows : Span) (a : Area) → IsTheLayer m id tiles.now
+pub IsExtent-erase : (m : MapParts) (id : ℕ) (tiles : Bor (List ℕ)) (selection : Bor (set.FinSet cell_cmp)) (columns rows : Span) (a : Area)
+    → IsTheLayer m id tiles.now
     → IsSpan a.x a.width m.width columns → IsSpan a.y a.height m.height rows
     → IsExtent (erase_over a) (record { tiles = tiles; width = m.width; columns = columns; rows = rows; selection = selection })
 IsExtent-erase m id tiles selection columns rows a layer cs rs =
@@ -122,15 +127,19 @@ IsPainted-changes d id over after tiles change accepted layer is cells = record 
     cells = cells ∙ changes-difference_in d.map id tiles over layer;
     ordered =
         let P : List CellEdit → Type 0 = AreInRowOrder in
-        subst P (sym cells) (difference-AreInRowOrder d.map.width tiles (covered d.map.width over tiles) (length tiles) (omega (arith, layer.well_formed.size.wide)));
+        subst P (sym cells) (difference-AreInRowOrder d.map.width tiles (covered d.map.width over tiles) (length tiles)
+        (omega (arith, layer.well_formed.size.wide)));
   };
 }
 
 -- where a call made a change of a layer of this width, with this selection, that change is the difference
-pub IsPainted-result : (d : DocumentParts) (id : ℕ) (own : ℕ → ℕ → Option ℕ) (after : Result DocumentParts EditFault) (tiles : List ℕ) (width : ℕ) (over : ℕ → ℕ → Option ℕ)
+pub IsPainted-result : (d : DocumentParts) (id : ℕ) (own : ℕ → ℕ → Option ℕ) (after : Result DocumentParts EditFault) (tiles : List ℕ) (width : ℕ)
+    (over : ℕ → ℕ → Option ℕ)
     (o : Result CellChange EditFault) → after ≡ Ok (with_map (covered_map id own) d) → IsTheLayer d.map id tiles → width ≡ d.map.width → over ≡ own
-    → IfOk o (λ change. change.layer ≡ id) → IfOk o (λ change. change.cells ≡ difference width tiles (covered width over tiles) (length tiles)) → IfOk o (IsPainted d id after)
+    → IfOk o (λ change. change.layer ≡ id) → IfOk o (λ change. change.cells ≡ difference width tiles (covered width over tiles) (length tiles))
+    → IfOk o (IsPainted d id after)
 IsPainted-result d id own after tiles width over (Ok change) accepted layer wide same is cells =
     IsPainted-changes d id own after tiles change accepted layer is
-    (cells ∙ ap (λ w. difference w tiles (covered w over tiles) (length tiles)) wide ∙ ap (λ (f : ℕ → ℕ → Option ℕ). difference d.map.width tiles (covered d.map.width f tiles) (length tiles)) same)
+    (cells ∙ ap (λ w. difference w tiles (covered w over tiles) (length tiles)) wide
+    ∙ ap (λ (f : ℕ → ℕ → Option ℕ). difference d.map.width tiles (covered d.map.width f tiles) (length tiles)) same)
 IsPainted-result d id own after tiles width over (Err fault) accepted layer wide same is cells = tt

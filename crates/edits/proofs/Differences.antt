@@ -8,7 +8,8 @@ pub change_at-same : (width number a b : ℕ) → b ≡ a → change_at width nu
 change_at-same width number a b e = let same : nat_eq a b ≡ true = grind (arith, nat_tests) in rw same refl
 
 -- cells in which the values are the same add nothing
-pub difference-skip : (width : ℕ) (xs ys : List ℕ) (k n : ℕ) → ((i : ℕ) → i < n → get_or ys (k + i) 0 ≡ get_or xs (k + i) 0) → difference width xs ys (k + n) ≡ difference width xs ys k
+pub difference-skip : (width : ℕ) (xs ys : List ℕ) (k n : ℕ) → ((i : ℕ) → i < n → get_or ys (k + i) 0 ≡ get_or xs (k + i) 0)
+    → difference width xs ys (k + n) ≡ difference width xs ys k
 difference-skip width xs ys k zero h = rw add-zero refl
 difference-skip width xs ys k (suc n) h =
     rw (add-suc k n, change_at-same width (k + n) (get_or xs (k + n) 0) (get_or ys (k + n) 0) (h n (omega arith)), append-nil)

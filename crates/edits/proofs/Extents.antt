@@ -1,5 +1,6 @@
 -- The changes of a layer, cell by cell, in the extent of an edit.
-use Rattle.std.proofs.Common.{◌≡◌, ◌⊎◌, inl, inr, ℕ, zero, suc, ◌+◌, ◌-◌, ◌*◌, ◌/◌, ◌%◌, ◌<◌, ◌≤◌, List, [], ◌∷◌, ◌++◌, length, Bool, true, false, cond, ◌||◌, nat_eq, get_or, Option, None, add-zero, add-suc, refl, sym, ap, ◌∙◌, arith}
+use Rattle.std.proofs.Common.{◌≡◌, ◌⊎◌, inl, inr, ℕ, zero, suc, ◌+◌, ◌-◌, ◌*◌, ◌/◌, ◌%◌, ◌<◌, ◌≤◌, List, [], ◌∷◌, ◌++◌, length, Bool, true, false, cond, ◌||◌}
+use Rattle.std.proofs.Common.{nat_eq, get_or, Option, None, add-zero, add-suc, refl, sym, ap, ◌∙◌, arith}
 use Rattle.std.specs.FinSet as set
 use Rattle.std.proofs.lemmas.Bool.Decides.{nat_tests}
 use Rattle.std.proofs.lemmas.Nat.{mul-add-lt, mod-mul-add, div-mul-add}
@@ -13,7 +14,8 @@ use Rattle.edits.proofs.Differences.{difference-skip, get_or-each_at}
 
 -- ---- selections
 pub lets_change-empty : (s : set.FinSet cell_cmp) → s ≡ set.empty → (q : ℕ × ℕ) → lets_change s q ≡ true
-lets_change-empty s e q = ap (λ t. nat_eq (set.len t) 0 || set.contains t q) e ∙ ap (λ n. nat_eq n 0 || set.contains (set.empty {R = cell_cmp}) q) (set.len-empty cell_cmp)
+lets_change-empty s e q = ap (λ t. nat_eq (set.len t) 0 || set.contains t q) e
+    ∙ ap (λ n. nat_eq n 0 || set.contains (set.empty {R = cell_cmp}) q) (set.len-empty cell_cmp)
 
 pub lets_change-some : (s : set.FinSet cell_cmp) → (s ≡ set.empty → ⊥) → (q : ℕ × ℕ) → lets_change s q ≡ set.contains s q
 lets_change-some s some q = by_test (nat_eq (set.len s) 0) refl
@@ -45,7 +47,8 @@ module _ (over : ℕ → ℕ → Option ℕ) (r : Extent) (h : IsExtent over r) 
 
   -- one more cell
   pub changes-cell : (x y : ℕ) → x < r.width → y < h.layer.height
-      → changes_below over r (suc (y * r.width + x)) ≡ changes_below over r (y * r.width + x) ++ changed_to x y (get_or r.tiles.now (y * r.width + x) 0) (where_selected r.selection.now over x y)
+      → changes_below over r (suc (y * r.width + x)) ≡ changes_below over r (y * r.width + x)
+      ++ changed_to x y (get_or r.tiles.now (y * r.width + x) 0) (where_selected r.selection.now over x y)
   changes-cell x y a b =
       let before = get_or r.tiles.now (y * r.width + x) 0 in
       let after = covered_value (where_selected r.selection.now over x y) before in
@@ -88,8 +91,10 @@ module _ (over : ℕ → ℕ → Option ℕ) (r : Extent) (h : IsExtent over r) 
   selected x y e = ap (λ b. cond b (over x y) None) e
 
   -- one more cell that may be changed
-  pub changes-next : (x y before d : ℕ) (o : Option ℕ) (cells more : List CellEdit) → x < r.width → y < h.layer.height → lets_change r.selection.now (x, y) ≡ true
-      → before ≡ get_or r.tiles.now (y * r.width + x) d → o ≡ over x y → cells ≡ changes_below over r (y * r.width + x) → more ≡ cells ++ changed_to x y before o
+  pub changes-next : (x y before d : ℕ) (o : Option ℕ) (cells more : List CellEdit) → x < r.width → y < h.layer.height
+      → lets_change r.selection.now (x, y) ≡ true
+      → before ≡ get_or r.tiles.now (y * r.width + x) d → o ≡ over x y → cells ≡ changes_below over r (y * r.width + x)
+      → more ≡ cells ++ changed_to x y before o
       → more ≡ changes_below over r (y * r.width + (x + 1))
   changes-next x y before d o cells more column row e was is so_far step =
       let at = y * r.width + x in
@@ -122,23 +127,28 @@ module _ (over : ℕ → ℕ → Option ℕ) (r : Extent) (h : IsExtent over r) 
   other-row y e other =
       let all : suc y * r.width ≡ y * r.width + r.width = omega arith in
       let none : y * r.width + 0 ≡ y * r.width = omega arith in
-      ap (changes_below over r) all ∙ changes-gap y 0 r.width e (omega arith) (omega arith) (λ x k l. nothing-over x y (h.other_rows x y e other)) ∙ ap (changes_below over r) none
+      ap (changes_below over r) all ∙ changes-gap y 0 r.width e (omega arith) (omega arith) (λ x k l. nothing-over x y (h.other_rows x y e other))
+      ∙ ap (changes_below over r) none
 
-  other-rows : (k n : ℕ) → k + n ≤ h.layer.height → ((y : ℕ) → k ≤ y → y < k + n → (y < r.rows.first) ⊎ (r.rows.end ≤ y)) → changes_below over r ((k + n) * r.width) ≡ changes_below over r (k * r.width)
+  other-rows : (k n : ℕ) → k + n ≤ h.layer.height → ((y : ℕ) → k ≤ y → y < k + n → (y < r.rows.first) ⊎ (r.rows.end ≤ y))
+      → changes_below over r ((k + n) * r.width) ≡ changes_below over r (k * r.width)
   other-rows k zero e other = rw add-zero refl
   other-rows k (suc n) e other =
-      rw (add-suc k n) (other-row (k + n) (omega arith) (other (k + n) (omega arith) (omega arith)) ∙ other-rows k n (omega arith) (λ y a b. other y a (omega arith)))
+      rw (add-suc k n) (other-row (k + n) (omega arith) (other (k + n) (omega arith) (omega arith))
+      ∙ other-rows k n (omega arith) (λ y a b. other y a (omega arith)))
 
   pub changes-above : [] ≡ changes_below over r (r.rows.first * r.width)
   changes-above =
       let start : 0 ≡ 0 * r.width = omega arith in
       let first : 0 + r.rows.first ≡ r.rows.first = omega arith in
-      ap (changes_below over r) start ∙ sym (other-rows 0 r.rows.first (omega (arith, h.rows, h.rows_within)) (λ y a b. inl (omega arith))) ∙ ap (λ n. changes_below over r (n * r.width)) first
+      ap (changes_below over r) start ∙ sym (other-rows 0 r.rows.first (omega (arith, h.rows, h.rows_within)) (λ y a b. inl (omega arith)))
+      ∙ ap (λ n. changes_below over r (n * r.width)) first
 
   pub changes-all : changes_below over r (r.rows.end * r.width) ≡ changes_below over r (length r.tiles.now)
   changes-all =
       let all : r.rows.end + (h.layer.height - r.rows.end) ≡ h.layer.height = omega (arith, h.rows_within) in
-      sym (other-rows r.rows.end (h.layer.height - r.rows.end) (omega arith) (λ y a b. inr a)) ∙ ap (λ n. changes_below over r (n * r.width)) all ∙ ap (changes_below over r) (sym h.layer.size)
+      sym (other-rows r.rows.end (h.layer.height - r.rows.end) (omega arith) (λ y a b. inr a)) ∙ ap (λ n. changes_below over r (n * r.width)) all
+      ∙ ap (changes_below over r) (sym h.layer.size)
 
   -- one cell
   pub changes-before_one : r.rows.first < h.layer.height → [] ≡ changes_below over r (r.rows.first * r.width + r.columns.first)
@@ -148,5 +158,7 @@ module _ (over : ℕ → ℕ → Option ℕ) (r : Extent) (h : IsExtent over r) 
       → changes_below over r (r.rows.first * r.width + (r.columns.first + 1)) ≡ changes_below over r (length r.tiles.now)
   changes-of_one column row =
       let y = r.rows.first in
-      let all : r.rows.end * r.width ≡ y * r.width + r.width = ap (λ n. n * r.width) row ∙ (let next : (y + 1) * r.width ≡ y * r.width + r.width = omega arith in next) in
-      ap (λ n. changes_below over r (y * r.width + n)) (sym column) ∙ sym (changes-right y (omega (arith, row, h.rows_within))) ∙ ap (changes_below over r) (sym all) ∙ changes-all
+      let all : r.rows.end * r.width ≡ y * r.width + r.width = ap (λ n. n * r.width) row
+      ∙ (let next : (y + 1) * r.width ≡ y * r.width + r.width = omega arith in next) in
+      ap (λ n. changes_below over r (y * r.width + n)) (sym column) ∙ sym (changes-right y (omega (arith, row, h.rows_within)))
+      ∙ ap (changes_below over r) (sym all) ∙ changes-all

@@ -39,12 +39,15 @@ HasCell-map m id tiles x y layer column row = record {
 }
 
 -- ---- the change
-pub fill-IsPainted : (d : DocumentParts) (id : ℕ) (x y : ℤ) (value : ℕ) (start : ℕ × ℕ) (tiles : List ℕ) (width : ℕ) (selection : set.FinSet cell_cmp) (change : CellChange) → Some start ≡ map_cell d.map x y
-    → tiles_or_fault (layer_of d.map id) ≡ Ok tiles → is_known d.map value ≡ true → IsTheLayer d.map id tiles → width ≡ d.map.width → selection ≡ d.selection → change.layer ≡ id
+pub fill-IsPainted : (d : DocumentParts) (id : ℕ) (x y : ℤ) (value : ℕ) (start : ℕ × ℕ) (tiles : List ℕ) (width : ℕ) (selection : set.FinSet cell_cmp)
+    (change : CellChange) → Some start ≡ map_cell d.map x y
+    → tiles_or_fault (layer_of d.map id) ≡ Ok tiles → is_known d.map value ≡ true → IsTheLayer d.map id tiles → width ≡ d.map.width → selection ≡ d.selection
+    → change.layer ≡ id
     → change.cells ≡ difference width tiles (covered width (fill_over width tiles selection start value) tiles) (length tiles)
     → IsPainted d id (after_fill d id x y value) change
 fill-IsPainted d id x y value start tiles width selection change found there known layer wide chosen is cells =
-    IsPainted-changes d id (fill_over d.map.width tiles d.selection start value) (after_fill d id x y value) tiles change (rw (there, ← found, known) refl) layer is
+    IsPainted-changes d id (fill_over d.map.width tiles d.selection start value) (after_fill d id x y value) tiles change
+    (rw (there, ← found, known) refl) layer is
     (cells
     ∙ ap (λ w. difference w tiles (covered w (fill_over w tiles selection start value) tiles) (length tiles)) wide
     ∙ ap (λ s. difference d.map.width tiles (covered d.map.width (fill_over d.map.width tiles s start value) tiles) (length tiles)) chosen)

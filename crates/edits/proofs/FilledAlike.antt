@@ -45,7 +45,9 @@ module _ (g : Ground) (s : Spread) (value : ℕ) (some : 0 < g.width) (free : (q
   changed : (k : ℕ) (b : Bool) → taken_at s k ≡ b
       → Each (HasValues g.value value) (change_at g.width k (get_or g.tiles.now k 0) (get_or (covered g.width (taken_over g s value) g.tiles.now) k 0))
   changed k false none =
-      subst (Each (HasValues g.value value)) (sym (change_at-same g.width k (get_or g.tiles.now k 0) (get_or (covered g.width (taken_over g s value) g.tiles.now) k 0) (unmarked-same g s value some k none))) tt
+      subst (Each (HasValues g.value value)) (sym
+      (change_at-same g.width k (get_or g.tiles.now k 0) (get_or (covered g.width (taken_over g s value) g.tiles.now) k 0)
+      (unmarked-same g s value some k none))) tt
   changed k true taken =
       let is_free = taken-free_at k taken in
       let old : get_or g.tiles.now k 0 ≡ g.value = old-value g s value some k is_free in
@@ -56,7 +58,8 @@ module _ (g : Ground) (s : Spread) (value : ℕ) (some : 0 < g.width) (free : (q
   changes-values : (n : ℕ) → Each (HasValues g.value value) (changes_below g s value n)
   changes-values zero = tt
   changes-values (suc k) =
-      Each-append (HasValues g.value value) (changes_below g s value k) (change_at g.width k (get_or g.tiles.now k 0) (get_or (covered g.width (taken_over g s value) g.tiles.now) k 0))
+      Each-append (HasValues g.value value) (changes_below g s value k)
+      (change_at g.width k (get_or g.tiles.now k 0) (get_or (covered g.width (taken_over g s value) g.tiles.now) k 0))
       (changes-values k) (changed k (taken_at s k) refl)
 
   pub changes-alike : (n : ℕ) → AreAlike (changes_below g s value n)

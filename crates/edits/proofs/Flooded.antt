@@ -1,5 +1,6 @@
 -- Cells that a fill takes, word by word.
-use Rattle.std.proofs.Common.{◌≡◌, ◌≢◌, inl, inr, ℕ, suc, ◌+◌, ◌-◌, ◌*◌, ◌/◌, ◌%◌, ◌<◌, ◌≤◌, List, length, true, false, ◌&&◌, nat_eq, nat_lt, sym, ap, ◌∙◌, mul_comm, arith}
+use Rattle.std.proofs.Common.{◌≡◌, ◌≢◌, inl, inr, ℕ, suc, ◌+◌, ◌-◌, ◌*◌, ◌/◌, ◌%◌, ◌<◌, ◌≤◌, List, length, true, false, ◌&&◌, nat_eq, nat_lt, sym, ap, ◌∙◌}
+use Rattle.std.proofs.Common.{mul_comm, arith}
 use Rattle.std.specs.List.{slice_get}
 use Rattle.std.proofs.lemmas.Bool.{cases_lt, and_parts, and_from, ltb-true, lt-ltb, leb-true, le-leb, eq-eqb, false≢true}
 use Rattle.std.proofs.lemmas.Bool.Decides.{nat_tests}
@@ -20,7 +21,8 @@ is_between-true a b k h = let p = and_parts _ _ h in (leb-true a k p.0, ltb-true
 pub between : (a b k : ℕ) → a ≤ k → k < b → is_between a b k ≡ true
 between a b k p q = and_from _ _ (le-leb a k p) (lt-ltb k b q)
 
-pub in_row : (w y first end : ℕ) (q : ℕ × ℕ) → q.0 < w → end ≤ w → y * w + first ≤ q.1 * w + q.0 → q.1 * w + q.0 < y * w + end → (y ≡ q.1) × (first ≤ q.0) × (q.0 < end)
+pub in_row : (w y first end : ℕ) (q : ℕ × ℕ) → q.0 < w → end ≤ w → y * w + first ≤ q.1 * w + q.0 → q.1 * w + q.0 < y * w + end
+    → (y ≡ q.1) × (first ≤ q.0) × (q.0 < end)
 in_row w y first end q l m p r =
     let right = q.1 * w + q.0 - y * w in
     let small : right < w = omega arith in
@@ -58,7 +60,8 @@ module _ (g : Ground) where
   pub free_at-read : 0 < g.width → (p : ℕ) → free_at g p ≡ (is_value (slice_get g.tiles.now p) g.value && lets_change g.selection.now (cell_of g p))
   unfolding free_at
   free_at-read some p =
-      ap (λ b. b && (is_value (slice_get g.tiles.now (p / g.width * g.width + p % g.width)) g.value && lets_change g.selection.now (cell_of g p))) (lt-ltb (p % g.width) g.width (mod_below p g.width some))
+      ap (λ b. b && (is_value (slice_get g.tiles.now (p / g.width * g.width + p % g.width)) g.value && lets_change g.selection.now (cell_of g p)))
+      (lt-ltb (p % g.width) g.width (mod_below p g.width some))
       ∙ ap (λ k. is_value (slice_get g.tiles.now k) g.value && lets_change g.selection.now (cell_of g p)) (div-add-mod' p g.width)
 
   pub free_at-value : 0 < g.width → (p : ℕ) → free_at g p ≡ true → is_value (slice_get g.tiles.now p) g.value ≡ true

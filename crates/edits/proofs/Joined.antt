@@ -1,5 +1,6 @@
 -- Cells that are joined: a list of cells leads from one to the other, exactly where as many steps as there are cells do.
-use Rattle.std.proofs.Common.{◌≡◌, ◌⊎◌, ◌↔◌, inl, inr, ℕ, zero, suc, ◌+◌, ◌-◌, ◌*◌, ◌/◌, ◌%◌, ◌<◌, ◌≤◌, List, [], ◌∷◌, ◌++◌, Bool, true, false, cond, ◌&&◌, ◌||◌, nat_eq, refl, sym, ap, ◌∙◌, subst, mul_comm, arith}
+use Rattle.std.proofs.Common.{◌≡◌, ◌⊎◌, ◌↔◌, inl, inr, ℕ, zero, suc, ◌+◌, ◌-◌, ◌*◌, ◌/◌, ◌%◌, ◌<◌, ◌≤◌, List, [], ◌∷◌, ◌++◌, Bool, true, false, cond, ◌&&◌}
+use Rattle.std.proofs.Common.{◌||◌, nat_eq, refl, sym, ap, ◌∙◌, subst, mul_comm, arith}
 use Rattle.std.proofs.Math.Bool.{or-false}
 use Rattle.std.specs.List.{list_any}
 use Rattle.std.proofs.lemmas.Bool.{cases_lt, or_cases, and_parts, and_from, eqb-true, eq-eqb, false≢true, or_right, or_left}
@@ -21,14 +22,16 @@ beside_any test (suc a) b (inl s) e = let same : a ≡ b = omega arith in or_lef
 beside_any test (suc a) b (inr s) e = or_right (test a) (test (suc (suc a)) || false) (or_left (test (suc (suc a))) false (ap test s ∙ e))
 
 -- the test at the column, or the row, before and behind one: before the first there is none
-any_beside-by : (test : ℕ → Bool) (a before : ℕ) → (a ≡ 0 → test before ≡ false) → (0 < a → before ≡ a - 1) → list_any test (beside a) ≡ (test before || test (a + 1))
+any_beside-by : (test : ℕ → Bool) (a before : ℕ) → (a ≡ 0 → test before ≡ false) → (0 < a → before ≡ a - 1)
+    → list_any test (beside a) ≡ (test before || test (a + 1))
 any_beside-by test zero before none back = or-false (test 1) ∙ ap (λ b. b || test 1) (sym (none refl))
 any_beside-by test (suc a) before none back =
     let same : before ≡ a = omega (arith, back (omega arith)) in
     let next : suc a + 1 ≡ suc (suc a) = omega arith in
     ap (λ b. test a || b) (or-false (test (suc (suc a)))) ∙ ap (λ k. test k || test (suc (suc a))) (sym same) ∙ ap (λ k. test before || test k) (sym next)
 
-pub any_neighbour-by : (test : ℕ × ℕ → Bool) (x y left up : ℕ) → (x ≡ 0 → test (left, y) ≡ false) → (0 < x → left ≡ x - 1) → (y ≡ 0 → test (x, up) ≡ false) → (0 < y → up ≡ y - 1)
+pub any_neighbour-by : (test : ℕ × ℕ → Bool) (x y left up : ℕ) → (x ≡ 0 → test (left, y) ≡ false) → (0 < x → left ≡ x - 1) → (y ≡ 0 → test (x, up) ≡ false)
+    → (0 < y → up ≡ y - 1)
     → any_neighbour test (x, y) ≡ ((test (left, y) || test (x + 1, y)) || (test (x, up) || test (x, y + 1)))
 any_neighbour-by test x y left up first before top above =
     ap (λ b. b || list_any (λ k. test (x, k)) (beside y)) (any_beside-by (λ k. test (k, y)) x left first before)
@@ -59,7 +62,8 @@ count-le test test' (suc n) h = by_test (test n) refl (count-le test test' n (λ
     by_test false e l = rw e (omega arith)
 
 -- it holds of one more
-pub count-lt : (test test' : ℕ → Bool) (n at : ℕ) → ((k : ℕ) → k < n → test k ≡ true → test' k ≡ true) → at < n → test at ≡ false → test' at ≡ true → count test n < count test' n
+pub count-lt : (test test' : ℕ → Bool) (n at : ℕ) → ((k : ℕ) → k < n → test k ≡ true → test' k ≡ true) → at < n → test at ≡ false → test' at ≡ true
+    → count test n < count test' n
 count-lt test test' zero at h l e f = absurd (omega arith)
 count-lt test test' (suc n) at h l e f = elim (cases_lt at n) [
   | inl before ↦ by_test (test n) refl (count-lt test test' n at (λ k l e. h k (omega arith) e) before e f)
@@ -76,7 +80,8 @@ count-lt test test' (suc n) at h l e f = elim (cases_lt at n) [
 
 pub count-all : (test : ℕ → Bool) (n : ℕ) → count test n ≤ n
 count-all test zero = omega arith
-count-all test (suc n) = elim (test n) as (λ b. cond b 1 0 + count test n ≤ suc n) [ true ↦ omega (arith, count-all test n) | false ↦ omega (arith, count-all test n) ]
+count-all test (suc n) = elim (test n) as (λ b. cond b 1 0 + count test n ≤ suc n)
+    [ true ↦ omega (arith, count-all test n) | false ↦ omega (arith, count-all test n) ]
 
 -- a test that one number below the end tells from another, or none does
 difference_of : (test test' : ℕ → Bool) (n : ℕ) → ((k : ℕ) → k < n → test' k ≡ true → test k ≡ true) ⊎ ((k : ℕ) × (k < n) × (test k ≡ false) × (test' k ≡ true))
@@ -138,7 +143,8 @@ neighbours_turned p q (inr (column, inr e)) = inr (sym column, inl e)
 -- a cell with no free neighbour is joined to itself alone
 pub alone-joined : (free : ℕ × ℕ → Bool) (p q : ℕ × ℕ) → any_neighbour free p ≡ false → AreJoined free p q → p ≡ q
 alone-joined free p q alone ([], h) = h.1
-alone-joined free p q alone (r ∷ path, h) = absurd (false≢true (sym alone ∙ any_neighbour-of free r p (neighbours_turned p r h.1) (start_free free r q (path, h.2))))
+alone-joined free p q alone (r ∷ path, h) = absurd (false≢true
+    (sym alone ∙ any_neighbour-of free r p (neighbours_turned p r h.1) (start_free free r q (path, h.2))))
 
 -- ---- steps
 module _ (free : ℕ × ℕ → Bool) (p : ℕ × ℕ) where
@@ -192,7 +198,8 @@ module _ (free : ℕ × ℕ → Bool) (p : ℕ × ℕ) where
         let column = mod-mul-add q.1 w q.0 b.0 in
         let row = div-mul-add q.1 w q.0 b.0 in
         sym (ap (λ x. is_reached free p n (x, (q.1 * w + q.0) / w)) column ∙ ap (λ y. is_reached free p n (q.0, y)) row)
-        ∙ same (q.1 * w + q.0) inside (ap (λ x. is_reached free p (suc n) (x, (q.1 * w + q.0) / w)) column ∙ ap (λ y. is_reached free p (suc n) (q.0, y)) row ∙ r)
+        ∙ same (q.1 * w + q.0) inside (ap (λ x. is_reached free p (suc n) (x, (q.1 * w + q.0) / w)) column ∙ ap (λ y. is_reached free p (suc n) (q.0, y)) row
+        ∙ r)
 
     -- some number of steps below n is enough, or n cells are reached
     whole_or_more : (n : ℕ) → ((m : ℕ) × (m < n) × IsWhole m) ⊎ (n ≤ count (at_number n) (h * w))

@@ -1,5 +1,6 @@
 -- The values that have a tileset, by the lowest first id.
-use Rattle.std.proofs.Common.{◌≡◌, ℕ, ◌-◌, ◌^◌, ◌<◌, ◌≤◌, min, List, [], ◌∷◌, Bool, true, false, cond, ◌||◌, nat_eq, nat_le, nat_lt, Option, Some, None, is_some, refl, ap, ◌∙◌, arith}
+use Rattle.std.proofs.Common.{◌≡◌, ℕ, ◌-◌, ◌^◌, ◌<◌, ◌≤◌, min, List, [], ◌∷◌, Bool, true, false, cond, ◌||◌, nat_eq, nat_le, nat_lt, Option, Some, None}
+use Rattle.std.proofs.Common.{is_some, refl, ap, ◌∙◌, arith}
 use Rattle.std.proofs.lemmas.Bool.Decides.{nat_tests}
 use Rattle.std.proofs.lemmas.Nat.{mod_below}
 use Rattle.tile_id.specs.Gid.{base_of}
@@ -16,7 +17,8 @@ lowest_of lowest [] = lowest
 lowest_of lowest (t ∷ ts) = lowest_of (min lowest t.first_id) ts
 
 -- one tileset more is there, or is not above a base
-some-better : (base lowest : ℕ) (best : Option Tileset) (t : Tileset) → nat_le lowest base ≡ is_some best → nat_le (min lowest t.first_id) base ≡ is_some (better base best t)
+some-better : (base lowest : ℕ) (best : Option Tileset) (t : Tileset) → nat_le lowest base ≡ is_some best
+    → nat_le (min lowest t.first_id) base ≡ is_some (better base best t)
 some-better base lowest None t e = by_test (nat_lt base t.first_id) refl
   where
     by_test : (b : Bool) → nat_lt base t.first_id ≡ b → nat_le (min lowest t.first_id) base ≡ is_some (cond b None (Some t))
@@ -32,7 +34,8 @@ some-better base lowest (Some s) t e = by_test (nat_lt base t.first_id) (nat_lt 
     by_test false true = low
     by_test false false = low
 
-some-best : (base lowest : ℕ) (best : Option Tileset) (ts : List Tileset) → nat_le lowest base ≡ is_some best → nat_le (lowest_of lowest ts) base ≡ is_some (best_of base best ts)
+some-best : (base lowest : ℕ) (best : Option Tileset) (ts : List Tileset) → nat_le lowest base ≡ is_some best
+    → nat_le (lowest_of lowest ts) base ≡ is_some (best_of base best ts)
 some-best base lowest best [] e = e
 some-best base lowest best (t ∷ ts) e = some-best base (min lowest t.first_id) (better base best t) ts (some-better base lowest best t e)
 
@@ -47,7 +50,8 @@ not_from_limit : (base : ℕ) → base < 2 ^ 28 → nat_le (2 ^ 32 - 1) base ≡
 not_from_limit base small = grind (arith, nat_tests)
 
 -- a value of a well-formed map is known exactly from the lowest first id on
-pub known-from_lowest : (m : MapParts) (lowest value : ℕ) → IsWellFormed m → lowest ≡ lowest_of (2 ^ 32 - 1) m.tilesets → is_known_from lowest value ≡ is_known m value
+pub known-from_lowest : (m : MapParts) (lowest value : ℕ) → IsWellFormed m → lowest ≡ lowest_of (2 ^ 32 - 1) m.tilesets
+    → is_known_from lowest value ≡ is_known m value
 known-from_lowest m lowest value well e = ap (λ b. nat_eq value 0 || b) (by_base (nat_eq (base_of value) 0) refl)
   where
     one : 1 ≤ lowest

@@ -13,13 +13,15 @@ use Rattle.edits.specs.Joining.{is_free, is_value}
 use Rattle.edits.proofs.Joined.{is_reached-AreJoined}
 
 -- a free cell lies in the layer
-free-within : (w h : ℕ) (tiles : List ℕ) (selection : set.FinSet cell_cmp) (value : ℕ) → length tiles ≡ h * w → (q : ℕ × ℕ) → is_free w tiles selection value q ≡ true → (q.0 < w) × (q.1 < h)
+free-within : (w h : ℕ) (tiles : List ℕ) (selection : set.FinSet cell_cmp) (value : ℕ) → length tiles ≡ h * w → (q : ℕ × ℕ)
+    → is_free w tiles selection value q ≡ true → (q.0 < w) × (q.1 < h)
 free-within w h tiles selection value size q free = by_tests (nat_lt q.0 w) (nat_lt (q.1 * w + q.0) (length tiles)) refl refl free
   where
     row_of : q.1 * w + q.0 < h * w → q.1 < h
     row_of l = grind arith
 
-    by_tests : (a b : Bool) → nat_lt q.0 w ≡ a → nat_lt (q.1 * w + q.0) (length tiles) ≡ b → (a && (is_value (slice_get tiles (q.1 * w + q.0)) value && lets_change selection q)) ≡ true → (q.0 < w) × (q.1 < h)
+    by_tests : (a b : Bool) → nat_lt q.0 w ≡ a → nat_lt (q.1 * w + q.0) (length tiles) ≡ b
+        → (a && (is_value (slice_get tiles (q.1 * w + q.0)) value && lets_change selection q)) ≡ true → (q.0 < w) × (q.1 < h)
     by_tests true true s t e =
         let column : q.0 < w = grind (arith, nat_tests) in
         let number : q.1 * w + q.0 < length tiles = grind (arith, nat_tests) in

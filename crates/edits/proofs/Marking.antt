@@ -1,5 +1,6 @@
 -- Marks as bits of words.
-use Rattle.std.proofs.Common.{◌≡◌, ◌≢◌, ◌⊎◌, inl, inr, ℕ, ◌+◌, ◌-◌, ◌*◌, ◌/◌, ◌%◌, ◌^◌, ◌<◌, ◌≤◌, min, max, List, length, suc, Bool, true, false, cond, not, ◌&&◌, ◌||◌, nat_eq, nat_lt, get_or, set, replicate, refl, sym, ap, ◌∙◌, arith, w64, get_or-set_same, get_or-set_other}
+use Rattle.std.proofs.Common.{◌≡◌, ◌≢◌, ◌⊎◌, inl, inr, ℕ, ◌+◌, ◌-◌, ◌*◌, ◌/◌, ◌%◌, ◌^◌, ◌<◌, ◌≤◌, min, max, List, length, suc, Bool, true, false, cond, not}
+use Rattle.std.proofs.Common.{◌&&◌, ◌||◌, nat_eq, nat_lt, get_or, set, replicate, refl, sym, ap, ◌∙◌, arith, w64, get_or-set_same, get_or-set_other}
 use Rattle.std.specs.Prelude.{bit_and, bit_or}
 use mir.Syntax.{Width}
 use mir.Val.{bits}
@@ -7,7 +8,9 @@ use Rattle.std.specs.Int.{bit_at, bit_not, trailing_zeros}
 use Rattle.std.proofs.lemmas.Bool.{cases_lt, cases_eq, eq-eqb, eqb-true, lt-ltb}
 use Rattle.std.proofs.lemmas.Bool.Decides.{nat_tests}
 use Rattle.std.proofs.lemmas.Nat.{shr-shr, and_le_l, one_shl, pow_pos, div-add-mod'}
-use Rattle.std.proofs.lemmas.Nat.Bits.{bit_at_and, bit_at_or, bit_at-zero, bit_at-lt, bit_at_not, bit_at_ones, bit_at_ones_above, bit_at_mask_inside, bit_at_mask_below, bit_at_cat_low, bit_at_cat_high, bit_at_set_same, bit_at_set_other, ones_shl, ones_shr, bit_at-trailing_zeros, bit_at_clear_same, bit_at_clear_other, bit_at-pow_same, bit_at-pow_other}
+use Rattle.std.proofs.lemmas.Nat.Bits.{bit_at_and, bit_at_or, bit_at-zero, bit_at-lt, bit_at_not, bit_at_ones, bit_at_ones_above, bit_at_mask_inside}
+use Rattle.std.proofs.lemmas.Nat.Bits.{bit_at_mask_below, bit_at_cat_low, bit_at_cat_high, bit_at_set_same, bit_at_set_other, ones_shl, ones_shr}
+use Rattle.std.proofs.lemmas.Nat.Bits.{bit_at-trailing_zeros, bit_at_clear_same, bit_at_clear_other, bit_at-pow_same, bit_at-pow_other}
 use Rattle.std.proofs.lemmas.List.{get_or-replicate, get_or_past}
 use Rattle.std.proofs.Math.ListN.{length-replicate}
 use Rattle.edits.specs.Marks.{has_bit, is_between}
@@ -80,8 +83,10 @@ pub has_bit-set_word : (words : List ℕ) (at word number : ℕ) → at < length
 unfolding has_bit
 has_bit-set_word words at word number l = elim (cases_eq (number / 64) at) [
   | inl here ↦
-      ap (λ k. nat_eq (bit_at (get_or (set words at word) k 0) (number % 64)) 1) here ∙ ap (λ w. nat_eq (bit_at w (number % 64)) 1) (get_or-set_same words at word 0 l)
-      ∙ sym (ap (λ b. cond b (nat_eq (bit_at word (number % 64)) 1) (nat_eq (bit_at (get_or words (number / 64) 0) (number % 64)) 1)) (eq-eqb (number / 64) at here))
+      ap (λ k. nat_eq (bit_at (get_or (set words at word) k 0) (number % 64)) 1) here
+      ∙ ap (λ w. nat_eq (bit_at w (number % 64)) 1) (get_or-set_same words at word 0 l)
+      ∙ sym (ap (λ b. cond b (nat_eq (bit_at word (number % 64)) 1) (nat_eq (bit_at (get_or words (number / 64) 0) (number % 64)) 1))
+      (eq-eqb (number / 64) at here))
   | inr other ↦
       let differ : nat_eq (number / 64) at ≡ false = grind (arith, nat_tests) in
       has_bit-set_other words at word number (λ e. other (sym e))
@@ -96,7 +101,8 @@ has_bit-set_or words at bits number l e =
     let same : get_or (set words at (bit_or word bits)) (number / 64) 0 ≡ bit_or word bits =
     ap (λ k. get_or (set words at (bit_or word bits)) k 0) (sym e) ∙ get_or-set_same words at (bit_or word bits) 0 l in
     ap (λ w. nat_eq (bit_at w (number % 64)) 1) same ∙ ap (λ b. nat_eq b 1) (bit_at_or word bits (number % 64))
-    ∙ max_bit (bit_at word (number % 64)) (bit_at bits (number % 64)) (nat_eq (bit_at (get_or words (number / 64) 0) (number % 64)) 1) (nat_eq (bit_at bits (number % 64)) 1)
+    ∙ max_bit (bit_at word (number % 64)) (bit_at bits (number % 64)) (nat_eq (bit_at (get_or words (number / 64) 0) (number % 64)) 1)
+    (nat_eq (bit_at bits (number % 64)) 1)
     (bit_at-lt word (number % 64)) (bit_at-lt bits (number % 64)) (ap (λ k. nat_eq (bit_at (get_or words k 0) (number % 64)) 1) e) refl
 
 between_same : (a b i c d k : ℕ) → (a ≤ i → c ≤ k) → (c ≤ k → a ≤ i) → (i < b → k < d) → (k < d → i < b) → is_between a b i ≡ is_between c d k
@@ -104,9 +110,11 @@ between_same a b i c d k p q r s = grind (arith, nat_tests)
 
 -- the bits of a stretch in one of its words, which begins and ends there or not
 pub between-word : (first end at low high k : ℕ) → first < end → first / 64 ≤ at → at ≤ (end - 1) / 64
-    → ((at ≡ first / 64) × (low ≡ first % 64)) ⊎ ((at ≢ first / 64) × (low ≡ 0)) → ((at ≡ (end - 1) / 64) × (high ≡ (end - 1) % 64)) ⊎ ((at ≢ (end - 1) / 64) × (high ≡ 63))
+    → ((at ≡ first / 64) × (low ≡ first % 64)) ⊎ ((at ≢ first / 64) × (low ≡ 0))
+    → ((at ≡ (end - 1) / 64) × (high ≡ (end - 1) % 64)) ⊎ ((at ≢ (end - 1) / 64) × (high ≡ 63))
     → k / 64 ≡ at → is_between low (high + 1) (k % 64) ≡ is_between first end k
-between-word first end at low high k some from to lows highs here = between_same low (high + 1) (k % 64) first end k (start lows) (start' lows) (stop highs) (stop' highs)
+between-word first end at low high k some from to lows highs here =
+    between_same low (high + 1) (k % 64) first end k (start lows) (start' lows) (stop highs) (stop' highs)
   where
     start : ((at ≡ first / 64) × (low ≡ first % 64)) ⊎ ((at ≢ first / 64) × (low ≡ 0)) → low ≤ k % 64 → first ≤ k
     start (inl p) l = omega arith
@@ -126,7 +134,8 @@ between-word first end at low high k some from to lows highs here = between_same
 
 -- one number is marked
 pub has_bit-set_one : (words : List ℕ) (number k : ℕ) → number / 64 < length words
-    → has_bit (set words (number / 64) (bit_or (get_or words (number / 64) 0) (1 * 2 ^ (number % 64) % 2 ^ 64))) k ≡ (has_bit words k || is_between number (number + 1) k)
+    → has_bit (set words (number / 64) (bit_or (get_or words (number / 64) 0) (1 * 2 ^ (number % 64) % 2 ^ 64))) k
+    ≡ (has_bit words k || is_between number (number + 1) k)
 has_bit-set_one words number k l = elim (cases_eq (number / 64) (k / 64)) [
   | inl here ↦ has_bit-set_or words (number / 64) (1 * 2 ^ (number % 64) % 2 ^ 64) k l here ∙ ap (λ b. has_bit words k || b) (one_bit number k here)
   | inr other ↦ has_bit-set_other words (number / 64) _ k other ∙ no_bit (has_bit words k) (is_between number (number + 1) k) (apart number k other)
@@ -139,7 +148,8 @@ has_bit-set_one words number k l = elim (cases_eq (number / 64) (k / 64)) [
     apart : (number k : ℕ) → number / 64 ≢ k / 64 → is_between number (number + 1) k ≡ false
     apart number k other = let differ : number ≢ k = λ e. other (ap (λ n. n / 64) e) in grind (arith, nat_tests)
 
-    bit_value : (b i j number k : ℕ) → i ≡ number % 64 → j ≡ k % 64 → number / 64 ≡ k / 64 → ((i ≡ j) × (b ≡ 1)) ⊎ ((i ≢ j) × (b ≡ 0)) → nat_eq b 1 ≡ is_between number (number + 1) k
+    bit_value : (b i j number k : ℕ) → i ≡ number % 64 → j ≡ k % 64 → number / 64 ≡ k / 64 → ((i ≡ j) × (b ≡ 1)) ⊎ ((i ≢ j) × (b ≡ 0))
+        → nat_eq b 1 ≡ is_between number (number + 1) k
     bit_value b i j number k e f g (inl h) = let same : number ≡ k = omega arith in grind (arith, nat_tests)
     bit_value b i j number k e f g (inr h) = let differ : number ≢ k = λ p. h.0 (e ∙ ap (λ n. n % 64) p ∙ sym f) in grind (arith, nat_tests)
 
@@ -188,11 +198,13 @@ pub shr_bit : (n by i : ℕ) → bit_at (n / 2 ^ by) i ≡ bit_at n (by + i)
 shr_bit n by i = ap (λ x. x % 2) (shr-shr n by i)
 
 -- one bit of a word is set
-pub has_one_in : (w : Width) (n at i : ℕ) → at < bits w → i < bits w → nat_eq (bit_at (bit_or n (1 * 2 ^ at % 2 ^ bits w)) i) 1 ≡ (nat_eq (bit_at n i) 1 || nat_eq at i)
+pub has_one_in : (w : Width) (n at i : ℕ) → at < bits w → i < bits w
+    → nat_eq (bit_at (bit_or n (1 * 2 ^ at % 2 ^ bits w)) i) 1 ≡ (nat_eq (bit_at n i) 1 || nat_eq at i)
 has_one_in w n at i l m = elim (cases_eq at i) [
   | inl here ↦ ap (λ k. nat_eq (bit_at (bit_or n (1 * 2 ^ at % 2 ^ bits w)) k) 1) (sym here) ∙ ap (λ b. nat_eq b 1) (bit_at_set_same w n at l)
       ∙ yes (nat_eq (bit_at n i) 1) (nat_eq at i) (eq-eqb at i here)
-  | inr other ↦ ap (λ b. nat_eq b 1) (bit_at_set_other w n at l i (λ e. other (sym e))) ∙ no (nat_eq (bit_at n i) 1) (nat_eq at i) (let differ : nat_eq at i ≡ false = grind (arith, nat_tests) in differ)
+  | inr other ↦ ap (λ b. nat_eq b 1) (bit_at_set_other w n at l i (λ e. other (sym e)))
+      ∙ no (nat_eq (bit_at n i) 1) (nat_eq at i) (let differ : nat_eq at i ≡ false = grind (arith, nat_tests) in differ)
 ]
   where
     yes : (a b : Bool) → b ≡ true → true ≡ (a || b)
@@ -247,7 +259,8 @@ abbrev pub stepped : ℕ → ℕ → ℕ → ℕ
 stepped bits inner mask = bit_or bits (bit_and (bit_or (bit_and (bits * 2 ^ 1 % 2 ^ 64) inner) (bit_and bits inner / 2 ^ 1)) mask)
 
 module _ (bits inner mask i : ℕ) (l : i < 64) where
-  stepped-at : bit_at (stepped bits inner mask) i ≡ max (bit_at bits i) (min (max (min (bit_at (bits * 2 ^ 1 % 2 ^ 64) i) (bit_at inner i)) (min (bit_at bits (1 + i)) (bit_at inner (1 + i)))) (bit_at mask i))
+  stepped-at : bit_at (stepped bits inner mask) i ≡ max (bit_at bits i)
+      (min (max (min (bit_at (bits * 2 ^ 1 % 2 ^ 64) i) (bit_at inner i)) (min (bit_at bits (1 + i)) (bit_at inner (1 + i)))) (bit_at mask i))
   stepped-at =
       bit_at_or bits _ i
       ∙ ap (max (bit_at bits i)) (bit_at_and _ mask i
@@ -272,7 +285,8 @@ module _ (bits inner mask i : ℕ) (l : i < 64) where
       omega (arith, stepped-at, own, on, g, bit_at-lt (stepped bits inner mask) i)
 
   pub stepped-from : bit_at (stepped bits inner mask) i ≡ 1
-      → (bit_at bits i ≡ 1) ⊎ ((bit_at mask i ≡ 1) × (((k : ℕ) × (i ≡ suc k) × (bit_at bits k ≡ 1) × (bit_at inner i ≡ 1)) ⊎ ((bit_at bits (suc i) ≡ 1) × (bit_at inner (suc i) ≡ 1))))
+      → (bit_at bits i ≡ 1) ⊎ ((bit_at mask i ≡ 1) ×
+      (((k : ℕ) × (i ≡ suc k) × (bit_at bits k ≡ 1) × (bit_at inner i ≡ 1)) ⊎ ((bit_at bits (suc i) ≡ 1) × (bit_at inner (suc i) ≡ 1))))
   stepped-from h = elim (cases_eq (bit_at bits i) 1) [
     | inl e ↦ inl e
     | inr e ↦ inr (omega (arith, h, stepped-at, bit_at-lt bits i, bit_at-lt mask i), beside e)
@@ -281,16 +295,35 @@ module _ (bits inner mask i : ℕ) (l : i < 64) where
       up : suc i ≡ 1 + i
       up = omega arith
 
-      beside : bit_at bits i ≢ 1 → ((k : ℕ) × (i ≡ suc k) × (bit_at bits k ≡ 1) × (bit_at inner i ≡ 1)) ⊎ ((bit_at bits (suc i) ≡ 1) × (bit_at inner (suc i) ≡ 1))
+      beside : bit_at bits i ≢ 1 → ((k : ℕ) × (i ≡ suc k) × (bit_at bits k ≡ 1) × (bit_at inner i ≡ 1))
+          ⊎ ((bit_at bits (suc i) ≡ 1) × (bit_at inner (suc i) ≡ 1))
       beside e = elim (cases_eq (min (bit_at bits (1 + i)) (bit_at inner (1 + i))) 1) [
         | inl f ↦ inr (ap (bit_at bits) up ∙ omega (arith, f, bit_at-lt bits (1 + i)), ap (bit_at inner) up ∙ omega (arith, f, bit_at-lt inner (1 + i)))
         | inr f ↦
             let both : min (bit_at (bits * 2 ^ 1 % 2 ^ 64) i) (bit_at inner i) ≡ 1 =
-            omega (arith, h, e, f, stepped-at, bit_at-lt bits i, bit_at-lt mask i, bit_at-lt (bits * 2 ^ 1 % 2 ^ 64) i, bit_at-lt inner i, bit_at-lt bits (1 + i), bit_at-lt inner (1 + i)) in
+            omega (
+              arith,
+              h,
+              e,
+              f,
+              stepped-at,
+              bit_at-lt bits i,
+              bit_at-lt mask i,
+              bit_at-lt (bits * 2 ^ 1 % 2 ^ 64) i,
+              bit_at-lt inner i,
+              bit_at-lt bits (1 + i),
+              bit_at-lt inner (1 + i),
+            ) in
             elim (cases_lt i 1) [
               | inl first ↦ absurd (omega (arith, both, shl_low bits 1 i l first))
               | inr later ↦
-                  inl (i - 1, omega arith, sym (shl_high bits 1 i l later) ∙ omega (arith, both, bit_at-lt (bits * 2 ^ 1 % 2 ^ 64) i), omega (arith, both, bit_at-lt inner i))
+                  inl (
+                    i - 1,
+                    omega arith,
+                    sym (shl_high bits 1 i l later)
+                        ∙ omega (arith, both, bit_at-lt (bits * 2 ^ 1 % 2 ^ 64) i),
+                    omega (arith, both, bit_at-lt inner i),
+                  )
             ]
       ]
 
@@ -312,7 +345,8 @@ pub found-none : (a t : Bool) → (a ≡ true → t ≡ false) → false ≡ (a 
 found-none true t h = sym (h refl)
 found-none false t h = refl
 
-pub found-more : (a t e b : Bool) → (a ≡ true → (e ≡ false) × (b ≡ true)) → (e ≡ true → (t ≡ true) × (b ≡ true)) → (a ≡ false → e ≡ false → b ≡ true → t ≡ false)
+pub found-more : (a t e b : Bool) → (a ≡ true → (e ≡ false) × (b ≡ true)) → (e ≡ true → (t ≡ true) × (b ≡ true))
+    → (a ≡ false → e ≡ false → b ≡ true → t ≡ false)
     → ((a && t) || e) ≡ (b && t)
 found-more true true e b h k m = sym ((h refl).1) ∙ sym (and_true b)
   where

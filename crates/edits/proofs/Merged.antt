@@ -1,5 +1,6 @@
 -- The join of two differences is a difference.
-use Rattle.std.proofs.Common.{◌≡◌, ℕ, zero, suc, ◌-◌, ◌*◌, ◌<◌, ◌≤◌, inl, inr, length, take, drop, List, [], ◌∷◌, ◌++◌, Bool, true, false, cond, nat_eq, get_or, Ordering, refl, sym, ap, ◌∙◌, append-nil, append_assoc, arith}
+use Rattle.std.proofs.Common.{◌≡◌, ℕ, zero, suc, ◌-◌, ◌*◌, ◌<◌, ◌≤◌, inl, inr, length, take, drop, List, [], ◌∷◌, ◌++◌, Bool, true, false, cond, nat_eq, get_or}
+use Rattle.std.proofs.Common.{Ordering, refl, sym, ap, ◌∙◌, append-nil, append_assoc, arith}
 use Rattle.std.specs.declared.cmp.Ordering.TheVariants.{Less, Equal, Greater}
 use Rattle.std.specs.Ordering.{is_eq, is_lt, match_ordering, ordering_reverse}
 use Rattle.std.proofs.lemmas.Bool.Decides.{nat_tests}
@@ -128,7 +129,8 @@ HasNoneBefore es n = 0 < length es → cell_cmp (cell (get_or es 0 n)) (cell n) 
 
 pub first-HasNoneBefore : (es : List CellEdit) (n e : CellEdit) → e ≡ get_or es 0 e → is_lt (cell_cmp (cell e) (cell n)) ≡ false → HasNoneBefore es n
 first-HasNoneBefore [] n e is h = λ l. absurd (omega arith)
-first-HasNoneBefore (f ∷ es) n e is h = λ l less. let test : is_lt (cell_cmp (cell e) (cell n)) ≡ true = ap (λ g. is_lt (cell_cmp (cell g) (cell n))) is ∙ ap is_lt less in cc
+first-HasNoneBefore (f ∷ es) n e is h = λ l less. let test : is_lt (cell_cmp (cell e) (cell n)) ≡ true = ap (λ g. is_lt (cell_cmp (cell g) (cell n))) is
+    ∙ ap is_lt less in cc
 
 module _ (n : CellEdit) where
   IsNumberOf-rest : (e : CellEdit) (es : List CellEdit) (number : ℕ) → IsNumberOf (e ∷ es) n (suc number) → IsNumberOf es n number
@@ -152,10 +154,12 @@ module _ (n : CellEdit) where
         → joined es (n ∷ ns) ≡ joined_cell e n ++ joined (drop 1 es) ns
     joined-met [] e f l read tested h = absurd (omega arith)
     joined-met (g ∷ es) e f l read tested h =
-        joined-equal g es n ns (ap (λ m. cell_cmp (cell m) (cell n)) (sym tested) ∙ is_eq-Equal (cell_cmp (cell f) (cell n)) h) ∙ ap (λ m. joined_cell m n ++ joined es ns) (sym read)
+        joined-equal g es n ns (ap (λ m. cell_cmp (cell m) (cell n)) (sym tested) ∙ is_eq-Equal (cell_cmp (cell f) (cell n)) h)
+        ∙ ap (λ m. joined_cell m n ++ joined es ns) (sym read)
 
     -- it has not
-    pub joined-unmet : (es : List CellEdit) → HasNoneBefore es n → (0 < length es → (f : CellEdit) × (f ≡ get_or es 0 f) × (is_eq (cell_cmp (cell f) (cell n)) ≡ false))
+    pub joined-unmet : (es : List CellEdit) → HasNoneBefore es n
+        → (0 < length es → (f : CellEdit) × (f ≡ get_or es 0 f) × (is_eq (cell_cmp (cell f) (cell n)) ≡ false))
         → joined es (n ∷ ns) ≡ n ∷ joined es ns
     joined-unmet [] h other = refl
     joined-unmet (g ∷ es) h other =
@@ -196,7 +200,8 @@ AllBefore-change_at width xs ys k a b some = by_test (nat_eq a b)
         (Each-ComesBefore width k a b (difference width xs ys k) some (above width xs ys some k))
 
 -- the join of the difference of xs and ys and of that of ys and zs is the difference of xs and zs
-pub joined-difference : (width : ℕ) (xs ys zs : List ℕ) (k : ℕ) → 0 < width → joined (difference width xs ys k) (difference width ys zs k) ≡ difference width xs zs k
+pub joined-difference : (width : ℕ) (xs ys zs : List ℕ) (k : ℕ) → 0 < width
+    → joined (difference width xs ys k) (difference width ys zs k) ≡ difference width xs zs k
 joined-difference width xs ys zs zero some = refl
 joined-difference width xs ys zs (suc k) some =
     let x = get_or xs k 0 in

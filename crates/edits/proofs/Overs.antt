@@ -1,5 +1,6 @@
 -- What lies over cells outside the extent of an edit.
-use Rattle.std.proofs.Common.{◌≡◌, ℕ, ◌+◌, ◌*◌, ◌<◌, ◌≤◌, ◌&&◌, length, List, Bool, true, false, cond, nat_lt, get_or, Bor, is_some, Option, Some, None, IfSome, option_and_then, refl, sym, ap, ◌∙◌, arith}
+use Rattle.std.proofs.Common.{◌≡◌, ℕ, ◌+◌, ◌*◌, ◌<◌, ◌≤◌, ◌&&◌, length, List, Bool, true, false, cond, nat_lt, get_or, Bor, is_some, Option, Some, None, IfSome}
+use Rattle.std.proofs.Common.{option_and_then, refl, sym, ap, ◌∙◌, arith}
 use Rattle.std.specs.List.{slice_get}
 use Rattle.std.specs.Option.{option_copied}
 use Rattle.std.proofs.lemmas.Bool.Decides.{nat_tests}
@@ -35,7 +36,8 @@ past_column b x y p = by_column (offset b.x x) (past (offset b.x x) b.width p)
     by_row far l None = refl
     by_row far l (Some down) = value_in-right b far down l
 
-    by_column : (o : Option ℕ) → IfSome o (λ far. b.width ≤ far) → option_and_then (λ right. option_and_then (λ down. value_in b right down) (offset b.y y)) o ≡ None
+    by_column : (o : Option ℕ) → IfSome o (λ far. b.width ≤ far)
+        → option_and_then (λ right. option_and_then (λ down. value_in b right down) (offset b.y y)) o ≡ None
     by_column None q = refl
     by_column (Some far) q = by_row far q (offset b.y y)
 
@@ -74,11 +76,13 @@ erase_over-row a x y p =
 within_test : (a b : ℕ) → a < b → nat_lt a b ≡ true
 within_test a b l = grind (arith, nat_tests)
 
-pub value_over-at : (b : ValueBlock) (x y right down : ℕ) (o : Option ℕ) → Some right ≡ offset b.x x → Some down ≡ offset b.y y → right < b.width → o ≡ slice_get b.values (down * b.width + right)
+pub value_over-at : (b : ValueBlock) (x y right down : ℕ) (o : Option ℕ) → Some right ≡ offset b.x x → Some down ≡ offset b.y y → right < b.width
+    → o ≡ slice_get b.values (down * b.width + right)
     → o ≡ value_over b x y
 value_over-at b x y right down o e f l is = rw (← e, ← f, within_test right b.width l) is
 
 -- what a look-up lends is the element there
-pub option_copied-found : (o : Option (Bor ℕ)) (xs : List ℕ) (k : ℕ) → is_some o ≡ nat_lt k (length xs) → IfSome o (λ x. (x.now ≡ get_or xs k x.now) × (k < length xs)) → option_copied o ≡ slice_get xs k
+pub option_copied-found : (o : Option (Bor ℕ)) (xs : List ℕ) (k : ℕ) → is_some o ≡ nat_lt k (length xs)
+    → IfSome o (λ x. (x.now ≡ get_or xs k x.now) × (k < length xs)) → option_copied o ≡ slice_get xs k
 option_copied-found None xs k e h = sym (slice_get_past xs k (grind (arith, nat_tests)))
 option_copied-found (Some x) xs k e h = ap Some h.0 ∙ sym (slice_get-get_or xs k x.now h.1)

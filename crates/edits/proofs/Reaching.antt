@@ -1,5 +1,6 @@
 -- What a fill reaches from the cells of a batch.
-use Rattle.std.proofs.Common.{◌≡◌, ◌⊎◌, inl, inr, ℕ, ◌+◌, ◌-◌, ◌*◌, ◌/◌, ◌%◌, ◌^◌, ◌<◌, ◌≤◌, List, [], length, Bool, true, false, not, ◌&&◌, ◌↔◌, refl, sym, ap, ◌∙◌, subst, arith}
+use Rattle.std.proofs.Common.{◌≡◌, ◌⊎◌, inl, inr, ℕ, ◌+◌, ◌-◌, ◌*◌, ◌/◌, ◌%◌, ◌^◌, ◌<◌, ◌≤◌, List, [], length, Bool, true, false, not, ◌&&◌, ◌↔◌, refl, sym, ap}
+use Rattle.std.proofs.Common.{◌∙◌, subst, arith}
 use Rattle.std.specs.List.{slice_get}
 use Rattle.std.specs.Int.{bit_at}
 use Rattle.std.proofs.lemmas.Bool.{cases_lt, false≢true}
@@ -14,7 +15,8 @@ use Rattle.edits.specs.declared.flood.Spread.{Spread}
 use Rattle.edits.specs.Covering.{lets_change}
 use Rattle.edits.specs.Joining.{AreJoined, AreNeighbours, is_value}
 use Rattle.edits.specs.Marks.{has_bit, is_marked, room}
-use Rattle.edits.specs.Flooding.{AreAllowed, AreNear, InBatch, IsBatch, IsClosed, IsGround, IsLed, IsSound, Means, cell_of, free_at, free_in, is_taken, start_of, taken_at}
+use Rattle.edits.specs.Flooding.{AreAllowed, AreNear, InBatch, IsBatch, IsClosed, IsGround, IsLed, IsSound, Means, cell_of, free_at, free_in, is_taken}
+use Rattle.edits.specs.Flooding.{start_of, taken_at}
 use Rattle.edits.proofs.Flooded.{IsLed-step, free_at-read, free_in-at, free_in-column, is_taken-at, is_taken-column, neighbours-near}
 use Rattle.edits.proofs.Joined.{AreJoined-self, along_path, start_free}
 use Rattle.edits.proofs.Marking.{shl_high, shl_low, shr_bit}
@@ -24,7 +26,8 @@ pub in_batch : (b : Batch) (i : ℕ) → i < 64 → bit_at b.bits i ≡ 1 → In
 in_batch b i l e = (omega arith, let bit : (64 * b.word + i) % 64 ≡ i = omega arith in ap (bit_at b.bits) bit ∙ e)
 
 -- what is free beside a cell of a batch is joined to the start
-pub IsLed-batch : (g : Ground) (s : Spread) (b : Batch) → IsGround g → IsSound g s → IsBatch s b → (i r : ℕ) → i < 64 → bit_at b.bits i ≡ 1 → AreNear g (64 * b.word + i) r → free_at g r ≡ true → IsLed g r
+pub IsLed-batch : (g : Ground) (s : Spread) (b : Batch) → IsGround g → IsSound g s → IsBatch s b → (i r : ℕ) → i < 64 → bit_at b.bits i ≡ 1
+    → AreNear g (64 * b.word + i) r → free_at g r ≡ true → IsLed g r
 IsLed-batch g s b ground sound batch i r l e near free =
     IsLed-step g (omega (arith, ground.column)) (64 * b.word + i) r (sound.led (64 * b.word + i) (batch.taken (64 * b.word + i) (in_batch b i l e))) near free
 
@@ -77,18 +80,22 @@ taken-first s same p = ap (λ (ws : List ℕ). has_bit ws p && not (is_marked s.
     no_both true = refl
     no_both false = refl
 
-pub numbers-first : (g : Ground) (s : Spread) → 0 < g.width → s.taken.words.items ≡ s.open.words.items → AreAllowed g s.open → (p : ℕ) → Means g p (is_marked s.open p) (is_marked s.taken p)
+pub numbers-first : (g : Ground) (s : Spread) → 0 < g.width → s.taken.words.items ≡ s.open.words.items → AreAllowed g s.open → (p : ℕ)
+    → Means g p (is_marked s.open p) (is_marked s.taken p)
 numbers-first g s some same allowed p =
     let twice : is_marked s.taken p ≡ is_marked s.open p = ap (λ (ws : List ℕ). has_bit ws p) same in
     rw twice (first_means g p (is_marked s.open p) (free_at-read g some p ∙ by_place (cases_lt p (length g.tiles.now))))
   where
-    by_place : (p < length g.tiles.now) ⊎ (length g.tiles.now ≤ p) → (is_value (slice_get g.tiles.now p) g.value && lets_change g.selection.now (cell_of g p)) ≡ (is_value (slice_get g.tiles.now p) g.value && is_marked s.open p)
+    by_place : (p < length g.tiles.now) ⊎ (length g.tiles.now ≤ p)
+        → (is_value (slice_get g.tiles.now p) g.value && lets_change g.selection.now (cell_of g p))
+        ≡ (is_value (slice_get g.tiles.now p) g.value && is_marked s.open p)
     by_place (inl l) = ap (λ b. is_value (slice_get g.tiles.now p) g.value && b) (sym (allowed p l))
     by_place (inr l) =
         let none = ap (λ o. is_value o g.value) (slice_get_past g.tiles.now p l) in
         ap (λ b. b && lets_change g.selection.now (cell_of g p)) none ∙ sym (ap (λ b. b && is_marked s.open p) none)
 
-pub IsSound-first : (g : Ground) (s : Spread) → IsGround g → room s.open ≡ 64 * (length g.tiles.now / 64 + 1) → s.taken.words.items ≡ s.open.words.items → AreAllowed g s.open
+pub IsSound-first : (g : Ground) (s : Spread) → IsGround g → room s.open ≡ 64 * (length g.tiles.now / 64 + 1) → s.taken.words.items ≡ s.open.words.items
+    → AreAllowed g s.open
     → s.pending.items ≡ [] → 64 * s.first ≡ room s.open → s.end ≡ 0 → IsSound g s
 IsSound-first g s ground rooms same allowed none first end =
     let no = λ (p : ℕ) (e : taken_at s p ≡ true). false≢true (sym (taken-first s same p) ∙ e) in
@@ -108,7 +115,8 @@ IsSound-first g s ground rooms same allowed none first end =
     }
 
 -- ---- nothing waits
-pub is_taken-keeps : (g : Ground) (s t : Spread) → ((p : ℕ) → taken_at s p ≡ true → taken_at t p ≡ true) → (q : ℕ × ℕ) → is_taken g s q ≡ true → is_taken g t q ≡ true
+pub is_taken-keeps : (g : Ground) (s t : Spread) → ((p : ℕ) → taken_at s p ≡ true → taken_at t p ≡ true) → (q : ℕ × ℕ) → is_taken g s q ≡ true
+    → is_taken g t q ≡ true
 is_taken-keeps g s t keeps q h =
     let column = is_taken-column g s q h in
     is_taken-at g t q.0 q.1 column ∙ keeps (q.1 * g.width + q.0) (sym (is_taken-at g s q.0 q.1 column) ∙ h)
@@ -134,7 +142,8 @@ taken-joined g s sound closed start q = (there, back)
         let column = is_taken-column g s p h in
         let next = free_in-column g r f in
         is_taken-at g s r.0 r.1 next
-        ∙ none (p.1 * g.width + p.0) (r.1 * g.width + r.0) (closed (p.1 * g.width + p.0) (r.1 * g.width + r.0) (sym (is_taken-at g s p.0 p.1 column) ∙ h) (neighbours-near g p r column next n)
+        ∙ none (p.1 * g.width + p.0) (r.1 * g.width + r.0) (closed (p.1 * g.width + p.0) (r.1 * g.width + r.0) (sym (is_taken-at g s p.0 p.1 column) ∙ h)
+        (neighbours-near g p r column next n)
         (sym (free_in-at g r.0 r.1 next) ∙ f))
 
     back : AreJoined (free_in g) (start_of g) q → is_taken g s q ≡ true

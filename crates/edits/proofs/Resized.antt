@@ -1,5 +1,6 @@
 -- A document on the canvas of its new size.
-use Rattle.std.proofs.Common.{◌≡◌, ℕ, ℤ, pos, negsuc, zero, suc, ◌+◌, ◌*◌, ◌≤◌, ◌<◌, ◌≤ℤ◌, ◌*ℤ◌, ◌-ℤ◌, neg_ℤ, List, [], ◌∷◌, length, map, Bool, true, false, cond, ◌&&◌, nat_lt, Option, Some, None, option_and_then, IfSome, refl, sym, ap, ◌∙◌, arith, length-append}
+use Rattle.std.proofs.Common.{◌≡◌, ℕ, ℤ, pos, negsuc, zero, suc, ◌+◌, ◌*◌, ◌≤◌, ◌<◌, ◌≤ℤ◌, ◌*ℤ◌, ◌-ℤ◌, neg_ℤ, List, [], ◌∷◌, length, map, Bool, true, false}
+use Rattle.std.proofs.Common.{cond, ◌&&◌, nat_lt, Option, Some, None, option_and_then, IfSome, refl, sym, ap, ◌∙◌, arith, length-append}
 use Rattle.std.proofs.lemmas.Float.{T_from_true}
 use Rattle.std.proofs.lemmas.Bool.{ltb-true}
 use Rattle.std.specs.Int.Signed.{le_z_yes}
@@ -31,7 +32,8 @@ use Rattle.map_model.specs.Objects.{objects_in}
 use Rattle.map_model.specs.WellFormed.{IsSize, IsTileValue, IsPixels, IsObject, IsBody, IsDrawn}
 use Rattle.map_model.proofs.Listings.{Each-append}
 use Rattle.edits.specs.Blocks.{ValueBlock, offset, value_in}
-use Rattle.edits.specs.Resizing.{row, table, drawn_stays, each_under, value_at, layer_block, resized_values, pixels_right, pixels_down, are_pixels, stays, all_stay, objects_stay, resized_layer, resized_selection, resized, IsDistance}
+use Rattle.edits.specs.Resizing.{row, table, drawn_stays, each_under, value_at, layer_block, resized_values, pixels_right, pixels_down, are_pixels, stays}
+use Rattle.edits.specs.Resizing.{all_stay, objects_stay, resized_layer, resized_selection, resized, IsDistance}
 use Rattle.edits.proofs.ResizedTrees.{layer-with, layers-with}
 use Rattle.map_model.proofs.CanvasLaws.{layers-cells}
 
@@ -73,19 +75,22 @@ value-range block x y h = by_columns (offset block.x x) (offset block.y y)
     by_columns (Some r) (Some d) = by_test (nat_lt r block.width) (d * block.width + r)
 
 -- ---- what fits
-layer-cells : (level size more : ℕ) (f : List ℕ → List ℕ) → ((cells : List ℕ) → Each IsTileValue cells → AreCells more (f cells)) → (b : Body) → IsBody level size b
+layer-cells : (level size more : ℕ) (f : List ℕ → List ℕ) → ((cells : List ℕ) → Each IsTileValue cells → AreCells more (f cells)) → (b : Body)
+    → IsBody level size b
     → Each (AreCells more) (map f (lists_in b))
 layer-cells level size more f good (Tiles e own) h = (good own h.1, tt)
 layer-cells level size more f good (Objects os) h = tt
 layer-cells level size more f good Other h = tt
 layer-cells level size more f good (Group' s r) h = tt
 
-layers-cells : (size more : ℕ) (f : List ℕ → List ℕ) → ((cells : List ℕ) → Each IsTileValue cells → AreCells more (f cells)) → (ds : List (ℕ × Layer)) → Each (IsDrawn size) ds
+layers-cells : (size more : ℕ) (f : List ℕ → List ℕ) → ((cells : List ℕ) → Each IsTileValue cells → AreCells more (f cells)) → (ds : List (ℕ × Layer))
+    → Each (IsDrawn size) ds
     → Each (AreCells more) (map f (flat_map lists_of ds))
 layers-cells size more f good [] h = tt
 layers-cells size more f good (d ∷ ds) h =
     rw (map-append f (lists_of d) (flat_map lists_of ds))
-    (Each-append (AreCells more) (map f (lists_of d)) (map f (flat_map lists_of ds)) (layer-cells d.0 size more f good d.1.body h.0.body) (layers-cells size more f good ds h.1))
+    (Each-append (AreCells more) (map f (lists_of d)) (map f (flat_map lists_of ds)) (layer-cells d.0 size more f good d.1.body h.0.body)
+    (layers-cells size more f good ds h.1))
 
 and-left : (a b : Bool) → (a && b) ≡ true → a ≡ true
 and-left true b e = refl
@@ -106,7 +111,8 @@ pixels-within (Some z) e =
       high = int_le-true z MAX_PIXELS (and-right (int_le (neg_ℤ MAX_PIXELS) z) (int_le z MAX_PIXELS) e);
     }
 
-objects-may : (right down : ℤ) (level : ℕ) (os : List Object) → Each (IsObject level) os → list_all (stays right down) os ≡ true → Each (MayBeMoved right down) os
+objects-may : (right down : ℤ) (level : ℕ) (os : List Object) → Each (IsObject level) os → list_all (stays right down) os ≡ true
+    → Each (MayBeMoved right down) os
 objects-may right down level [] h e = tt
 objects-may right down level (o ∷ os) h e =
     let first = and-left (stays right down o) (list_all (stays right down) os) e in (
@@ -125,7 +131,8 @@ body-may right down level size (Objects os) h stay = objects-may right down (obj
 body-may right down level size Other h stay = tt
 body-may right down level size (Group' s r) h stay = tt
 
-layers-may : (right down : ℤ) (size : ℕ) (ds : List (ℕ × Layer)) → Each (IsDrawn size) ds → list_all (drawn_stays right down) ds ≡ true → Each (MayBeDrawn right down) ds
+layers-may : (right down : ℤ) (size : ℕ) (ds : List (ℕ × Layer)) → Each (IsDrawn size) ds → list_all (drawn_stays right down) ds ≡ true
+    → Each (MayBeDrawn right down) ds
 layers-may right down size [] h stay = tt
 layers-may right down size (d ∷ ds) h stay =
     let first = and-left (drawn_stays right down d) (list_all (drawn_stays right down) ds) stay in
@@ -152,7 +159,8 @@ scaled-IsShift (negsuc n) side h l =
 
 -- ---- the canvas
 module _ (d : DocumentParts) (width height : ℕ) (dx dy : ℤ) (lists : List (List ℕ)) (s : set.FinSet cell_cmp) (right down : ℤ)
-    (laid : lists ≡ map (resized_values d.map width height dx dy) (tile_layers d.map)) (cells : (q : ℕ × ℕ) → set.contains s q ≡ in_moved_cut d.selection dx dy width height q)
+    (laid : lists ≡ map (resized_values d.map width height dx dy) (tile_layers d.map))
+    (cells : (q : ℕ × ℕ) → set.contains s q ≡ in_moved_cut d.selection dx dy width height q)
     (right_is : right ≡ pixels_right d.map dx) (down_is : down ≡ pixels_down d.map dy) where
   selection-is : s ≡ resized_selection width height dx dy d.selection
   selection-is = set.same_set cell_cmp_total cell_cmp-same s (resized_selection width height dx dy d.selection) (λ q.
@@ -160,11 +168,13 @@ module _ (d : DocumentParts) (width height : ℕ) (dx dy : ℤ) (lists : List (L
       let retained = set.contains-retain (rectangle 0 0 width height) old q (λ p e. ap old (sym (cell_cmp-same q p e))) in
       cells q ∙ ap (λ b. b && old q) (within-map width height q ∙ sym (contains-rectangle 0 0 width height q)) ∙ sym retained)
 
-  pub canvas-resized : with_canvas (record { width = width; height = height; layers = lists; selection = s; right = right; down = down }) d ≡ resized d width height dx dy
+  pub canvas-resized : with_canvas (record { width = width; height = height; layers = lists; selection = s; right = right; down = down }) d
+      ≡ resized d width height dx dy
   canvas-resized =
       let c : Canvas = record { width = width; height = height; layers = lists; selection = s; right = right; down = down } in
       let on = layers-with c (resized_values d.map width height dx dy) MAX_GROUPS d.map.layers laid in
-      let moved : map (each_under MAX_GROUPS (layer-with (resized_values d.map width height dx dy) right down)) d.map.layers ≡ map (each_under MAX_GROUPS (resized_layer d.map width height dx dy)) d.map.layers
+      let moved : map (each_under MAX_GROUPS (layer-with (resized_values d.map width height dx dy) right down)) d.map.layers
+      ≡ map (each_under MAX_GROUPS (resized_layer d.map width height dx dy)) d.map.layers
       = λ i. map (each_under MAX_GROUPS (layer-with (resized_values d.map width height dx dy) (right_is i) (down_is i))) d.map.layers in
       λ i. record { map = record d.map { width = width; height = height; layers = (on ∙ moved) i }; selection = selection-is i }
 
@@ -175,12 +185,16 @@ module _ (d : DocumentParts) (width height : ℕ) (dx dy : ℤ) (lists : List (L
       record {
         size = size;
         count = ap length laid ∙ length-map (tile_layers d.map) f;
-        cells = rw laid (layers-cells (d.map.width * d.map.height) (width * height) f (λ own range.
-            (length-table (value_at (layer_block d.map dx dy own)) width height, Each-table IsTileValue (value_at (layer_block d.map dx dy own)) (λ x y. value-range (layer_block d.map dx dy own) x y range) width height))
+        cells = rw laid (layers-cells (d.map.width * d.map.height) (width * height) f (λ own range. (
+          length-table (value_at (layer_block d.map dx dy own)) width height,
+          Each-table IsTileValue (value_at (layer_block d.map dx dy own)) (λ x y. value-range (layer_block d.map dx dy own) x y range) width height,
+        ))
             (all_drawn d.map.layers) h.map.layers.each);
         selection = λ q one.
-            let both = and-left (nat_lt q.0 width && nat_lt q.1 height) (has_at d.selection (pos q.0 -ℤ dx) (pos q.1 -ℤ dy)) (sym (cells q) ∙ one) in
-            (ltb-true q.0 width (and-left (nat_lt q.0 width) (nat_lt q.1 height) both), ltb-true q.1 height (and-right (nat_lt q.0 width) (nat_lt q.1 height) both));
+            let both = and-left (nat_lt q.0 width && nat_lt q.1 height) (has_at d.selection (pos q.0 -ℤ dx) (pos q.1 -ℤ dy)) (sym (cells q) ∙ one) in (
+              ltb-true q.0 width (and-left (nat_lt q.0 width) (nat_lt q.1 height) both),
+              ltb-true q.1 height (and-right (nat_lt q.0 width) (nat_lt q.1 height) both),
+            );
         right = right_fits;
         down = down_fits;
         objects = layers-may right down (d.map.width * d.map.height) (all_drawn d.map.layers) h.map.layers.each stay;

@@ -1,5 +1,6 @@
 -- Resizing over the tree of layers: its objects that stay, its cells, and its layers on the canvas.
-use Rattle.std.proofs.Common.{◌≡◌, ◌≢◌, ℕ, ℤ, zero, suc, ◌+◌, ◌-◌, List, [], ◌∷◌, ◌++◌, length, map, get_or, Bool, true, false, ◌&&◌, Some, None, Result, Ok, Err, refl, sym, ap, ◌∙◌, arith, append_assoc, append-nil, length-append}
+use Rattle.std.proofs.Common.{◌≡◌, ◌≢◌, ℕ, ℤ, zero, suc, ◌+◌, ◌-◌, List, [], ◌∷◌, ◌++◌, length, map, get_or, Bool, true, false, ◌&&◌, Some, None, Result, Ok}
+use Rattle.std.proofs.Common.{Err, refl, sym, ap, ◌∙◌, arith, append_assoc, append-nil, length-append}
 use Rattle.std.specs.List.{list_all, flat_map}
 use Rattle.std.specs.Prelude.{OnOk}
 use Rattle.std.proofs.Math.Seq.{get_or-append_seam}
@@ -35,7 +36,8 @@ module _ (right down : ℤ) where
   stay-own : (l : Layer) → all_stay right down (objects_of (bare l)) ≡ all_stay right down (objects_of l)
   stay-own l = ap (all_stay right down) (objects_in-bare (λ ls. []) l.body)
 
-  stay-list : (room : ℕ) → ((a b : ℕ) (l : Layer) → all (tree room a l) ≡ all (tree room b l)) → (a b : ℕ) (ls : List Layer) → all (drawn room a ls) ≡ all (drawn room b ls)
+  stay-list : (room : ℕ) → ((a b : ℕ) (l : Layer) → all (tree room a l) ≡ all (tree room b l)) → (a b : ℕ) (ls : List Layer)
+      → all (drawn room a ls) ≡ all (drawn room b ls)
   stay-list room each a b [] = refl
   stay-list room each a b (l ∷ ls) =
       list_all-append (drawn_stays right down) (tree room a l) (drawn room a ls) ∙ (λ i. each a b l i && stay-list room each a b ls i)
@@ -58,9 +60,11 @@ module _ (right down : ℤ) where
       sym (ap all (tree-is (suc room) layer_level l) ∙ ap (λ x. x && all (drawn room (inner_level layer_level) (inside l))) (stay-own l ∙ e))
 
   pub stay-first : (room : ℕ) (l : Layer) (ls : List Layer) → all (tree room layer_level l) ≡ false → false ≡ all (drawn room layer_level (l ∷ ls))
-  stay-first room l ls e = sym (list_all-append (drawn_stays right down) (tree room layer_level l) (drawn room layer_level ls) ∙ ap (λ x. x && all (drawn room layer_level ls)) e)
+  stay-first room l ls e = sym (list_all-append (drawn_stays right down) (tree room layer_level l) (drawn room layer_level ls) ∙ ap
+      (λ x. x && all (drawn room layer_level ls)) e)
 
-  stay-below : (room : ℕ) (l : Layer) → all_stay right down (objects_of l) ≡ true → all (drawn room layer_level (inside l)) ≡ all (tree (suc room) layer_level l)
+  stay-below : (room : ℕ) (l : Layer) → all_stay right down (objects_of l) ≡ true
+      → all (drawn room layer_level (inside l)) ≡ all (tree (suc room) layer_level l)
   stay-below room l e =
       stay-list room (stay-level room) layer_level (inner_level layer_level) (inside l)
       ∙ sym (ap all (tree-is (suc room) layer_level l) ∙ ap (λ x. x && all (drawn room (inner_level layer_level) (inside l))) (stay-own l ∙ e))
@@ -86,7 +90,8 @@ under-no_group zero l g = under-no_room zero l refl
 under-no_group (suc room) l g =
     lists_under-is (suc room) l ∙ ap (λ o. lists_in l.body ++ flat_map lists_of (drawn room layer_level (or_empty o))) g ∙ append-nil (lists_in l.body)
 
-pub under-group : (room : ℕ) (l : Layer) (ks : List Layer) → room ≢ 0 → group_of l ≡ Some ks → lists_under room l ≡ lists_in l.body ++ flat_map lists_of (drawn (room - 1) layer_level ks)
+pub under-group : (room : ℕ) (l : Layer) (ks : List Layer) → room ≢ 0 → group_of l ≡ Some ks
+    → lists_under room l ≡ lists_in l.body ++ flat_map lists_of (drawn (room - 1) layer_level ks)
 under-group zero l ks z g = absurd (z refl)
 under-group (suc room) l ks z g =
     let same : room ≡ suc room - 1 = omega arith in
@@ -105,8 +110,10 @@ module _ (P : List ℕ → Type 0) where
   pub list-each : (room : ℕ) (l : Layer) (ls : List Layer) → Each P (flat_map lists_of (drawn room layer_level (l ∷ ls)))
       → Each P (lists_under room l) × Each P (flat_map lists_of (drawn room layer_level ls))
   list-each room l ls h =
-      let both = rw (lists_under-list room l ls) at h in
-      (Each-prefix P (lists_under room l) (flat_map lists_of (drawn room layer_level ls)) both, Each-rest P (lists_under room l) (flat_map lists_of (drawn room layer_level ls)) both)
+      let both = rw (lists_under-list room l ls) at h in (
+        Each-prefix P (lists_under room l) (flat_map lists_of (drawn room layer_level ls)) both,
+        Each-rest P (lists_under room l) (flat_map lists_of (drawn room layer_level ls)) both,
+      )
 
 -- ---- cells that are pushed
 pub on_then : {A E P Q : Type 0} (r : Result A E) → OnOk r P → (P → Q) → OnOk r Q
@@ -133,7 +140,8 @@ body-with c f number (Group' s r) h = refl
 abbrev pub layer-with : (List ℕ → List ℕ) → ℤ → ℤ → Layer → Layer
 layer-with f right down l = record l { body = body_with_objects (map (object_moved right down)) (body_with_tiles f l.body) }
 
-group_in-with : (f : List ℕ → List ℕ) (right down : ℤ) (b : Body) → group_in (body_with_objects (map (object_moved right down)) (body_with_tiles f b)) ≡ group_in b
+group_in-with : (f : List ℕ → List ℕ) (right down : ℤ) (b : Body)
+    → group_in (body_with_objects (map (object_moved right down)) (body_with_tiles f b)) ≡ group_in b
 group_in-with f right down (Tiles e own) = refl
 group_in-with f right down (Objects os) = refl
 group_in-with f right down Other = refl
@@ -152,7 +160,8 @@ module _ (c : Canvas) (f : List ℕ → List ℕ) where
   abbrev changed : Layer → Layer
   changed = layer-with f c.right c.down
 
-  own-with : (prefix rest : List (List ℕ)) (number : ℕ) (l : Layer) → c.layers ≡ prefix ++ (map f (lists_in l.body) ++ rest) → number ≡ length prefix → layer_on c number l ≡ changed l
+  own-with : (prefix rest : List (List ℕ)) (number : ℕ) (l : Layer) → c.layers ≡ prefix ++ (map f (lists_in l.body) ++ rest) → number ≡ length prefix
+      → layer_on c number l ≡ changed l
   own-with prefix rest number l held is =
       let own = λ (cells : List ℕ) (only : lists_in l.body ≡ cells ∷ []).
       let at : c.layers ≡ prefix ++ (f cells ∷ rest) = held ∙ ap (λ xs. prefix ++ (map f xs ++ rest)) only in
@@ -166,8 +175,10 @@ module _ (c : Canvas) (f : List ℕ → List ℕ) where
   next : (prefix A : List (List ℕ)) (number : ℕ) → number ≡ length prefix → number + length A ≡ length (prefix ++ map f A)
   next prefix A number is = omega (arith, length-append prefix (map f A), length-map A f, is)
 
-  list-with : (room : ℕ) → ((prefix rest : List (List ℕ)) (number : ℕ) (l : Layer) → c.layers ≡ prefix ++ (map f (lists_under room l) ++ rest) → number ≡ length prefix → one_on room c number l ≡ each_under room changed l)
-      → (prefix rest : List (List ℕ)) (number : ℕ) (ls : List Layer) → c.layers ≡ prefix ++ (map f (flat_map lists_of (drawn room layer_level ls)) ++ rest) → number ≡ length prefix
+  list-with : (room : ℕ) → ((prefix rest : List (List ℕ)) (number : ℕ) (l : Layer) → c.layers ≡ prefix ++ (map f (lists_under room l) ++ rest) → number ≡ length
+      prefix → one_on room c number l ≡ each_under room changed l)
+      → (prefix rest : List (List ℕ)) (number : ℕ) (ls : List Layer) → c.layers ≡ prefix ++ (map f (flat_map lists_of (drawn room layer_level ls)) ++ rest)
+      → number ≡ length prefix
       → layers_on room c number ls ≡ map (each_under room changed) ls
   list-with room each prefix rest number [] held is = refl
   list-with room each prefix rest number (l ∷ ls) held is =
@@ -175,10 +186,12 @@ module _ (c : Canvas) (f : List ℕ → List ℕ) where
       let B = flat_map lists_of (drawn room layer_level ls) in
       let two = cut prefix A B rest (held ∙ ap (λ xs. prefix ++ (map f xs ++ rest)) (lists_under-list room l ls)) in
       let first = each prefix (map f B ++ rest) number l two is in
-      let later = list-with room each (prefix ++ map f A) rest (number + length A) ls (two ∙ sym (append_assoc prefix (map f A) (map f B ++ rest))) (next prefix A number is) in
+      let later = list-with room each (prefix ++ map f A) rest (number + length A) ls (two ∙ sym (append_assoc prefix (map f A) (map f B ++ rest)))
+      (next prefix A number is) in
       λ i. first i ∷ later i
 
-  under-with : (room : ℕ) (prefix rest : List (List ℕ)) (number : ℕ) (l : Layer) → c.layers ≡ prefix ++ (map f (lists_under room l) ++ rest) → number ≡ length prefix
+  under-with : (room : ℕ) (prefix rest : List (List ℕ)) (number : ℕ) (l : Layer) → c.layers ≡ prefix ++ (map f (lists_under room l) ++ rest)
+      → number ≡ length prefix
       → one_on room c number l ≡ each_under room changed l
   under-with zero prefix rest number l held is =
       let own = held ∙ ap (λ xs. prefix ++ (map f xs ++ rest)) (under-no_room zero l refl) in
@@ -198,6 +211,7 @@ module _ (c : Canvas) (f : List ℕ → List ℕ) where
       ∙ ap (λ b. record l { body = b }) (body_with_layers-along (layers_on room c (number + length A)) (map (each_under room changed)) (changed l).body inner)
       ∙ sym (each_under-is (suc room) changed l)
 
-  pub layers-with : (room : ℕ) (ls : List Layer) → c.layers ≡ map f (flat_map lists_of (drawn room layer_level ls)) → layers_on room c 0 ls ≡ map (each_under room changed) ls
+  pub layers-with : (room : ℕ) (ls : List Layer) → c.layers ≡ map f (flat_map lists_of (drawn room layer_level ls))
+      → layers_on room c 0 ls ≡ map (each_under room changed) ls
   layers-with room ls held =
       list-with room (under-with room) [] [] 0 ls (held ∙ sym (append-nil (map f (flat_map lists_of (drawn room layer_level ls))))) refl

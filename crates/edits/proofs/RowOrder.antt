@@ -1,5 +1,6 @@
 -- The cells of a difference are in row order.
-use Rattle.std.proofs.Common.{◌≡◌, ◌⊎◌, inl, inr, ℕ, zero, suc, ◌*◌, ◌/◌, ◌%◌, ◌<◌, ◌≤◌, List, [], ◌∷◌, ◌++◌, Bool, true, false, cond, nat_eq, get_or, refl, ap, append-nil, arith}
+use Rattle.std.proofs.Common.{◌≡◌, ◌⊎◌, inl, inr, ℕ, zero, suc, ◌*◌, ◌/◌, ◌%◌, ◌<◌, ◌≤◌, List, [], ◌∷◌, ◌++◌, Bool, true, false, cond, nat_eq, get_or, refl, ap}
+use Rattle.std.proofs.Common.{append-nil, arith}
 use Rattle.std.proofs.lemmas.Bool.Decides.{nat_tests}
 use Rattle.std.proofs.lemmas.Nat.{le-div}
 use Rattle.map_model.specs.declared.edit.CellEdit.{CellEdit}
@@ -31,7 +32,11 @@ pub record IsAbove (width number : ℕ) (e : CellEdit) : Type 0 where
 
 IsAbove-suc : (width number : ℕ) (es : List CellEdit) → Each (IsAbove width number) es → Each (IsAbove width (suc number)) es
 IsAbove-suc width number [] h = tt
-IsAbove-suc width number (e ∷ es) h = (record { at = h.0.at; above = omega (arith, h.0.above); column = h.0.column; row = h.0.row }, IsAbove-suc width number es h.1)
+IsAbove-suc width number (e ∷ es) h = (
+  record { at = h.0.at; above = omega (arith, h.0.above); column = h.0.column; row = h.0.row },
+  IsAbove-suc width number es
+      h.1,
+)
 
 -- two numbers in one row are as far apart as their columns
 same_row : (width p q : ℕ) → 0 < width → p < q → p / width ≡ q / width → p % width < q % width
@@ -44,25 +49,30 @@ by_place width p q some l =
     let down : p / width ≤ q / width = le-div (p / width) q width some (omega arith) in
     by_test (nat_eq (p / width) (q / width)) refl down
   where
-    by_test : (b : Bool) → nat_eq (p / width) (q / width) ≡ b → p / width ≤ q / width → (p / width < q / width) ⊎ ((p / width ≡ q / width) × (p % width < q % width))
+    by_test : (b : Bool) → nat_eq (p / width) (q / width) ≡ b → p / width ≤ q / width
+        → (p / width < q / width) ⊎ ((p / width ≡ q / width) × (p % width < q % width))
     by_test true e d = let same : p / width ≡ q / width = grind (arith, nat_tests) in inr (same, same_row width p q some l same)
     by_test false e d = inl (grind (arith, nat_tests))
 
 ComesBefore-above : (width number before after : ℕ) (e : CellEdit) → 0 < width → IsAbove width number e → ComesBefore e (edit_at width number before after)
 ComesBefore-above width number before after e some h =
-    let apart : (h.at / width < number / width) ⊎ ((h.at / width ≡ number / width) × (h.at % width < number % width)) = by_place width h.at number some h.above in
+    let apart : (h.at / width < number / width) ⊎ ((h.at / width ≡ number / width) × (h.at % width < number % width)) =
+    by_place width h.at number some h.above in
     comes_before (cell e) (cell (edit_at width number before after)) (rw (h.column, h.row) apart)
 
-pub Each-ComesBefore : (width number before after : ℕ) (es : List CellEdit) → 0 < width → Each (IsAbove width number) es → Each (λ e. ComesBefore e (edit_at width number before after)) es
+pub Each-ComesBefore : (width number before after : ℕ) (es : List CellEdit) → 0 < width → Each (IsAbove width number) es
+    → Each (λ e. ComesBefore e (edit_at width number before after)) es
 Each-ComesBefore width number before after [] some h = tt
-Each-ComesBefore width number before after (e ∷ es) some h = (ComesBefore-above width number before after e some h.0, Each-ComesBefore width number before after es some h.1)
+Each-ComesBefore width number before after (e ∷ es) some h =
+    (ComesBefore-above width number before after e some h.0, Each-ComesBefore width number before after es some h.1)
 
 -- ---- differences
 module _ (width : ℕ) (xs ys : List ℕ) (some : 0 < width) where
   pub above : (k : ℕ) → Each (IsAbove width k) (difference width xs ys k)
   above zero = tt
   above (suc k) =
-      Each-append (IsAbove width (suc k)) (difference width xs ys k) (change_at width k (get_or xs k 0) (get_or ys k 0)) (IsAbove-suc width k (difference width xs ys k) (above k))
+      Each-append (IsAbove width (suc k)) (difference width xs ys k) (change_at width k (get_or xs k 0) (get_or ys k 0))
+      (IsAbove-suc width k (difference width xs ys k) (above k))
       (by_test (nat_eq (get_or xs k 0) (get_or ys k 0)))
     where
       by_test : (b : Bool) → Each (IsAbove width (suc k)) (cond b [] (edit_at width k (get_or xs k 0) (get_or ys k 0) ∷ []))
@@ -73,7 +83,8 @@ module _ (width : ℕ) (xs ys : List ℕ) (some : 0 < width) where
   ordered zero = tt
   ordered (suc k) = by_test (nat_eq (get_or xs k 0) (get_or ys k 0)) (ordered k)
     where
-      by_test : (b : Bool) → AreInRowOrder (difference width xs ys k) → AreInRowOrder (difference width xs ys k ++ cond b [] (edit_at width k (get_or xs k 0) (get_or ys k 0) ∷ []))
+      by_test : (b : Bool) → AreInRowOrder (difference width xs ys k)
+          → AreInRowOrder (difference width xs ys k ++ cond b [] (edit_at width k (get_or xs k 0) (get_or ys k 0) ∷ []))
       by_test true so_far = rw append-nil so_far
       by_test false so_far =
           AreInRowOrder-append (difference width xs ys k) (edit_at width k (get_or xs k 0) (get_or ys k 0)) so_far

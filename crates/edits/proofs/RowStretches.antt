@@ -1,5 +1,7 @@
 -- The rows of a map on which a block lies.
-use Rattle.std.proofs.Common.{◌≡◌, inl, inr, ℕ, ℤ, pos, negsuc, zero, suc, ◌+◌, ◌-◌, ◌*◌, ◌≤◌, ◌<◌, List, [], ◌∷◌, ◌++◌, length, take, drop, get_or, Bool, true, false, cond, nat_lt, Option, Some, None, option_and_then, Result, Ok, Err, is_ok, append_assoc, refl, sym, ap, ◌∙◌, arith, length-append, length-take, length-drop, get_or-take, get_or-drop}
+use Rattle.std.proofs.Common.{◌≡◌, inl, inr, ℕ, ℤ, pos, negsuc, zero, suc, ◌+◌, ◌-◌, ◌*◌, ◌≤◌, ◌<◌, List, [], ◌∷◌, ◌++◌, length, take, drop, get_or, Bool, true}
+use Rattle.std.proofs.Common.{false, cond, nat_lt, Option, Some, None, option_and_then, Result, Ok, Err, is_ok, append_assoc, refl, sym, ap, ◌∙◌, arith}
+use Rattle.std.proofs.Common.{length-append, length-take, length-drop, get_or-take, get_or-drop}
 use Rattle.std.specs.Prelude.{nat_le, replicate, OnOk}
 use Rattle.std.specs.List.{slice_get}
 use Rattle.std.specs.Option.{unwrap_or}
@@ -114,7 +116,8 @@ module _ (block : ValueBlock) (width y : ℕ) (s : Span) (h : IsSpan block.x blo
         let count = s.end - s.first in
         let fits = stretch-within in
         let wide = columns-within in
-        let long : length (take count (drop from block.values)) ≡ count = omega (arith, length-take count (drop from block.values), length-drop from block.values) in
+        let long : length (take count (drop from block.values)) ≡ count =
+        omega (arith, length-take count (drop from block.values), length-drop from block.values) in
         record {
           within = omega (arith, h.within);
           before = λ x l. value-beside block y x (h.before x l);
@@ -131,7 +134,11 @@ module _ (block : ValueBlock) (width y first : ℕ) (values : List ℕ) (h : IsR
   at_column k l = get_or-map-range_with_len (λ x. value_at block x y) 0 width k k 0 l (omega arith)
 
   at_laid : (n k : ℕ) → n ≡ width - (first + length values) → k < width → get_or (replicate first 0 ++ (values ++ replicate n 0)) k 0 ≡ value_at block k y
-  at_laid n k rest l = elim (cases_lt k first) [ inl before ↦ early before | inr from ↦ elim (cases_lt k (first + length values)) [ inl inside ↦ within from inside | inr behind ↦ late behind ] ]
+  at_laid n k rest l = elim (cases_lt k first) [
+    | inl before ↦ early before
+    | inr from ↦ elim (cases_lt k (first + length values))
+        [ inl inside ↦ within from inside | inr behind ↦ late behind ]
+  ]
     where
       early : k < first → get_or (replicate first 0 ++ (values ++ replicate n 0)) k 0 ≡ value_at block k y
       early before =
@@ -144,7 +151,8 @@ module _ (block : ValueBlock) (width y first : ℕ) (values : List ℕ) (h : IsR
       within : first ≤ k → k < first + length values → get_or (replicate first 0 ++ (values ++ replicate n 0)) k 0 ≡ value_at block k y
       within from inside =
           let at : first + (k - first) ≡ k = omega arith in
-          past from ∙ get_or_append_left values (replicate n 0) 0 (k - first) (omega arith) ∙ sym (h.under (k - first) (omega arith)) ∙ ap (λ x. value_at block x y) at
+          past from ∙ get_or_append_left values (replicate n 0) 0 (k - first) (omega arith) ∙ sym (h.under (k - first) (omega arith))
+          ∙ ap (λ x. value_at block x y) at
 
       late : first + length values ≤ k → get_or (replicate first 0 ++ (values ++ replicate n 0)) k 0 ≡ value_at block k y
       late behind =
@@ -153,7 +161,14 @@ module _ (block : ValueBlock) (width y first : ℕ) (values : List ℕ) (h : IsR
 
   length-laid : (n : ℕ) → n ≡ width - (first + length values) → length (replicate first 0 ++ (values ++ replicate n 0)) ≡ width
   length-laid n rest =
-      omega (arith, length-append (replicate first 0) (values ++ replicate n 0), length-append values (replicate n 0), length-replicate {A = ℕ} first 0, length-replicate {A = ℕ} n 0, h.within)
+      omega (
+        arith,
+        length-append (replicate first 0) (values ++ replicate n 0),
+        length-append values (replicate n 0),
+        length-replicate {A = ℕ} first 0,
+        length-replicate {A = ℕ} n 0,
+        h.within,
+      )
 
   -- a row is the stretch of the block in it, with 0 before and behind
   pub row-is : (n : ℕ) → n ≡ width - (first + length values) → row (value_at block) width y ≡ replicate first 0 ++ (values ++ replicate n 0)
@@ -168,7 +183,8 @@ module _ (block : ValueBlock) (width y first : ℕ) (values : List ℕ) (h : IsR
 filled : (xs : List ℕ) (to len : ℕ) → len ≡ length xs → len ≤ to → take to xs ++ replicate (to - len) 0 ≡ xs ++ replicate (to - len) 0
 filled xs to len is l = ap (λ ys. ys ++ replicate (to - len) 0) (take_all to xs (omega arith))
 
-pub row-pushed : (block : ValueBlock) (width y first : ℕ) (values old one two three : List ℕ) (start len long : ℕ) → IsRowStretch block width y first values → start ≡ len → len ≡ length old
+pub row-pushed : (block : ValueBlock) (width y first : ℕ) (values old one two three : List ℕ) (start len long : ℕ) → IsRowStretch block width y first values
+    → start ≡ len → len ≡ length old
     → one ≡ take (start + first) old ++ replicate (start + first - len) 0 → two ≡ one ++ values → long ≡ length two
     → three ≡ take (start + width) two ++ replicate (start + width - long) 0 → three ≡ old ++ row (value_at block) width y
 row-pushed block width y first values old one two three start len long h same held zeros stretch counted rest =
@@ -178,12 +194,22 @@ row-pushed block width y first values old one two three start len long h same he
     let one_is : one ≡ old ++ replicate first 0 = rw gap at (zeros ∙ filled old (start + first) len held (omega arith)) in
     let two_is : two ≡ (old ++ replicate first 0) ++ values = stretch ∙ ap (λ xs. xs ++ values) one_is in
     let size : long ≡ start + first + length values =
-    omega (arith, counted, ap length two_is, length-append (old ++ replicate first 0) values, length-append old (replicate first 0), length-replicate {A = ℕ} first 0, begun) in
+    omega (
+      arith,
+      counted,
+      ap length two_is,
+      length-append (old ++ replicate first 0) values,
+      length-append old (replicate first 0),
+      length-replicate {A = ℕ} first 0,
+      begun,
+    ) in
     rest ∙ filled two (start + width) long counted (omega arith) ∙ ap (λ xs. xs ++ replicate (start + width - long) 0) two_is
-    ∙ append_assoc (old ++ replicate first 0) values (replicate (start + width - long) 0) ∙ append_assoc old (replicate first 0) (values ++ replicate (start + width - long) 0)
+    ∙ append_assoc (old ++ replicate first 0) values (replicate (start + width - long) 0)
+    ∙ append_assoc old (replicate first 0) (values ++ replicate (start + width - long) 0)
     ∙ ap (λ xs. old ++ xs) (sym (row-is block width y first values h (start + width - long) (omega arith)))
 
 -- the list when a step that may fail is done
-pub on_ok : {A E : Type 0} (r : Result A E) (new done left target : List ℕ) → new ≡ cond (is_ok r) done left → (new ≡ done → new ≡ target) → OnOk r (new ≡ target)
+pub on_ok : {A E : Type 0} (r : Result A E) (new done left target : List ℕ) → new ≡ cond (is_ok r) done left → (new ≡ done → new ≡ target)
+    → OnOk r (new ≡ target)
 on_ok (Ok x) new done left target e f = f e
 on_ok (Err x) new done left target e f = tt

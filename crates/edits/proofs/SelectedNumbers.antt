@@ -1,5 +1,6 @@
 -- Marks of the cells of a selection.
-use Rattle.std.proofs.Common.{◌≡◌, ◌↔◌, inl, inr, ℕ, ◌+◌, ◌*◌, ◌/◌, ◌%◌, ◌<◌, min, List, [], ◌∷◌, length, Bool, true, false, ◌&&◌, ◌||◌, nat_eq, nat_le, nat_lt, cond, get_or, Option, Some, None, refl, sym, ap, ◌∙◌, subst, mul_comm, arith}
+use Rattle.std.proofs.Common.{◌≡◌, ◌↔◌, inl, inr, ℕ, ◌+◌, ◌*◌, ◌/◌, ◌%◌, ◌<◌, min, List, [], ◌∷◌, length, Bool, true, false, ◌&&◌, ◌||◌, nat_eq, nat_le, nat_lt}
+use Rattle.std.proofs.Common.{cond, get_or, Option, Some, None, refl, sym, ap, ◌∙◌, subst, mul_comm, arith}
 use Rattle.std.proofs.Math.Bool.{or_assoc}
 use Rattle.std.specs.List.{slice_get}
 use Rattle.std.specs.FinSet as set
@@ -114,7 +115,8 @@ module _ (g : Ground) (x y : ℕ) (h : HasCell g.width g.tiles.now x y) where
 pub AreAllowed-all : (g : Ground) (m : Marks) → g.selection.now ≡ set.empty → ((p : ℕ) → p < length g.tiles.now → is_marked m p ≡ true) → AreAllowed g m
 AreAllowed-all g m none all p l = all p l ∙ sym (lets_change-empty g.selection.now (cell_of g p) none)
 
-pub AreAllowed-selected : (g : Ground) (m : Marks) → IsGround g → (g.selection.now ≡ set.empty → ⊥) → AreSelected g.width (g.height * g.width) g.selection.now m → AreAllowed g m
+pub AreAllowed-selected : (g : Ground) (m : Marks) → IsGround g → (g.selection.now ≡ set.empty → ⊥) → AreSelected g.width (g.height * g.width) g.selection.now m
+    → AreAllowed g m
 AreAllowed-selected g m ground some marks p l =
     let at = div-add-mod' p g.width in
     ap (is_marked m) (sym at) ∙ marks (p % g.width) (p / g.width) (mod_below p g.width (omega (arith, ground.column))) (omega (arith, at, ground.size))
@@ -158,14 +160,17 @@ difference-own w values s x y value some own =
     let ys = covered w (fill_over w values s (x, y) value) values in
     let all : 0 + length values ≡ length values = omega arith in
     sym (difference-skip w values ys 0 (length values) (λ k l. let at : 0 + k ≡ k = omega arith in
-    rw at (get_or-each_at (λ number old. covered_value (fill_over w values s (x, y) value (number % w) (number / w)) old) values k l ∙ by_test k l (is_joined w values s (x, y) (k % w, k / w)) refl)))
+    rw at (get_or-each_at (λ number old. covered_value (fill_over w values s (x, y) value (number % w) (number / w)) old) values k l
+    ∙ by_test k l (is_joined w values s (x, y) (k % w, k / w)) refl)))
     ∙ ap (difference w values ys) all
   where
-    by_test : (k : ℕ) → k < length values → (b : Bool) → is_joined w values s (x, y) (k % w, k / w) ≡ b → covered_value (cond (is_joined w values s (x, y) (k % w, k / w)) (Some value) None) (get_or values k 0) ≡ get_or values k 0
+    by_test : (k : ℕ) → k < length values → (b : Bool) → is_joined w values s (x, y) (k % w, k / w) ≡ b
+        → covered_value (cond (is_joined w values s (x, y) (k % w, k / w)) (Some value) None) (get_or values k 0) ≡ get_or values k 0
     by_test k l false e = ap (λ b. covered_value (cond b (Some value) None) (get_or values k 0)) e
     by_test k l true e =
         let free = reached-free (free_from w values s (x, y)) (x, y) (length values) (k % w, k / w) e in
-        let both = and_parts (nat_lt (k % w) w) (is_value (slice_get values (k / w * w + k % w)) (get_or values (y * w + x) 0) && lets_change s (k % w, k / w)) free in
+        let both = and_parts (nat_lt (k % w) w) (is_value (slice_get values (k / w * w + k % w)) (get_or values (y * w + x) 0) && lets_change s (k % w, k / w))
+        free in
         let test = (and_parts (is_value (slice_get values (k / w * w + k % w)) (get_or values (y * w + x) 0)) (lets_change s (k % w, k / w)) both.1).0 in
         let there = ap (λ p. is_value (slice_get values p) (get_or values (y * w + x) 0)) (sym (div-add-mod' k w)) ∙ test in
         let found = ap (λ o. is_value o (get_or values (y * w + x) 0)) (sym (slice_get-get_or values k 0 l)) ∙ there in

@@ -1,5 +1,6 @@
 -- How far a fill is, from one word to the next.
-use Rattle.std.proofs.Common.{◌≡◌, ◌≢◌, ◌⊎◌, inl, inr, ℕ, ◌+◌, ◌*◌, ◌/◌, ◌%◌, ◌^◌, ◌<◌, ◌≤◌, min, max, List, [], ◌∷◌, ◌++◌, length, Bool, true, false, not, cond, ◌&&◌, ◌||◌, nat_eq, refl, sym, ap, ◌∙◌, subst, length-append, w64, arith}
+use Rattle.std.proofs.Common.{◌≡◌, ◌≢◌, ◌⊎◌, inl, inr, ℕ, ◌+◌, ◌*◌, ◌/◌, ◌%◌, ◌^◌, ◌<◌, ◌≤◌, min, max, List, [], ◌∷◌, ◌++◌, length, Bool, true, false, not}
+use Rattle.std.proofs.Common.{cond, ◌&&◌, ◌||◌, nat_eq, refl, sym, ap, ◌∙◌, subst, length-append, w64, arith}
 use Rattle.std.specs.Prelude.{bit_and, bit_or}
 use Rattle.std.specs.List.{slice_get}
 use Rattle.std.specs.Int.{bit_at, bit_not, trailing_zeros}
@@ -58,7 +59,8 @@ module _ (g : Ground) where
 pub IsBatch-keeps : (s t : Spread) (b : Batch) → room t.open ≡ room s.open → ((p : ℕ) → taken_at s p ≡ true → taken_at t p ≡ true) → IsBatch s b → IsBatch t b
 IsBatch-keeps s t b rooms keeps h = record { within = omega (arith, rooms, h.within); taken = λ p i. keeps p (h.taken p i) }
 
-Each-keeps : (s t : Spread) (bs : List Batch) → room t.open ≡ room s.open → ((p : ℕ) → taken_at s p ≡ true → taken_at t p ≡ true) → Each (IsBatch s) bs → Each (IsBatch t) bs
+Each-keeps : (s t : Spread) (bs : List Batch) → room t.open ≡ room s.open → ((p : ℕ) → taken_at s p ≡ true → taken_at t p ≡ true) → Each (IsBatch s) bs
+    → Each (IsBatch t) bs
 Each-keeps s t [] rooms keeps h = tt
 Each-keeps s t (b ∷ bs) rooms keeps h = (IsBatch-keeps s t b rooms keeps h.0, Each-keeps s t bs rooms keeps h.1)
 
@@ -68,7 +70,8 @@ unfolding taken_at
 taken-two s p o k e f = ap (λ x. x && not (is_marked s.open p)) f ∙ ap (λ x. k && not x) e
 
 -- a free number that is not open is taken
-pub taken-unless_open : (g : Ground) (s : Spread) (p : ℕ) → Means g p (is_marked s.open p) (is_marked s.taken p) → is_marked s.open p ≡ false → free_at g p ≡ true → taken_at s p ≡ true
+pub taken-unless_open : (g : Ground) (s : Spread) (p : ℕ) → Means g p (is_marked s.open p) (is_marked s.taken p) → is_marked s.open p ≡ false
+    → free_at g p ≡ true → taken_at s p ≡ true
 taken-unless_open g s p means closed free = by_marks (is_marked s.open p) refl (is_marked s.taken p) refl means
   where
     by_marks : (o : Bool) → is_marked s.open p ≡ o → (k : Bool) → is_marked s.taken p ≡ k → Means g p o k → taken_at s p ≡ true
@@ -77,7 +80,8 @@ taken-unless_open g s p means closed free = by_marks (is_marked s.open p) refl (
     by_marks false e false f m = absurd (false≢true (sym m ∙ free))
 
 -- a number that is open, and not also taken, is free
-pub free-opened : (g : Ground) (s : Spread) (p : ℕ) → Means g p (is_marked s.open p) (is_marked s.taken p) → (is_marked s.open p && is_marked s.taken p) ≡ false → is_marked s.open p ≡ true → free_at g p ≡ true
+pub free-opened : (g : Ground) (s : Spread) (p : ℕ) → Means g p (is_marked s.open p) (is_marked s.taken p) → (is_marked s.open p && is_marked s.taken p) ≡ false
+    → is_marked s.open p ≡ true → free_at g p ≡ true
 free-opened g s p means seen opened = by_marks (is_marked s.open p) refl (is_marked s.taken p) refl means
   where
     by_marks : (o : Bool) → is_marked s.open p ≡ o → (k : Bool) → is_marked s.taken p ≡ k → Means g p o k → free_at g p ≡ true
@@ -110,7 +114,8 @@ bits_here : (marks : Marks) (word bits p : ℕ) → AreBits marks word bits → 
 bits_here marks word bits p are e = let at = in_word p word e in are (p % 64) at.0 ∙ ap (is_marked marks) at.1
 
 -- ---- the values of a word are looked at
-Means-seen : (g : Ground) (p : ℕ) (o k e : Bool) → e ≡ is_value (slice_get g.tiles.now p) g.value → Means g p o k → Means g p (o && (not (o && k) || e)) (k && not (o && k))
+Means-seen : (g : Ground) (p : ℕ) (o k e : Bool) → e ≡ is_value (slice_get g.tiles.now p) g.value → Means g p o k
+    → Means g p (o && (not (o && k) || e)) (k && not (o && k))
 Means-seen g p true true true same h = h ∙ sym same
 Means-seen g p true true false same h = h ∙ sym same
 Means-seen g p true false e same h = h
@@ -132,10 +137,13 @@ not_both-seen false k e = refl
 abbrev pub unseen_of : ℕ → ℕ → ℕ
 unseen_of opened taken = bit_not w64 (bit_and opened taken)
 
-module _ (g : Ground) (s t : Spread) (word opened taken equal : ℕ) (fits : opened < 2 ^ 64) (opens : AreBits s.open word opened) (takens : AreBits s.taken word taken)
+module _ (g : Ground) (s t : Spread) (word opened taken equal : ℕ) (fits : opened < 2 ^ 64) (opens : AreBits s.open word opened)
+    (takens : AreBits s.taken word taken)
     (equals : (i : ℕ) → i < 64 → nat_eq (bit_at equal i) 1 ≡ is_value (slice_get g.tiles.now (64 * word + i)) g.value)
-    (open_set : IsWordSet s.open t.open word (bit_and opened (bit_or (unseen_of opened taken) equal))) (taken_set : IsWordSet s.taken t.taken word (bit_and taken (unseen_of opened taken)))
-    (open_room : room t.open ≡ room s.open) (taken_room : room t.taken ≡ room s.taken) (pending : t.pending.items ≡ s.pending.items) (first : t.first ≡ s.first) (end : t.end ≡ s.end)
+    (open_set : IsWordSet s.open t.open word (bit_and opened (bit_or (unseen_of opened taken) equal)))
+    (taken_set : IsWordSet s.taken t.taken word (bit_and taken (unseen_of opened taken)))
+    (open_room : room t.open ≡ room s.open) (taken_room : room t.taken ≡ room s.taken) (pending : t.pending.items ≡ s.pending.items) (first : t.first ≡ s.first)
+    (end : t.end ≡ s.end)
     (h : IsSound g s) where
   seen-here : (p : ℕ) → p / 64 ≡ word → (e : Bool) × (e ≡ is_value (slice_get g.tiles.now p) g.value)
       × (is_marked t.open p ≡ (is_marked s.open p && (not (is_marked s.open p && is_marked s.taken p) || e)))
@@ -147,19 +155,23 @@ module _ (g : Ground) (s t : Spread) (word opened taken equal : ℕ) (fits : ope
       let number = in_word p word at in
       let e = nat_eq (bit_at equal i) 1 in
       let small : bit_and opened taken < 2 ^ 64 = omega (arith, and_le_l opened taken) in
-      let unseen = has_not (bit_and opened taken) i small number.0 ∙ ap not (has_and opened taken i ∙ ap (λ b. b && nat_eq (bit_at taken i) 1) o ∙ ap (λ b. is_marked s.open p && b) k) in (
+      let unseen = has_not (bit_and opened taken) i small number.0
+      ∙ ap not (has_and opened taken i ∙ ap (λ b. b && nat_eq (bit_at taken i) 1) o ∙ ap (λ b. is_marked s.open p && b) k) in (
         e,
         equals i number.0 ∙ ap (λ n. is_value (slice_get g.tiles.now n) g.value) number.1,
-        set_here s.open t.open word _ open_set p at ∙ has_and opened (bit_or (unseen_of opened taken) equal) i ∙ ap (λ b. b && nat_eq (bit_at (bit_or (unseen_of opened taken) equal) i) 1) o
+        set_here s.open t.open word _ open_set p at ∙ has_and opened (bit_or (unseen_of opened taken) equal) i
+            ∙ ap (λ b. b && nat_eq (bit_at (bit_or (unseen_of opened taken) equal) i) 1) o
             ∙ ap (λ b. is_marked s.open p && b) (has_or (unseen_of opened taken) equal i ∙ ap (λ b. b || e) unseen),
-        set_here s.taken t.taken word _ taken_set p at ∙ has_and taken (unseen_of opened taken) i ∙ ap (λ b. b && nat_eq (bit_at (unseen_of opened taken) i) 1) k
+        set_here s.taken t.taken word _ taken_set p at ∙ has_and taken (unseen_of opened taken) i
+            ∙ ap (λ b. b && nat_eq (bit_at (unseen_of opened taken) i) 1) k
             ∙ ap (λ b. is_marked s.taken p && b) unseen,
       )
 
   seen-taken : (p : ℕ) → taken_at t p ≡ taken_at s p
   seen-taken p = elim (cases_eq (p / 64) word) [
     | inl at ↦ let here = seen-here p at in
-        taken-two t p _ _ here.2 here.3 ∙ taken-seen (is_marked s.open p) (is_marked s.taken p) here.0 ∙ sym (taken-two s p (is_marked s.open p) (is_marked s.taken p) refl refl)
+        taken-two t p _ _ here.2 here.3 ∙ taken-seen (is_marked s.open p) (is_marked s.taken p) here.0
+        ∙ sym (taken-two s p (is_marked s.open p) (is_marked s.taken p) refl refl)
     | inr other ↦ taken-two t p _ _ (set_there s.open t.open word _ open_set p other) (set_there s.taken t.taken word _ taken_set p other)
         ∙ sym (taken-two s p (is_marked s.open p) (is_marked s.taken p) refl refl)
   ]
@@ -197,7 +209,12 @@ module _ (g : Ground) (s t : Spread) (word opened taken equal : ℕ) (fits : ope
     keeps = λ p e. seen-taken p ∙ e;
     waits = λ p w. subst (λ (bs : List Batch). Waits bs p) (sym pending) w;
     fresh = λ p e. inl (sym (seen-taken p) ∙ e);
-    work = omega (arith, ap length pending, count-le (λ k. not (taken_at t k)) (λ k. not (taken_at s k)) (length g.tiles.now) (λ k l e. ap not (sym (seen-taken k)) ∙ e));
+    work = omega (
+      arith,
+      ap length pending,
+      count-le (λ k. not (taken_at t k)) (λ k. not (taken_at s k)) (length g.tiles.now)
+          (λ k l e. ap not (sym (seen-taken k)) ∙ e),
+    );
   }
 
 -- ---- cells of a word are taken
@@ -229,7 +246,8 @@ module _ (g : Ground) (s t : Spread) (word opened taken bits : ℕ) (fits : bits
     (closed : (i j : ℕ) → i < 64 → j < 64 → AreSideBySide g (64 * word + i) (64 * word + j) → bit_at bits i ≡ 1 → bit_at opened j ≡ 1 → bit_at bits j ≡ 1)
     (open_set : IsWordSet s.open t.open word (bit_and opened (bit_not w64 bits))) (taken_set : IsWordSet s.taken t.taken word (bit_or taken bits))
     (open_room : room t.open ≡ room s.open) (taken_room : room t.taken ≡ room s.taken)
-    (pending : t.pending.items ≡ s.pending.items ++ record { word = word; bits = bits } ∷ []) (first : t.first ≡ min s.first word) (end : t.end ≡ max s.end (word + 1))
+    (pending : t.pending.items ≡ s.pending.items ++ record { word = word; bits = bits } ∷ []) (first : t.first ≡ min s.first word)
+    (end : t.end ≡ max s.end (word + 1))
     (within : 64 * word < room s.open) (h : IsSound g s) where
   -- whether a number is one of the new ones
   is_new : ℕ → Bool
@@ -237,7 +255,8 @@ module _ (g : Ground) (s t : Spread) (word opened taken bits : ℕ) (fits : bits
 
   new-in : (p : ℕ) → is_new p ≡ true → InBatch (record { word = word; bits = bits }) p
   unfolding is_new
-  new-in p e = let both = and_parts (nat_eq (p / 64) word) (nat_eq (bit_at bits (p % 64)) 1) e in (eqb-true (p / 64) word both.0, eqb-true (bit_at bits (p % 64)) 1 both.1)
+  new-in p e = let both = and_parts (nat_eq (p / 64) word) (nat_eq (bit_at bits (p % 64)) 1) e in
+      (eqb-true (p / 64) word both.0, eqb-true (bit_at bits (p % 64)) 1 both.1)
 
   in-new : (p : ℕ) → InBatch (record { word = word; bits = bits }) p → is_new p ≡ true
   unfolding is_new
@@ -248,7 +267,8 @@ module _ (g : Ground) (s t : Spread) (word opened taken bits : ℕ) (fits : bits
   new-at i l e =
       let at : (64 * word + i) / 64 ≡ word = omega arith in
       let bit : (64 * word + i) % 64 ≡ i = omega arith in
-      and_from (nat_eq ((64 * word + i) / 64) word) _ (eq-eqb ((64 * word + i) / 64) word at) (eq-eqb (bit_at bits ((64 * word + i) % 64)) 1 (ap (bit_at bits) bit ∙ e))
+      and_from (nat_eq ((64 * word + i) / 64) word) _ (eq-eqb ((64 * word + i) / 64) word at)
+      (eq-eqb (bit_at bits ((64 * word + i) % 64)) 1 (ap (bit_at bits) bit ∙ e))
 
   new-open : (p : ℕ) → is_new p ≡ true → (is_marked s.open p ≡ true) × IsLed g p
   new-open p e =
@@ -264,9 +284,11 @@ module _ (g : Ground) (s t : Spread) (word opened taken bits : ℕ) (fits : bits
         let i = p % 64 in
         let number = in_word p word at in
         let here : nat_eq (bit_at bits i) 1 ≡ is_new p = sym (ap (λ b. b && nat_eq (bit_at bits i) 1) (eq-eqb (p / 64) word at)) in (
-          set_here s.open t.open word _ open_set p at ∙ has_and opened (bit_not w64 bits) i ∙ ap (λ b. b && nat_eq (bit_at (bit_not w64 bits) i) 1) (bits_here s.open word opened p opens at)
+          set_here s.open t.open word _ open_set p at ∙ has_and opened (bit_not w64 bits) i
+              ∙ ap (λ b. b && nat_eq (bit_at (bit_not w64 bits) i) 1) (bits_here s.open word opened p opens at)
               ∙ ap (λ b. is_marked s.open p && b) (has_not bits i fits number.0 ∙ ap not here),
-          set_here s.taken t.taken word _ taken_set p at ∙ has_or taken bits i ∙ ap (λ b. b || nat_eq (bit_at bits i) 1) (bits_here s.taken word taken p takens at)
+          set_here s.taken t.taken word _ taken_set p at ∙ has_or taken bits i
+              ∙ ap (λ b. b || nat_eq (bit_at bits i) 1) (bits_here s.taken word taken p takens at)
               ∙ ap (λ b. is_marked s.taken p || b) here,
         )
     | inr other ↦
@@ -329,7 +351,8 @@ module _ (g : Ground) (s t : Spread) (word opened taken bits : ℕ) (fits : bits
         | inr shut ↦ taken-keeps r (taken-unless_open g s r (h.numbers r) shut free)
         | inl is_open ↦
             let on : bit_at opened (r % 64) ≡ 1 = eqb-true (bit_at opened (r % 64)) 1 (bits_here s.open word opened r opens here ∙ is_open) in
-            let beside : AreSideBySide g (64 * word + p % 64) (64 * word + r % 64) = subst (λ n. AreSideBySide g n (64 * word + r % 64)) (sym from.1) (subst (AreSideBySide g p) (sym to.1) side) in
+            let beside : AreSideBySide g (64 * word + p % 64) (64 * word + r % 64) =
+            subst (λ n. AreSideBySide g n (64 * word + r % 64)) (sym from.1) (subst (AreSideBySide g p) (sym to.1) side) in
             taken-new r (subst (λ n. is_new n ≡ true) to.1 (new-at (r % 64) to.0 (closed (p % 64) (r % 64) from.0 to.0 beside b.1 on)))
       ]
 
@@ -344,13 +367,14 @@ module _ (g : Ground) (s t : Spread) (word opened taken bits : ℕ) (fits : bits
     numbers = taken-numbers;
     led = λ p e. elim (taken-cases p e) [ inl f ↦ h.led p f | inr f ↦ (new-open p f).1 ];
     inner = λ p r e at side free. elim (taken-cases p e) [ inl f ↦ taken-keeps r (h.inner p r f at side free) | inr f ↦ taken-beside p r f at side free ];
-    pending = subst (λ (bs : List Batch). Each (IsBatch t) bs) (sym pending) (Each-append (IsBatch t) s.pending.items (record { word = word; bits = bits } ∷ []) (Each-keeps s t s.pending.items open_room taken-keeps h.pending) (
-      record {
-        within = omega (arith, within, open_room);
-        taken = λ p b. taken-new p (in-new p b);
-      },
-      tt,
-    ));
+    pending = subst (λ (bs : List Batch). Each (IsBatch t) bs) (sym pending)
+        (Each-append (IsBatch t) s.pending.items (record { word = word; bits = bits } ∷ []) (Each-keeps s t s.pending.items open_room taken-keeps h.pending) (
+          record {
+            within = omega (arith, within, open_room);
+            taken = λ p b. taken-new p (in-new p b);
+          },
+          tt,
+        ));
     from = λ p e. elim (taken-cases p e) [ inl f ↦ omega (arith, first, h.from p f) | inr f ↦ let b = new-in p f in omega (arith, first, b.0) ];
     to = λ p e. elim (taken-cases p e) [ inl f ↦ omega (arith, end, h.to p f) | inr f ↦ let b = new-in p f in omega (arith, end, b.0) ];
     first = omega (arith, first, h.first, open_room);
@@ -367,9 +391,11 @@ module _ (g : Ground) (s t : Spread) (word opened taken bits : ℕ) (fits : bits
       let free = free-opened g s p (h.numbers p) (not_both i lowest.0) is_open.0 in
       let before : taken_at s p ≡ false =
       taken-two s p _ _ is_open.0 refl ∙ and_false (is_marked s.taken p) in
-      let fewer = count-lt (λ k. not (taken_at t k)) (λ k. not (taken_at s k)) (length g.tiles.now) p (λ k l e. not_before (taken_at s k) (is_new k) (ap not (sym (taken-now k)) ∙ e))
+      let fewer = count-lt (λ k. not (taken_at t k)) (λ k. not (taken_at s k)) (length g.tiles.now) p
+      (λ k l e. not_before (taken_at s k) (is_new k) (ap not (sym (taken-now k)) ∙ e))
       (free_at-within g width p free) (ap not (taken-new p new)) (ap not before) in
-      let more : length t.pending.items ≡ length s.pending.items + 1 = ap length pending ∙ length-append s.pending.items (record { word = word; bits = bits } ∷ []) in
+      let more : length t.pending.items ≡ length s.pending.items + 1 = ap length pending
+      ∙ length-append s.pending.items (record { word = word; bits = bits } ∷ []) in
       omega (arith, fewer, more)
     where
       and_false : (a : Bool) → (a && false) ≡ false
@@ -382,13 +408,15 @@ module _ (g : Ground) (s t : Spread) (word opened taken bits : ℕ) (fits : bits
     waits = λ p w. subst (λ (bs : List Batch). Waits bs p) (sym pending) (Waits-more s.pending.items (record { word = word; bits = bits } ∷ []) p w);
     fresh = λ p e. elim (taken-cases p e) [
       | inl f ↦ inl f
-      | inr f ↦ inr (subst (λ (bs : List Batch). Waits bs p) (sym pending) (Waits-last s.pending.items (record { word = word; bits = bits } ∷ []) p (inl (new-in p f))))
+      | inr f ↦ inr (subst (λ (bs : List Batch). Waits bs p) (sym pending)
+          (Waits-last s.pending.items (record { word = word; bits = bits } ∷ []) p (inl (new-in p f))))
     ];
     work = taken-work;
   }
 
   -- whatever is free of the seeds is taken
-  pub taken-covers : (seeds : ℕ) → ((i : ℕ) → i < 64 → bit_at (bit_and seeds opened) i ≡ 1 → bit_at bits i ≡ 1) → (i : ℕ) → i < 64 → bit_at seeds i ≡ 1 → free_at g (64 * word + i) ≡ true → taken_at t (64 * word + i) ≡ true
+  pub taken-covers : (seeds : ℕ) → ((i : ℕ) → i < 64 → bit_at (bit_and seeds opened) i ≡ 1 → bit_at bits i ≡ 1) → (i : ℕ) → i < 64 → bit_at seeds i ≡ 1
+      → free_at g (64 * word + i) ≡ true → taken_at t (64 * word + i) ≡ true
   taken-covers seeds all i l e free = elim (cases_eq (bit_at opened i) 1) [
     | inl on ↦ taken-new (64 * word + i) (new-at i l (all i l (omega (arith, bit_at_and seeds opened i, e, on))))
     | inr off ↦
@@ -397,8 +425,10 @@ module _ (g : Ground) (s t : Spread) (word opened taken bits : ℕ) (fits : bits
   ]
 
 -- where none of the seeds is open, whatever is free of them was taken
-pub covers-closed : (g : Ground) (s : Spread) (word opened seeds : ℕ) → AreBits s.open word opened → ((p : ℕ) → Means g p (is_marked s.open p) (is_marked s.taken p))
-    → ((i : ℕ) → i < 64 → bit_at (bit_and seeds opened) i ≡ 1 → ⊥) → (i : ℕ) → i < 64 → bit_at seeds i ≡ 1 → free_at g (64 * word + i) ≡ true → taken_at s (64 * word + i) ≡ true
+pub covers-closed : (g : Ground) (s : Spread) (word opened seeds : ℕ) → AreBits s.open word opened
+    → ((p : ℕ) → Means g p (is_marked s.open p) (is_marked s.taken p))
+    → ((i : ℕ) → i < 64 → bit_at (bit_and seeds opened) i ≡ 1 → ⊥) → (i : ℕ) → i < 64 → bit_at seeds i ≡ 1 → free_at g (64 * word + i) ≡ true
+    → taken_at s (64 * word + i) ≡ true
 covers-closed g s word opened seeds opens numbers none i l e free = elim (cases_eq (bit_at opened i) 1) [
   | inl on ↦ absurd (none i l (omega (arith, bit_at_and seeds opened i, e, on)))
   | inr off ↦
@@ -417,7 +447,8 @@ module _ (g : Ground) (s t : Spread) (opens : t.open ≡ s.open) (takens : t.tak
     large = omega (arith, h.large, rooms);
     same_room = ap room takens ∙ h.same_room ∙ sym rooms;
     small = omega (arith, h.small, rooms);
-    numbers = λ p. subst (λ (m : Marks). Means g p (is_marked m p) (is_marked t.taken p)) (sym opens) (subst (λ (m : Marks). Means g p (is_marked s.open p) (is_marked m p)) (sym takens) (h.numbers p));
+    numbers = λ p. subst (λ (m : Marks). Means g p (is_marked m p) (is_marked t.taken p)) (sym opens)
+        (subst (λ (m : Marks). Means g p (is_marked s.open p) (is_marked m p)) (sym takens) (h.numbers p));
     led = λ p e. h.led p (sym (taken-off p) ∙ e);
     inner = λ p r e at side free. taken-off r ∙ h.inner p r (sym (taken-off p) ∙ e) at side free;
     pending = Each-keeps s t t.pending.items rooms (λ p e. taken-off p ∙ e) left;
@@ -444,7 +475,8 @@ module _ (g : Ground) (s t : Spread) (opens : t.open ≡ s.open) (takens : t.tak
         omega (arith, less, same)
 
     -- the batch is done with once what is free beside it is taken
-    pub IsClosed-done : (u : Spread) → IsClosed g s s.pending.items → Spreads g t u → ((p r : ℕ) → InBatch b p → AreNear g p r → free_at g r ≡ true → taken_at u r ≡ true) → IsClosed g u u.pending.items
+    pub IsClosed-done : (u : Spread) → IsClosed g s s.pending.items → Spreads g t u
+        → ((p r : ℕ) → InBatch b p → AreNear g p r → free_at g r ≡ true → taken_at u r ≡ true) → IsClosed g u u.pending.items
     IsClosed-done u closed spreads covers p r h near free = elim (spreads.fresh p h) [
       | inr waits ↦ inr waits
       | inl old ↦ elim (closed p r (sym (taken-off p) ∙ old) near free) [

@@ -64,7 +64,8 @@ module _ (w : ℕ) (some : 0 < w) (side : Side) (xs ys from to : List ℕ) (size
           → put_values w side (cond b [] (edit_at w k (get_or xs k 0) (get_or ys k 0) ∷ [])) (mixed k to from) ≡ mixed (suc k) to from
       by_test true e = mixed-same k to from sizes l (same k (grind (arith, nat_tests)))
       by_test false e =
-          ap (λ p. slice_set (mixed k to from) p (side_value side (edit_at w k (get_or xs k 0) (get_or ys k 0)))) (number-edit_at w k (get_or xs k 0) (get_or ys k 0) some)
+          ap (λ p. slice_set (mixed k to from) p (side_value side (edit_at w k (get_or xs k 0) (get_or ys k 0))))
+          (number-edit_at w k (get_or xs k 0) (get_or ys k 0) some)
           ∙ ap (slice_set (mixed k to from) k) (value k) ∙ mixed-set k to from sizes l
 
   put-first : (k : ℕ) → k ≤ length to → put_values w side (difference w xs ys k) from ≡ mixed k to from
@@ -149,7 +150,8 @@ with_edits-none m id side = with_tiles-same m id
 within_first : (m : MapParts) (xs ys : List ℕ) (k : ℕ) → 0 < m.width → k ≤ m.width * m.height → Each (IsWithin m) (difference m.width xs ys k)
 within_first m xs ys zero some l = tt
 within_first m xs ys (suc k) some l =
-    Each-append (IsWithin m) (difference m.width xs ys k) (change_at m.width k (get_or xs k 0) (get_or ys k 0)) (within_first m xs ys k some (omega arith)) (by_test (nat_eq (get_or xs k 0) (get_or ys k 0)))
+    Each-append (IsWithin m) (difference m.width xs ys k) (change_at m.width k (get_or xs k 0) (get_or ys k 0)) (within_first m xs ys k some (omega arith))
+    (by_test (nat_eq (get_or xs k 0) (get_or ys k 0)))
   where
     inside : IsWithin m (edit_at m.width k (get_or xs k 0) (get_or ys k 0))
     inside = (omega arith, (div-lt_iff_lt-mul {k = m.width} {x = k} {y = m.height} some).1 (omega arith))

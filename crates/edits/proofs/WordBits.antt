@@ -1,5 +1,6 @@
 -- The taken cells of a word, from the lowest.
-use Rattle.std.proofs.Common.{◌≡◌, ◌≢◌, inl, inr, ℕ, suc, [], ◌∷◌, ◌+◌, ◌-◌, ◌*◌, ◌%◌, ◌^◌, ◌<◌, ◌≤◌, ◌++◌, length, true, false, nat_eq, w64, sym, ap, ◌∙◌, arith}
+use Rattle.std.proofs.Common.{◌≡◌, ◌≢◌, inl, inr, ℕ, suc, [], ◌∷◌, ◌+◌, ◌-◌, ◌*◌, ◌%◌, ◌^◌, ◌<◌, ◌≤◌, ◌++◌, length, true, false, nat_eq, w64, sym, ap, ◌∙◌}
+use Rattle.std.proofs.Common.{arith}
 use Rattle.std.specs.Prelude.{bit_and}
 use Rattle.std.specs.Int.{bit_at, bit_not, trailing_zeros}
 use Rattle.std.proofs.lemmas.Bool.{cases_eq, cases_lt, eq-eqb}
@@ -32,7 +33,8 @@ none-left s word n h k from to =
     let at : 64 * word + i ≡ k = omega arith in
     ap (taken_at s) (sym at) ∙ sym (h.rest i (omega arith) (omega arith)) ∙ ap (λ b. nat_eq b 1) (bit_at-zero i)
 
-module _ (g : Ground) (s : Spread) (word n left : ℕ) (ground : IsGround g) (free : (q : ℕ × ℕ) → is_taken g s q ≡ true → free_in g q ≡ true) (h : IsLeft s word n left)
+module _ (g : Ground) (s : Spread) (word n left : ℕ) (ground : IsGround g) (free : (q : ℕ × ℕ) → is_taken g s q ≡ true → free_in g q ≡ true)
+    (h : IsLeft s word n left)
     (some : 0 < left) (fits : left < 2 ^ 64) where
   abbrev bit : ℕ
   bit = trailing_zeros w64 left
@@ -61,11 +63,13 @@ module _ (g : Ground) (s : Spread) (word n left : ℕ) (ground : IsGround g) (fr
 
   -- the lowest number that is left is that of the next change
   pub bit-changes : (value x y : ℕ) → g.value ≢ value → x < g.width → y * g.width + x ≡ 64 * word + bit
-      → changes_below g s value (64 * word + n) ++ record { x = x; y = y; before = g.value; after = value } ∷ [] ≡ changes_below g s value (64 * word + (bit + 1))
+      → changes_below g s value (64 * word + n) ++ record { x = x; y = y; before = g.value; after = value } ∷ []
+      ≡ changes_below g s value (64 * word + (bit + 1))
   bit-changes value x y other column at =
       let next : y * g.width + suc x ≡ 64 * word + (bit + 1) = omega (arith, at) in
       ap (λ es. es ++ record { x = x; y = y; before = g.value; after = value } ∷ []) (
-      sym (changes-unmarked g s value (64 * word + n) (64 * word + bit) (omega (arith, ground.column)) (omega (arith, bit-from)) skipped) ∙ ap (changes_below g s value) (sym at)
+      sym (changes-unmarked g s value (64 * word + n) (64 * word + bit) (omega (arith, ground.column)) (omega (arith, bit-from)) skipped)
+      ∙ ap (changes_below g s value) (sym at)
       )
       ∙ sym (changes-marked g s value y x free other column (ap (taken_at s) at ∙ bit-taken))
       ∙ ap (changes_below g s value) next

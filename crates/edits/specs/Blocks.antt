@@ -1,5 +1,6 @@
 -- Blocks of values and areas, and where they lie on a map.
-use Rattle.std.specs.Prelude.{◌≡◌, ℕ, ◌+◌, ◌-◌, ◌*◌, ◌<◌, ◌≤◌, ℤ, pos, negsuc, List, Bool, true, false, ◌&&◌, nat_eq, nat_le, nat_lt, Option, Some, None, option_and_then, slice_get, if◌then◌else◌}
+use Rattle.std.specs.Prelude.{◌≡◌, ℕ, ◌+◌, ◌-◌, ◌*◌, ◌<◌, ◌≤◌, ℤ, pos, negsuc, List, Bool, true, false, ◌&&◌, nat_eq, nat_le, nat_lt, Option, Some, None}
+use Rattle.std.specs.Prelude.{option_and_then, slice_get, if◌then◌else◌}
 use Rattle.edits.specs.declared.area.Area.{Area}
 use Rattle.edits.specs.declared.block.Block.{Block}
 use Rattle.edits.specs.declared.span.Span.{Span}

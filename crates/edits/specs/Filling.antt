@@ -1,5 +1,6 @@
 -- What a fill does, and why one is refused.
-use Rattle.std.specs.Prelude.{◌≡◌, ◌↔◌, ℕ, ◌+◌, ◌*◌, ℤ, pos, negsuc, List, Bool, true, ◌&&◌, nat_lt, Option, Some, None, Result, Ok, length, slice_index, if◌then◌else◌}
+use Rattle.std.specs.Prelude.{◌≡◌, ◌↔◌, ℕ, ◌+◌, ◌*◌, ℤ, pos, negsuc, List, Bool, true, ◌&&◌, nat_lt, Option, Some, None, Result, Ok, length, slice_index}
+use Rattle.std.specs.Prelude.{if◌then◌else◌}
 use Rattle.std.specs.FinSet as set
 use Rattle.std.specs.Option.{ok_or}
 use Rattle.region.specs.Cells.{cell_cmp}

@@ -8,7 +8,8 @@ use Rattle.map_model.specs.declared.parts.MapParts.{MapParts}
 use Rattle.map_model.specs.declared.place.LayerPlace.{LayerPlace}
 use Rattle.map_model.specs.Document.{DocumentParts, with_map}
 use Rattle.map_model.specs.Groups.{all_drawn}
-use Rattle.map_model.specs.Layers.{layer_place, layer_at, last_place, sibling_count, sibling_place, with_layer_at, without_layer_at, layer_with_name, layer_with_visible, with_next_ids}
+use Rattle.map_model.specs.Layers.{layer_place, layer_at, last_place, sibling_count, sibling_place, with_layer_at, without_layer_at, layer_with_name}
+use Rattle.map_model.specs.Layers.{layer_with_visible, with_next_ids}
 use Rattle.map_model.specs.NewMap.{new_layer}
 use Rattle.map_model.specs.Lookups.{layer_of, with_layer}
 use Rattle.map_model.specs.Steps.{◌>>=◌, ◌>>◌, check}

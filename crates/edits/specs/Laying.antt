@@ -42,4 +42,5 @@ changes_below over r number = difference r.width r.tiles.now (covered r.width (w
 
 -- the change of a cell that something, or nothing, lies over
 abbrev pub changed_to : ℕ → ℕ → ℕ → Option ℕ → List CellEdit
-changed_to x y before over = if nat_eq before (covered_value over before) then [] else record { x = x; y = y; before = before; after = covered_value over before } ∷ []
+changed_to x y before over = if nat_eq before (covered_value over before) then [] else record
+    { x = x; y = y; before = before; after = covered_value over before } ∷ []

@@ -11,7 +11,8 @@ use Rattle.map_model.specs.declared.place.OwnerPlace.{OwnerPlace}
 use Rattle.map_model.specs.declared.place.OwnerPlace.TheVariants as places
 use Rattle.map_model.specs.declared.setting.Setting.{Setting}
 use Rattle.map_model.specs.Document.{DocumentParts, with_map}
-use Rattle.map_model.specs.Properties.{new_property, owner_place, properties_of, property_place, property_with_setting, setting_with, with_property, with_property_at, without_property_at}
+use Rattle.map_model.specs.Properties.{new_property, owner_place, properties_of, property_place, property_with_setting, setting_with, with_property}
+use Rattle.map_model.specs.Properties.{with_property_at, without_property_at}
 use Rattle.map_model.specs.Steps.{◌>>=◌, ◌>>◌, check}
 use Rattle.command_api.specs.declared.fault.EditFault.{EditFault}
 use Rattle.command_api.specs.declared.fault.EditFault.TheVariants.{NoSuchLayer, NoSuchObject, NoSuchProperty, TooMany}

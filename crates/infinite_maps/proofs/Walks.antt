@@ -15,12 +15,14 @@ spread_put_at : (o : Ordering) (p : Plane) (part : Part) (k l : List ℕ) (d e :
     → members_spread p part (put k d ms) ≡ put k (spread p (below part k) d) (members_spread p part ms)
     → members_spread p part (match_ordering o (member k d (member l e ms)) (member l d ms) (member l e (put k d ms)))
     ≡ match_ordering o (member k (spread p (below part k) d) (member l (spread p (below part l) e) (members_spread p part ms)))
-    (member l (spread p (below part k) d) (members_spread p part ms)) (member l (spread p (below part l) e) (put k (spread p (below part k) d) (members_spread p part ms)))
+    (member l (spread p (below part k) d) (members_spread p part ms))
+    (member l (spread p (below part l) e) (put k (spread p (below part k) d) (members_spread p part ms)))
 spread_put_at Less p part k l d e ms is later = refl
 spread_put_at Equal p part k l d e ms is later = ap (λ n. member l (spread p (below part n) d) (members_spread p part ms)) (sym (same_name k l is))
 spread_put_at Greater p part k l d e ms is later = ap (member l (spread p (below part l) e)) later
 
-pub members_spread-put : (p : Plane) (part : Part) (k : List ℕ) (d : Data) (ms : Members) → members_spread p part (put k d ms) ≡ put k (spread p (below part k) d) (members_spread p part ms)
+pub members_spread-put : (p : Plane) (part : Part) (k : List ℕ) (d : Data) (ms : Members)
+    → members_spread p part (put k d ms) ≡ put k (spread p (below part k) d) (members_spread p part ms)
 members_spread-put p part k d no_members = refl
 members_spread-put p part k d (member l e ms) = spread_put_at (slice_cmp nat_cmp k l) p part k l d e ms refl (members_spread-put p part k d ms)
 

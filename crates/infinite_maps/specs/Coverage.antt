@@ -1,5 +1,6 @@
 -- Which cells of a map rectangles cover, as a list with a truth value for each cell.
-use Rattle.std.specs.Prelude.{ℕ, zero, suc, ◌-◌, List, [], ◌∷◌, Bool, true, false, not, ◌||◌, ◌==◌, nat_le, replicate, slice_set, fold, count_by, Option, Some, None, if◌then◌else◌}
+use Rattle.std.specs.Prelude.{ℕ, zero, suc, ◌-◌, List, [], ◌∷◌, Bool, true, false, not, ◌||◌, ◌==◌, nat_le, replicate, slice_set, fold, count_by, Option, Some}
+use Rattle.std.specs.Prelude.{None, if◌then◌else◌}
 use Rattle.infinite_maps.specs.declared.rectangle.Rectangle.{Rectangle}
 use Rattle.infinite_maps.specs.Rectangles.{area, place}
 

@@ -1,5 +1,6 @@
 -- Rectangles for the cells that are not 0 and that no rectangle covers.
-use Rattle.std.specs.Prelude.{ℕ, zero, suc, ◌+◌, ◌-◌, ◌*◌, ◌/◌, min, max, List, [], ◌∷◌, ◌++◌, Bool, true, not, ◌&&◌, nat_lt, slice_index, slice_index_or, Option, Some, None, if◌then◌else◌}
+use Rattle.std.specs.Prelude.{ℕ, zero, suc, ◌+◌, ◌-◌, ◌*◌, ◌/◌, min, max, List, [], ◌∷◌, ◌++◌, Bool, true, not, ◌&&◌, nat_lt, slice_index, slice_index_or}
+use Rattle.std.specs.Prelude.{Option, Some, None, if◌then◌else◌}
 use Rattle.infinite_maps.specs.declared.rectangle.Rectangle.{Rectangle}
 use Rattle.infinite_maps.specs.declared.plane.Plane.{Plane}
 use Rattle.infinite_maps.specs.Rectangles.{area, place, cell_of, bounds}
@@ -15,7 +16,12 @@ block_count side lost limit = (limit + lost) / max side 1 + 1
 
 -- the i-th block of the j-th row of blocks
 abbrev pub block_at : Plane → ℕ → ℕ → Rectangle
-block_at p j i = record { left = edge p.across p.lost_x p.columns i; top = edge p.down p.lost_y p.rows j; right = edge p.across p.lost_x p.columns (i + 1); bottom = edge p.down p.lost_y p.rows (j + 1) }
+block_at p j i = record {
+  left = edge p.across p.lost_x p.columns i;
+  top = edge p.down p.lost_y p.rows j;
+  right = edge p.across p.lost_x p.columns (i + 1);
+  bottom = edge p.down p.lost_y p.rows (j + 1);
+}
 
 abbrev pub is_new : List ℕ → List Bool → ℕ → Bool
 is_new cells cover at = nat_lt 0 (slice_index cells at) && not (slice_index_or cover at true)

@@ -1,5 +1,6 @@
 -- A tile layer of a finite map as one of an infinite map.
-use Rattle.std.specs.Prelude.{ℕ, ◌*◌, ◌==◌, List, [], ◌∷◌, ◌++◌, map, length, codes, ℤ, pos, Bool, false, Option, Some, None, option_and_then, unwrap_or, if◌then◌else◌}
+use Rattle.std.specs.Prelude.{ℕ, ◌*◌, ◌==◌, List, [], ◌∷◌, ◌++◌, map, length, codes, ℤ, pos, Bool, false, Option, Some, None, option_and_then, unwrap_or}
+use Rattle.std.specs.Prelude.{if◌then◌else◌}
 use Rattle.std.specs.Int.{w64, int_wrapping_add}
 use Rattle.serde_json.specs.Data.{unsigned, Data, number, array, object, Items, no_items, Members, no_members, put}
 use Rattle.serde_json.specs.Find.{get, get_member, as_array, of_integer}
@@ -90,7 +91,8 @@ abbrev pub rest_of : Members → Members
 rest_of ms = without (codes "data") (without (codes "height") (without (codes "width") (without mark ms)))
 
 abbrev pub with_chunks : Plane → Option Data → Bool → List ℕ → List Rectangle → List Rectangle → Members → Members
-with_chunks p note text cells olds news ms = put (codes "chunks") (chunks p text cells (olds ++ news)) (with_right_bounds p note (olds ++ news) news (rest_of ms))
+with_chunks p note text cells olds news ms = put (codes "chunks") (chunks p text cells (olds ++ news))
+    (with_right_bounds p note (olds ++ news) news (rest_of ms))
 
 -- the layer, its cells in chunks
 abbrev pub tiles : Plane → Option Data → Bool → List ℕ → Members → Members

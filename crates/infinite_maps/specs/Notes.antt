@@ -47,4 +47,5 @@ noted columns rows d = record {
 -- those that have a cell
 abbrev pub noted_all : ℕ → ℕ → Items → List Rectangle
 noted_all columns rows no_items = []
-noted_all columns rows (item d ds) = if nat_lt 0 (area (noted columns rows d)) then noted columns rows d ∷ noted_all columns rows ds else noted_all columns rows ds
+noted_all columns rows (item d ds) = if nat_lt 0 (area (noted columns rows d)) then noted columns rows d ∷ noted_all columns rows ds else noted_all columns rows
+    ds

@@ -17,7 +17,13 @@ place columns r k = (r.top + k / max (width r) 1) * columns + (r.left + k % max 
 
 -- the k-th cell of a rectangle, as a rectangle
 abbrev pub cell_of : Rectangle → ℕ → Rectangle
-cell_of r k = record { left = r.left + k % max (width r) 1; top = r.top + k / max (width r) 1; right = r.left + k % max (width r) 1 + 1; bottom = r.top + k / max (width r) 1 + 1 }
+cell_of r k = record {
+  left = r.left + k % max (width r) 1;
+  top = r.top + k / max (width r) 1;
+  right = r.left + k % max (width r) 1 + 1;
+  bottom = r.top + k /
+      max (width r) 1 + 1;
+}
 
 -- the smallest rectangle around both
 abbrev pub joined : Rectangle → Rectangle → Rectangle

@@ -1,5 +1,6 @@
 -- Members taken out of an object, beside the entries of the map that holds them.
-use Rattle.std.proofs.Common.{◌≡◌, ℕ, List, [], ◌∷◌, Option, Some, None, option_map, Ordering, Less, Equal, Greater, string_bytes, nat_cmp, is_eq, cond, Bool, true, false, bytes_eq, true≢false, refl, sym, ap, ◌∙◌}
+use Rattle.std.proofs.Common.{◌≡◌, ℕ, List, [], ◌∷◌, Option, Some, None, option_map, Ordering, Less, Equal, Greater, string_bytes, nat_cmp, is_eq, cond, Bool}
+use Rattle.std.proofs.Common.{true, false, bytes_eq, true≢false, refl, sym, ap, ◌∙◌}
 use Rattle.std.proofs.lemmas.Map.Text.{is_eq-slice_cmp}
 use Rattle.std.specs.Cmp.Lexicographic.{slice_cmp}
 use Rattle.std.specs.Map.{remove_entry, lookup}
@@ -12,7 +13,8 @@ use Rattle.serde_json.proofs.Views.{Entry, view-lookup}
 use Rattle.std.proofs.lemmas.Slice.Eq.{bytes_eq-Decides}
 use Rattle.json_members.specs.Members.{without}
 
-gone : (o : Ordering) (k : List ℕ) (e : Entry) (es rest : List Entry) → slice_cmp nat_cmp k (string_bytes e.0) ≡ o → without k (members_view rest) ≡ without k (members_view es)
+gone : (o : Ordering) (k : List ℕ) (e : Entry) (es rest : List Entry) → slice_cmp nat_cmp k (string_bytes e.0) ≡ o
+    → without k (members_view rest) ≡ without k (members_view es)
     → without k (members_view (cond (is_eq o) es (e ∷ rest))) ≡ without k (members_view (e ∷ es))
 gone Less k e es rest is h = rw (is, h) refl
 gone Equal k e es rest is h = rw is refl
@@ -24,7 +26,8 @@ without-remove_entry : (name : List ℕ) (es : List Entry)
 without-remove_entry name [] = refl
 without-remove_entry name (e ∷ es) = gone (slice_cmp nat_cmp name (string_bytes e.0)) name e es _ refl (without-remove_entry name es)
 
-without-absent_at : (o : Ordering) (k l : List ℕ) (d : Data) (ms : Members) → slice_cmp nat_cmp k l ≡ o → match_ordering o (get_member k ms) (Some d) (get_member k ms) ≡ None → (get_member k ms ≡ None → without k ms ≡ ms)
+without-absent_at : (o : Ordering) (k l : List ℕ) (d : Data) (ms : Members) → slice_cmp nat_cmp k l ≡ o
+    → match_ordering o (get_member k ms) (Some d) (get_member k ms) ≡ None → (get_member k ms ≡ None → without k ms ≡ ms)
     → match_ordering o (member l d (without k ms)) (without k ms) (member l d (without k ms)) ≡ member l d ms
 without-absent_at Less k l d ms is e later = ap (member l d) (later e)
 without-absent_at Equal k l d ms is e later = absurd cc
@@ -54,7 +57,8 @@ skips q k d ms e = either (slice_cmp nat_cmp q k) _ _ (apart q k e)
 pub same_name : (k l : List ℕ) → slice_cmp nat_cmp k l ≡ Equal → k ≡ l
 same_name k l e = (bytes_eq-Decides k l).0 (sym (is_eq-slice_cmp k l) ∙ ap is_eq e)
 
-get_member-without_at : (o : Ordering) (q k l : List ℕ) (d : Data) (ms : Members) → slice_cmp nat_cmp k l ≡ o → bytes_eq q k ≡ false → get_member q (without k ms) ≡ get_member q ms
+get_member-without_at : (o : Ordering) (q k l : List ℕ) (d : Data) (ms : Members) → slice_cmp nat_cmp k l ≡ o → bytes_eq q k ≡ false
+    → get_member q (without k ms) ≡ get_member q ms
     → get_member q (match_ordering o (member l d (without k ms)) (without k ms) (member l d (without k ms))) ≡ get_member q (member l d ms)
 get_member-without_at Less q k l d ms is e later = ap (λ r. match_ordering (slice_cmp nat_cmp q l) r (Some d) r) later
 get_member-without_at Equal q k l d ms is e later = later ∙ sym (skips q l d ms (rw (← same_name k l is) e))

@@ -7,7 +7,8 @@ use Rattle.map_model.specs.declared.parts.Layer.{Layer}
 use Rattle.map_model.specs.declared.parts.MapParts.{MapParts}
 use Rattle.map_model.specs.declared.place.LayerPlace.{LayerPlace}
 use Rattle.map_model.specs.Document.{DocumentParts, with_map}
-use Rattle.map_model.specs.Layers.{count_of, layer_at, layer_place, place_under, sibling_count, sibling_place, siblings_of, with_layer_at, without_layer_at, IsPlaceIn}
+use Rattle.map_model.specs.Layers.{count_of, layer_at, layer_place, place_under, sibling_count, sibling_place, siblings_of, with_layer_at, without_layer_at}
+use Rattle.map_model.specs.Layers.{IsPlaceIn}
 use Rattle.map_model.specs.Lens.{siblings}
 use Rattle.map_model.specs.WellFormed.{IsWellFormed}
 use Rattle.map_model.proofs.Changes.{remove-insert, insert-remove, slice_get-insert, slice_get-within, slice_get-Some, length-insert}
@@ -59,7 +60,8 @@ module _ (parent : Option ℕ) (ls : List Layer) (d : DocumentParts) (e : siblin
       ∙ (siblings-laws parent).update-update (λ ks. insert ks b l) (λ ks. remove ks a) d
 
 -- ---- moved
-module _ (parent : Option ℕ) (a b : ℕ) (d : DocumentParts) (ls : List Layer) (e : siblings_of d.map parent ≡ Some ls) (l other : Layer) (there : slice_get ls a ≡ Some l)
+module _ (parent : Option ℕ) (a b : ℕ) (d : DocumentParts) (ls : List Layer) (e : siblings_of d.map parent ≡ Some ls) (l other : Layer)
+    (there : slice_get ls a ≡ Some l)
     (room : slice_get ls b ≡ Some other) where
   abbrev from : LayerPlace
   from = place_under parent a
@@ -158,12 +160,14 @@ module _ (from to : LayerPlace) (d : DocumentParts) (can : CanBeMoved from to d.
   pub move_turned : (e : DocumentParts) → e ≡ with_map (with_layer_moved from to) d
       → IsExchanged (move_exchange (record { from = from; to = to })) (move_exchange (record { from = to; to = from })) d e
   move_turned e =
-      subst (λ p. e ≡ with_map (with_layer_moved from p) d → IsExchanged (move_exchange (record { from = from; to = p })) (move_exchange (record { from = p; to = from })) d e)
+      subst (λ p. e ≡ with_map (with_layer_moved from p) d → IsExchanged (move_exchange (record { from = from; to = p }))
+      (move_exchange (record { from = p; to = from })) d e)
       (place-is from to can.among)
       (turned_there from.parent from.at to.at d first.own first.among first.layer second.layer first.there second-there e can.before)
 
 -- the layer that is taken out may be put in
-pub moved_well_formed : (o : Option Layer) (to : LayerPlace) (m : MapParts) → IsSome o → IsWellFormed (put_in o to m) → IsSomeAnd o (λ l. IsWellFormed (with_layer_at to l m))
+pub moved_well_formed : (o : Option Layer) (to : LayerPlace) (m : MapParts) → IsSome o → IsWellFormed (put_in o to m)
+    → IsSomeAnd o (λ l. IsWellFormed (with_layer_at to l m))
 moved_well_formed None to m q h = cc
 moved_well_formed (Some l) to m q h = h
 

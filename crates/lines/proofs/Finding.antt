@@ -1,5 +1,6 @@
 -- How a reader of lines finds the lines of its input.
-use Rattle.std.proofs.Common.{◌≡◌, ◌≢◌, ℕ, ◌+◌, ◌^◌, ◌<◌, ◌≤◌, true, false, eqb, List, [], ◌∷◌, ◌++◌, length, take, drop, Option, Some, None, refl, sym, ap, subst, ◌∙◌, inl, inr, append_assoc, arith, Result, Ok, Err, OnErr}
+use Rattle.std.proofs.Common.{◌≡◌, ◌≢◌, ℕ, ◌+◌, ◌^◌, ◌<◌, ◌≤◌, true, false, eqb, List, [], ◌∷◌, ◌++◌, length, take, drop, Option, Some, None, refl, sym, ap}
+use Rattle.std.proofs.Common.{subst, ◌∙◌, inl, inr, append_assoc, arith, Result, Ok, Err, OnErr}
 use Rattle.std.specs.Prelude.{is_some, IfSome, IfNone, ◌↔◌, Contains}
 use Rattle.std.specs.List.{AllByRecursion}
 use Rattle.std.specs.Io.KnownBytes.{IsAtEnd, prepend_known}
@@ -29,10 +30,12 @@ cut_last : (last : List ℕ) → AllByRecursion IsOther last → lines_of last �
 cut_last [] h = refl
 cut_last (b ∷ last) h = ends (b ∷ last) h (omega arith)
 
-cut_all : (lines : List (List ℕ)) (last : List ℕ) → AllByRecursion HasNoNewline lines → HasNoNewline last → lines_of (joined lines ++ last) ≡ lines ++ last_line last
+cut_all : (lines : List (List ℕ)) (last : List ℕ) → AllByRecursion HasNoNewline lines → HasNoNewline last
+    → lines_of (joined lines ++ last) ≡ lines ++ last_line last
 cut_all [] last h k = cut_last last (recursion_from_All IsOther last k)
 cut_all (line ∷ lines) last h k =
-    ap lines_of (append_assoc line (10 ∷ joined lines) last) ∙ starts line (joined lines ++ last) (recursion_from_All IsOther line h.0) ∙ ap (λ (ls : List (List ℕ)). line ∷ ls) (cut_all lines last h.1 k)
+    ap lines_of (append_assoc line (10 ∷ joined lines) last) ∙ starts line (joined lines ++ last) (recursion_from_All IsOther line h.0)
+    ∙ ap (λ (ls : List (List ℕ)). line ∷ ls) (cut_all lines last h.1 k)
 
 pub lines_are_cut : LinesAreCut
 lines_are_cut lines last h k = cut_all lines last (recursion_from_All HasNoNewline lines h) k
@@ -58,18 +61,25 @@ same_trans (Some xs) (Some ys) None h k = k
 same_trans (Some xs) (Some ys) (Some zs) h k = h ∙ k
 
 -- a newline was found exactly where there is one
-pub newline_found : (bytes : List ℕ) (found : Option ℕ) → IfSome found (λ n. HasNoNewline (take n bytes) × (bytes ≡ take n bytes ++ 10 ∷ drop (n + 1) bytes)) → IfNone found (HasNoNewline bytes) → (is_some found ≡ true) ↔ Contains bytes 10
+pub newline_found : (bytes : List ℕ) (found : Option ℕ) → IfSome found (λ n. HasNoNewline (take n bytes) × (bytes ≡ take n bytes ++ 10 ∷ drop (n + 1) bytes))
+    → IfNone found (HasNoNewline bytes) → (is_some found ≡ true) ↔ Contains bytes 10
 newline_found bytes None h k = (λ e. absurd cc, λ c. absurd (All-contains IsOther bytes 10 k c refl))
-newline_found bytes (Some n) h k = (λ e. let P : List ℕ → Type 0 = λ ys. Contains ys 10 in subst P (sym h.1) (Contains-append_right (take n bytes) (10 ∷ drop (n + 1) bytes) 10 (0, omega arith, refl)), λ c. refl)
+newline_found bytes (Some n) h k = (
+  λ e. let P : List ℕ → Type 0 = λ ys. Contains ys 10 in subst P (sym h.1)
+      (Contains-append_right (take n bytes) (10 ∷ drop (n + 1) bytes) 10 (0, omega arith, refl)),
+  λ c. refl,
+)
 
-pub finds_short : (before k : Option (List ℕ)) (p line q : List ℕ) → SameInput before (prepend_known p k) → p ≡ line ++ 10 ∷ q → HasNoNewline line → length line < 2 ^ 16 → FindsLine before (prepend_known q k) (Some Line) line
+pub finds_short : (before k : Option (List ℕ)) (p line q : List ℕ) → SameInput before (prepend_known p k) → p ≡ line ++ 10 ∷ q → HasNoNewline line
+    → length line < 2 ^ 16 → FindsLine before (prepend_known q k) (Some Line) line
 finds_short None k p line q h e n l = tt
 finds_short (Some xs) None p line q h e n l = h
 finds_short (Some xs) (Some ys) p line q h e n l =
     let split_is : xs ≡ line ++ 10 ∷ (q ++ ys) = h ∙ ap (λ (zs : List ℕ). zs ++ ys) e ∙ append_assoc line (10 ∷ q) ys in
     (ap lines_of split_is ∙ starts line (q ++ ys) (recursion_from_All IsOther line n), l)
 
-pub finds_long : (before k after : Option (List ℕ)) (p line : List ℕ) → SameInput before (prepend_known p k) → HasNoNewline p → length p ≡ 2 ^ 16 → SkipsLine (prepend_known p k) after → FindsLine before after (Some TooLong) line
+pub finds_long : (before k after : Option (List ℕ)) (p line : List ℕ) → SameInput before (prepend_known p k) → HasNoNewline p → length p ≡ 2 ^ 16
+    → SkipsLine (prepend_known p k) after → FindsLine before after (Some TooLong) line
 finds_long None k after p line h n l s = tt
 finds_long (Some xs) None after p line h n l s = absurd h
 finds_long (Some xs) (Some ys) None p line h n l s = s
@@ -83,16 +93,21 @@ finds_long (Some xs) (Some ys) (Some zs) p line h n l s =
     ] in
     (s.0, found.0, found.1)
 
-pub finds_last : (before k : Option (List ℕ)) (p : List ℕ) (n : ℕ) → SameInput before (prepend_known p k) → IsAtEnd k → HasNoNewline p → n ≡ length p → n ≢ 0 → n < 2 ^ 16 → FindsLine before (prepend_known (drop (n + 0) p) k) (Some Line) (take n p)
+pub finds_last : (before k : Option (List ℕ)) (p : List ℕ) (n : ℕ) → SameInput before (prepend_known p k) → IsAtEnd k → HasNoNewline p → n ≡ length p → n ≢ 0
+    → n < 2 ^ 16 → FindsLine before (prepend_known (drop (n + 0) p) k) (Some Line) (take n p)
 finds_last None k p n h e none l z s = tt
 finds_last (Some xs) None p n h e none l z s = h
 finds_last (Some xs) (Some ys) p n h e none l z s =
     let all : take n p ≡ p = take_all n p (omega arith) in
     let rest : drop (n + 0) p ++ ys ≡ [] = ap (λ (zs : List ℕ). zs ++ ys) (drop_all (n + 0) p (omega arith)) ∙ e in
-    let whole : xs ≡ p = h ∙ ap (λ (zs : List ℕ). p ++ zs) e ∙ append-nil p in
-    (ap lines_of whole ∙ ends p (recursion_from_All IsOther p none) (omega arith) ∙ ap (λ (zs : List ℕ). zs ∷ []) (sym all) ∙ ap (λ (zs : List ℕ). take n p ∷ lines_of zs) (sym rest), omega (arith, ap length all))
+    let whole : xs ≡ p = h ∙ ap (λ (zs : List ℕ). p ++ zs) e ∙ append-nil p in (
+      ap lines_of whole ∙ ends p (recursion_from_All IsOther p none) (omega arith) ∙ ap (λ (zs : List ℕ). zs ∷ []) (sym all)
+          ∙ ap (λ (zs : List ℕ). take n p ∷ lines_of zs) (sym rest),
+      omega (arith, ap length all),
+    )
 
-pub skips_past : (before k : Option (List ℕ)) (p q : List ℕ) → StopsInLine before (prepend_known p k) → HasNoNewline p → q ≡ [] → StopsInLine before (prepend_known q k)
+pub skips_past : (before k : Option (List ℕ)) (p q : List ℕ) → StopsInLine before (prepend_known p k) → HasNoNewline p → q ≡ []
+    → StopsInLine before (prepend_known q k)
 skips_past None k p q s n z = tt
 skips_past (Some xs) None p q s n z = s
 skips_past (Some xs) (Some ys) p q s n z =
@@ -116,14 +131,27 @@ same_skips (Some xs) None after h s = absurd h
 same_skips (Some xs) (Some ys) None h s = s
 same_skips (Some xs) (Some ys) (Some zs) h s = (s.0, s.1, h ∙ s.2)
 
-pub skips_all : (before k : Option (List ℕ)) (p q : List ℕ) → StopsInLine before (prepend_known p k) → HasNoNewline p → q ≡ [] → IsAtEnd k → SkipsLine before (prepend_known q k)
+pub skips_all : (before k : Option (List ℕ)) (p q : List ℕ) → StopsInLine before (prepend_known p k) → HasNoNewline p → q ≡ [] → IsAtEnd k
+    → SkipsLine before (prepend_known q k)
 skips_all None k p q s n z e = tt
 skips_all (Some xs) None p q s n z e = s
-skips_all (Some xs) (Some ys) p q s n z e =
-    (s.0 ++ p, All-append IsOther s.0 p s.1 n, inl (s.2 ∙ ap (λ (ws : List ℕ). s.0 ++ (p ++ ws)) e ∙ ap (λ (ws : List ℕ). s.0 ++ ws) (append-nil p), ap (λ (ws : List ℕ). ws ++ ys) z ∙ e))
+skips_all (Some xs) (Some ys) p q s n z e = (
+  s.0 ++ p,
+  All-append IsOther s.0 p s.1 n,
+  inl (
+    s.2 ∙ ap (λ (ws : List ℕ). s.0 ++ (p ++ ws)) e ∙ ap (λ (ws : List ℕ). s.0 ++ ws) (append-nil p),
+    ap
+        (λ (ws : List ℕ). ws ++ ys) z ∙ e,
+  ),
+)
 
-pub skips_line : (before k : Option (List ℕ)) (p line q : List ℕ) → StopsInLine before (prepend_known p k) → p ≡ line ++ 10 ∷ q → HasNoNewline line → SkipsLine before (prepend_known q k)
+pub skips_line : (before k : Option (List ℕ)) (p line q : List ℕ) → StopsInLine before (prepend_known p k) → p ≡ line ++ 10 ∷ q → HasNoNewline line
+    → SkipsLine before (prepend_known q k)
 skips_line None k p line q s e n = tt
 skips_line (Some xs) None p line q s e n = s
-skips_line (Some xs) (Some ys) p line q s e n =
-    (s.0 ++ line, All-append IsOther s.0 line s.1 n, inr (s.2 ∙ ap (λ (ws : List ℕ). s.0 ++ (ws ++ ys)) e ∙ ap (λ (ws : List ℕ). s.0 ++ ws) (append_assoc line (10 ∷ q) ys) ∙ sym (append_assoc s.0 line (10 ∷ (q ++ ys)))))
+skips_line (Some xs) (Some ys) p line q s e n = (
+  s.0 ++ line,
+  All-append IsOther s.0 line s.1 n,
+  inr (s.2 ∙ ap (λ (ws : List ℕ). s.0 ++ (ws ++ ys)) e ∙ ap (λ (ws : List ℕ). s.0 ++ ws)
+      (append_assoc line (10 ∷ q) ys) ∙ sym (append_assoc s.0 line (10 ∷ (q ++ ys)))),
+)

@@ -46,7 +46,8 @@ module _ {F T : Type 0} (g : Shared F (Bor T × Unit {0}) Bool) (f : F) where
   some-at b xs ys x passes is = some-right xs (x ∷ ys) (inl (subst (λ c. Answers g f c x) is passes))
 
   pub some-behind : (b c d : Bool) (xs ys : List T) (x : T) → MatchBool c (SomePasses g f xs) (NonePasses g f xs) → c ≡ false
-      → Answers g f d x → d ≡ false → MatchBool b (SomePasses g f ys) (NonePasses g f ys) → MatchBool b (SomePasses g f (xs ++ x ∷ ys)) (NonePasses g f (xs ++ x ∷ ys))
+      → Answers g f d x → d ≡ false → MatchBool b (SomePasses g f ys) (NonePasses g f ys)
+      → MatchBool b (SomePasses g f (xs ++ x ∷ ys)) (NonePasses g f (xs ++ x ∷ ys))
   some-behind true c d xs ys x before none at fails some = some-right xs (x ∷ ys) (inr some)
   some-behind false true d xs ys x before none at fails some = cc
   some-behind false false true xs ys x before none at fails some = cc

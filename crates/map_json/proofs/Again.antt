@@ -25,7 +25,8 @@ module _ {A : Type 0} (tree : A → Data) (read : Data → Result A MapRefusal) 
   each_again [] h = refl
   each_again (x ∷ xs) h = rw (h.0, each_again xs h.1) refl
 
-  pub elements_again : (most : ℕ) (xs : List A) → length xs ≤ most → Each (λ x. read (tree x) ≡ Ok x) xs → elements_at most read (array (items_by tree xs)) ≡ Ok xs
+  pub elements_again : (most : ℕ) (xs : List A) → length xs ≤ most → Each (λ x. read (tree x) ≡ Ok x) xs
+      → elements_at most read (array (items_by tree xs)) ≡ Ok xs
   elements_again most xs few h =
       let fits : nat_le (items_len (items_by tree xs)) most ≡ true = rw (items_len-items_by tree xs) (le-leb (length xs) most few) in
       rw fits (each_again xs h)

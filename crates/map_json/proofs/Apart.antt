@@ -60,8 +60,15 @@ Each-IsId next (id ∷ ids) h e =
     let f = and_parts (nat_lt id next) (list_all (λ id. nat_lt id next) ids) e in
     (record { low = h.0; high = ltb-true id next f.0 }, Each-IsId next ids h.1 f.1)
 
-pub AreIds-read : (next : ℕ) (ids : List ℕ) → 1 ≤ next → next ≤ MAX_NEXT_ID → Each (λ id. 1 ≤ id) ids → are_distinct (λ a b. a == b) ids ≡ true → list_all (λ id. nat_lt id next) ids ≡ true → AreIds next ids
-AreIds-read next ids low high h apart below = record { next_low = low; next_high = high; each = Each-IsId next ids h below; distinct = Distinct-numbers ids apart }
+pub AreIds-read : (next : ℕ) (ids : List ℕ) → 1 ≤ next → next ≤ MAX_NEXT_ID → Each (λ id. 1 ≤ id) ids → are_distinct (λ a b. a == b) ids ≡ true
+    → list_all (λ id. nat_lt id next) ids ≡ true → AreIds next ids
+AreIds-read next ids low high h apart below = record {
+  next_low = low;
+  next_high = high;
+  each = Each-IsId next ids h below;
+  distinct = Distinct-numbers ids
+      apart;
+}
 
 pub below-IsId : (next : ℕ) (ids : List ℕ) → Each (IsId next) ids → list_all (λ id. nat_lt id next) ids ≡ true
 below-IsId next [] h = refl

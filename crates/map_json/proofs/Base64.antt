@@ -1,5 +1,6 @@
 -- The text of base64 has no blanks, and is read again.
-use Rattle.std.proofs.Common.{◌≡◌, ℕ, zero, suc, ◌%◌, ◌<◌, Bool, true, false, not, ◌&&◌, List, [], ◌∷◌, ◌++◌, length, get_or, replicate, filter, Ok, refl, sym, ap, ◌∙◌, arith}
+use Rattle.std.proofs.Common.{◌≡◌, ℕ, zero, suc, ◌%◌, ◌<◌, Bool, true, false, not, ◌&&◌, List, [], ◌∷◌, ◌++◌, length, get_or, replicate, filter, Ok, refl, sym}
+use Rattle.std.proofs.Common.{ap, ◌∙◌, arith}
 use Rattle.std.proofs.lemmas.Bool.{and_from, and_parts}
 use Rattle.std.specs.List.{list_all}
 use Rattle.base64.specs.Rfc4648.{encode_symbols, padding_len}
@@ -18,7 +19,8 @@ filter_all (x ∷ xs) e = let h = and_parts (is_no_blank x) (list_all is_no_blan
 
 list_all-append : (xs ys : List ℕ) → list_all is_no_blank xs ≡ true → list_all is_no_blank ys ≡ true → list_all is_no_blank (xs ++ ys) ≡ true
 list_all-append [] ys a b = b
-list_all-append (x ∷ xs) ys a b = let h = and_parts (is_no_blank x) (list_all is_no_blank xs) a in and_from (is_no_blank x) (list_all is_no_blank (xs ++ ys)) h.0 (list_all-append xs ys h.1 b)
+list_all-append (x ∷ xs) ys a b = let h = and_parts (is_no_blank x) (list_all is_no_blank xs) a in
+    and_from (is_no_blank x) (list_all is_no_blank (xs ++ ys)) h.0 (list_all-append xs ys h.1 b)
 
 list_all-replicate : (n : ℕ) → list_all is_no_blank (replicate n 61) ≡ true
 list_all-replicate zero = refl
@@ -41,7 +43,8 @@ module _ (t : List ℕ) (table : (i : ℕ) → is_no_blank (get_or t i 0) ≡ tr
 packed-encode_of : (m : List ℕ) → packed (encode_of standard m) ≡ encode_of standard m
 packed-encode_of m =
     let table = at_no_blank standard.encode_table refl in
-    filter_all (encode_of standard m) (list_all-append (encode_symbols standard.encode_table m) (replicate (padding_len (length m)) 61) (symbols_no_blank standard.encode_table table m) (list_all-replicate (padding_len (length m))))
+    filter_all (encode_of standard m) (list_all-append (encode_symbols standard.encode_table m) (replicate (padding_len (length m)) 61)
+    (symbols_no_blank standard.encode_table table m) (list_all-replicate (padding_len (length m))))
 
 -- a text that is decoded as it stands has no blanks
 pub decoded_solid : (text bytes : List ℕ) → text ≡ encode_of standard bytes → decode_of standard text ≡ Ok bytes → decode_of standard (packed text) ≡ Ok bytes

@@ -23,16 +23,19 @@ rest_at true r h = absurd (true≢false h)
 rest_at false r h = h
 
 -- a member of another name stays
-pub get_member-without_all : (q : List ℕ) (ks : List (List ℕ)) (ms : Members) → list_any (bytes_eq q) ks ≡ false → get_member q (without_all ks ms) ≡ get_member q ms
+pub get_member-without_all : (q : List ℕ) (ks : List (List ℕ)) (ms : Members) → list_any (bytes_eq q) ks ≡ false
+    → get_member q (without_all ks ms) ≡ get_member q ms
 get_member-without_all q [] ms e = refl
 get_member-without_all q (k ∷ ks) ms e =
-    get_member-without_all q ks (without k ms) (rest_at (bytes_eq q k) (list_any (bytes_eq q) ks) e) ∙ stays_at (bytes_eq q k) q k (list_any (bytes_eq q) ks) ms refl e
+    get_member-without_all q ks (without k ms) (rest_at (bytes_eq q k) (list_any (bytes_eq q) ks) e)
+    ∙ stays_at (bytes_eq q k) q k (list_any (bytes_eq q) ks) ms refl e
 
 pub body_by_common : (inner : Counting (List Layer)) (kind : LayerType) (width height count : ℕ) (ms : Members)
     → body_by inner kind width height count (without_all common_names ms) ≡ body_by inner kind width height count ms
 unfolding tiles_of objects_of
 body_by_common inner TileLayer width height count ms =
-    let stays : (q : List ℕ) → list_any (bytes_eq q) common_names ≡ false → get_member q (without_all common_names ms) ≡ get_member q ms = λ q e. get_member-without_all q common_names ms e in
+    let stays : (q : List ℕ) → list_any (bytes_eq q) common_names ≡ false
+    → get_member q (without_all common_names ms) ≡ get_member q ms = λ q e. get_member-without_all q common_names ms e in
     rw (stays ENCODING.now refl, stays COMPRESSION.now refl, stays WIDTH.now refl, stays HEIGHT.now refl, stays DATA.now refl) refl
 body_by_common inner ObjectGroup width height count ms = rw (get_member-without_all OBJECTS.now common_names ms refl) refl
 body_by_common inner ImageLayer width height count ms = refl
@@ -47,6 +50,11 @@ pub ruleset common = (body_by_common, without_layer_names)
 pub placing_of-without_id : (ms : Members) → placing_of (without ID.now ms) ≡ placing_of ms
 unfolding placing_of
 placing_of-without_id ms =
-    rw (get_member-without X.now ID.now ms refl, get_member-without Y.now ID.now ms refl, get_member-without WIDTH.now ID.now ms refl, get_member-without HEIGHT.now ID.now ms refl) refl
+    rw (
+      get_member-without X.now ID.now ms refl,
+      get_member-without Y.now ID.now ms refl,
+      get_member-without WIDTH.now ID.now ms refl,
+      get_member-without HEIGHT.now ID.now ms refl,
+    ) refl
 
 pub ruleset placings = (placing_of-without_id, get_member-without)

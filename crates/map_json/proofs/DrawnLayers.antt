@@ -33,7 +33,8 @@ module _ (P : ℕ × Layer → Type 0) where
 pub length-tree : (room level : ℕ) (l : Layer) → length (tree room level l) ≡ suc (length (below room level l))
 length-tree room level l = ap length (tree-is room level l)
 
-pub length-drawn : (room level : ℕ) (l : Layer) (ls : List Layer) → length (drawn room level (l ∷ ls)) ≡ suc (length (below room level l)) + length (drawn room level ls)
+pub length-drawn : (room level : ℕ) (l : Layer) (ls : List Layer)
+    → length (drawn room level (l ∷ ls)) ≡ suc (length (below room level l)) + length (drawn room level ls)
 length-drawn room level l ls = length-append (tree room level l) (drawn room level ls) ∙ ap (λ n. n + length (drawn room level ls)) (length-tree room level l)
 
 -- ---- the layers of a body

@@ -1,6 +1,7 @@
 -- Trees that a map can hold: a file can say them, each number is whole, and they nest at most n deep.
 use Rattle.std.specs.Prelude.{IsUtf8, ℕ, zero, suc, ◌^◌, ◌<◌, pos, neg_ℤ, ◌≤ℤ◌, ◌<ℤ◌}
-use Rattle.serde_json.specs.Data.{Num, unsigned, negative, float, Data, null, boolean, number, string, array, object, Items, no_items, item, Members, no_members, member}
+use Rattle.serde_json.specs.Data.{Num, unsigned, negative, float, Data, null, boolean, number, string, array, object, Items, no_items, item, Members}
+use Rattle.serde_json.specs.Data.{no_members, member}
 use Rattle.map_model.specs.Readable.{IsBefore}
 
 -- a whole number of 64 bits, with or without a sign

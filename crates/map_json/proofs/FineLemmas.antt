@@ -1,9 +1,11 @@
 -- Fine trees: their members, what is put in and taken out, and what was read.
-use Rattle.std.proofs.Common.{◌≡◌, ℕ, zero, suc, ◌≤◌, max, List, [], ◌∷◌, Option, Some, Ordering, Less, Equal, Greater, nat_cmp, Bool, true, false, ◌||◌, true≢false, refl, subst, arith}
+use Rattle.std.proofs.Common.{◌≡◌, ℕ, zero, suc, ◌≤◌, max, List, [], ◌∷◌, Option, Some, Ordering, Less, Equal, Greater, nat_cmp, Bool, true, false, ◌||◌}
+use Rattle.std.proofs.Common.{true≢false, refl, subst, arith}
 use Rattle.std.proofs.lemmas.Bool.{or_parts}
 use Rattle.std.specs.Cmp.Lexicographic.{slice_cmp}
 use Rattle.std.specs.Ordering.{match_ordering}
-use Rattle.serde_json.specs.Data.{Num, unsigned, negative, float, Data, null, boolean, number, string, array, object, Items, no_items, item, Members, no_members, member, depth, items_depth, members_depth}
+use Rattle.serde_json.specs.Data.{Num, unsigned, negative, float, Data, null, boolean, number, string, array, object, Items, no_items, item, Members}
+use Rattle.serde_json.specs.Data.{no_members, member, depth, items_depth, members_depth}
 use Rattle.serde_json.specs.Find.{get_member, is_float}
 use Rattle.serde_json.specs.Written.{has_float, items_have_float, members_have_float}
 use Rattle.json_members.specs.Members.{without, without_all}
@@ -12,7 +14,8 @@ use Rattle.map_json.proofs.Fine.{IsFineNum, IsFine, AreFineItems, AreFineMembers
 
 -- ---- members
 
-member_at : (o : Ordering) (n : ℕ) (d e : Data) (rest : Option Data) → IsFine n e → ((f : Data) → rest ≡ Some f → IsFine n f) → match_ordering o rest (Some e) rest ≡ Some d → IsFine n d
+member_at : (o : Ordering) (n : ℕ) (d e : Data) (rest : Option Data) → IsFine n e → ((f : Data) → rest ≡ Some f → IsFine n f)
+    → match_ordering o rest (Some e) rest ≡ Some d → IsFine n d
 member_at Less n d e rest he later is = later d is
 member_at Equal n d e rest he later is = let same : e ≡ d = cc in subst (λ (x : Data). IsFine n x) same he
 member_at Greater n d e rest he later is = later d is
@@ -161,7 +164,8 @@ AreReadableMembers-without k no_members h = tt
 AreReadableMembers-without k (member l e ms) h =
     read_without_at (slice_cmp nat_cmp k l) l e (without k ms) (h.0, IsBefore-without l k ms h.1, h.2, AreReadableMembers-without k ms h.3)
 
-depth_without_at : (o : Ordering) (l : List ℕ) (e : Data) (ms rest : Members) → members_depth rest ≤ members_depth ms → members_depth (match_ordering o (member l e rest) rest (member l e rest)) ≤ max (depth e) (members_depth ms)
+depth_without_at : (o : Ordering) (l : List ℕ) (e : Data) (ms rest : Members) → members_depth rest ≤ members_depth ms
+    → members_depth (match_ordering o (member l e rest) rest (member l e rest)) ≤ max (depth e) (members_depth ms)
 depth_without_at Less l e ms rest h = omega arith
 depth_without_at Equal l e ms rest h = omega arith
 depth_without_at Greater l e ms rest h = omega arith

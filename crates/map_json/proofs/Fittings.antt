@@ -1,5 +1,6 @@
 -- A map that was read, with the tests passed that take all of it, is well formed.
-use Rattle.std.proofs.Common.{◌≡◌, ℕ, ◌*◌, ◌≤◌, List, [], ◌∷◌, map, length, Bool, true, false, not, ◌&&◌, Ordering, Less, Equal, Greater, nat_cmp, Some, Ok, true≢false, refl, sym, ap, ◌∙◌, subst, arith}
+use Rattle.std.proofs.Common.{◌≡◌, ℕ, ◌*◌, ◌≤◌, List, [], ◌∷◌, map, length, Bool, true, false, not, ◌&&◌, Ordering, Less, Equal, Greater, nat_cmp, Some, Ok}
+use Rattle.std.proofs.Common.{true≢false, refl, sym, ap, ◌∙◌, subst, arith}
 use Rattle.std.specs.Prelude.{◌==◌, nat_le, nat_lt}
 use Rattle.std.specs.List.{list_all, flat_map}
 use Rattle.std.specs.Cmp.Lexicographic.{slice_cmp}
@@ -10,7 +11,8 @@ use Rattle.std.specs.Option.{ok_or}
 use Rattle.serde_json.specs.Data.{Data, null, boolean, number, string, array, object, Members, no_members, member, depth}
 use Rattle.serde_json.specs.Find.{get_member, as_object}
 use Rattle.serde_json.specs.Written.{members_have_float}
-use Rattle.map_model.specs.declared.names.TheConstants.{TYPE, PROPERTIES, WIDTH, HEIGHT, TILE_WIDTH, TILE_HEIGHT, INFINITE, NEXT_LAYER_ID, NEXT_OBJECT_ID, LAYERS, TILESETS, VERSION}
+use Rattle.map_model.specs.declared.names.TheConstants.{TYPE, PROPERTIES, WIDTH, HEIGHT, TILE_WIDTH, TILE_HEIGHT, INFINITE, NEXT_LAYER_ID, NEXT_OBJECT_ID}
+use Rattle.map_model.specs.declared.names.TheConstants.{LAYERS, TILESETS, VERSION}
 use Rattle.map_model.specs.declared.limits.TheConstants.{MAX_SIDE, MAX_CELLS, MAX_TILE_SIDE, MAX_LAYERS, MAX_TILESETS, MAX_NEXT_ID, MAX_PROPERTIES}
 use Rattle.map_model.specs.declared.parts.Property.{Property}
 use Rattle.map_model.specs.declared.parts.Object.{Object}
@@ -21,18 +23,20 @@ use Rattle.map_model.specs.declared.parts.MapParts.{MapParts}
 use Rattle.map_model.specs.Groups.{all_drawn}
 use Rattle.map_model.specs.Lists.{Each}
 use Rattle.map_model.specs.Keeping.{AreKept, map_level, object_level, map_names}
-use Rattle.map_model.specs.WellFormed.{IsSize, IsTileSize, IsTileset, AreProperties, IsObject, IsBody, IsDrawn, IsLayer, IsWellFormed, names_of_property, ids_of, layer_ids, ids_of_object, object_ids_in, object_ids_of, object_ids, first_ids_of}
+use Rattle.map_model.specs.WellFormed.{IsSize, IsTileSize, IsTileset, AreProperties, IsObject, IsBody, IsDrawn, IsLayer, IsWellFormed, names_of_property}
+use Rattle.map_model.specs.WellFormed.{ids_of, layer_ids, ids_of_object, object_ids_in, object_ids_of, object_ids, first_ids_of}
 use Rattle.json_members.specs.Members.{without, without_all}
 use Rattle.map_json.specs.declared.fault.MapRefusal.TheVariants.{Fraction, Infinite, IdUsedTwice, OverLimit, NotAMap}
 use Rattle.map_json.specs.Steps.{required, absent_means}
 use Rattle.map_json.specs.Scalars.{whole_at, truth_at}
 use Rattle.map_json.specs.Elements.{elements_at}
 use Rattle.map_json.specs.Reading.{property_at, properties_of, tileset_at, map_layers_at}
-use Rattle.map_json.specs.Distinctness.{are_distinct, lists_in, lists_of_drawn, lists_of_layer, property_lists, are_named_apart, has_no_double, are_below_next}
+use Rattle.map_json.specs.Distinctness.{are_distinct, lists_in, lists_of_drawn, lists_of_layer, property_lists, are_named_apart, ids_are_unique, are_below_next}
 use Rattle.map_json.specs.Maps.{version_has_fraction, has_fraction, is_map_type, parts_of, consistent, map_of}
 use Rattle.map_model.specs.Readable.{IsReadable}
 use Rattle.map_json.proofs.Fine.{AreFineMembers}
-use Rattle.map_json.proofs.FineLemmas.{IsFine-get_member, members_have_float-fine, members_depth-fine, AreFineMembers-read, AreFineMembers-without, AreReadableMembers-fine, AreReadableMembers-without, members_depth-without}
+use Rattle.map_json.proofs.FineLemmas.{IsFine-get_member, members_have_float-fine, members_depth-fine, AreFineMembers-read, AreFineMembers-without}
+use Rattle.map_json.proofs.FineLemmas.{AreReadableMembers-fine, AreReadableMembers-without, members_depth-without}
 use Rattle.json_members.proofs.MembersLemmas.{get_member-without, without-absent}
 use Rattle.map_json.proofs.Lacking.{LacksAll-without_all}
 use Rattle.map_json.proofs.Sound.{by_bind, by_check, ok_is, ok_or_ok, required_ok, required_whole_sound, elements_sound, WereRead, properties_sound}
@@ -44,11 +48,14 @@ use Rattle.map_json.proofs.Apart.{Distinct-numbers, Distinct-texts, Each-flat_ma
 AreProperties-read : (level : ℕ) (ps : List Property) → WereRead level ps → are_named_apart ps ≡ true → AreProperties level ps
 AreProperties-read level ps h e = record { few = h.few; each = h.each; distinct = Distinct-texts (flat_map names_of_property ps) e }
 
-Each-IsObject : (level : ℕ) (os : List Object) → Each (WasReadObject level) os → list_all are_named_apart (map (λ (o : Object). o.properties) os) ≡ true → Each (IsObject level) os
+Each-IsObject : (level : ℕ) (os : List Object) → Each (WasReadObject level) os → list_all are_named_apart (map (λ (o : Object). o.properties) os) ≡ true
+    → Each (IsObject level) os
 Each-IsObject level [] h e = tt
 Each-IsObject level (o ∷ os) h e =
-    let f = and_parts (are_named_apart o.properties) (list_all are_named_apart (map (λ (p : Object). p.properties) os)) e in
-    (record { placing = h.0.placing; name = h.0.name; gid = h.0.gid; properties = AreProperties-read level o.properties h.0.properties f.0; kept = h.0.kept }, Each-IsObject level os h.1 f.1)
+    let f = and_parts (are_named_apart o.properties) (list_all are_named_apart (map (λ (p : Object). p.properties) os)) e in (
+      record { placing = h.0.placing; name = h.0.name; gid = h.0.gid; properties = AreProperties-read level o.properties h.0.properties f.0; kept = h.0.kept },
+      Each-IsObject level os h.1 f.1,
+    )
 
 IsBody-read : (level size : ℕ) (b : Body) → WasReadBody level size b → list_all are_named_apart (lists_in b) ≡ true → IsBody level size b
 IsBody-read level size (Tiles e cells) h f = h
@@ -59,12 +66,19 @@ IsBody-read level size (Group' s r) h f = h
 IsLayer-read : (level size : ℕ) (l : Layer) → WasReadLayer level size l → list_all are_named_apart (lists_of_layer l) ≡ true → IsLayer level size l
 IsLayer-read level size l h e =
     let f = and_parts (are_named_apart l.properties) (list_all are_named_apart (lists_in l.body)) e in
-    record { name = h.name; properties = AreProperties-read level l.properties h.properties f.0; kept = h.kept; body = IsBody-read level size l.body h.body f.1 }
+    record {
+      name = h.name;
+      properties = AreProperties-read level l.properties h.properties f.0;
+      kept = h.kept;
+      body = IsBody-read level size l.body h.body f.1;
+    }
 
-Each-IsDrawn : (size : ℕ) (ds : List (ℕ × Layer)) → Each (WasReadDrawn size) ds → list_all are_named_apart (flat_map lists_of_drawn ds) ≡ true → Each (IsDrawn size) ds
+Each-IsDrawn : (size : ℕ) (ds : List (ℕ × Layer)) → Each (WasReadDrawn size) ds → list_all are_named_apart (flat_map lists_of_drawn ds) ≡ true
+    → Each (IsDrawn size) ds
 Each-IsDrawn size [] h e = tt
 Each-IsDrawn size (d ∷ ds) h e =
-    let f = and_parts (list_all are_named_apart (lists_of_drawn d)) (list_all are_named_apart (flat_map lists_of_drawn ds)) (sym (list_all-append are_named_apart (lists_of_drawn d) (flat_map lists_of_drawn ds)) ∙ e) in
+    let f = and_parts (list_all are_named_apart (lists_of_drawn d)) (list_all are_named_apart (flat_map lists_of_drawn ds))
+    (sym (list_all-append are_named_apart (lists_of_drawn d) (flat_map lists_of_drawn ds)) ∙ e) in
     (IsLayer-read d.0 size d.1 h.0 f.0, Each-IsDrawn size ds h.1 f.1)
 
 -- ---- ids from 1 on
@@ -115,7 +129,8 @@ fine_without_all n v (k ∷ ks) ms h = fine_without_all n v ks (without k ms) (f
 kept_of_map : (ms : Members) → AreFineMembers 126 (without VERSION.now ms) → AreKept map_level map_names (without_all map_names ms)
 kept_of_map ms h =
     let lacks = LacksAll-without_all map_names ms in
-    let fine = subst (λ (x : Members). AreFineMembers 126 x) (without-absent VERSION.now (without_all map_names ms) lacks.1.1.1.1.1.1.1.1.1.1.1.0) (fine_without_all 126 VERSION.now map_names ms h) in
+    let fine = subst (λ (x : Members). AreFineMembers 126 x) (without-absent VERSION.now (without_all map_names ms) lacks.1.1.1.1.1.1.1.1.1.1.1.0)
+    (fine_without_all 126 VERSION.now map_names ms h) in
     let deep = members_depth-fine 126 (without_all map_names ms) fine in
     record {
       unread = lacks;
@@ -167,10 +182,23 @@ parts_sound ms m fine e =
     let layers_read = map_layers_sound width height layers_in.0 layers layers_fine layers_in.2 in
     let tilesets_in = required_ok (elements_at MAX_TILESETS tileset_at) (get_member TILESETS.now ms) tilesets tilesets_is in
     let tilesets_fine = IsFine-get_member 126 TILESETS.now others tilesets_in.0 fine (get_member-without TILESETS.now VERSION.now ms refl ∙ tilesets_in.1) in
-    let tilesets_read = elements_sound IsTileset tileset_at 125 (tileset_sound 124 (omega arith)) MAX_TILESETS tilesets_in.0 tilesets tilesets_fine tilesets_in.2 in
-    let properties_in : properties_of others ≡ Ok properties = ap (absent_means [] (elements_at MAX_PROPERTIES property_at)) (get_member-without PROPERTIES.now VERSION.now ms refl) ∙ properties_is in
+    let tilesets_read = elements_sound IsTileset tileset_at 125
+    (tileset_sound 124 (omega arith)) MAX_TILESETS tilesets_in.0 tilesets tilesets_fine tilesets_in.2 in
+    let properties_in : properties_of others ≡ Ok properties =
+    ap (absent_means [] (elements_at MAX_PROPERTIES property_at)) (get_member-without PROPERTIES.now VERSION.now ms refl) ∙ properties_is in
     let kept = without_all map_names ms in
-    let made : WasReadMap (record { width = width; height = height; tile_width = tile_width; tile_height = tile_height; layers = layers; tilesets = tilesets; properties = properties; next_layer_id = next_layer_id; next_object_id = next_object_id; kept = kept }) = record {
+    let made : WasReadMap (record {
+      width = width;
+      height = height;
+      tile_width = tile_width;
+      tile_height = tile_height;
+      layers = layers;
+      tilesets = tilesets;
+      properties = properties;
+      next_layer_id = next_layer_id;
+      next_object_id = next_object_id;
+      kept = kept;
+    }) = record {
       size = record { wide = w.0; high = h.0; width_limit = w.1; height_limit = h.1; cells_limit = leb-true (width * height) MAX_CELLS cells_fit };
       tile_size = record { wide = tw.0; high = th.0; width_limit = tw.1; height_limit = th.1 };
       next_layer_low = next_layer.0;
@@ -184,16 +212,27 @@ parts_sound ms m fine e =
       properties = properties_sound map_level 124 (omega arith) others properties fine properties_in;
       kept = kept_of_map ms fine;
     } in
-    subst WasReadMap (ok_is (record { width = width; height = height; tile_width = tile_width; tile_height = tile_height; layers = layers; tilesets = tilesets; properties = properties; next_layer_id = next_layer_id; next_object_id = next_object_id; kept = kept }) m e12) made))))))))))))
+    subst WasReadMap (ok_is (record {
+      width = width;
+      height = height;
+      tile_width = tile_width;
+      tile_height = tile_height;
+      layers = layers;
+      tilesets = tilesets;
+      properties = properties;
+      next_layer_id = next_layer_id;
+      next_object_id = next_object_id;
+      kept = kept;
+    }) m e12) made))))))))))))
 
-consistent_sound : (p m : MapParts) → consistent p ≡ Ok m → (p ≡ m) × (has_no_double p ≡ true) × (are_below_next p ≡ true)
+consistent_sound : (p m : MapParts) → consistent p ≡ Ok m → (p ≡ m) × (ids_are_unique p ≡ true) × (are_below_next p ≡ true)
 unfolding consistent
 consistent_sound p m e =
-    by_check (has_no_double p) IdUsedTwice _ m e (λ apart e1.
+    by_check (ids_are_unique p) IdUsedTwice _ m e (λ apart e1.
     by_check (are_below_next p) OverLimit _ m e1 (λ below e2.
     (ok_is p m e2, apart, below)))
 
-IsWellFormed-read : (m : MapParts) → WasReadMap m → has_no_double m ≡ true → are_below_next m ≡ true → IsWellFormed m
+IsWellFormed-read : (m : MapParts) → WasReadMap m → ids_are_unique m ≡ true → are_below_next m ≡ true → IsWellFormed m
 IsWellFormed-read m h apart below =
     let layers_apart = are_distinct (λ a b. a == b) (layer_ids m.layers) in
     let objects_apart = are_distinct (λ a b. a == b) (object_ids m.layers) in
@@ -203,7 +242,8 @@ IsWellFormed-read m h apart below =
     let b = and_parts (layers_apart && objects_apart) tilesets_apart a.0 in
     let c = and_parts layers_apart objects_apart b.0 in
     let d = and_parts (are_named_apart m.properties) (list_all are_named_apart (flat_map lists_of_drawn (all_drawn m.layers))) a.1 in
-    let f = and_parts (list_all (λ id. nat_lt id m.next_layer_id) (layer_ids m.layers)) (list_all (λ id. nat_lt id m.next_object_id) (object_ids m.layers)) below in
+    let f = and_parts (list_all (λ id. nat_lt id m.next_layer_id) (layer_ids m.layers))
+    (list_all (λ id. nat_lt id m.next_object_id) (object_ids m.layers)) below in
     let size = m.width * m.height in
     record {
       size = h.size;

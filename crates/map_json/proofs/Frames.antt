@@ -1,5 +1,6 @@
 -- A map's members, with its layers in the place of an empty array.
-use Rattle.std.proofs.Common.{◌≡◌, ℕ, zero, suc, List, [], ◌∷◌, ◌++◌, Option, Some, None, option_map, Ordering, Less, Equal, Greater, nat_cmp, is_eq, Bool, true, false, bytes_eq, refl, sym, ap, ◌∙◌}
+use Rattle.std.proofs.Common.{◌≡◌, ℕ, zero, suc, List, [], ◌∷◌, ◌++◌, Option, Some, None, option_map, Ordering, Less, Equal, Greater, nat_cmp, is_eq, Bool}
+use Rattle.std.proofs.Common.{true, false, bytes_eq, refl, sym, ap, ◌∙◌}
 use Rattle.std.specs.Prelude.{codes, if◌then◌else◌}
 use Rattle.std.specs.Cmp.Lexicographic.{slice_cmp}
 use Rattle.std.specs.Ordering.{match_ordering}
@@ -8,7 +9,8 @@ use Rattle.std.proofs.lemmas.Map.Text.{is_eq-slice_cmp}
 use Rattle.std.proofs.lemmas.Slice.Eq.{bytes_eq-Decides}
 use Rattle.serde_json.specs.Data.{Data, array, boolean, no_items, object, string, Members, no_members, member, put}
 use Rattle.serde_json.specs.Find.{get_member}
-use Rattle.map_model.specs.declared.names.TheConstants.{ID, NAME, VISIBLE, TYPE, PROPERTIES, WIDTH, HEIGHT, LAYERS, TILESETS, VERSION, ENCODING, COMPRESSION, DATA}
+use Rattle.map_model.specs.declared.names.TheConstants.{ID, NAME, VISIBLE, TYPE, PROPERTIES, WIDTH, HEIGHT, LAYERS, TILESETS, VERSION, ENCODING, COMPRESSION}
+use Rattle.map_model.specs.declared.names.TheConstants.{DATA}
 use Rattle.map_model.specs.declared.parts.Body.{Body}
 use Rattle.map_model.specs.declared.parts.Body.TheVariants.{Tiles, Objects, Other, Group'}
 use Rattle.map_model.specs.declared.parts.Encoding.TheVariants.{Array, Base64}
@@ -25,9 +27,11 @@ use Rattle.map_json.specs.Trees.{array_by, layer_own, layer_tree, layers_tree, o
 use Rattle.json_members.proofs.MembersLemmas.{same_name}
 
 -- ---- members that are put
-replaced-put_at : (o : Ordering) (k l m : List ℕ) (d e f : Data) (ms : Members) → slice_cmp nat_cmp l m ≡ o → replaced k d (put l e ms) ≡ put l (instead k d l e) (replaced k d ms)
+replaced-put_at : (o : Ordering) (k l m : List ℕ) (d e f : Data) (ms : Members) → slice_cmp nat_cmp l m ≡ o
+    → replaced k d (put l e ms) ≡ put l (instead k d l e) (replaced k d ms)
     → replaced k d (match_ordering o (member l e (member m f ms)) (member m e ms) (member m f (put l e ms)))
-    ≡ match_ordering o (member l (instead k d l e) (member m (instead k d m f) (replaced k d ms))) (member m (instead k d l e) (replaced k d ms)) (member m (instead k d m f) (put l (instead k d l e) (replaced k d ms)))
+    ≡ match_ordering o (member l (instead k d l e) (member m (instead k d m f) (replaced k d ms))) (member m (instead k d l e) (replaced k d ms))
+    (member m (instead k d m f) (put l (instead k d l e) (replaced k d ms)))
 replaced-put_at Less k l m d e f ms is later = refl
 replaced-put_at Equal k l m d e f ms is later = ap (λ n. member m (instead k d n e) (replaced k d ms)) (sym (same_name l m is))
 replaced-put_at Greater k l m d e f ms is later = ap (member m (instead k d m f)) later
@@ -41,7 +45,8 @@ other_name : (b : Bool) (k l : List ℕ) (d e : Data) → bytes_eq l k ≡ b →
 other_name true k l d e is apart = absurd (false≢true (sym apart ∙ (bytes_eq-Decides k l).1 (sym ((bytes_eq-Decides l k).0 is))))
 other_name false k l d e is apart = refl
 
-replaced-absent_at : (o : Ordering) (k l : List ℕ) (d e : Data) (ms : Members) → slice_cmp nat_cmp k l ≡ o → match_ordering o (get_member k ms) (Some e) (get_member k ms) ≡ None → (get_member k ms ≡ None → replaced k d ms ≡ ms)
+replaced-absent_at : (o : Ordering) (k l : List ℕ) (d e : Data) (ms : Members) → slice_cmp nat_cmp k l ≡ o
+    → match_ordering o (get_member k ms) (Some e) (get_member k ms) ≡ None → (get_member k ms ≡ None → replaced k d ms ≡ ms)
     → replaced k d (member l e ms) ≡ member l e ms
 replaced-absent_at Less k l d e ms is absent later =
     rw (later absent, other_name (bytes_eq l k) k l d e refl (sym (is_eq-slice_cmp k l) ∙ ap is_eq is)) refl
@@ -58,7 +63,8 @@ own_instead : List ℕ → Data → Own → Own
 own_instead k d [] = []
 own_instead k d (p ∷ ps) = (p.0, option_map (instead k d p.0) p.1) ∷ own_instead k d ps
 
-replaced-put_some : (k l : List ℕ) (d : Data) (o : Option Data) (ms : Members) → replaced k d (put_some l o ms) ≡ put_some l (option_map (instead k d l) o) (replaced k d ms)
+replaced-put_some : (k l : List ℕ) (d : Data) (o : Option Data) (ms : Members)
+    → replaced k d (put_some l o ms) ≡ put_some l (option_map (instead k d l) o) (replaced k d ms)
 replaced-put_some k l d None ms = refl
 replaced-put_some k l d (Some e) ms = replaced-put k l d e ms
 
@@ -77,7 +83,8 @@ own_instead-own_around : (d : Data) (m : MapParts) → own_instead LAYERS.now d 
 unfolding own_instead
 own_instead-own_around d m =
     ap (λ o. plain_own m
-    ++ (LAYERS.now, Some d) ∷ (TILESETS.now, Some (array_by tileset_tree m.tilesets)) ∷ (PROPERTIES.now, o) ∷ (TYPE.now, Some (string (codes "map"))) ∷ (VERSION.now, Some (string (codes "1.10"))) ∷ [])
+    ++ (LAYERS.now, Some d) ∷ (TILESETS.now, Some (array_by tileset_tree m.tilesets)) ∷ (PROPERTIES.now, o) ∷ (TYPE.now, Some (string (codes "map"))) ∷
+    (VERSION.now, Some (string (codes "1.10"))) ∷ [])
     (optional_stays d (properties_member m.properties))
 
 -- the members of a map are its frame's, with the layers in their place
@@ -94,25 +101,30 @@ own_instead-layer_own width height d l (Tiles e cells) ls g = cc
 own_instead-layer_own width height d l (Objects os) ls g = cc
 own_instead-layer_own width height d l Other ls g = cc
 own_instead-layer_own width height d l (Group' s r) ls g =
-    ap (λ o. (TYPE.now, Some (string (codes "group"))) ∷ (ID.now, Some (whole_tree l.id)) ∷ (NAME.now, Some (string l.name)) ∷ (VISIBLE.now, Some (boolean l.visible))
+    ap (λ o. (TYPE.now, Some (string (codes "group"))) ∷ (ID.now, Some (whole_tree l.id)) ∷ (NAME.now, Some (string l.name)) ∷
+    (VISIBLE.now, Some (boolean l.visible))
     ∷ (PROPERTIES.now, o) ∷ (LAYERS.now, Some d) ∷ [])
     (optional_stays d (properties_member l.properties))
 
-layers_absent : (b : Body) (ls : List Layer) (kept : Members) → group_in b ≡ Some ls → Each (λ name. get_member name kept ≡ None) (layer_names b) → get_member LAYERS.now kept ≡ None
+layers_absent : (b : Body) (ls : List Layer) (kept : Members) → group_in b ≡ Some ls → Each (λ name. get_member name kept ≡ None) (layer_names b)
+    → get_member LAYERS.now kept ≡ None
 layers_absent (Tiles e cells) ls kept g h = cc
 layers_absent (Objects os) ls kept g h = cc
 layers_absent Other ls kept g h = cc
 layers_absent (Group' s r) ls kept g h = h.1.1.1.1.1.0
 
 -- the members of a group are its frame's, with the layers in their place
-pub replaced-layer_frame : (width height : ℕ) (d : Data) (l : Layer) (ls : List Layer) → group_in l.body ≡ Some ls → Each (λ name. get_member name l.kept ≡ None) (layer_names l.body)
+pub replaced-layer_frame : (width height : ℕ) (d : Data) (l : Layer) (ls : List Layer) → group_in l.body ≡ Some ls
+    → Each (λ name. get_member name l.kept ≡ None) (layer_names l.body)
     → replaced LAYERS.now d (layer_frame width height l) ≡ with_own (layer_own width height d l) l.kept
 replaced-layer_frame width height d l ls g h =
     replaced-with_own LAYERS.now d (layer_own width height (array no_items) (record l { body = framed_body l.body })) l.kept
-    ∙ rw (replaced-absent LAYERS.now d l.kept (layers_absent l.body ls l.kept g h)) (ap (λ own. with_own own l.kept) (own_instead-layer_own width height d l l.body ls g))
+    ∙ rw (replaced-absent LAYERS.now d l.kept (layers_absent l.body ls l.kept g h))
+    (ap (λ own. with_own own l.kept) (own_instead-layer_own width height d l l.body ls g))
 
 -- a layer's own members, where it is no group
-pub layer_own-other : (width height : ℕ) (d e : Data) (l : Layer) (b : Body) → group_in b ≡ None → layer_own width height d (record l { body = b }) ≡ layer_own width height e (record l { body = b })
+pub layer_own-other : (width height : ℕ) (d e : Data) (l : Layer) (b : Body) → group_in b ≡ None
+    → layer_own width height d (record l { body = b }) ≡ layer_own width height e (record l { body = b })
 layer_own-other width height d e l (Tiles c cells) g = refl
 layer_own-other width height d e l (Objects os) g = refl
 layer_own-other width height d e l Other g = refl
@@ -135,11 +147,13 @@ properties_stay d None = refl
 properties_stay d (Some e) = refl
 
 own_instead-numbers : (width height : ℕ) (d : Data) (l : Layer) (b : Body) (ns : List ℕ) → numbers_of b ≡ Some ns
-    → own_instead DATA.now (array_by whole_tree ns) (layer_own width height (array no_items) (record l { body = framed_body b })) ≡ layer_own width height d (record l { body = b })
+    → own_instead DATA.now (array_by whole_tree ns) (layer_own width height (array no_items) (record l { body = framed_body b }))
+    ≡ layer_own width height d (record l { body = b })
 unfolding own_instead
 own_instead-numbers width height d l (Tiles Array cells) ns g =
     let same : cells ≡ ns = cc in
-    ap (λ o. (TYPE.now, Some (string (codes "tilelayer"))) ∷ (ID.now, Some (whole_tree l.id)) ∷ (NAME.now, Some (string l.name)) ∷ (VISIBLE.now, Some (boolean l.visible))
+    ap (λ o. (TYPE.now, Some (string (codes "tilelayer"))) ∷ (ID.now, Some (whole_tree l.id)) ∷ (NAME.now, Some (string l.name)) ∷
+    (VISIBLE.now, Some (boolean l.visible))
     ∷ (PROPERTIES.now, o) ∷ (ENCODING.now, None) ∷ (COMPRESSION.now, None) ∷ (WIDTH.now, Some (whole_tree width)) ∷ (HEIGHT.now, Some (whole_tree height))
     ∷ (DATA.now, Some (array_by whole_tree ns)) ∷ [])
     (properties_stay (array_by whole_tree ns) (properties_member l.properties))
@@ -149,7 +163,8 @@ own_instead-numbers width height d l (Objects os) ns g = cc
 own_instead-numbers width height d l Other ns g = cc
 own_instead-numbers width height d l (Group' s r) ns g = cc
 
-data_absent : (b : Body) (ns : List ℕ) (kept : Members) → numbers_of b ≡ Some ns → Each (λ name. get_member name kept ≡ None) (layer_names b) → get_member DATA.now kept ≡ None
+data_absent : (b : Body) (ns : List ℕ) (kept : Members) → numbers_of b ≡ Some ns → Each (λ name. get_member name kept ≡ None) (layer_names b)
+    → get_member DATA.now kept ≡ None
 data_absent (Tiles Array cells) ns kept g h = h.1.1.1.1.1.1.1.1.1.0
 data_absent (Tiles Base64 cells) ns kept g h = cc
 data_absent (Objects os) ns kept g h = cc
@@ -157,37 +172,45 @@ data_absent Other ns kept g h = cc
 data_absent (Group' s r) ns kept g h = cc
 
 -- the members of a tile layer are its frame's, with the numbers in their place
-replaced-numbers : (width height : ℕ) (d : Data) (l : Layer) (ns : List ℕ) → numbers_of l.body ≡ Some ns → Each (λ name. get_member name l.kept ≡ None) (layer_names l.body)
+replaced-numbers : (width height : ℕ) (d : Data) (l : Layer) (ns : List ℕ) → numbers_of l.body ≡ Some ns
+    → Each (λ name. get_member name l.kept ≡ None) (layer_names l.body)
     → replaced DATA.now (array_by whole_tree ns) (layer_frame width height l) ≡ with_own (layer_own width height d l) l.kept
 replaced-numbers width height d l ns g h =
     let values = array_by whole_tree ns in
     replaced-with_own DATA.now values (layer_own width height (array no_items) (record l { body = framed_body l.body })) l.kept
-    ∙ rw (replaced-absent DATA.now values l.kept (data_absent l.body ns l.kept g h)) (ap (λ own. with_own own l.kept) (own_instead-numbers width height d l l.body ns g))
+    ∙ rw (replaced-absent DATA.now values l.kept (data_absent l.body ns l.kept g h))
+    (ap (λ own. with_own own l.kept) (own_instead-numbers width height d l l.body ns g))
 
 -- ---- the tree of a layer
 -- it is its frame's with its numbers
-pub layer_tree-numbers : (room width height : ℕ) (l : Layer) (ns : List ℕ) → numbers_of l.body ≡ Some ns → Each (λ name. get_member name l.kept ≡ None) (layer_names l.body)
+pub layer_tree-numbers : (room width height : ℕ) (l : Layer) (ns : List ℕ) → numbers_of l.body ≡ Some ns
+    → Each (λ name. get_member name l.kept ≡ None) (layer_names l.body)
     → object (replaced DATA.now (array_by whole_tree ns) (layer_frame width height l)) ≡ layer_tree room width height l
 unfolding layer_tree
 layer_tree-numbers zero width height l ns g h = ap object (replaced-numbers width height (array no_items) l ns g h)
 layer_tree-numbers (suc room) width height l ns g h = ap object (replaced-numbers width height (layers_tree room width height (inside l)) l ns g h)
 
-layer_frame-whole : (width height : ℕ) (l : Layer) → numbers_of l.body ≡ None → object (layer_frame width height l) ≡ object (with_own (layer_own width height (array no_items) l) l.kept)
+layer_frame-whole : (width height : ℕ) (l : Layer) → numbers_of l.body ≡ None
+    → object (layer_frame width height l) ≡ object (with_own (layer_own width height (array no_items) l) l.kept)
 layer_frame-whole width height l none = ap (λ (k : Layer). object (with_own (layer_own width height (array no_items) k) l.kept)) (framed-whole l none)
 
 -- it is its frame's, where it has no numbers, and is no group or has no room for layers in it
-pub layer_tree-frame : (room width height : ℕ) (l : Layer) → numbers_of l.body ≡ None → group_in l.body ≡ None → object (layer_frame width height l) ≡ layer_tree room width height l
+pub layer_tree-frame : (room width height : ℕ) (l : Layer) → numbers_of l.body ≡ None → group_in l.body ≡ None
+    → object (layer_frame width height l) ≡ layer_tree room width height l
 unfolding layer_tree
 layer_tree-frame zero width height l none g = layer_frame-whole width height l none
 layer_tree-frame (suc room) width height l none g =
-    layer_frame-whole width height l none ∙ ap (λ own. object (with_own own l.kept)) (layer_own-other width height (array no_items) (layers_tree room width height (inside l)) l l.body g)
+    layer_frame-whole width height l none ∙ ap (λ own. object (with_own own l.kept))
+    (layer_own-other width height (array no_items) (layers_tree room width height (inside l)) l l.body g)
 
-pub layer_tree-room : (room width height : ℕ) (l : Layer) → numbers_of l.body ≡ None → room ≡ 0 → object (layer_frame width height l) ≡ layer_tree room width height l
+pub layer_tree-room : (room width height : ℕ) (l : Layer) → numbers_of l.body ≡ None → room ≡ 0
+    → object (layer_frame width height l) ≡ layer_tree room width height l
 unfolding layer_tree
 layer_tree-room room width height l none no_room = rw no_room (layer_frame-whole width height l none)
 
 -- the tree of a group
-pub layer_tree-group : (room less width height : ℕ) (l : Layer) (ls : List Layer) → room ≡ suc less → group_in l.body ≡ Some ls → Each (λ name. get_member name l.kept ≡ None) (layer_names l.body)
+pub layer_tree-group : (room less width height : ℕ) (l : Layer) (ls : List Layer) → room ≡ suc less → group_in l.body ≡ Some ls
+    → Each (λ name. get_member name l.kept ≡ None) (layer_names l.body)
     → object (replaced LAYERS.now (layers_tree less width height ls) (layer_frame width height l)) ≡ layer_tree room width height l
 unfolding layer_tree
 layer_tree-group room less width height l ls more g h =

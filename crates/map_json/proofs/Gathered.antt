@@ -25,8 +25,10 @@ module _ {B : Type 0} (f : Layer → List B) where
   one-gathered zero level l = ap (flat_map of_drawn) (tree-is zero level l)
   one-gathered (suc room) level l = ap (flat_map of_drawn) (tree-is (suc room) level l)
 
-  gathered-cons : (room level : ℕ) (l : Layer) (ls : List Layer) → gathered room level (l ∷ ls) ≡ (f (bare l) ++ gathered_below room level l) ++ gathered room level ls
-  gathered-cons room level l ls = flat_map-append of_drawn (tree room level l) (drawn room level ls) ∙ ap (λ (xs : List B). xs ++ gathered room level ls) (one-gathered room level l)
+  gathered-cons : (room level : ℕ) (l : Layer) (ls : List Layer)
+      → gathered room level (l ∷ ls) ≡ (f (bare l) ++ gathered_below room level l) ++ gathered room level ls
+  gathered-cons room level l ls = flat_map-append of_drawn (tree room level l) (drawn room level ls)
+      ∙ ap (λ (xs : List B). xs ++ gathered room level ls) (one-gathered room level l)
 
   -- at whatever level
   level_list : (room a b : ℕ) → ((l : Layer) → gathered_below room a l ≡ gathered_below room b l) → (ls : List Layer) → gathered room a ls ≡ gathered room b ls
@@ -49,14 +51,17 @@ module _ {B : Type 0} (f : Layer → List B) where
         ∙ (ap (λ n. (f (bare l) ++ gathered_below n layer_level l) ++ gathered room layer_level ls) none
         ∙ ap (λ (xs : List B). xs ++ gathered room layer_level ls) (append-nil (f (bare l)) ∙ own l))
 
-    pub gathered-inside : (room less : ℕ) (l : Layer) (ls ks : List Layer) → room ≡ suc less → inside l ≡ ks → gathered room layer_level (l ∷ ls) ≡ (f l ++ gathered less layer_level ks) ++ gathered room layer_level ls
+    pub gathered-inside : (room less : ℕ) (l : Layer) (ls ks : List Layer) → room ≡ suc less → inside l ≡ ks
+        → gathered room layer_level (l ∷ ls) ≡ (f l ++ gathered less layer_level ks) ++ gathered room layer_level ls
     gathered-inside room less l ls ks more are =
         gathered-cons room layer_level l ls
         ∙ (ap (λ n. (f (bare l) ++ gathered_below n layer_level l) ++ gathered room layer_level ls) more
-        ∙ ap₂ (λ (x y : List B). (x ++ y) ++ gathered room layer_level ls) (own l) (any_level less (inner_level layer_level) layer_level (inside l) ∙ ap (gathered less layer_level) are))
+        ∙ ap₂ (λ (x y : List B). (x ++ y) ++ gathered room layer_level ls) (own l)
+        (any_level less (inner_level layer_level) layer_level (inside l) ∙ ap (gathered less layer_level) are))
 
     -- the same where none stand in it
-    pub gathered-empty : (room less : ℕ) (l : Layer) (ls : List Layer) → room ≡ suc less → inside l ≡ [] → gathered room layer_level (l ∷ ls) ≡ f l ++ gathered room layer_level ls
+    pub gathered-empty : (room less : ℕ) (l : Layer) (ls : List Layer) → room ≡ suc less → inside l ≡ []
+        → gathered room layer_level (l ∷ ls) ≡ f l ++ gathered room layer_level ls
     gathered-empty room less l ls more are =
         gathered-inside room less l ls [] more are ∙ ap (λ (xs : List B). xs ++ gathered room layer_level ls) (append-nil (f l))
 
@@ -68,14 +73,16 @@ module _ {B : Type 0} (f : Layer → List B) where
           ∙ one_fails p (f (bare l) ++ gathered_below room layer_level l) (gathered room layer_level ls)
           (one_fails p (f (bare l)) (gathered_below room layer_level l) (ap (list_all p) (own l) ∙ h))
 
-      pub failed-inside : (room less : ℕ) (l : Layer) (ls ks : List Layer) → room ≡ suc less → inside l ≡ ks → list_all p (f l) ≡ true → list_all p (gathered less layer_level ks) ≡ false
+      pub failed-inside : (room less : ℕ) (l : Layer) (ls ks : List Layer) → room ≡ suc less → inside l ≡ ks → list_all p (f l) ≡ true
+          → list_all p (gathered less layer_level ks) ≡ false
           → list_all p (gathered room layer_level (l ∷ ls)) ≡ false
       failed-inside room less l ls ks more are passed h =
           ap (list_all p) (gathered-inside room less l ls ks more are)
           ∙ one_fails p (f l ++ gathered less layer_level ks) (gathered room layer_level ls)
           (all_pass p (f l) (gathered less layer_level ks) passed ∙ h)
 
-      pub passed-inside : (room less : ℕ) (l : Layer) (ls ks : List Layer) → room ≡ suc less → inside l ≡ ks → list_all p (f l) ≡ true → list_all p (gathered less layer_level ks) ≡ true
+      pub passed-inside : (room less : ℕ) (l : Layer) (ls ks : List Layer) → room ≡ suc less → inside l ≡ ks → list_all p (f l) ≡ true
+          → list_all p (gathered less layer_level ks) ≡ true
           → list_all p (gathered room layer_level (l ∷ ls)) ≡ list_all p (gathered room layer_level ls)
       passed-inside room less l ls ks more are passed h =
           ap (list_all p) (gathered-inside room less l ls ks more are)

@@ -1,5 +1,6 @@
 -- What is written is read again: properties, objects, tilesets, layers and maps.
-use Rattle.std.proofs.Common.{◌≡◌, ℕ, ◌-◌, ◌*◌, ◌^◌, ◌<◌, ◌≤◌, ℤ, pos, negsuc, eqb, eq-eqb, Bool, true, false, List, [], ◌∷◌, length, Option, Some, None, Result, Ok, refl, ap, ◌∙◌, arith}
+use Rattle.std.proofs.Common.{◌≡◌, ℕ, ◌-◌, ◌*◌, ◌^◌, ◌<◌, ◌≤◌, ℤ, pos, negsuc, eqb, eq-eqb, Bool, true, false, List, [], ◌∷◌, length, Option, Some, None}
+use Rattle.std.proofs.Common.{Result, Ok, refl, ap, ◌∙◌, arith}
 use Rattle.std.specs.Prelude.{nat_le, nat_lt, int_le, neg_ℤ, IfSome}
 use Rattle.std.specs.Option.{option_map}
 use Rattle.std.proofs.Math.Dec.{T}
@@ -27,7 +28,8 @@ use Rattle.map_json.specs.Scalars.{whole_at, signed_at, text_at, truth_at}
 use Rattle.map_json.specs.Elements.{elements_at}
 use Rattle.map_json.specs.Reading.{value_of, property_at, id_at, pixels_at, placing_of, object_at, tileset_at, encoding_at, same_at, cells_at}
 use Rattle.map_json.specs.Cells.{array_cells_at, base64_cells_at}
-use Rattle.map_json.specs.Trees.{whole_tree, value_tree, property_own, property_tree, properties_member, object_own, object_tree, tileset_own, tileset_tree, bytes_of, cells_tree, encoding_member}
+use Rattle.map_json.specs.Trees.{whole_tree, value_tree, property_own, property_tree, properties_member, object_own, object_tree, tileset_own, tileset_tree}
+use Rattle.map_json.specs.Trees.{bytes_of, cells_tree, encoding_member}
 use Rattle.map_json.proofs.Own.{get_member-with_own, without_all-with_own, or_else}
 use Rattle.map_json.proofs.Again.{whole_again, elements_again, cells_again, length-bytes_of, words_again}
 use Rattle.map_json.proofs.Words.{is_byte-from_IsBytes}
@@ -54,7 +56,8 @@ pixels_again (pos n) h =
 pixels_again (negsuc n) h =
     rw (to_true (int_le (neg_ℤ MAX_PIXELS) (negsuc n)) h.low.le) refl
 
-optional_again : {A : Type 0} (P : A → Type 0) (tree : A → Data) (read : Data → Result A MapRefusal) → ((x : A) → P x → read (tree x) ≡ Ok x) → (o : Option A) → IfSome o P → optional read (option_map tree o) ≡ Ok o
+optional_again : {A : Type 0} (P : A → Type 0) (tree : A → Data) (read : Data → Result A MapRefusal) → ((x : A) → P x → read (tree x) ≡ Ok x) → (o : Option A)
+    → IfSome o P → optional read (option_map tree o) ≡ Ok o
 optional_again P tree read again None h = refl
 optional_again P tree read again (Some x) h = rw (again x h) refl
 
@@ -90,7 +93,8 @@ value_again level (values.Whole (negsuc n)) h = refl
 value_again level (values.Truth b) h = refl
 value_again level (values.Other d) h = other_again d h.kind
 
-property_read : (p : Property) (ms : Members) → get_member NAME.now ms ≡ Some (string p.name) → get_member TYPE.now ms ≡ Some (string p.kind) → get_member VALUE.now ms ≡ Some (value_tree p.value)
+property_read : (p : Property) (ms : Members) → get_member NAME.now ms ≡ Some (string p.name) → get_member TYPE.now ms ≡ Some (string p.kind)
+    → get_member VALUE.now ms ≡ Some (value_tree p.value)
     → value_of (value_tree p.value) ≡ p.value → without_all property_names ms ≡ p.kept → property_at (object ms) ≡ Ok p
 unfolding property_at text_at
 property_read p ms name kind value held kept = rw (name, kind, value, held, kept) refl
@@ -99,10 +103,12 @@ property_again : (level : ℕ) (p : Property) → IsProperty level p → propert
 unfolding property_tree
 property_again level p h =
     let own = property_own p in
-    property_read p (with_own own p.kept) (get_member-with_own NAME.now own p.kept) (get_member-with_own TYPE.now own p.kept) (get_member-with_own VALUE.now own p.kept)
+    property_read p (with_own own p.kept) (get_member-with_own NAME.now own p.kept) (get_member-with_own TYPE.now own p.kept)
+    (get_member-with_own VALUE.now own p.kept)
     (value_again level p.value h.value) (without_all-with_own own p.kept refl h.kept.unread)
 
-pub properties_again : (level : ℕ) (ps : List Property) → AreProperties level ps → absent_means [] (elements_at MAX_PROPERTIES property_at) (properties_member ps) ≡ Ok ps
+pub properties_again : (level : ℕ) (ps : List Property) → AreProperties level ps
+    → absent_means [] (elements_at MAX_PROPERTIES property_at) (properties_member ps) ≡ Ok ps
 properties_again level [] h = refl
 properties_again level (p ∷ ps) h =
     elements_again property_tree property_at MAX_PROPERTIES (p ∷ ps) h.few
@@ -133,10 +139,13 @@ placing_read p ms x y width height h =
     let again = optional_again IsPixels pixels_tree pixels_at pixels_again in
     rw (x, again p.x h.x, y, again p.y h.y, width, again p.width h.width, height, again p.height h.height) refl
 
-object_read : (o : Object) (ms : Members) → get_member ID.now ms ≡ Some (whole_tree o.id) → placing_of ms ≡ Ok o.placing → get_member NAME.now ms ≡ option_map string o.name
-    → get_member VISIBLE.now ms ≡ option_map boolean o.visible → get_member GID.now ms ≡ option_map whole_tree o.gid → get_member PROPERTIES.now ms ≡ properties_member o.properties
+object_read : (o : Object) (ms : Members) → get_member ID.now ms ≡ Some (whole_tree o.id) → placing_of ms ≡ Ok o.placing
+    → get_member NAME.now ms ≡ option_map string o.name
+    → get_member VISIBLE.now ms ≡ option_map boolean o.visible → get_member GID.now ms ≡ option_map whole_tree o.gid
+    → get_member PROPERTIES.now ms ≡ properties_member o.properties
     → id_at (whole_tree o.id) ≡ Ok o.id → optional (whole_at 0 4294967295) (option_map whole_tree o.gid) ≡ Ok o.gid
-    → absent_means [] (elements_at MAX_PROPERTIES property_at) (properties_member o.properties) ≡ Ok o.properties → without_all object_names ms ≡ o.kept → object_at (object ms) ≡ Ok o
+    → absent_means [] (elements_at MAX_PROPERTIES property_at) (properties_member o.properties) ≡ Ok o.properties → without_all object_names ms ≡ o.kept
+    → object_at (object ms) ≡ Ok o
 unfolding object_at
 object_read o ms id placing name visible gid properties id_ok gid_ok properties_ok kept =
     rw (id, id_ok, placing, name, text_again o.name, visible, truth_again o.visible, gid, gid_ok, properties, properties_ok, kept) refl
@@ -171,12 +180,18 @@ encoding_again Base64 = refl
 count_again : (n m : ℕ) → n ≡ m → eqb n m ≡ true
 count_again n m e = rw e (eq-eqb m m refl)
 
-pub cells_tree_again : (e : Encoding) (count : ℕ) (cells : List ℕ) → length cells ≡ count → Each IsTileValue cells → cells_at e count (cells_tree e cells) ≡ Ok cells
+pub cells_tree_again : (e : Encoding) (count : ℕ) (cells : List ℕ) → length cells ≡ count → Each IsTileValue cells
+    → cells_at e count (cells_tree e cells) ≡ Ok cells
 unfolding array_cells_at base64_cells_at
 cells_tree_again Array count cells len h = rw (cells_again cells h, count_again (length cells) count len) refl
 cells_tree_again Base64 count cells len h =
     let whole : length (bytes_of cells) ≡ 4 * count = length-bytes_of cells ∙ ap (λ n. 4 * n) len in
-    rw (decoded_again (bytes_of cells) (IsBytes-bytes_of cells), count_again (length (bytes_of cells)) (4 * count) whole, is_byte-from_IsBytes (bytes_of cells) (IsBytes-bytes_of cells), words_again cells h) refl
+    rw (
+      decoded_again (bytes_of cells) (IsBytes-bytes_of cells),
+      count_again (length (bytes_of cells)) (4 * count) whole,
+      is_byte-from_IsBytes (bytes_of cells) (IsBytes-bytes_of cells),
+      words_again cells h,
+    ) refl
 
 pub same_again : (n : ℕ) → same_at n (whole_tree n) ≡ Ok tt
 unfolding same_at

@@ -27,7 +27,8 @@ use Rattle.map_json.specs.Steps.{absent_means}
 use Rattle.map_json.specs.Scalars.{text_at, truth_at}
 use Rattle.map_json.specs.Elements.{Counting, each_counted, elements_at}
 use Rattle.map_json.specs.Reading.{property_at, id_at, object_at, type_at, cells_at, tiles_of, objects_of, body_by, head_of, layer_by, layers_at, map_layers_at}
-use Rattle.map_json.specs.Trees.{array_by, items_by, whole_tree, properties_member, object_tree, cells_tree, encoding_member, body_own, type_word, layer_own, layer_tree, layers_tree}
+use Rattle.map_json.specs.Trees.{array_by, items_by, whole_tree, properties_member, object_tree, cells_tree, encoding_member, body_own, type_word, layer_own}
+use Rattle.map_json.specs.Trees.{layer_tree, layers_tree}
 use Rattle.map_json.proofs.Again.{elements_again, items_len-items_by}
 use Rattle.map_json.proofs.DrawnLayers.{Each-left, Each-right, Group-inside, drawn_in, drawn_in-none, length-drawn, tree-Each}
 use Rattle.map_json.proofs.Law.{or_none, id_again, properties_again, object_again, encoding_again, cells_tree_again, same_again}
@@ -35,7 +36,8 @@ use Rattle.map_json.proofs.Lacking.{LacksAll}
 use Rattle.map_json.proofs.Own.{get_member-with_own, find_own, without_all-with_own}
 
 -- ---- ids of elements
-objects_again : (level next : ℕ) → next ≤ MAX_NEXT_ID → (os : List Object) → Each (IsObject level) os → Each (IsId next) (flat_map ids_of_object os) → Each (λ o. object_at (object_tree o) ≡ Ok o) os
+objects_again : (level next : ℕ) → next ≤ MAX_NEXT_ID → (os : List Object) → Each (IsObject level) os → Each (IsId next) (flat_map ids_of_object os)
+    → Each (λ o. object_at (object_tree o) ≡ Ok o) os
 objects_again level next few [] h g = tt
 objects_again level next few (o ∷ os) h g = (object_again level o (id_again next o.id few g.0) h.0, objects_again level next few os h.1 g.1)
 
@@ -59,14 +61,17 @@ no_properties width height layers (Objects os) d = refl
 no_properties width height layers Other d = refl
 no_properties width height layers (Group' s r) d = refl
 
-tiles_read : (width height : ℕ) (e : Encoding) (cells : List ℕ) (ms : Members) → get_member ENCODING.now ms ≡ encoding_member e → get_member COMPRESSION.now ms ≡ None
-    → get_member WIDTH.now ms ≡ Some (whole_tree width) → get_member HEIGHT.now ms ≡ Some (whole_tree height) → get_member DATA.now ms ≡ Some (cells_tree e cells)
+tiles_read : (width height : ℕ) (e : Encoding) (cells : List ℕ) (ms : Members) → get_member ENCODING.now ms ≡ encoding_member e
+    → get_member COMPRESSION.now ms ≡ None
+    → get_member WIDTH.now ms ≡ Some (whole_tree width) → get_member HEIGHT.now ms ≡ Some (whole_tree height)
+    → get_member DATA.now ms ≡ Some (cells_tree e cells)
     → cells_at e (width * height) (cells_tree e cells) ≡ Ok cells → tiles_of width height ms ≡ Ok (Tiles e cells)
 unfolding tiles_of
 tiles_read width height e cells ms encoding compression wide high data_is cells_ok =
     rw (encoding, encoding_again e, compression, wide, same_again width, high, same_again height, data_is, cells_ok) refl
 
-objects_read : (os : List Object) (ms : Members) → get_member OBJECTS.now ms ≡ Some (array_by object_tree os) → elements_at MAX_OBJECTS object_at (array_by object_tree os) ≡ Ok os → objects_of ms ≡ Ok (Objects os)
+objects_read : (os : List Object) (ms : Members) → get_member OBJECTS.now ms ≡ Some (array_by object_tree os)
+    → elements_at MAX_OBJECTS object_at (array_by object_tree os) ≡ Ok os → objects_of ms ≡ Ok (Objects os)
 unfolding objects_of
 objects_read os ms is ok = rw (is, ok) refl
 
@@ -85,7 +90,8 @@ counted-none room level count b none = ap (λ (ds : List (ℕ × Layer)). count 
 abbrev IsReadFrom : ℕ → ℕ → ℕ → Body → Counting (List Layer) → Data → Type 0
 IsReadFrom room level count b inner d = (ls : List Layer) → group_in b ≡ Some ls → inner count d ≡ Ok (counted room level count b, ls)
 
-body_again : (room level next width height count : ℕ) → next ≤ MAX_NEXT_ID → (inner : Counting (List Layer)) (d : Data) (l : Layer) (b : Body) (kept : Members) → IsReadFrom room level count b inner d
+body_again : (room level next width height count : ℕ) → next ≤ MAX_NEXT_ID → (inner : Counting (List Layer)) (d : Data) (l : Layer) (b : Body) (kept : Members)
+    → IsReadFrom room level count b inner d
     → LacksAll (layer_names b) kept → IsBody level (width * height) b → Each (IsId next) (object_ids_in b)
     → body_by inner (kind_of b) width height count (with_own (layer_own width height d (with_body l b)) kept) ≡ Ok (counted room level count b, b)
 body_again room level next width height count few inner d l (Tiles e cells) kept reads lacks h ids =
@@ -108,16 +114,20 @@ body_again room level next width height count few inner d l (Group' s r) kept re
     let ls = or_empty (group_in (Group' s r)) in
     rw (get_member-with_own LAYERS.now own kept, reads ls refl) (ap (λ b. Ok (counted room level count (Group' s r), b)) (Group-inside (Group' s r) ls refl))
 
-kept_again : (width height : ℕ) (d : Data) (l : Layer) (b : Body) (kept : Members) → LacksAll (layer_names b) kept → without_all (layer_names b) (with_own (layer_own width height d (with_body l b)) kept) ≡ kept
+kept_again : (width height : ℕ) (d : Data) (l : Layer) (b : Body) (kept : Members) → LacksAll (layer_names b) kept
+    → without_all (layer_names b) (with_own (layer_own width height d (with_body l b)) kept) ≡ kept
 kept_again width height d l (Tiles e cells) kept lacks = without_all-with_own (layer_own width height d (with_body l (Tiles e cells))) kept refl lacks
 kept_again width height d l (Objects os) kept lacks = without_all-with_own (layer_own width height d (with_body l (Objects os))) kept refl lacks
 kept_again width height d l Other kept lacks = without_all-with_own (layer_own width height d (with_body l Other)) kept refl lacks
 kept_again width height d l (Group' s r) kept lacks = without_all-with_own (layer_own width height d (with_body l (Group' s r))) kept refl lacks
 
-layer_read : (inner : Counting (List Layer)) (width height count behind : ℕ) (l : Layer) (ms : Members) → get_member TYPE.now ms ≡ Some (string (type_word l.body)) → get_member ID.now ms ≡ Some (whole_tree l.id)
-    → get_member NAME.now ms ≡ Some (string l.name) → get_member VISIBLE.now ms ≡ Some (boolean l.visible) → get_member PROPERTIES.now ms ≡ properties_member l.properties
+layer_read : (inner : Counting (List Layer)) (width height count behind : ℕ) (l : Layer) (ms : Members)
+    → get_member TYPE.now ms ≡ Some (string (type_word l.body)) → get_member ID.now ms ≡ Some (whole_tree l.id)
+    → get_member NAME.now ms ≡ Some (string l.name) → get_member VISIBLE.now ms ≡ Some (boolean l.visible)
+    → get_member PROPERTIES.now ms ≡ properties_member l.properties
     → id_at (whole_tree l.id) ≡ Ok l.id → absent_means [] (elements_at MAX_PROPERTIES property_at) (properties_member l.properties) ≡ Ok l.properties
-    → body_by inner (kind_of l.body) width height count ms ≡ Ok (behind, l.body) → without_all (layer_names l.body) ms ≡ l.kept → layer_by inner width height count (object ms) ≡ Ok (behind, l)
+    → body_by inner (kind_of l.body) width height count ms ≡ Ok (behind, l.body) → without_all (layer_names l.body) ms ≡ l.kept
+    → layer_by inner width height count (object ms) ≡ Ok (behind, l)
 unfolding layer_by head_of text_at truth_at
 layer_read inner width height count behind l ms type id name visible properties id_ok properties_ok body_ok kept =
     rw (type, type_again l.body, id, id_ok, name, visible, properties, properties_ok, body_ok, kept) refl
@@ -133,27 +143,33 @@ no_group level size (Group' s r) ls g h balance = omega (arith, h, balance)
 abbrev Fits : ℕ → ℕ → ℕ → ℕ × Layer → Type 0
 Fits size next next_object d = IsDrawn size d × (IsId next d.1.id × Each (IsId next_object) (object_ids_in d.1.body))
 
-pub Each-Fits : (size next next_object : ℕ) (ds : List (ℕ × Layer)) → Each (IsDrawn size) ds → Each (IsId next) (flat_map ids_of ds) → Each (IsId next_object) (flat_map object_ids_of ds) → Each (Fits size next next_object) ds
+pub Each-Fits : (size next next_object : ℕ) (ds : List (ℕ × Layer)) → Each (IsDrawn size) ds → Each (IsId next) (flat_map ids_of ds)
+    → Each (IsId next_object) (flat_map object_ids_of ds) → Each (Fits size next next_object) ds
 Each-Fits size next next_object [] h ids objects = tt
 Each-Fits size next next_object (d ∷ ds) h ids objects = (
   (h.0, (ids.0, Each-left (IsId next_object) (object_ids_of d) (flat_map object_ids_of ds) objects)),
   Each-Fits size next next_object ds h.1 ids.1 (Each-right (IsId next_object) (object_ids_of d) (flat_map object_ids_of ds) objects),
 )
 
-one_again : (room level next next_object width height count : ℕ) → next ≤ MAX_NEXT_ID → next_object ≤ MAX_NEXT_ID → (inner : Counting (List Layer)) (d : Data) (l : Layer) → IsReadFrom room level count l.body inner d
-    → Fits (width * height) next next_object (level, bare l) → layer_by inner width height count (object (with_own (layer_own width height d l) l.kept)) ≡ Ok (counted room level count l.body, l)
+one_again : (room level next next_object width height count : ℕ) → next ≤ MAX_NEXT_ID → next_object ≤ MAX_NEXT_ID
+    → (inner : Counting (List Layer)) (d : Data) (l : Layer) → IsReadFrom room level count l.body inner d
+    → Fits (width * height) next next_object (level, bare l)
+    → layer_by inner width height count (object (with_own (layer_own width height d l) l.kept)) ≡ Ok (counted room level count l.body, l)
 one_again room level next next_object width height count few few_objects inner d l reads fits =
     let own = layer_own width height d l in
     let kept = l.kept in
     let h = IsLayer-without (λ ls. []) level (width * height) l fits.0 in
     let ids : Each (IsId next_object) (object_ids_in l.body) = subst (Each (IsId next_object)) (object_ids-with (λ ls. []) l.body) fits.1.1 in
     let lacks = h.kept.unread in
-    layer_read inner width height count (counted room level count l.body) l (with_own own kept) (get_member-with_own TYPE.now own kept) (get_member-with_own ID.now own kept) (get_member-with_own NAME.now own kept)
+    layer_read inner width height count (counted room level count l.body) l (with_own own kept) (get_member-with_own TYPE.now own kept)
+    (get_member-with_own ID.now own kept) (get_member-with_own NAME.now own kept)
     (get_member-with_own VISIBLE.now own kept)
-    (get_member-with_own PROPERTIES.now own kept ∙ or_none (properties_member l.properties) (find_own PROPERTIES.now (body_own width height d l.body) (get_member PROPERTIES.now kept))
+    (get_member-with_own PROPERTIES.now own kept ∙ or_none (properties_member l.properties)
+    (find_own PROPERTIES.now (body_own width height d l.body) (get_member PROPERTIES.now kept))
     (no_properties width height d l.body (get_member PROPERTIES.now kept) ∙ lacks.1.1.1.1.0))
     (id_again next l.id few fits.1.0) (properties_again level l.properties h.properties)
-    (body_again room level next_object width height count few_objects inner d l l.body kept reads lacks h.body ids) (kept_again width height d l l.body kept lacks)
+    (body_again room level next_object width height count few_objects inner d l l.body kept reads lacks h.body ids)
+    (kept_again width height d l l.body kept lacks)
 
 -- ---- layers one after another
 module _ (room level width height : ℕ) (P : ℕ × Layer → Type 0)
@@ -190,27 +206,32 @@ module _ (room level width height : ℕ) (P : ℕ × Layer → Type 0)
       rw (fits, each) (ap (λ n. Ok (n, ls)) (omega (arith, long, all)))
 
 -- ---- layers within layers
-layer_again : (room level next next_object width height count : ℕ) → level + 2 * room ≡ deepest_level → next ≤ MAX_NEXT_ID → next_object ≤ MAX_NEXT_ID → (l : Layer)
+layer_again : (room level next next_object width height count : ℕ) → level + 2 * room ≡ deepest_level → next ≤ MAX_NEXT_ID → next_object ≤ MAX_NEXT_ID
+    → (l : Layer)
     → Each (Fits (width * height) next next_object) (tree room level l) → count + length (below room level l) ≤ MAX_LAYERS
     → layer_by (layers_at room width height) width height count (layer_tree room width height l) ≡ Ok (count + length (below room level l), l)
 unfolding layer_tree
 layer_again zero level next next_object width height count balance few few_objects l h fits =
     let own = tree-Each (Fits (width * height) next next_object) 0 level l h in
     one_again 0 level next next_object width height count few few_objects (layers_at 0 width height) (array no_items) l
-    (λ ls g. absurd (no_group level (width * height) l.body ls g (IsLayer-without (λ ks. []) level (width * height) l own.0.0).body (omega (arith, balance)))) own.0
+    (λ ls g. absurd (no_group level (width * height) l.body ls g (IsLayer-without (λ ks. []) level (width * height) l own.0.0).body (omega (arith, balance))))
+    own.0
 layer_again (suc room) level next next_object width height count balance few few_objects l h fits =
     let P = Fits (width * height) next next_object in
     let own = tree-Each P (suc room) level l h in
     let one = λ (k : ℕ) (x : Layer) (f : Each P (tree room (inner_level level) x)) (g : k + length (below room (inner_level level) x) ≤ MAX_LAYERS).
     layer_again room (inner_level level) next next_object width height k (omega (arith, balance)) few few_objects x f g in
     let all = array_again room (inner_level level) width height P one count (inside l) own.1 fits in
-    one_again (suc room) level next next_object width height count few few_objects (layers_at (suc room) width height) (layers_tree room width height (inside l)) l
+    one_again (suc room) level next next_object width height count few few_objects (layers_at (suc room) width height)
+    (layers_tree room width height (inside l)) l
     (λ ls g. all ∙ ap (λ o. Ok (count + length (drawn room (inner_level level) (inside l)), or_empty o)) g) own.0
 
-pub map_layers_again : (next next_object width height : ℕ) → next ≤ MAX_NEXT_ID → next_object ≤ MAX_NEXT_ID → (ls : List Layer) → length (all_drawn ls) ≤ MAX_LAYERS → Each (IsDrawn (width * height)) (all_drawn ls)
+pub map_layers_again : (next next_object width height : ℕ) → next ≤ MAX_NEXT_ID → next_object ≤ MAX_NEXT_ID → (ls : List Layer)
+    → length (all_drawn ls) ≤ MAX_LAYERS → Each (IsDrawn (width * height)) (all_drawn ls)
     → Each (IsId next) (layer_ids ls) → Each (IsId next_object) (object_ids ls) → map_layers_at width height (layers_tree MAX_GROUPS width height ls) ≡ Ok ls
 map_layers_again next next_object width height few few_objects ls fits h ids objects =
     let P = Fits (width * height) next next_object in
-    let all = array_again MAX_GROUPS layer_level width height P (λ count l f g. layer_again MAX_GROUPS layer_level next next_object width height count refl few few_objects l f g) 0 ls
+    let all = array_again MAX_GROUPS layer_level width height P
+    (λ count l f g. layer_again MAX_GROUPS layer_level next next_object width height count refl few few_objects l f g) 0 ls
     (Each-Fits (width * height) next next_object (all_drawn ls) h ids objects) (omega (arith, fits)) in
     rw all refl

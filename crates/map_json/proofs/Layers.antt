@@ -27,11 +27,13 @@ use Rattle.map_json.specs.declared.fault.MapRefusal.TheVariants.{MemberOfAnother
 use Rattle.map_json.specs.Steps.{required, absent_means}
 use Rattle.map_json.specs.Scalars.{text_at, truth_at}
 use Rattle.map_json.specs.Elements.{Counting, each_counted, elements_at}
-use Rattle.map_json.specs.Reading.{id_at, properties_of, object_at, type_at, encoding_at, compression_at, same_at, cells_at, tiles_of, objects_of, body_by, layer_by, layers_at, map_layers_at, head_of}
+use Rattle.map_json.specs.Reading.{id_at, properties_of, object_at, type_at, encoding_at, compression_at, same_at, cells_at, tiles_of, objects_of, body_by}
+use Rattle.map_json.specs.Reading.{layer_by, layers_at, map_layers_at, head_of}
 use Rattle.map_json.proofs.DrawnLayers.{Each-both, Each-tree, length-drawn, drawn_in, below-drawn_in, drawn_in-none, drawn_in-Group}
 use Rattle.map_json.proofs.Fine.{IsFine, AreFineItems, AreFineMembers}
 use Rattle.map_json.proofs.FineLemmas.{IsFine-get_member}
-use Rattle.map_json.proofs.Sound.{text_or_sound, by_bind, by_check, by_step, ok_is, ok_or_ok, required_ok, array_fine, object_fine, kept_sound, required_whole_sound, elements_sound, cells_tree_sound, WereRead, properties_sound}
+use Rattle.map_json.proofs.Sound.{text_or_sound, by_bind, by_check, by_step, ok_is, ok_or_ok, required_ok, array_fine, object_fine, kept_sound}
+use Rattle.map_json.proofs.Sound.{required_whole_sound, elements_sound, cells_tree_sound, WereRead, properties_sound}
 use Rattle.map_json.proofs.Owners.{WasReadObject, object_sound}
 
 -- what a layer at this level holds itself, on a map of so many cells; whether names of properties differ is told apart
@@ -89,7 +91,8 @@ WasReadLayer-bare level size l h = record {
 abbrev LayerRead : ℕ → ℕ → ℕ → ℕ → ℕ × Layer → Type 0
 LayerRead room level size count r = WasReadLayer level size r.1 × WereCounted size count r.0 (below room level r.1)
 
-module _ (room level n size : ℕ) (read : Counting Layer) (sound : (count : ℕ) (d : Data) (r : ℕ × Layer) → IsFine n d → read count d ≡ Ok r → LayerRead room level size count r) where
+module _ (room level n size : ℕ) (read : Counting Layer) (sound : (count : ℕ) (d : Data) (r : ℕ × Layer) → IsFine n d → read count d ≡ Ok r → LayerRead room
+    level size count r) where
   -- what was read of an array: after stands before its length was added
   record EachRead (ds : Items) (count : ℕ) (r : ℕ × List Layer) : Type 0 where
     long : length r.1 ≡ items_len ds
@@ -97,16 +100,19 @@ module _ (room level n size : ℕ) (read : Counting Layer) (sound : (count : ℕ
     each : Each (WasReadDrawn size) (drawn room level r.1)
     few : count ≤ MAX_LAYERS → r.0 ≤ MAX_LAYERS
 
-  each_more : (d : Data) (ds : Items) (count : ℕ) (x : ℕ × Layer) (xs : ℕ × List Layer) → LayerRead room level size count x → EachRead ds x.0 xs → EachRead (item d ds) count (xs.0, x.1 ∷ xs.1)
+  each_more : (d : Data) (ds : Items) (count : ℕ) (x : ℕ × Layer) (xs : ℕ × List Layer) → LayerRead room level size count x → EachRead ds x.0 xs
+      → EachRead (item d ds) count (xs.0, x.1 ∷ xs.1)
   each_more d ds count x xs h more = record {
     long = ap suc more.long;
     sum = omega (arith, length-drawn room level x.1 xs.1, h.1.sum, more.sum);
-    each = Each-both (WasReadDrawn size) (tree room level x.1) (drawn room level xs.1) (Each-tree (WasReadDrawn size) room level x.1 (WasReadLayer-bare level size x.1 h.0) h.1.each) more.each;
+    each = Each-both (WasReadDrawn size) (tree room level x.1) (drawn room level xs.1)
+        (Each-tree (WasReadDrawn size) room level x.1 (WasReadLayer-bare level size x.1 h.0) h.1.each) more.each;
     few = λ le. more.few (h.1.few le);
   }
 
   each_counted_sound : (ds : Items) (count : ℕ) (r : ℕ × List Layer) → AreFineItems n ds → each_counted read count ds ≡ Ok r → EachRead ds count r
-  each_counted_sound no_items count r fine e = subst (EachRead no_items count) (ok_is (count, []) r e) (record { long = refl; sum = refl; each = tt; few = λ le. le })
+  each_counted_sound no_items count r fine e = subst (EachRead no_items count) (ok_is (count, []) r e)
+      (record { long = refl; sum = refl; each = tt; few = λ le. le })
   each_counted_sound (item d ds) count r fine e =
       by_bind (read count d) _ r e (λ x x_is e1.
       by_bind (each_counted read x.0 ds) _ r e1 (λ xs xs_is e2.
@@ -114,7 +120,8 @@ module _ (room level n size : ℕ) (read : Counting Layer) (sound : (count : ℕ
       (each_more d ds count x xs (sound count d x fine.0 x_is) (each_counted_sound ds x.0 xs fine.1 xs_is))))
 
   array_sound : (d : Data) (count : ℕ) (r : ℕ × List Layer) → IsFine (suc n) d
-      → (ok_or (as_array d) MemberOfAnotherKind >>= λ ds. check (nat_le (count + items_len ds) MAX_LAYERS) OverLimit >> each_counted read (count + items_len ds) ds) ≡ Ok r
+      → (ok_or (as_array d) MemberOfAnotherKind >>= λ ds. check (nat_le (count + items_len ds) MAX_LAYERS) OverLimit >> each_counted read
+      (count + items_len ds) ds) ≡ Ok r
       → WereCounted size count r.0 (drawn room level r.1)
   array_sound d count r fine e =
       by_bind (ok_or (as_array d) MemberOfAnotherKind) _ r e (λ ds ds_is e1.
@@ -130,13 +137,16 @@ BodyRead room level size count r = WasReadBody level size r.1 × WereCounted siz
 
 -- the layers of a group, by a reader with this room
 abbrev IsInner : ℕ → ℕ → ℕ → ℕ → Counting (List Layer) → Type 0
-IsInner room level n size inner = (d : Data) (count : ℕ) (ls : ℕ × List Layer) → IsFine n d → inner count d ≡ Ok ls → BodyRead room level size count (ls.0, Group ls.1)
+IsInner room level n size inner = (d : Data) (count : ℕ) (ls : ℕ × List Layer) → IsFine n d → inner count d ≡ Ok ls
+    → BodyRead room level size count (ls.0, Group ls.1)
 
 alone : (room level size count : ℕ) (b : Body) → group_in b ≡ None → WasReadBody level size b → BodyRead room level size count (count, b)
 alone room level size count b none h = (h, subst (WereCounted size count count) (sym (drawn_in-none room level b none)) (none_counted size count))
 
-body_sound : (room level n : ℕ) → property_level (object_level level) + n ≤ MAX_DEPTH → (inner : Counting (List Layer)) (kind : LayerType) (width height count : ℕ) (ms : Members) (r : ℕ × Body)
-    → IsInner room level (suc (suc (suc (suc n)))) (width * height) inner → AreFineMembers (suc (suc (suc (suc n)))) ms → body_by inner kind width height count ms ≡ Ok r → BodyRead room level (width * height) count r
+body_sound : (room level n : ℕ) → property_level (object_level level) + n ≤ MAX_DEPTH
+    → (inner : Counting (List Layer)) (kind : LayerType) (width height count : ℕ) (ms : Members) (r : ℕ × Body)
+    → IsInner room level (suc (suc (suc (suc n)))) (width * height) inner → AreFineMembers (suc (suc (suc (suc n)))) ms
+    → body_by inner kind width height count ms ≡ Ok r → BodyRead room level (width * height) count r
 unfolding tiles_of objects_of
 body_sound room level n deep inner TileLayer width height count ms r sound h e =
     by_bind (tiles_of width height ms) _ r e (λ b b_is last.
@@ -154,7 +164,8 @@ body_sound room level n deep inner ObjectGroup width height count ms r sound h e
     let found = required_ok (elements_at MAX_OBJECTS object_at) (get_member OBJECTS.now ms) objects objects_is in
     let fine = IsFine-get_member (suc (suc (suc (suc n)))) OBJECTS.now ms found.0 h found.1 in
     let made = alone room level (width * height) count (Objects objects) refl
-    (elements_sound (WasReadObject (object_level level)) object_at (suc (suc (suc n))) (object_sound (object_level level) n deep) MAX_OBJECTS found.0 objects fine found.2) in
+    (elements_sound (WasReadObject (object_level level)) object_at (suc (suc (suc n)))
+    (object_sound (object_level level) n deep) MAX_OBJECTS found.0 objects fine found.2) in
     subst (BodyRead room level (width * height) count) (ap (λ c. (count, c)) (ok_is (Objects objects) b e1) ∙ ok_is (count, b) r last) made))
 body_sound room level n deep inner ImageLayer width height count ms r sound h e =
     subst (BodyRead room level (width * height) count) (ok_is (count, Other) r e) (alone room level (width * height) count Other refl tt)
@@ -181,8 +192,10 @@ head_read ms head e =
     let found : Head = record { kind = kind; id = id; name = name; visible = visible; properties = properties } in
     subst (HeadRead ms) (ok_is found head e5) (record { id = id_is; name = name_is; properties = properties_is }))))))
 
-one_sound : (room level n : ℕ) → property_level (object_level level) + n ≤ MAX_DEPTH → (inner : Counting (List Layer)) (width height count : ℕ) (d : Data) (r : ℕ × Layer)
-    → IsInner room level (suc (suc (suc (suc n)))) (width * height) inner → IsFine (suc (suc (suc (suc (suc n))))) d → layer_by inner width height count d ≡ Ok r → LayerRead room level (width * height) count r
+one_sound : (room level n : ℕ) → property_level (object_level level) + n ≤ MAX_DEPTH
+    → (inner : Counting (List Layer)) (width height count : ℕ) (d : Data) (r : ℕ × Layer)
+    → IsInner room level (suc (suc (suc (suc n)))) (width * height) inner → IsFine (suc (suc (suc (suc (suc n))))) d
+    → layer_by inner width height count d ≡ Ok r → LayerRead room level (width * height) count r
 unfolding layer_by
 one_sound room level n deep inner width height count d r sound fine e =
     by_bind (ok_or (as_object d) MemberOfAnotherKind) _ r e (λ ms object e1.
@@ -192,7 +205,14 @@ one_sound room level n deep inner width height count d r sound fine e =
     let members = object_fine (suc (suc (suc (suc n)))) d ms fine (ok_or_ok (as_object d) MemberOfAnotherKind ms object) in
     let range = required_whole_sound 1 (MAX_NEXT_ID - 1) (get_member ID.now ms) head.id read.id in
     let held = body_sound room level n deep inner head.kind width height count ms body sound members body_is in
-    let l : Layer = record { id = head.id; name = head.name; visible = head.visible; properties = head.properties; kept = without_all (layer_names body.1) ms; body = body.1 } in
+    let l : Layer = record {
+      id = head.id;
+      name = head.name;
+      visible = head.visible;
+      properties = head.properties;
+      kept = without_all (layer_names body.1) ms;
+      body = body.1;
+    } in
     let made : WasReadLayer level (width * height) l = record {
       low = range.0;
       name = text_or_sound (suc (suc (suc (suc n)))) NAME.now ms members [] head.name IsUtf8-nil read.name;
@@ -200,11 +220,13 @@ one_sound room level n deep inner width height count d r sound fine e =
       kept = kept_sound level (suc (suc (suc (suc n)))) (layer_names body.1) ms (omega arith) members;
       body = held.0;
     } in
-    subst (LayerRead room level (width * height) count) (ok_is (body.0, l) r e3) (made, subst (WereCounted (width * height) count body.0) (sym (below-drawn_in room level l)) held.1))))
+    subst (LayerRead room level (width * height) count) (ok_is (body.0, l) r e3)
+    (made, subst (WereCounted (width * height) count body.0) (sym (below-drawn_in room level l)) held.1))))
 
 -- a group with room for layers, which a reader of one room less reads
 inner_sound : (room level n width height : ℕ) → level + 2 * suc room ≡ deepest_level
-    → ((count : ℕ) (d : Data) (r : ℕ × Layer) → IsFine n d → layer_by (layers_at room width height) width height count d ≡ Ok r → LayerRead room (inner_level level) (width * height) count r)
+    → ((count : ℕ) (d : Data) (r : ℕ × Layer) → IsFine n d → layer_by (layers_at room width height) width height count d ≡ Ok r
+    → LayerRead room (inner_level level) (width * height) count r)
     → IsInner (suc room) level (suc n) (width * height) (layers_at (suc room) width height)
 unfolding layers_at
 inner_sound room level n width height balance one d count ls fine e =
@@ -216,16 +238,20 @@ unfolding layers_at
 no_room_sound level n width height d count ls fine e =
     by_bind (ok_or (as_array d) MemberOfAnotherKind) _ ls e (λ ds ds_is e1. absurd cc)
 
-layer_sound : (room level n width height : ℕ) → level + 2 * room ≡ deepest_level → property_level (object_level level) + n ≡ MAX_DEPTH → (count : ℕ) (d : Data) (r : ℕ × Layer)
-    → IsFine (suc (suc (suc (suc (suc n))))) d → layer_by (layers_at room width height) width height count d ≡ Ok r → LayerRead room level (width * height) count r
+layer_sound : (room level n width height : ℕ) → level + 2 * room ≡ deepest_level → property_level (object_level level) + n ≡ MAX_DEPTH
+    → (count : ℕ) (d : Data) (r : ℕ × Layer)
+    → IsFine (suc (suc (suc (suc (suc n))))) d → layer_by (layers_at room width height) width height count d ≡ Ok r
+    → LayerRead room level (width * height) count r
 layer_sound zero level n width height balance deep count d r fine e =
-    one_sound 0 level n (omega (arith, deep)) (layers_at 0 width height) width height count d r (no_room_sound level (suc (suc (suc (suc n)))) width height) fine e
+    one_sound 0 level n (omega (arith, deep)) (layers_at 0 width height) width height count d r
+    (no_room_sound level (suc (suc (suc (suc n)))) width height) fine e
 layer_sound (suc room) level n width height balance deep count d r fine e =
     let m = n - 2 in
     let long : suc (suc (suc n)) ≡ suc (suc (suc (suc (suc m)))) = omega (arith, balance, deep) in
     let one = λ (k : ℕ) (x : Data) (y : ℕ × Layer) (f : IsFine (suc (suc (suc n))) x) (g : layer_by (layers_at room width height) width height k x ≡ Ok y).
     layer_sound room (inner_level level) m width height (omega (arith, balance)) (omega (arith, balance, deep)) k x y (subst (λ i. IsFine i x) long f) g in
-    one_sound (suc room) level n (omega (arith, deep)) (layers_at (suc room) width height) width height count d r (inner_sound room level (suc (suc (suc n))) width height balance one) fine e
+    one_sound (suc room) level n (omega (arith, deep)) (layers_at (suc room) width height) width height count d r
+    (inner_sound room level (suc (suc (suc n))) width height balance one) fine e
 
 -- the layers of a map
 pub map_layers_sound : (width height : ℕ) (d : Data) (ls : List Layer) → IsFine 126 d → map_layers_at width height d ≡ Ok ls
@@ -236,4 +262,5 @@ map_layers_sound width height d ls fine e =
     let all = array_sound MAX_GROUPS layer_level 125 (width * height) (layer_by (layers_at MAX_GROUPS width height) width height)
     (λ count x y f g. layer_sound MAX_GROUPS layer_level 120 width height refl refl count x y f g) d 0 r fine r_is in
     let few = all.few (omega arith) in
-    subst (λ ks. (length (all_drawn ks) ≤ MAX_LAYERS) × Each (WasReadDrawn (width * height)) (all_drawn ks)) (ok_is r.1 ls e1) (omega (arith, all.sum, few), all.each))
+    subst (λ ks. (length (all_drawn ks) ≤ MAX_LAYERS) × Each (WasReadDrawn (width * height)) (all_drawn ks)) (ok_is r.1 ls e1)
+    (omega (arith, all.sum, few), all.each))

@@ -39,7 +39,8 @@ module _ {A : Type 0} where
   with_prefix-all read prefix r e = sym e ∙ ap (λ (ys : List A). Ok ys) (append-nil prefix)
 
   -- an element that is refused
-  pub refused_element : (read : Data → Result A MapRefusal) (prefix : List A) (d : Data) (ds : Items) (e : MapFault) → Fails e (read d) → Fails e (with_prefix prefix (each read (item d ds)))
+  pub refused_element : (read : Data → Result A MapRefusal) (prefix : List A) (d : Data) (ds : Items) (e : MapFault) → Fails e (read d)
+      → Fails e (with_prefix prefix (each read (item d ds)))
   refused_element read prefix d ds Memory h = tt
   refused_element read prefix d ds (Refused f) h = rw h refl
 
@@ -52,11 +53,13 @@ module _ {A : Type 0} where
   counted_prefix-none (Ok xs) = refl
   counted_prefix-none (Err f) = refl
 
-  regroup_counted : (prefix : List A) (x : A) (r : Result (ℕ × List A) MapRefusal) → counted_prefix prefix (r >>= λ xs. Ok (xs.0, x ∷ xs.1)) ≡ counted_prefix (prefix ++ x ∷ []) r
+  regroup_counted : (prefix : List A) (x : A) (r : Result (ℕ × List A) MapRefusal)
+      → counted_prefix prefix (r >>= λ xs. Ok (xs.0, x ∷ xs.1)) ≡ counted_prefix (prefix ++ x ∷ []) r
   regroup_counted prefix x (Ok xs) = ap (λ (ys : List A). Ok (xs.0, ys)) (sym (append_assoc prefix (x ∷ []) xs.1))
   regroup_counted prefix x (Err f) = refl
 
-  pub counted_prefix-element : (read : ℕ → Data → Result (ℕ × A) MapRefusal) (prefix : List A) (count then : ℕ) (d : Data) (ds : Items) (x : A) → read count d ≡ Ok (then, x)
+  pub counted_prefix-element : (read : ℕ → Data → Result (ℕ × A) MapRefusal) (prefix : List A) (count then : ℕ) (d : Data) (ds : Items) (x : A)
+      → read count d ≡ Ok (then, x)
       → counted_prefix prefix (each_counted read count (item d ds)) ≡ counted_prefix (prefix ++ x ∷ []) (each_counted read then ds)
   counted_prefix-element read prefix count then d ds x e = rw e (regroup_counted prefix x (each_counted read then ds))
 
@@ -65,7 +68,8 @@ module _ {A : Type 0} where
       → counted_prefix prefix (each_counted read count no_items) ≡ r → r ≡ Ok (count, prefix)
   counted_prefix-all read prefix count r e = sym e ∙ ap (λ (ys : List A). Ok (count, ys)) (append-nil prefix)
 
-  pub refused_counted : (read : ℕ → Data → Result (ℕ × A) MapRefusal) (prefix : List A) (count : ℕ) (d : Data) (ds : Items) (e : MapFault) → Fails e (read count d) → Fails e (counted_prefix prefix (each_counted read count (item d ds)))
+  pub refused_counted : (read : ℕ → Data → Result (ℕ × A) MapRefusal) (prefix : List A) (count : ℕ) (d : Data) (ds : Items) (e : MapFault)
+      → Fails e (read count d) → Fails e (counted_prefix prefix (each_counted read count (item d ds)))
   refused_counted read prefix count d ds Memory h = tt
   refused_counted read prefix count d ds (Refused f) h = rw h refl
 
@@ -78,16 +82,19 @@ pub no_prefix : (prefix : List ℕ) (o : Option (List ℕ)) → prefix ≡ [] �
 no_prefix prefix None e = refl
 no_prefix prefix (Some cs) e = rw e refl
 
-prefix_cell : (prefix : List ℕ) (k : ℕ) (o : Option (List ℕ)) → option_map (λ cs. prefix ++ cs) (option_map (λ cs. k ∷ cs) o) ≡ option_map (λ cs. (prefix ++ k ∷ []) ++ cs) o
+prefix_cell : (prefix : List ℕ) (k : ℕ) (o : Option (List ℕ))
+    → option_map (λ cs. prefix ++ cs) (option_map (λ cs. k ∷ cs) o) ≡ option_map (λ cs. (prefix ++ k ∷ []) ++ cs) o
 prefix_cell prefix k None = refl
 prefix_cell prefix k (Some cs) = ap (λ (ys : List ℕ). Some ys) (sym (append_assoc prefix (k ∷ []) cs))
 
 module _ (vs : List Value) (i : ℕ) (v : Value) (lt : i < length vs) (is : v ≡ get_or vs i v) where
   here : cells_of (items_view (drop i vs)) ≡ cells_of (item (view v) (items_view (drop (i + 1) vs)))
-  here = at_drop_more (λ (ws : List Value). cells_of (items_view ws)) vs i v lt ∙ ap (λ (w : Value). cells_of (item (view w) (items_view (drop (i + 1) vs)))) (sym is)
+  here = at_drop_more (λ (ws : List Value). cells_of (items_view ws)) vs i v lt
+      ∙ ap (λ (w : Value). cells_of (item (view w) (items_view (drop (i + 1) vs)))) (sym is)
 
   pub one_more_cell : (prefix : List ℕ) (k : ℕ) → cell_of (view v) ≡ Some k
-      → option_map (λ cs. prefix ++ cs) (cells_of (items_view (drop i vs))) ≡ option_map (λ cs. (prefix ++ k ∷ []) ++ cs) (cells_of (items_view (drop (i + 1) vs)))
+      → option_map (λ cs. prefix ++ cs) (cells_of (items_view (drop i vs)))
+      ≡ option_map (λ cs. (prefix ++ k ∷ []) ++ cs) (cells_of (items_view (drop (i + 1) vs)))
   one_more_cell prefix k e = rw (here, e) (prefix_cell prefix k (cells_of (items_view (drop (i + 1) vs))))
 
   pub bad_cell : (prefix : List ℕ) → cell_of (view v) ≡ None → option_map (λ cs. prefix ++ cs) (cells_of (items_view (drop i vs))) ≡ None

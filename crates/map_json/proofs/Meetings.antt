@@ -1,5 +1,6 @@
 -- Keys that are met one after the other, and a set of those that were.
-use Rattle.std.proofs.Common.{◌≡◌, ℕ, ◌+◌, ◌<◌, ◌∙◌, length, get_or, drop, map, bytes_eq, Bor, ◌++◌, eqb, arith, Less, Equal, Greater, List, [], ◌∷◌, Bool, true, false, not, cond, true≢false, ◌&&◌, ◌||◌, nat_cmp, is_eq, refl, sym, ap}
+use Rattle.std.proofs.Common.{◌≡◌, ℕ, ◌+◌, ◌<◌, ◌∙◌, length, get_or, drop, map, bytes_eq, Bor, ◌++◌, eqb, arith, Less, Equal, Greater, List, [], ◌∷◌, Bool}
+use Rattle.std.proofs.Common.{true, false, not, cond, true≢false, ◌&&◌, ◌||◌, nat_cmp, is_eq, refl, sym, ap}
 use Rattle.std.specs.Prelude.{◌==◌, nat_lt}
 use Rattle.std.proofs.lemmas.Bool.{ltb-true, eqb-true, not-true}
 use Rattle.std.proofs.lemmas.List.{at_drop_more}
@@ -29,7 +30,8 @@ module _ {K : Type 0} (eq : K → K → Bool) where
   one_more false true n m = refl
   one_more false false n m = refl
 
-  pub are_new-met : (met after : K → Bool) (x : K) → ((q : K) → after q ≡ cond (eq x q) true (met q)) → (xs : List K) → are_new after xs ≡ are_new met xs && not (list_any (eq x) xs)
+  pub are_new-met : (met after : K → Bool) (x : K) → ((q : K) → after q ≡ cond (eq x q) true (met q)) → (xs : List K)
+      → are_new after xs ≡ are_new met xs && not (list_any (eq x) xs)
   are_new-met met after x is [] = refl
   are_new-met met after x is (y ∷ xs) = rw (is y, are_new-met met after x is xs) (one_more (eq x y) (met y) (are_new met xs) (list_any (eq x) xs))
 
@@ -38,7 +40,8 @@ module _ {K : Type 0} (eq : K → K → Bool) where
   regroup false m d = refl
 
   -- an element that is new
-  pub go_on-new : (met after : K → Bool) (x : K) (xs : List K) → ((q : K) → after q ≡ cond (eq x q) true (met q)) → met x ≡ false → go_on met (x ∷ xs) ≡ go_on after xs
+  pub go_on-new : (met after : K → Bool) (x : K) (xs : List K) → ((q : K) → after q ≡ cond (eq x q) true (met q)) → met x ≡ false
+      → go_on met (x ∷ xs) ≡ go_on after xs
   go_on-new met after x xs is new = rw (new, are_new-met met after x is xs) (regroup (are_new met xs) (list_any (eq x) xs) (are_distinct eq xs))
 
   -- an element that was met before
@@ -46,10 +49,12 @@ module _ {K : Type 0} (eq : K → K → Bool) where
   go_on-again met x xs again = rw again refl
 
   -- an element at a place that is new
-  pub go_on-place : (met after : K → Bool) (xs : List K) (i : ℕ) (x : K) → i < length xs → x ≡ get_or xs i x → ((q : K) → after q ≡ cond (eq x q) true (met q)) → met x ≡ false
+  pub go_on-place : (met after : K → Bool) (xs : List K) (i : ℕ) (x : K) → i < length xs → x ≡ get_or xs i x → ((q : K) → after q ≡ cond (eq x q) true (met q))
+      → met x ≡ false
       → go_on met (drop i xs) ≡ go_on after (drop (i + 1) xs)
   go_on-place met after xs i x lt at is new =
-      at_drop_more (λ (ys : List K). go_on met ys) xs i x lt ∙ (ap (λ (y : K). go_on met (y ∷ drop (i + 1) xs)) (sym at) ∙ go_on-new met after x (drop (i + 1) xs) is new)
+      at_drop_more (λ (ys : List K). go_on met ys) xs i x lt
+      ∙ (ap (λ (y : K). go_on met (y ∷ drop (i + 1) xs)) (sym at) ∙ go_on-new met after x (drop (i + 1) xs) is new)
 
   -- nothing was met
   pub go_on-first : (met : K → Bool) → ((q : K) → met q ≡ false) → (xs : List K) → go_on met xs ≡ are_distinct eq xs
@@ -90,13 +95,16 @@ any_text : (p : List ℕ → Bool) (names : List (Bor (List ℕ))) → list_any 
 any_text p [] = refl
 any_text p (n ∷ names) = ap (λ b. p n.now || b) (any_text p names)
 
-pub are_distinct-texts : (names : List (Bor (List ℕ))) → are_distinct (λ (a b : Bor (List ℕ)). is_eq (slice_cmp nat_cmp a.now b.now)) names ≡ are_distinct bytes_eq (texts_of names)
+pub are_distinct-texts : (names : List (Bor (List ℕ))) → are_distinct (λ (a b : Bor (List ℕ)). is_eq (slice_cmp nat_cmp a.now b.now)) names
+    ≡ are_distinct bytes_eq (texts_of names)
 are_distinct-texts [] = refl
 are_distinct-texts (n ∷ names) =
-    let same = list_any-same (λ (m : Bor (List ℕ)). is_eq (slice_cmp nat_cmp n.now m.now)) (λ (m : Bor (List ℕ)). bytes_eq n.now m.now) (λ m. is_eq-slice_cmp n.now m.now) names in
+    let same = list_any-same (λ (m : Bor (List ℕ)). is_eq (slice_cmp nat_cmp n.now m.now)) (λ (m : Bor (List ℕ)). bytes_eq n.now m.now)
+    (λ m. is_eq-slice_cmp n.now m.now) names in
     rw (same, any_text (bytes_eq n.now) names, are_distinct-texts names) refl
 
-pub texts_of-push : (names : List (Bor (List ℕ))) (n : Bor (List ℕ)) (rest : List (List ℕ)) → texts_of (names ++ n ∷ []) ++ rest ≡ texts_of names ++ n.now ∷ rest
+pub texts_of-push : (names : List (Bor (List ℕ))) (n : Bor (List ℕ)) (rest : List (List ℕ))
+    → texts_of (names ++ n ∷ []) ++ rest ≡ texts_of names ++ n.now ∷ rest
 texts_of-push [] n rest = refl
 texts_of-push (m ∷ names) n rest = ap (λ (ts : List (List ℕ)). m.now ∷ ts) (texts_of-push names n rest)
 

@@ -27,7 +27,8 @@ use Rattle.map_json.proofs.Plain.{ArePlainOwn, IsPlain, IsPlainOwn, kept_plain, 
 
 -- ---- the own members in an outline
 -- of a layer that is no tile layer they are all
-pub outline_own-other : (width height : ℕ) (d : Data) (l : Layer) (b : Body) → (IsTiles b → ⊥) → outline_own width height d (record l { body = b }) ≡ layer_own width height d (record l { body = b })
+pub outline_own-other : (width height : ℕ) (d : Data) (l : Layer) (b : Body) → (IsTiles b → ⊥)
+    → outline_own width height d (record l { body = b }) ≡ layer_own width height d (record l { body = b })
 outline_own-other width height d l (Tiles e cells) h = absurd (h tt)
 outline_own-other width height d l (Objects os) h = refl
 outline_own-other width height d l Other h = refl
@@ -77,12 +78,14 @@ outline_frame_plain room width height l h =
     let own = own_IsLayer room h.level (width * height) l (Each-left (IsDrawn (width * height)) (tree room h.level l) [] h.each) in
     let all = own_are_plain h.level n (width * height) width height (omega (arith, h.balance)) (array no_items) (refl, omega arith) l own in
     let some = filter_plain m (λ p. not (bytes_eq p.0 DATA.now)) (layer_own width height (array no_items) l) all in
-    let frame = object_plain m (outline_own width height (array no_items) l) l.kept some (kept_plain h.level m (layer_names l.body) l.kept (omega (arith, h.balance)) own.kept) in
+    let frame = object_plain m (outline_own width height (array no_items) l) l.kept some
+    (kept_plain h.level m (layer_names l.body) l.kept (omega (arith, h.balance)) own.kept) in
     let deep = frame.1 in
     (frame.0, omega (arith, h.balance, h.high, deep))
 
 -- ---- in either detail
-pub frame_in_plain : (detail : Detail) (room width height : ℕ) (l : Layer) → AreWritten room (width * height) (l ∷ []) → IsPlain 127 (object (frame_in detail width height l))
+pub frame_in_plain : (detail : Detail) (room width height : ℕ) (l : Layer) → AreWritten room (width * height) (l ∷ [])
+    → IsPlain 127 (object (frame_in detail width height l))
 frame_in_plain Whole room width height l h = layer_frame_plain room width height l h
 frame_in_plain Outline room width height l h = outline_frame_plain room width height l h
 
@@ -90,15 +93,18 @@ outline_layer-frame : (room width height : ℕ) (l : Layer) → group_in l.body 
 unfolding outline_layer
 outline_layer-frame zero width height l g = refl
 outline_layer-frame (suc room) width height l g =
-    ap (λ (own : Own). object (with_own (filter (λ p. not (bytes_eq p.0 DATA.now)) own) l.kept)) (layer_own-other width height (array no_items) (array_by (outline_layer room width height) (inside l)) l l.body g)
+    ap (λ (own : Own). object (with_own (filter (λ p. not (bytes_eq p.0 DATA.now)) own) l.kept))
+    (layer_own-other width height (array no_items) (array_by (outline_layer room width height) (inside l)) l l.body g)
 
 -- the tree of a layer is its frame's, where it has no numbers, and is no group or has no room for layers in it
-pub layer_in-frame : (detail : Detail) (room width height : ℕ) (l : Layer) → numbers_in detail l.body ≡ None → group_in l.body ≡ None → object (frame_in detail width height l) ≡ layer_in detail room width height l
+pub layer_in-frame : (detail : Detail) (room width height : ℕ) (l : Layer) → numbers_in detail l.body ≡ None → group_in l.body ≡ None
+    → object (frame_in detail width height l) ≡ layer_in detail room width height l
 layer_in-frame Whole room width height l none g = layer_tree-frame room width height l none g
 layer_in-frame Outline room width height l none g = outline_layer-frame room width height l g
 
 -- the tree of a layer is its frame's with its numbers
-pub layer_in-numbers : (detail : Detail) (room width height : ℕ) (l : Layer) (ns : List ℕ) → numbers_in detail l.body ≡ Some ns → Each (λ name. get_member name l.kept ≡ None) (layer_names l.body)
+pub layer_in-numbers : (detail : Detail) (room width height : ℕ) (l : Layer) (ns : List ℕ) → numbers_in detail l.body ≡ Some ns
+    → Each (λ name. get_member name l.kept ≡ None) (layer_names l.body)
     → object (replaced DATA.now (array_by whole_tree ns) (frame_in detail width height l)) ≡ layer_in detail room width height l
 layer_in-numbers Whole room width height l ns some h = layer_tree-numbers room width height l ns some h
 layer_in-numbers Outline room width height l ns some h = absurd (let worse : ⊥ = cc in worse)
@@ -107,11 +113,13 @@ outline_layer-room : (room width height : ℕ) (l : Layer) → room ≡ 0 → ob
 unfolding outline_layer
 outline_layer-room room width height l none = rw none refl
 
-pub layer_in-room : (detail : Detail) (room width height : ℕ) (l : Layer) → numbers_in detail l.body ≡ None → room ≡ 0 → object (frame_in detail width height l) ≡ layer_in detail room width height l
+pub layer_in-room : (detail : Detail) (room width height : ℕ) (l : Layer) → numbers_in detail l.body ≡ None → room ≡ 0
+    → object (frame_in detail width height l) ≡ layer_in detail room width height l
 layer_in-room Whole room width height l none no_room = layer_tree-room room width height l none no_room
 layer_in-room Outline room width height l none no_room = outline_layer-room room width height l no_room
 
-outline_layer-group : (room less width height : ℕ) (l : Layer) (ls : List Layer) → room ≡ suc less → group_in l.body ≡ Some ls → Each (λ name. get_member name l.kept ≡ None) (layer_names l.body)
+outline_layer-group : (room less width height : ℕ) (l : Layer) (ls : List Layer) → room ≡ suc less → group_in l.body ≡ Some ls
+    → Each (λ name. get_member name l.kept ≡ None) (layer_names l.body)
     → object (replaced LAYERS.now (array_by (outline_layer less width height) ls) (outline_frame width height l)) ≡ outline_layer room width height l
 unfolding outline_layer
 outline_layer-group room less width height l ls more g h =
@@ -124,7 +132,8 @@ outline_layer-group room less width height l ls more g h =
     ∙ ap (λ n. outline_layer n width height l) (sym more))))
 
 -- the tree of a group
-pub layer_in-group : (detail : Detail) (room less width height : ℕ) (l : Layer) (ls : List Layer) → room ≡ suc less → group_in l.body ≡ Some ls → Each (λ name. get_member name l.kept ≡ None) (layer_names l.body)
+pub layer_in-group : (detail : Detail) (room less width height : ℕ) (l : Layer) (ls : List Layer) → room ≡ suc less → group_in l.body ≡ Some ls
+    → Each (λ name. get_member name l.kept ≡ None) (layer_names l.body)
     → object (replaced LAYERS.now (layers_in detail less width height ls) (frame_in detail width height l)) ≡ layer_in detail room width height l
 layer_in-group Whole room less width height l ls more g h = layer_tree-group room less width height l ls more g h
 layer_in-group Outline room less width height l ls more g h = outline_layer-group room less width height l ls more g h

@@ -1,5 +1,6 @@
 -- Own members put over kept members, and taken out again.
-use Rattle.std.proofs.Common.{◌≡◌, ℕ, List, [], ◌∷◌, map, Option, Some, None, Ordering, Less, Equal, Greater, nat_cmp, is_eq, cond, Bool, true, false, bytes_eq, ◌&&◌, ◌||◌, not, true≢false, refl, sym, ap, ◌∙◌}
+use Rattle.std.proofs.Common.{◌≡◌, ℕ, List, [], ◌∷◌, map, Option, Some, None, Ordering, Less, Equal, Greater, nat_cmp, is_eq, cond, Bool, true, false, bytes_eq}
+use Rattle.std.proofs.Common.{◌&&◌, ◌||◌, not, true≢false, refl, sym, ap, ◌∙◌}
 use Rattle.std.specs.List.{list_any}
 use Rattle.std.specs.Cmp.Lexicographic.{slice_cmp}
 use Rattle.std.specs.Ordering.{match_ordering}
@@ -30,7 +31,8 @@ abbrev pub find_own : List ℕ → List (List ℕ × Option Data) → Option Dat
 find_own q [] d = d
 find_own q (p ∷ ps) d = cond (bytes_eq q p.0) (or_else p.1 (find_own q ps d)) (find_own q ps d)
 
-get_put_some : (b : Bool) (q k : List ℕ) (o : Option Data) (ms : Members) → bytes_eq q k ≡ b → get_member q (put_some k o ms) ≡ cond b (or_else o (get_member q ms)) (get_member q ms)
+get_put_some : (b : Bool) (q k : List ℕ) (o : Option Data) (ms : Members) → bytes_eq q k ≡ b
+    → get_member q (put_some k o ms) ≡ cond b (or_else o (get_member q ms)) (get_member q ms)
 get_put_some true q k None ms e = refl
 get_put_some false q k None ms e = refl
 get_put_some true q k (Some d) ms e = let same = (bytes_eq-Decides q k).0 e in rw same (get_member-put k d ms)
@@ -62,7 +64,8 @@ here Less a b e = absurd (true≢false (sym e))
 here Equal a b e = refl
 here Greater a b e = absurd (true≢false (sym e))
 
-without-put_at : (o : Ordering) (k l : List ℕ) (d e : Data) (ms : Members) → slice_cmp nat_cmp k l ≡ o → match_ordering o (get_member k ms) (Some e) (get_member k ms) ≡ None → (get_member k ms ≡ None → without k (put k d ms) ≡ ms)
+without-put_at : (o : Ordering) (k l : List ℕ) (d e : Data) (ms : Members) → slice_cmp nat_cmp k l ≡ o
+    → match_ordering o (get_member k ms) (Some e) (get_member k ms) ≡ None → (get_member k ms ≡ None → without k (put k d ms) ≡ ms)
     → without k (match_ordering o (member k d (member l e ms)) (member l d ms) (member l e (put k d ms))) ≡ member l e ms
 without-put_at Less k l d e ms is absent later = here (slice_cmp nat_cmp k k) _ _ (itself k) ∙ without-absent k (member l e ms) (rw is absent)
 without-put_at Equal k l d e ms is absent later = absurd cc
@@ -76,7 +79,8 @@ without-put_some : (k : List ℕ) (o : Option Data) (ms : Members) → get_membe
 without-put_some k None ms e = without-absent k ms e
 without-put_some k (Some d) ms e = without-put k d ms e
 
-pub without_all-with_own : (t : List (List ℕ × Option Data)) (kept : Members) → are_distinct bytes_eq (names t) ≡ true → LacksAll (names t) kept → without_all (names t) (with_own t kept) ≡ kept
+pub without_all-with_own : (t : List (List ℕ × Option Data)) (kept : Members) → are_distinct bytes_eq (names t) ≡ true → LacksAll (names t) kept
+    → without_all (names t) (with_own t kept) ≡ kept
 without_all-with_own [] kept e lacks = refl
 without_all-with_own (p ∷ ps) kept e lacks =
     let f = not_and (list_any (bytes_eq p.0) (names ps)) (are_distinct bytes_eq (names ps)) e in
@@ -85,7 +89,8 @@ without_all-with_own (p ∷ ps) kept e lacks =
 
 -- ---- whole numbers
 
-put_whole_at : (o : Ordering) (k l : List ℕ) (d e : Data) (ms : Members) → has_float d ≡ false → has_float e ≡ false → members_have_float ms ≡ false → members_have_float (put k d ms) ≡ false
+put_whole_at : (o : Ordering) (k l : List ℕ) (d e : Data) (ms : Members) → has_float d ≡ false → has_float e ≡ false → members_have_float ms ≡ false
+    → members_have_float (put k d ms) ≡ false
     → members_have_float (match_ordering o (member k d (member l e ms)) (member l d ms) (member l e (put k d ms))) ≡ false
 put_whole_at Less k l d e ms hd he hms later = rw (hd, he) hms
 put_whole_at Equal k l d e ms hd he hms later = rw hd hms

@@ -21,7 +21,8 @@ use Rattle.map_json.specs.Steps.{required, optional}
 use Rattle.map_json.specs.Scalars.{whole_at, signed_at, text_at, truth_at}
 use Rattle.map_json.specs.Reading.{id_at, pixels_at, placing_of, object_at, properties_of, tileset_at}
 use Rattle.map_json.proofs.Fine.{IsFine}
-use Rattle.map_json.proofs.Sound.{by_bind, ok_is, chosen, ok_or_ok, object_fine, kept_sound, required_whole_sound, whole_sound, optional_text_sound, WereRead, properties_sound}
+use Rattle.map_json.proofs.Sound.{by_bind, ok_is, chosen, ok_or_ok, object_fine, kept_sound, required_whole_sound, whole_sound, optional_text_sound, WereRead}
+use Rattle.map_json.proofs.Sound.{properties_sound}
 
 -- ---- tilesets
 pub tileset_sound : (n : ℕ) → tileset_level + n ≤ MAX_DEPTH → (d : Data) (t : Tileset) → IsFine (suc n) d → tileset_at d ≡ Ok t → IsTileset t
@@ -50,7 +51,8 @@ pub record WasReadObject (level : ℕ) (o : Object) : Type 0 where
   pub properties : WereRead level o.properties
   pub kept : AreKept level object_names o.kept
 
-pub optional_sound : {A : Type 0} (P : A → Type 0) (read : Data → Result A MapRefusal) → ((d : Data) (x : A) → read d ≡ Ok x → P x) → (o : Option Data) (x : Option A) → optional read o ≡ Ok x → IfSome x P
+pub optional_sound : {A : Type 0} (P : A → Type 0) (read : Data → Result A MapRefusal) → ((d : Data) (x : A) → read d ≡ Ok x → P x)
+    → (o : Option Data) (x : Option A) → optional read o ≡ Ok x → IfSome x P
 optional_sound P read sound None x e = subst (λ y. IfSome y P) (ok_is None x e) tt
 optional_sound P read sound (Some d) x e = by_bind (read d) _ x e (λ y y_is e1. subst (λ z. IfSome z P) (ok_is (Some y) x e1) (sound d y y_is))
 
@@ -87,7 +89,8 @@ placing_sound ms p e =
 gid_sound : (d : Data) (n : ℕ) → whole_at 0 4294967295 d ≡ Ok n → IsTileValue n
 gid_sound d n e = let s = whole_sound 0 4294967295 d n e in let high : n ≤ 4294967295 = s.1 in omega arith
 
-pub object_sound : (level n : ℕ) → property_level level + n ≤ MAX_DEPTH → (d : Data) (o : Object) → IsFine (suc (suc (suc n))) d → object_at d ≡ Ok o → WasReadObject level o
+pub object_sound : (level n : ℕ) → property_level level + n ≤ MAX_DEPTH → (d : Data) (o : Object) → IsFine (suc (suc (suc n))) d → object_at d ≡ Ok o
+    → WasReadObject level o
 unfolding object_at
 object_sound level n room d o fine e =
     by_bind (ok_or (as_object d) MemberOfAnotherKind) _ o e (λ ms object e1.
@@ -99,7 +102,8 @@ object_sound level n room d o fine e =
     by_bind (properties_of ms) _ o e6 (λ properties properties_is e7.
     let members = object_fine (suc (suc n)) d ms fine (ok_or_ok (as_object d) MemberOfAnotherKind ms object) in
     let range = required_whole_sound 1 (MAX_NEXT_ID - 1) (get_member ID.now ms) id id_is in
-    let made : WasReadObject level (record { id = id; placing = placing; name = name; visible = visible; gid = gid; properties = properties; kept = without_all object_names ms }) = record {
+    let made : WasReadObject level (record
+    { id = id; placing = placing; name = name; visible = visible; gid = gid; properties = properties; kept = without_all object_names ms }) = record {
       low = range.0;
       placing = placing_sound ms placing placing_is;
       name = optional_text_sound (suc (suc n)) NAME.now ms members name name_is;
@@ -107,4 +111,6 @@ object_sound level n room d o fine e =
       properties = properties_sound level n room ms properties members properties_is;
       kept = kept_sound level (suc (suc n)) object_names ms (omega arith) members;
     } in
-    subst (WasReadObject level) (ok_is (record { id = id; placing = placing; name = name; visible = visible; gid = gid; properties = properties; kept = without_all object_names ms }) o e7) made)))))))
+    subst (WasReadObject level) (ok_is
+    (record { id = id; placing = placing; name = name; visible = visible; gid = gid; properties = properties; kept = without_all object_names ms }) o e7)
+    made)))))))

@@ -1,10 +1,12 @@
 -- What is written has whole numbers alone, and nests no deeper than a reader allows.
-use Rattle.std.proofs.Common.{◌≡◌, ℕ, zero, suc, ◌+◌, ◌-◌, ◌*◌, ◌≤◌, ℤ, pos, negsuc, List, [], ◌∷◌, Option, Some, None, Ordering, Less, Equal, Greater, nat_cmp, Bool, false, refl, subst, arith}
+use Rattle.std.proofs.Common.{◌≡◌, ℕ, zero, suc, ◌+◌, ◌-◌, ◌*◌, ◌≤◌, ℤ, pos, negsuc, List, [], ◌∷◌, Option, Some, None, Ordering, Less, Equal, Greater, nat_cmp}
+use Rattle.std.proofs.Common.{Bool, false, refl, subst, arith}
 use Rattle.std.specs.Prelude.{codes}
 use Rattle.std.specs.Option.{option_map}
 use Rattle.std.specs.Cmp.Lexicographic.{slice_cmp}
 use Rattle.std.specs.Ordering.{match_ordering}
-use Rattle.serde_json.specs.Data.{Data, boolean, number, string, array, object, no_items, Items, Members, no_members, member, put, depth, items_depth, members_depth}
+use Rattle.serde_json.specs.Data.{Data, boolean, number, string, array, object, no_items, Items, Members, no_members, member, put, depth, items_depth}
+use Rattle.serde_json.specs.Data.{members_depth}
 use Rattle.serde_json.specs.Find.{of_integer}
 use Rattle.serde_json.specs.Written.{has_float, items_have_float, members_have_float}
 use Rattle.map_model.specs.declared.limits.TheConstants.{MAX_DEPTH, MAX_GROUPS}
@@ -21,12 +23,15 @@ use Rattle.map_model.specs.declared.parts.Tileset.{Tileset}
 use Rattle.map_model.specs.declared.parts.MapParts.{MapParts}
 use Rattle.map_model.specs.Groups.{drawn, inside, tree}
 use Rattle.map_model.specs.Lists.{Each}
-use Rattle.map_model.specs.Keeping.{AreKept, deepest_level, inner_level, map_level, layer_level, tileset_level, object_level, property_level, tileset_names, object_names, property_names, layer_names, map_names}
+use Rattle.map_model.specs.Keeping.{AreKept, deepest_level, inner_level, map_level, layer_level, tileset_level, object_level, property_level, tileset_names}
+use Rattle.map_model.specs.Keeping.{object_names, property_names, layer_names, map_names}
 use Rattle.map_model.specs.WellFormed.{IsValue, IsProperty, AreProperties, IsObject, IsBody, IsDrawn, IsLayer, IsTileset, IsWellFormed}
 use Rattle.map_model.proofs.GroupBodies.{IsLayer-without}
 use Rattle.json_members.specs.Members.{put_some}
 use Rattle.map_json.specs.Members.{with_own}
-use Rattle.map_json.specs.Trees.{items_by, array_by, whole_tree, value_tree, property_own, property_tree, properties_member, object_own, object_tree, tileset_own, tileset_tree, cells_tree, encoding_member, body_own, layer_own, layer_tree, layers_tree, own_around, tree_of, type_word}
+use Rattle.map_json.specs.Trees.{items_by, array_by, whole_tree, value_tree, property_own, property_tree, properties_member, object_own, object_tree}
+use Rattle.map_json.specs.Trees.{tileset_own, tileset_tree, cells_tree, encoding_member, body_own, layer_own, layer_tree, layers_tree, own_around, tree_of}
+use Rattle.map_json.specs.Trees.{type_word}
 use Rattle.map_json.specs.Appending.{AreWritten, frame_of, framed_body, layer_frame}
 use Rattle.map_json.proofs.DrawnLayers.{Each-left, Each-right, tree-Each}
 use Rattle.map_json.proofs.Own.{put_whole}
@@ -50,7 +55,8 @@ ArePlainOwn n [] = Unit {0}
 ArePlainOwn n (p ∷ ps) = IsPlainOwn n p.1 × ArePlainOwn n ps
 
 -- ---- members that are put
-put_depth_at : (o : Ordering) (n : ℕ) (k l : List ℕ) (d e : Data) (ms rest : Members) → depth d ≤ n → depth e ≤ n → members_depth ms ≤ n → members_depth rest ≤ n
+put_depth_at : (o : Ordering) (n : ℕ) (k l : List ℕ) (d e : Data) (ms rest : Members) → depth d ≤ n → depth e ≤ n → members_depth ms ≤ n
+    → members_depth rest ≤ n
     → members_depth (match_ordering o (member k d (member l e ms)) (member l d ms) (member l e rest)) ≤ n
 put_depth_at Less n k l d e ms rest hd he h g = omega arith
 put_depth_at Equal n k l d e ms rest hd he h g = omega arith
@@ -58,7 +64,8 @@ put_depth_at Greater n k l d e ms rest hd he h g = omega arith
 
 members_depth-put : (n : ℕ) (k : List ℕ) (d : Data) (ms : Members) → depth d ≤ n → members_depth ms ≤ n → members_depth (put k d ms) ≤ n
 members_depth-put n k d no_members hd h = omega arith
-members_depth-put n k d (member l e ms) hd h = put_depth_at (slice_cmp nat_cmp k l) n k l d e ms (put k d ms) hd (omega arith) (omega arith) (members_depth-put n k d ms hd (omega arith))
+members_depth-put n k d (member l e ms) hd h = put_depth_at (slice_cmp nat_cmp k l) n k l d e ms (put k d ms) hd (omega arith) (omega arith)
+    (members_depth-put n k d ms hd (omega arith))
 
 put_plain : (n : ℕ) (k : List ℕ) (o : Option Data) (ms : Members) → IsPlainOwn n o → ArePlain n ms → ArePlain n (put_some k o ms)
 put_plain n k None ms h g = g
@@ -115,11 +122,14 @@ value_plain level n (values.Other d) room h = let deep = h.shallow in (h.whole, 
 property_plain : (level n : ℕ) → level + n ≡ MAX_DEPTH → (p : Property) → IsProperty level p → IsPlain (suc n) (property_tree p)
 unfolding property_tree
 property_plain level n room p h =
-    object_plain n (property_own p) p.kept (text_plain n p.name, (text_plain n p.kind, (value_plain level n p.value room h.value, tt))) (kept_plain level n property_names p.kept room h.kept)
+    object_plain n (property_own p) p.kept (text_plain n p.name, (text_plain n p.kind, (value_plain level n p.value room h.value, tt)))
+    (kept_plain level n property_names p.kept room h.kept)
 
-properties_plain : (level n : ℕ) → property_level level + n ≡ MAX_DEPTH → (ps : List Property) → AreProperties level ps → IsPlainOwn (suc (suc n)) (properties_member ps)
+properties_plain : (level n : ℕ) → property_level level + n ≡ MAX_DEPTH → (ps : List Property) → AreProperties level ps
+    → IsPlainOwn (suc (suc n)) (properties_member ps)
 properties_plain level n room [] h = tt
-properties_plain level n room (p ∷ ps) h = array_plain (IsProperty (property_level level)) (suc n) property_tree (property_plain (property_level level) n room) (p ∷ ps) h.each
+properties_plain level n room (p ∷ ps) h = array_plain (IsProperty (property_level level)) (suc n) property_tree (property_plain (property_level level) n room)
+    (p ∷ ps) h.each
 
 object_tree_plain : (level n : ℕ) → property_level level + n ≡ MAX_DEPTH → (o : Object) → IsObject level o → IsPlain (suc (suc (suc n))) (object_tree o)
 unfolding object_tree
@@ -136,7 +146,13 @@ object_tree_plain level n room o h =
             pixels o.placing.width,
             (
               pixels o.placing.height,
-              (optional_plain m string (text_plain m) o.name, (optional_plain m boolean (truth_plain m) o.visible, (optional_plain m whole_tree (whole_plain m) o.gid, (properties_plain level n room o.properties h.properties, tt)))),
+              (
+                optional_plain m string (text_plain m) o.name,
+                (
+                  optional_plain m boolean (truth_plain m) o.visible,
+                  (optional_plain m whole_tree (whole_plain m) o.gid, (properties_plain level n room o.properties h.properties, tt)),
+                ),
+              ),
             ),
           ),
         ),
@@ -146,7 +162,8 @@ object_tree_plain level n room o h =
 
 tileset_plain : (t : Tileset) → IsTileset t → IsPlain 125 (tileset_tree t)
 unfolding tileset_tree
-tileset_plain t h = object_plain 124 (tileset_own t) t.kept (whole_plain 124 t.first_id, (optional_plain 124 string (text_plain 124) t.source, tt)) (kept_plain tileset_level 124 tileset_names t.kept refl h.kept)
+tileset_plain t h = object_plain 124 (tileset_own t) t.kept (whole_plain 124 t.first_id, (optional_plain 124 string (text_plain 124) t.source, tt))
+    (kept_plain tileset_level 124 tileset_names t.kept refl h.kept)
 
 numbers_plain : (n : ℕ) (ns : List ℕ) → ArePlainItems n (items_by whole_tree ns)
 numbers_plain n [] = (refl, omega arith)
@@ -160,7 +177,8 @@ encoding_plain : (n : ℕ) (e : Encoding) → IsPlainOwn n (encoding_member e)
 encoding_plain n Array = tt
 encoding_plain n Base64 = text_plain n (codes "base64")
 
-body_plain : (level n size width height : ℕ) → property_level (object_level level) + n ≡ MAX_DEPTH → (d : Data) → IsPlain (suc (suc (suc (suc n)))) d → (b : Body) → IsBody level size b
+body_plain : (level n size width height : ℕ) → property_level (object_level level) + n ≡ MAX_DEPTH → (d : Data) → IsPlain (suc (suc (suc (suc n)))) d
+    → (b : Body) → IsBody level size b
     → ArePlainOwn (suc (suc (suc (suc n)))) (body_own width height d b)
 body_plain level n size width height room d layers (Tiles e cells) h =
     let m = suc (suc (suc (suc n))) in
@@ -171,7 +189,8 @@ body_plain level n size width height room d layers Other h = tt
 body_plain level n size width height room d layers (Group' s r) h = (layers, tt)
 
 -- what stands in a layer's frame, with this for the layers of a group
-framed_plain : (level n size width height : ℕ) → property_level (object_level level) + n ≡ MAX_DEPTH → (d : Data) → IsPlain (suc (suc (suc (suc n)))) d → (b : Body) → IsBody level size b
+framed_plain : (level n size width height : ℕ) → property_level (object_level level) + n ≡ MAX_DEPTH → (d : Data) → IsPlain (suc (suc (suc (suc n)))) d
+    → (b : Body) → IsBody level size b
     → ArePlainOwn (suc (suc (suc (suc n)))) (body_own width height d (framed_body b))
 framed_plain level n size width height room d layers (Tiles Array cells) h = body_plain level n 0 width height room d layers (Tiles Array []) (refl, tt)
 framed_plain level n size width height room d layers (Tiles Base64 cells) h = body_plain level n size width height room d layers (Tiles Base64 cells) h
@@ -180,51 +199,72 @@ framed_plain level n size width height room d layers Other h = body_plain level 
 framed_plain level n size width height room d layers (Group' s r) h = body_plain level n size width height room d layers (Group' s r) h
 
 -- the own members of a layer, with this for the layers of a group
-pub own_are_plain : (level n size width height : ℕ) → property_level (object_level level) + n ≡ MAX_DEPTH → (d : Data) → IsPlain (suc (suc (suc (suc n)))) d → (l : Layer) → IsLayer level size l
+pub own_are_plain : (level n size width height : ℕ) → property_level (object_level level) + n ≡ MAX_DEPTH → (d : Data) → IsPlain (suc (suc (suc (suc n)))) d
+    → (l : Layer) → IsLayer level size l
     → ArePlainOwn (suc (suc (suc (suc n)))) (layer_own width height d l)
 own_are_plain level n size width height room d layers l h =
-    let m = suc (suc (suc (suc n))) in
-    ((refl, omega arith), (whole_plain m l.id, (text_plain m l.name, (truth_plain m l.visible, (properties_plain level (suc (suc n)) (omega arith) l.properties h.properties, body_plain level n size width height room d layers l.body h.body)))))
+    let m = suc (suc (suc (suc n))) in (
+      (refl, omega arith),
+      (
+        whole_plain m l.id,
+        (
+          text_plain m l.name,
+          (
+            truth_plain m l.visible,
+            (properties_plain level (suc (suc n)) (omega arith) l.properties h.properties, body_plain level n size width height room d layers l.body h.body),
+          ),
+        ),
+      ),
+    )
 
 -- a layer, with this for the layers of a group
-own_plain : (level n size width height : ℕ) → property_level (object_level level) + n ≡ MAX_DEPTH → (d : Data) → IsPlain (suc (suc (suc (suc n)))) d → (l : Layer) → IsLayer level size l
+own_plain : (level n size width height : ℕ) → property_level (object_level level) + n ≡ MAX_DEPTH → (d : Data) → IsPlain (suc (suc (suc (suc n)))) d
+    → (l : Layer) → IsLayer level size l
     → IsPlain (suc (suc (suc (suc (suc n))))) (object (with_own (layer_own width height d l) l.kept))
 own_plain level n size width height room d layers l h =
     let m = suc (suc (suc (suc n))) in
-    object_plain m (layer_own width height d l) l.kept (own_are_plain level n size width height room d layers l h) (kept_plain level m (layer_names l.body) l.kept (omega arith) h.kept)
+    object_plain m (layer_own width height d l) l.kept (own_are_plain level n size width height room d layers l h)
+    (kept_plain level m (layer_names l.body) l.kept (omega arith) h.kept)
 
 -- ---- layers within layers
-module _ (room level n width height : ℕ) (one : (l : Layer) → Each (IsDrawn (width * height)) (tree room level l) → IsPlain n (layer_tree room width height l)) where
-  layers_plain : (ls : List Layer) → Each (IsDrawn (width * height)) (drawn room level ls) → ArePlainItems n (items_by (layer_tree room width height) ls)
-  layers_plain [] h = (refl, omega arith)
-  layers_plain (l ∷ ls) h =
-      let own = one l (Each-left (IsDrawn (width * height)) (tree room level l) (drawn room level ls) h) in
-      let more = layers_plain ls (Each-right (IsDrawn (width * height)) (tree room level l) (drawn room level ls) h) in
-      let a = own.1 in
-      let b = more.1 in
-      (rw (own.0, more.0) refl, omega arith)
+module _ (room level n width height : ℕ) (one : (l : Layer) → Each (IsDrawn (width * height)) (tree room level l) → IsPlain n (layer_tree room width height l))
+  where
+    layers_plain : (ls : List Layer) → Each (IsDrawn (width * height)) (drawn room level ls) → ArePlainItems n (items_by (layer_tree room width height) ls)
+    layers_plain [] h = (refl, omega arith)
+    layers_plain (l ∷ ls) h =
+        let own = one l (Each-left (IsDrawn (width * height)) (tree room level l) (drawn room level ls) h) in
+        let more = layers_plain ls (Each-right (IsDrawn (width * height)) (tree room level l) (drawn room level ls) h) in
+        let a = own.1 in
+        let b = more.1 in
+        (rw (own.0, more.0) refl, omega arith)
 
 pub own_IsLayer : (room level size : ℕ) (l : Layer) → Each (IsDrawn size) (tree room level l) → IsLayer level size l
 own_IsLayer room level size l h = IsLayer-without (λ ls. []) level size l (tree-Each (IsDrawn size) room level l h).0
 
-layer_plain : (room level n width height : ℕ) → level + 2 * room ≡ deepest_level → property_level (object_level level) + n ≡ MAX_DEPTH → (l : Layer) → Each (IsDrawn (width * height)) (tree room level l)
+layer_plain : (room level n width height : ℕ) → level + 2 * room ≡ deepest_level → property_level (object_level level) + n ≡ MAX_DEPTH → (l : Layer)
+    → Each (IsDrawn (width * height)) (tree room level l)
     → IsPlain (suc (suc (suc (suc (suc n))))) (layer_tree room width height l)
 unfolding layer_tree
-layer_plain zero level n width height balance deep l h = own_plain level n (width * height) width height deep (array no_items) (refl, omega arith) l (own_IsLayer 0 level (width * height) l h)
+layer_plain zero level n width height balance deep l h = own_plain level n (width * height) width height deep (array no_items) (refl, omega arith) l
+    (own_IsLayer 0 level (width * height) l h)
 layer_plain (suc room) level n width height balance deep l h =
     let m = n - 2 in
     let long : suc (suc (suc (suc (suc m)))) ≡ suc (suc (suc n)) = omega (arith, balance, deep) in
     let one = λ (k : Layer) (g : Each (IsDrawn (width * height)) (tree room (inner_level level) k)).
-    subst (λ i. IsPlain i (layer_tree room width height k)) long (layer_plain room (inner_level level) m width height (omega (arith, balance)) (omega (arith, balance, deep)) k g) in
-    let items = layers_plain room (inner_level level) (suc (suc (suc n))) width height one (inside l) (tree-Each (IsDrawn (width * height)) (suc room) level l h).1 in
+    subst (λ i. IsPlain i (layer_tree room width height k)) long
+    (layer_plain room (inner_level level) m width height (omega (arith, balance)) (omega (arith, balance, deep)) k g) in
+    let items = layers_plain room (inner_level level) (suc (suc (suc n))) width height one (inside l)
+    (tree-Each (IsDrawn (width * height)) (suc room) level l h).1 in
     let below = items.1 in
-    own_plain level n (width * height) width height deep (layers_tree room width height (inside l)) (items.0, omega (arith, below)) l (own_IsLayer (suc room) level (width * height) l h)
+    own_plain level n (width * height) width height deep (layers_tree room width height (inside l)) (items.0, omega (arith, below)) l
+    (own_IsLayer (suc room) level (width * height) l h)
 
 -- layers of a map, where so many groups may still stand in one another
 AreWritten-plain : (room width height : ℕ) (ls : List Layer) → AreWritten room (width * height) ls → IsPlain 126 (layers_tree room width height ls)
 AreWritten-plain room width height ls h =
     let n = 123 - h.level in
-    let items = layers_plain room h.level (suc (suc (suc (suc (suc n))))) width height (layer_plain room h.level n width height h.balance (omega (arith, h.balance))) ls h.each in
+    let items = layers_plain room h.level (suc (suc (suc (suc (suc n))))) width height
+    (layer_plain room h.level n width height h.balance (omega (arith, h.balance))) ls h.each in
     let deep = items.1 in
     (items.0, omega (arith, h.balance, h.high, deep))
 
@@ -255,7 +295,8 @@ layer_frame_plain room width height l h =
     let m = suc (suc (suc (suc n))) in
     let own = own_IsLayer room h.level (width * height) l (Each-left (IsDrawn (width * height)) (tree room h.level l) [] h.each) in
     let all = framed_own_plain h.level n (width * height) width height (omega (arith, h.balance)) l own in
-    let frame = object_plain m (layer_own width height (array no_items) (record l { body = framed_body l.body })) l.kept all (kept_plain h.level m (layer_names l.body) l.kept (omega (arith, h.balance)) own.kept) in
+    let frame = object_plain m (layer_own width height (array no_items) (record l { body = framed_body l.body })) l.kept all
+    (kept_plain h.level m (layer_names l.body) l.kept (omega (arith, h.balance)) own.kept) in
     let deep = frame.1 in
     (frame.0, omega (arith, h.balance, h.high, deep))
 

@@ -9,7 +9,8 @@ use Rattle.map_json.specs.Trees.{bytes_of}
 
 bytes_of-push : (ns : List ℕ) (n : ℕ) → bytes_of (ns ++ n ∷ []) ≡ bytes_of ns ++ to_le_bytes w32 n
 bytes_of-push [] n = append-nil (to_le_bytes w32 n)
-bytes_of-push (m ∷ ns) n = ap (λ (t : List ℕ). to_le_bytes w32 m ++ t) (bytes_of-push ns n) ∙ sym (append_assoc (to_le_bytes w32 m) (bytes_of ns) (to_le_bytes w32 n))
+bytes_of-push (m ∷ ns) n = ap (λ (t : List ℕ). to_le_bytes w32 m ++ t) (bytes_of-push ns n)
+    ∙ sym (append_assoc (to_le_bytes w32 m) (bytes_of ns) (to_le_bytes w32 n))
 
 pub one_more_bytes : (ns : List ℕ) (i n d : ℕ) → i < length ns → n ≡ get_or ns i d → bytes_of (take (i + 1) ns) ≡ bytes_of (take i ns) ++ to_le_bytes w32 n
 one_more_bytes ns i n d lt is = ap bytes_of (take_more ns i d lt ∙ ap (λ y. take i ns ++ y ∷ []) (sym is)) ∙ bytes_of-push (take i ns) n

@@ -28,7 +28,8 @@ pub record ArePut (k : List ℕ) (d : Data) (frame : Members) (begin : List ℕ)
   pub shallow : members_depth (members_view left) ≤ max_depth
 
 module _ (k : List ℕ) (d : Data) (frame : Members) (begin : List ℕ) (entries : List Entry) where
-  pub ArePut-none : members_view entries ≡ frame → members_have_float frame ≡ false → members_depth frame ≤ max_depth → ArePut k d frame begin entries entries false begin
+  pub ArePut-none : members_view entries ≡ frame → members_have_float frame ≡ false → members_depth frame ≤ max_depth
+      → ArePut k d frame begin entries entries false begin
   ArePut-none same whole shallow =
       let all = ap (replaced k d) same in
       record {
@@ -40,28 +41,33 @@ module _ (k : List ℕ) (d : Data) (frame : Members) (begin : List ℕ) (entries
         shallow = subst (λ ms. members_depth ms ≤ max_depth) (sym same) shallow;
       }
 
-  pub ArePut-more : (left : List Entry) (later : Bool) (text named new : List ℕ) (e : Entry) → ArePut k d frame begin entries (e ∷ left) later text → IsStrictlySortedBy string_cmp (keys_of entries)
-      → named ≡ text ++ (comma_if later ++ (quoted (string_bytes e.0) ++ 58 ∷ [])) → Appends (instead k d (string_bytes e.0) (view e.1)) named new → ArePut k d frame begin entries left true new
+  pub ArePut-more : (left : List Entry) (later : Bool) (text named new : List ℕ) (e : Entry) → ArePut k d frame begin entries (e ∷ left) later text
+      → IsStrictlySortedBy string_cmp (keys_of entries)
+      → named ≡ text ++ (comma_if later ++ (quoted (string_bytes e.0) ++ 58 ∷ [])) → Appends (instead k d (string_bytes e.0) (view e.1)) named new
+      → ArePut k d frame begin entries left true new
   ArePut-more left later text named new e h ordered name shows =
       let key = string_bytes e.0 in
       let value = instead k d key (view e.1) in
       let done = h.done in
       let last = put_last done e left (subst (λ es. IsStrictlySortedBy string_cmp (keys_of es)) h.split ordered) in
-      let found : put key value (shown k d done) ≡ shown k d (done ++ e ∷ []) = sym (replaced-put k key d (view e.1) (members_view done)) ∙ ap (replaced k d) last in
+      let found : put key value (shown k d done) ≡ shown k d (done ++ e ∷ []) = sym (replaced-put k key d (view e.1) (members_view done))
+      ∙ ap (replaced k d) last in
       let rest = members_text true (shown k d left) in
       let parts = or_parts (has_float (view e.1)) _ h.whole in
       let deep = h.shallow in
       record {
         done = done ++ e ∷ [];
         split = h.split ∙ sym (append_assoc done (e ∷ []) left);
-        together = ap (λ t. t ++ rest) (shows.0 ∙ ap (λ t. t ++ compact_text value) name) ∙ (regroup_member text (comma_if later) (quoted key) (compact_text value) rest ∙ h.together);
+        together = ap (λ t. t ++ rest) (shows.0 ∙ ap (λ t. t ++ compact_text value) name)
+            ∙ (regroup_member text (comma_if later) (quoted key) (compact_text value) rest ∙ h.together);
         returns = λ g. h.returns (MembersReturn-member key value (shown k d left) (shown k d done) (replaced k d frame) (IsUtf8-string_bytes e.0) shows.1
             (subst (λ ms. MembersReturn (shown k d left) ms (replaced k d frame)) (sym found) g));
         whole = parts.1;
         shallow = omega arith;
       }
 
-  pub ArePut-all : (later : Bool) (old text new : List ℕ) → ArePut k d frame begin entries [] later text → members_view entries ≡ frame → begin ≡ old ++ 123 ∷ [] → new ≡ text ++ 125 ∷ []
+  pub ArePut-all : (later : Bool) (old text new : List ℕ) → ArePut k d frame begin entries [] later text → members_view entries ≡ frame
+      → begin ≡ old ++ 123 ∷ [] → new ≡ text ++ 125 ∷ []
       → Appends (object (replaced k d frame)) old new
   ArePut-all later old text new h same opened closed =
       let every = replaced k d frame in

@@ -1,5 +1,6 @@
 -- A tree that was read has numbers of 64 bits, and each object's names in order.
-use Rattle.std.proofs.Common.{◌≡◌, ℕ, zero, suc, ◌^◌, ◌<◌, ◌≤◌, List, Option, Some, None, option_map, Ordering, Less, Equal, Greater, nat_cmp, cond, Bool, true, false, ◌&&◌, ltb, leb, eqb, refl, subst, arith, drop}
+use Rattle.std.proofs.Common.{◌≡◌, ℕ, zero, suc, ◌^◌, ◌<◌, ◌≤◌, List, Option, Some, None, option_map, Ordering, Less, Equal, Greater, nat_cmp, cond, Bool, true}
+use Rattle.std.proofs.Common.{false, ◌&&◌, ltb, leb, eqb, refl, subst, arith, drop}
 use Rattle.std.specs.Prelude.{option_and_then, slice_index, Float}
 use Rattle.std.specs.Float.{binary64, float_is_finite}
 use Rattle.std.specs.Cmp.Lexicographic.{slice_cmp}
@@ -8,7 +9,8 @@ use Rattle.std.proofs.lemmas.Bool.{ltb-true, leb-true}
 use Rattle.std.proofs.lemmas.Int.{ints}
 use Rattle.fast_float.specs.Text.{minus, Parts, scan, digits_of, nearest, with_sign}
 use Rattle.json.specs.Json as json
-use Rattle.serde_json.specs.Data.{Num, unsigned, negative, float, Data, null, boolean, number, string, array, object, Items, no_items, item, Members, no_members, member, put}
+use Rattle.serde_json.specs.Data.{Num, unsigned, negative, float, Data, null, boolean, number, string, array, object, Items, no_items, item, Members}
+use Rattle.serde_json.specs.Data.{no_members, member, put}
 use Rattle.serde_json.specs.Read.{is_integer, float_of, number_from, number_of, of_json, of_items, of_members, read, max_depth}
 use Rattle.json.specs.Lex.{tokens}
 use Rattle.map_model.specs.Readable.{IsBefore, IsReadableNumber, IsReadable, AreReadableItems, AreReadableMembers}
@@ -51,16 +53,19 @@ negative_fits (suc j) a b = (omega (arith, ints), omega (arith, ints))
 
 negative_read : (a b c : Bool) (k : ℕ) (rest : Option Num) (n : Num) → (b ≡ true → 0 < k) → (c ≡ true → k ≤ 2 ^ 63) → (rest ≡ Some n → IsReadableNumber n)
     → cond (a && b && c) (Some (negative (with_sign true k))) rest ≡ Some n → IsReadableNumber n
-negative_read true true true k rest n some small later e = let s : negative (with_sign true k) ≡ n = cc in subst IsReadableNumber s (negative_fits k (some refl) (small refl))
+negative_read true true true k rest n some small later e = let s : negative (with_sign true k) ≡ n = cc in
+    subst IsReadableNumber s (negative_fits k (some refl) (small refl))
 negative_read true true false k rest n some small later e = later e
 negative_read true false c k rest n some small later e = later e
 negative_read false b c k rest n some small later e = later e
 
 number_from_read : (sign : Bool) (p : Parts) (n : Num) → number_from sign p ≡ Some n → IsReadableNumber n
 number_from_read false p n e =
-    unsigned_read (is_integer p) (ltb (digits_of p) (2 ^ 64)) (digits_of p) (float_of false p) n (ltb-true (digits_of p) (2 ^ 64)) (float_read (float_is_finite (nearest binary64 false p)) (nearest binary64 false p) n) e
+    unsigned_read (is_integer p) (ltb (digits_of p) (2 ^ 64)) (digits_of p) (float_of false p) n (ltb-true (digits_of p) (2 ^ 64))
+    (float_read (float_is_finite (nearest binary64 false p)) (nearest binary64 false p) n) e
 number_from_read true p n e =
-    negative_read (is_integer p) (ltb 0 (digits_of p)) (leb (digits_of p) (2 ^ 63)) (digits_of p) (float_of true p) n (ltb-true 0 (digits_of p)) (leb-true (digits_of p) (2 ^ 63))
+    negative_read (is_integer p) (ltb 0 (digits_of p)) (leb (digits_of p) (2 ^ 63)) (digits_of p) (float_of true p) n (ltb-true 0 (digits_of p))
+    (leb-true (digits_of p) (2 ^ 63))
     (float_read (float_is_finite (nearest binary64 true p)) (nearest binary64 true p) n) e
 
 either_read : (b : Bool) (s t : Option Num) (n : Num) → (s ≡ Some n → IsReadableNumber n) → (t ≡ Some n → IsReadableNumber n) → cond b s t ≡ Some n
@@ -71,7 +76,8 @@ either_read false s t n f g e = g e
 number_of_read : (s : List ℕ) (n : Num) → number_of s ≡ Some n → IsReadableNumber n
 unfolding number_of
 number_of_read s n e =
-    either_read (eqb (slice_index s 0) minus) (number_from true (scan (drop 1 s))) (number_from false (scan s)) n (number_from_read true (scan (drop 1 s)) n) (number_from_read false (scan s) n) e
+    either_read (eqb (slice_index s 0) minus) (number_from true (scan (drop 1 s))) (number_from false (scan s)) n (number_from_read true (scan (drop 1 s)) n)
+    (number_from_read false (scan s) n) e
 
 AreReadMembers-put : (k : List ℕ) (d : Data) (ms : Members) → IsReadTree d → AreReadMembers ms → AreReadMembers (put k d ms)
 AreReadMembers-put k d no_members new h = (tt, new, tt)

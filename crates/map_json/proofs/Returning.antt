@@ -1,5 +1,6 @@
 -- A text that is put together reads as what was put together.
-use Rattle.std.proofs.Common.{◌≡◌, IsUtf8, ℕ, suc, ◌≤◌, List, [], ◌∷◌, ◌++◌, max, Some, option_map, option_and_then, Bool, true, false, refl, sym, ap, ap₂, ◌∙◌, arith, append_assoc, append-nil}
+use Rattle.std.proofs.Common.{◌≡◌, IsUtf8, ℕ, suc, ◌≤◌, List, [], ◌∷◌, ◌++◌, max, Some, option_map, option_and_then, Bool, true, false, refl, sym, ap, ap₂, ◌∙◌}
+use Rattle.std.proofs.Common.{arith, append_assoc, append-nil}
 use Rattle.std.proofs.lemmas.Str.{IsUtf8-append}
 use Rattle.json.specs.Json as json
 use Rattle.json.specs.Tree as tree
@@ -11,7 +12,8 @@ use Rattle.json.specs.Token.{Token}
 use Rattle.json.proofs.Printed.Tokens.{tokens-print}
 use Rattle.json.proofs.Printed.Trees.{ArePrintable-json_tokens, value-json_tokens}
 use Rattle.json.proofs.Printed.Utf8.{IsUtf8-are_ascii, IsUtf8-key}
-use Rattle.serde_json.specs.Data.{Data, null, boolean, number, string, array, object, Items, no_items, item, Members, no_members, member, put, depth, items_depth, members_depth}
+use Rattle.serde_json.specs.Data.{Data, null, boolean, number, string, array, object, Items, no_items, item, Members, no_members, member, put, depth}
+use Rattle.serde_json.specs.Data.{items_depth, members_depth}
 use Rattle.serde_json.specs.Read.{read, max_depth, of_json, of_items, of_members}
 use Rattle.serde_json.specs.Written.{IsInOrder, has_float, outline, items_outline, members_outline, comma_if, compact_text, items_text, members_text}
 use Rattle.serde_json.proofs.Texts.{tokens_from_order, print-outline}
@@ -35,13 +37,15 @@ mutual
   members_depth-outline (member k d ms) = ap₂ max (depth-outline d) (members_depth-outline ms)
 
 -- tokens of a value's JSON, read at most n deep
-pub parsed-outline : (n : ℕ) (d : Data) (ts : List Token) → ts ≡ json_tokens (outline d) → depth d ≤ n → option_and_then (λ p. json.if_last p.0 p.1) (json.value n ts) ≡ Some (outline d)
+pub parsed-outline : (n : ℕ) (d : Data) (ts : List Token) → ts ≡ json_tokens (outline d) → depth d ≤ n
+    → option_and_then (λ p. json.if_last p.0 p.1) (json.value n ts) ≡ Some (outline d)
 parsed-outline n d ts same shallow =
     ap (option_and_then (λ p. json.if_last p.0 p.1))
     (ap (json.value n) (same ∙ sym (append-nil (json_tokens (outline d)))) ∙ value-json_tokens (outline d) n [] (omega (arith, depth-outline d)))
 
 -- a value whose text reads as the value
-pub Returns-read : (d : Data) (text : List ℕ) → IsUtf8 (compact_text d) → IsInOrder text d → has_float d ≡ false → depth d ≤ max_depth → read text ≡ Some d → Returns d
+pub Returns-read : (d : Data) (text : List ℕ) → IsUtf8 (compact_text d) → IsInOrder text d → has_float d ≡ false → depth d ≤ max_depth → read text ≡ Some d
+    → Returns d
 Returns-read d text utf8 ordered whole shallow again =
     let same : tokens text ≡ json_tokens (outline d) = tokens_from_order text d ordered whole in
     record {
@@ -83,7 +87,11 @@ ItemsReturn-item d ds one more =
 
 pub Returns-array : (ds : Items) → ItemsReturn ds → Returns (array ds)
 Returns-array ds h =
-    record { utf8 = ascii_then 91 (items_text false ds) (IsUtf8-are_ascii (91 ∷ []) refl) (h.utf8 false); numbers = h.numbers; reads = ap (option_map array) h.reads }
+    record {
+      utf8 = ascii_then 91 (items_text false ds) (IsUtf8-are_ascii (91 ∷ []) refl) (h.utf8 false);
+      numbers = h.numbers;
+      reads = ap (option_map array) h.reads;
+    }
 
 -- ---- members
 key_then : (k rest : List ℕ) → IsUtf8 k → IsUtf8 rest → IsUtf8 (quoted k ++ 58 ∷ rest)
@@ -98,22 +106,29 @@ pub record MembersReturn (ms found all : Members) : Type 0 where
 pub MembersReturn-none : (all : Members) → MembersReturn no_members all all
 MembersReturn-none all = record { utf8 = λ later. IsUtf8-are_ascii (125 ∷ []) refl; numbers = tt; reads = refl }
 
-pub MembersReturn-member : (k : List ℕ) (d : Data) (ms found all : Members) → IsUtf8 k → Returns d → MembersReturn ms (put k d found) all → MembersReturn (member k d ms) found all
+pub MembersReturn-member : (k : List ℕ) (d : Data) (ms found all : Members) → IsUtf8 k → Returns d → MembersReturn ms (put k d found) all
+    → MembersReturn (member k d ms) found all
 MembersReturn-member k d ms found all name one more =
     let rest = compact_text d ++ members_text true ms in
     record {
-      utf8 = λ later. comma_then later (quoted k ++ 58 ∷ rest) (key_then k rest name (IsUtf8-append (compact_text d) (members_text true ms) one.utf8 (more.utf8 true)));
+      utf8 = λ later. comma_then later (quoted k ++ 58 ∷ rest)
+          (key_then k rest name (IsUtf8-append (compact_text d) (members_text true ms) one.utf8 (more.utf8 true)));
       numbers = (one.numbers, more.numbers);
       reads = ap (option_and_then (λ e. of_members (members_outline ms) (put k e found))) one.reads ∙ more.reads;
     }
 
 pub Returns-object : (ms : Members) → MembersReturn ms no_members ms → Returns (object ms)
 Returns-object ms h =
-    record { utf8 = ascii_then 123 (members_text false ms) (IsUtf8-are_ascii (123 ∷ []) refl) (h.utf8 false); numbers = h.numbers; reads = ap (option_map object) h.reads }
+    record {
+      utf8 = ascii_then 123 (members_text false ms) (IsUtf8-are_ascii (123 ∷ []) refl) (h.utf8 false);
+      numbers = h.numbers;
+      reads = ap (option_map object) h.reads;
+    }
 
 -- ---- texts, regrouped
 pub regroup_item : (text comma value rest : List ℕ) → ((text ++ comma) ++ value) ++ rest ≡ text ++ (comma ++ (value ++ rest))
 regroup_item text comma value rest = simp append_assoc
 
-pub regroup_member : (text comma name value rest : List ℕ) → ((text ++ (comma ++ (name ++ 58 ∷ []))) ++ value) ++ rest ≡ text ++ (comma ++ (name ++ 58 ∷ (value ++ rest)))
+pub regroup_member : (text comma name value rest : List ℕ) → ((text ++ (comma ++ (name ++ 58 ∷ []))) ++ value) ++ rest ≡ text
+    ++ (comma ++ (name ++ 58 ∷ (value ++ rest)))
 regroup_member text comma name value rest = simp append_assoc

@@ -1,5 +1,6 @@
 -- What was read is well formed, as far as one owner tells: values, properties, elements, numbers and cells.
-use Rattle.std.proofs.Common.{◌≡◌, IsUtf8, ℕ, suc, ◌+◌, ◌-◌, ◌*◌, ◌^◌, ◌<◌, ◌≤◌, ℤ, eqb, Bool, true, false, cond, ◌&&◌, List, [], ◌∷◌, length, Option, Some, None, Result, Ok, Err, refl, sym, ap, subst, arith}
+use Rattle.std.proofs.Common.{◌≡◌, IsUtf8, ℕ, suc, ◌+◌, ◌-◌, ◌*◌, ◌^◌, ◌<◌, ◌≤◌, ℤ, eqb, Bool, true, false, cond, ◌&&◌, List, [], ◌∷◌, length, Option, Some}
+use Rattle.std.proofs.Common.{None, Result, Ok, Err, refl, sym, ap, subst, arith}
 use Rattle.std.proofs.lemmas.Float.{T_from_true}
 use Rattle.std.specs.Prelude.{codes, IfSome, nat_le, nat_lt, option_and_then, option_map, if◌then◌else◌}
 use Rattle.std.specs.List.{list_all}
@@ -33,7 +34,8 @@ use Rattle.map_json.specs.Elements.{each, elements_at}
 use Rattle.map_json.specs.Cells.{cell_of, cells_of, packed, words_of, is_byte, array_cells_at, base64_cells_at}
 use Rattle.map_json.specs.Reading.{value_of, value_at, property_at, properties_of, cells_at}
 use Rattle.map_json.proofs.Fine.{IsFineNum, IsFine, AreFineItems, AreFineMembers}
-use Rattle.map_json.proofs.FineLemmas.{IsFine-get_member, AreFineMembers-without_all, has_float-fine, members_have_float-fine, depth-fine, members_depth-fine, IsReadable-fine, AreReadableMembers-fine}
+use Rattle.map_json.proofs.FineLemmas.{IsFine-get_member, AreFineMembers-without_all, has_float-fine, members_have_float-fine, depth-fine, members_depth-fine}
+use Rattle.map_json.proofs.FineLemmas.{IsReadable-fine, AreReadableMembers-fine}
 use Rattle.map_json.proofs.Lacking.{LacksAll-without_all}
 use Rattle.map_json.proofs.Words.{words_sound}
 
@@ -51,12 +53,14 @@ pub ok_or_ok : {A : Type 0} (o : Option A) (f : MapRefusal) (x : A) → ok_or o 
 ok_or_ok None f x e = absurd cc
 ok_or_ok (Some y) f x e = ap (λ z. Some z) (ok_is y x e)
 
-pub required_ok : {A : Type 0} (read : Data → Result A MapRefusal) (o : Option Data) (x : A) → required read o ≡ Ok x → (d : Data) × (o ≡ Some d) × (read d ≡ Ok x)
+pub required_ok : {A : Type 0} (read : Data → Result A MapRefusal) (o : Option Data) (x : A) → required read o ≡ Ok x
+    → (d : Data) × (o ≡ Some d) × (read d ≡ Ok x)
 required_ok read None x e = absurd cc
 required_ok read (Some d) x e = (d, refl, e)
 
 -- one step that did not refuse
-pub by_bind : {A B : Type 0} {C : Type 0} (r : Result A MapRefusal) (f : A → Result B MapRefusal) (y : B) → (r >>= f) ≡ Ok y → ((x : A) → r ≡ Ok x → f x ≡ Ok y → C) → C
+pub by_bind : {A B : Type 0} {C : Type 0} (r : Result A MapRefusal) (f : A → Result B MapRefusal) (y : B) → (r >>= f) ≡ Ok y
+    → ((x : A) → r ≡ Ok x → f x ≡ Ok y → C) → C
 by_bind (Ok x) f y e next = next x refl e
 by_bind (Err d) f y e next = absurd cc
 
@@ -66,7 +70,8 @@ by_step (Ok x) rest y e next = next e
 by_step (Err d) rest y e next = absurd cc
 
 -- a test that was passed
-pub by_check : {B : Type 0} {C : Type 0} (b : Bool) (f : MapRefusal) (rest : Result B MapRefusal) (y : B) → (check b f >> rest) ≡ Ok y → (b ≡ true → rest ≡ Ok y → C) → C
+pub by_check : {B : Type 0} {C : Type 0} (b : Bool) (f : MapRefusal) (rest : Result B MapRefusal) (y : B) → (check b f >> rest) ≡ Ok y
+    → (b ≡ true → rest ≡ Ok y → C) → C
 by_check true f rest y e next = next refl e
 by_check false f rest y e next = absurd cc
 
@@ -155,7 +160,8 @@ property_sound level n room d p fine e =
     by_bind (required value_at (get_member VALUE.now ms)) _ p e3 (λ value value_is e4.
     let members = object_fine n d ms fine (ok_or_ok (as_object d) MemberOfAnotherKind ms object) in
     let found = required_ok value_at (get_member VALUE.now ms) value value_is in
-    let held : IsValue level value = subst (IsValue level) (ok_is (value_of found.0) value found.2) (value_sound level n found.0 room (IsFine-get_member n VALUE.now ms found.0 members found.1)) in
+    let held : IsValue level value = subst (IsValue level) (ok_is (value_of found.0) value found.2)
+    (value_sound level n found.0 room (IsFine-get_member n VALUE.now ms found.0 members found.1)) in
     let made : IsProperty level (record { name = name; kind = kind; value = value; kept = without_all property_names ms }) = record {
       name = required_text_sound n NAME.now ms members name name_is;
       kind = text_or_sound n TYPE.now ms members (codes "string") kind (IsUtf8-are_ascii (codes "string") refl) kind_is;
@@ -200,12 +206,14 @@ pub record WereRead (level : ℕ) (ps : List Property) : Type 0 where
   pub few : length ps ≤ MAX_PROPERTIES
   pub each : Each (IsProperty (property_level level)) ps
 
-pub properties_sound : (level n : ℕ) → property_level level + n ≤ MAX_DEPTH → (ms : Members) (ps : List Property) → AreFineMembers (suc (suc n)) ms → properties_of ms ≡ Ok ps → WereRead level ps
+pub properties_sound : (level n : ℕ) → property_level level + n ≤ MAX_DEPTH → (ms : Members) (ps : List Property) → AreFineMembers (suc (suc n)) ms
+    → properties_of ms ≡ Ok ps → WereRead level ps
 properties_sound level n room ms ps h e = at_member (get_member PROPERTIES.now ms) refl e where
   at_member : (o : Option Data) → get_member PROPERTIES.now ms ≡ o → absent_means [] (elements_at MAX_PROPERTIES property_at) o ≡ Ok ps → WereRead level ps
   at_member None is f = subst (WereRead level) (ok_is [] ps f) (record { few = omega arith; each = tt })
   at_member (Some d) is f =
-      let s = elements_sound (IsProperty (property_level level)) property_at (suc n) (property_sound (property_level level) n room) MAX_PROPERTIES d ps (IsFine-get_member (suc (suc n)) PROPERTIES.now ms d h is) f in
+      let s = elements_sound (IsProperty (property_level level)) property_at (suc n) (property_sound (property_level level) n room) MAX_PROPERTIES d ps
+      (IsFine-get_member (suc (suc n)) PROPERTIES.now ms d h is) f in
       record { few = s.0; each = s.1 }
 
 -- ---- scalars and cells
@@ -242,7 +250,8 @@ cells_sound (item d ds) cells e = at_cell (cell_of d) refl (cells_of ds) refl e 
       → ((cs : List ℕ) → cells_of ds ≡ Some cs → Each (λ c. c < 2 ^ 32) cs) → Each (λ c. c < 2 ^ 32) cells
   at_cell None is r r_is f more = absurd cc
   at_cell (Some c) is None r_is f more = absurd cc
-  at_cell (Some c) is (Some cs) r_is f more = let s : c ∷ cs ≡ cells = cc in subst (λ (x : List ℕ). Each (λ c. c < 2 ^ 32) x) s (cell_sound d c is, more cs r_is)
+  at_cell (Some c) is (Some cs) r_is f more = let s : c ∷ cs ≡ cells = cc in
+      subst (λ (x : List ℕ). Each (λ c. c < 2 ^ 32) x) s (cell_sound d c is, more cs r_is)
 
 abbrev AreCells : ℕ → List ℕ → Type 0
 AreCells count cells = (length cells ≡ count) × Each (λ c. c < 2 ^ 32) cells

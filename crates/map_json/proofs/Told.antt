@@ -1,5 +1,6 @@
 -- A tree that a file can say is read from its own text.
-use Rattle.std.proofs.Common.{◌≡◌, ℕ, suc, ◌^◌, ◌<◌, pos, negsuc, List, [], ◌∷◌, get_or, option_map, option_and_then, Less, nat_cmp, decimal, Bool, true, false, ◌||◌, true≢false, refl, sym, ap, ◌∙◌, subst, arith}
+use Rattle.std.proofs.Common.{◌≡◌, ℕ, suc, ◌^◌, ◌<◌, pos, negsuc, List, [], ◌∷◌, get_or, option_map, option_and_then, Less, nat_cmp, decimal, Bool, true, false}
+use Rattle.std.proofs.Common.{◌||◌, true≢false, refl, sym, ap, ◌∙◌, subst, arith}
 use Rattle.std.specs.Cmp.Lexicographic.{slice_cmp}
 use Rattle.std.specs.Fmt.{signed_decimal}
 use Rattle.std.proofs.lemmas.Bool.{ne_eqb, or_parts}
@@ -11,14 +12,16 @@ use Rattle.json.specs.Word.{after_minus, after_whole, after_fraction, after_expo
 use Rattle.json.proofs.Printed.Decimals.{IsNumber-decimal}
 use Rattle.json.proofs.Printed.Utf8.{IsUtf8-are_ascii, IsUtf8-boolean, IsUtf8-quoted}
 use Rattle.serde_json.proofs.Numbers.{number_of-negative}
-use Rattle.serde_json.specs.Data.{Num, unsigned, negative, float, Data, null, boolean, number, string, array, object, Items, no_items, item, Members, no_members, member, put}
+use Rattle.serde_json.specs.Data.{Num, unsigned, negative, float, Data, null, boolean, number, string, array, object, Items, no_items, item, Members}
+use Rattle.serde_json.specs.Data.{no_members, member, put}
 use Rattle.serde_json.specs.Find.{is_float}
 use Rattle.serde_json.specs.Written.{has_float, items_have_float, members_have_float}
 use Rattle.map_model.specs.Readable.{IsBefore, IsReadableNumber, IsReadable, AreReadableItems, AreReadableMembers}
 use Rattle.map_json.specs.Appending.{Returns}
 use Rattle.map_json.proofs.NumberTexts.{whole_returns}
 use Rattle.map_json.proofs.Orders.{after_Less}
-use Rattle.map_json.proofs.Returning.{ItemsReturn, ItemsReturn-none, ItemsReturn-item, Returns-array, MembersReturn, MembersReturn-none, MembersReturn-member, Returns-object}
+use Rattle.map_json.proofs.Returning.{ItemsReturn, ItemsReturn-none, ItemsReturn-item, Returns-array, MembersReturn, MembersReturn-none, MembersReturn-member}
+use Rattle.map_json.proofs.Returning.{Returns-object}
 
 -- ---- numbers
 -- no minus stands before the digits
@@ -34,7 +37,8 @@ negative_number n small =
 
 negative_told : (n : ℕ) → n < 2 ^ 63 → Returns (number (negative (negsuc n)))
 negative_told n small = record {
-  utf8 = IsUtf8-append (45 ∷ []) (decimal (suc n)) (IsUtf8-are_ascii (45 ∷ []) refl) (IsUtf8-from_ascii (decimal (suc n)) (IsAscii-decimal (suc n) (omega arith)));
+  utf8 = IsUtf8-append (45 ∷ []) (decimal (suc n)) (IsUtf8-are_ascii (45 ∷ []) refl)
+      (IsUtf8-from_ascii (decimal (suc n)) (IsAscii-decimal (suc n) (omega arith)));
   numbers = negative_number n small;
   reads = ap (λ o. option_map number o) (number_of-negative n small);
 }

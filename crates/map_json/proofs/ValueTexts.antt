@@ -39,7 +39,8 @@ items-HaveTexts (e ∷ vs) = (e.1, items-HaveTexts vs)
 abbrev Entry : Type 0
 Entry = String Global × Known
 
-members-HaveTexts : (ms : List Entry) → MembersHaveTexts (members_of (map (λ (m : String Global × Value). (m.0, view m.1)) (map (λ (m : Entry). (m.0, m.1.0)) ms)))
+members-HaveTexts : (ms : List Entry) → MembersHaveTexts (members_of
+    (map (λ (m : String Global × Value). (m.0, view m.1)) (map (λ (m : Entry). (m.0, m.1.0)) ms)))
 members-HaveTexts [] = tt
 members-HaveTexts (m ∷ ms) = (IsUtf8-string_bytes m.0, m.1.1, members-HaveTexts ms)
 

@@ -1,5 +1,6 @@
 -- Loops over layers, objects and members that leave one answer.
-use Rattle.std.proofs.Common.{◌≡◌, ℕ, List, ◌∷◌, ◌++◌, Bool, true, false, ◌||◌, Ordering, Less, Equal, Greater, nat_cmp, is_eq, bytes_eq, refl, sym, ◌∙◌, append_assoc}
+use Rattle.std.proofs.Common.{◌≡◌, ℕ, List, ◌∷◌, ◌++◌, Bool, true, false, ◌||◌, Ordering, Less, Equal, Greater, nat_cmp, is_eq, bytes_eq, refl, sym, ◌∙◌}
+use Rattle.std.proofs.Common.{append_assoc}
 use Rattle.std.specs.List.{list_all, flat_map}
 use Rattle.std.specs.Cmp.Lexicographic.{slice_cmp}
 use Rattle.std.proofs.lemmas.Bool.{false≢true}
@@ -53,5 +54,6 @@ pub other_member : (l : List ℕ) (d : Data) (ms : Members) → bytes_eq l VERSI
 other_member l d ms e =
     at_other (slice_cmp nat_cmp VERSION.now l) l d ms refl (is_eq-slice_cmp VERSION.now l ∙ differ (bytes_eq VERSION.now l) VERSION.now l refl e)
 
-pub has_fraction-object : (ms : Members) (b : Bool) → members_have_float (without VERSION.now ms) ≡ false → b ≡ version_has_fraction (get_member VERSION.now ms) → b ≡ has_fraction (object ms)
+pub has_fraction-object : (ms : Members) (b : Bool) → members_have_float (without VERSION.now ms) ≡ false → b ≡ version_has_fraction (get_member VERSION.now ms)
+    → b ≡ has_fraction (object ms)
 has_fraction-object ms b whole is = rw whole is

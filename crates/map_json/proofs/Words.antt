@@ -1,5 +1,6 @@
 -- Four bytes a number, as a loop reads them.
-use Rattle.std.proofs.Common.{eqb, eq-eqb, Some, Ok, Bool, true, false, ◌&&◌, zero, suc, ◌^◌, ◌≡◌, ℕ, ◌+◌, ◌*◌, ◌<◌, ◌≤◌, List, [], ◌∷◌, ◌++◌, length, get_or, drop, refl, sym, ap, ◌∙◌, append_assoc, arith}
+use Rattle.std.proofs.Common.{eqb, eq-eqb, Some, Ok, Bool, true, false, ◌&&◌, zero, suc, ◌^◌, ◌≡◌, ℕ, ◌+◌, ◌*◌, ◌<◌, ◌≤◌, List, [], ◌∷◌, ◌++◌, length, get_or}
+use Rattle.std.proofs.Common.{drop, refl, sym, ap, ◌∙◌, append_assoc, arith}
 use Rattle.std.specs.List.{list_all}
 use Rattle.map_model.specs.Lists.{Each}
 use Rattle.std.proofs.lemmas.Bool.{lt-ltb, ltb-true, and_parts}
@@ -47,7 +48,8 @@ byte_lt b bs e = let h = and_parts (is_byte b) (list_all is_byte bs) e in (ltb-t
 word_lt : (a b c d : ℕ) → a < 256 → b < 256 → c < 256 → d < 256 → from_le_bytes w32 (a ∷ b ∷ c ∷ d ∷ []) < 2 ^ 32
 word_lt a b c d ha hb hc hd = omega arith
 
-pub words_sound : (bytes : List ℕ) (count : ℕ) → length bytes ≡ 4 * count → list_all is_byte bytes ≡ true → (length (words_of bytes) ≡ count) × Each (λ w. w < 2 ^ 32) (words_of bytes)
+pub words_sound : (bytes : List ℕ) (count : ℕ) → length bytes ≡ 4 * count → list_all is_byte bytes ≡ true
+    → (length (words_of bytes) ≡ count) × Each (λ w. w < 2 ^ 32) (words_of bytes)
 unfolding words_of
 words_sound [] count e h = (omega arith, tt)
 words_sound (a ∷ []) count e h = absurd (omega arith)
@@ -63,7 +65,8 @@ words_sound (a ∷ b ∷ c ∷ d ∷ rest) (suc count) e h =
     (ap suc more.0, (word_lt a b c d ha.0 hb.0 hc.0 hd.0, more.1))
 
 -- what the reader of base64 does, at its end
-pub base64_read : (count : ℕ) (d : Data) (text bytes : List ℕ) → as_str d ≡ Some text → decode_of standard (packed text) ≡ Ok bytes → length bytes ≡ 4 * count → IsBytes bytes
+pub base64_read : (count : ℕ) (d : Data) (text bytes : List ℕ) → as_str d ≡ Some text → decode_of standard (packed text) ≡ Ok bytes → length bytes ≡ 4 * count
+    → IsBytes bytes
     → base64_cells_at count d ≡ Ok (words_of bytes)
 unfolding base64_cells_at
 base64_read count d text bytes is decoded len h =

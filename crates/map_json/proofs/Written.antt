@@ -33,16 +33,19 @@ AreWritten-rest room size l ls h = record {
   each = Each-right (IsDrawn size) (tree room h.level l) (drawn room h.level ls) h.each;
 }
 
-pub AreWritten-inside : (room less size : ℕ) (l : Layer) (ks : List Layer) → room ≡ suc less → inside l ≡ ks → AreWritten room size (l ∷ []) → AreWritten less size ks
+pub AreWritten-inside : (room less size : ℕ) (l : Layer) (ks : List Layer) → room ≡ suc less → inside l ≡ ks → AreWritten room size (l ∷ [])
+    → AreWritten less size ks
 AreWritten-inside room less size l ks more are h =
     let all : AreWritten (suc less) size (l ∷ []) = subst (λ n. AreWritten n size (l ∷ [])) more h in
     let own = tree-Each (IsDrawn size) (suc less) all.level l (Each-left (IsDrawn size) (tree (suc less) all.level l) [] all.each) in
-    subst (AreWritten less size) are (record { level = inner_level all.level; high = omega (arith, all.high); balance = omega (arith, all.balance); each = own.1 })
+    subst (AreWritten less size) are (record
+    { level = inner_level all.level; high = omega (arith, all.high); balance = omega (arith, all.balance); each = own.1 })
 
 -- a layer keeps no member of its own names
 pub AreWritten-lacks : (room size : ℕ) (l : Layer) → AreWritten room size (l ∷ []) → Each (λ name. get_member name l.kept ≡ None) (layer_names l.body)
 AreWritten-lacks room size l h =
-    (IsLayer-without (λ ls. []) h.level size l (tree-Each (IsDrawn size) room h.level l (Each-left (IsDrawn size) (tree room h.level l) [] h.each)).0).kept.unread
+    (IsLayer-without (λ ls. []) h.level size l (tree-Each (IsDrawn size) room h.level l
+    (Each-left (IsDrawn size) (tree room h.level l) [] h.each)).0).kept.unread
 
 -- its values are tile values
 values_in : (level size : ℕ) (b : Body) (ns : List ℕ) → numbers_of b ≡ Some ns → IsBody level size b → Each IsTileValue ns
@@ -56,6 +59,8 @@ numbers_in-whole : (detail : Detail) (b : Body) (ns : List ℕ) → numbers_in d
 numbers_in-whole Whole b ns is = is
 numbers_in-whole Outline b ns is = cc
 
-pub AreWritten-values : (detail : Detail) (room size : ℕ) (l : Layer) (ns : List ℕ) → numbers_in detail l.body ≡ Some ns → AreWritten room size (l ∷ []) → Each IsTileValue ns
+pub AreWritten-values : (detail : Detail) (room size : ℕ) (l : Layer) (ns : List ℕ) → numbers_in detail l.body ≡ Some ns → AreWritten room size (l ∷ [])
+    → Each IsTileValue ns
 AreWritten-values detail room size l ns is h =
-    values_in h.level size l.body ns (numbers_in-whole detail l.body ns is) (own_IsLayer room h.level size l (Each-left (IsDrawn size) (tree room h.level l) [] h.each)).body
+    values_in h.level size l.body ns (numbers_in-whole detail l.body ns is)
+    (own_IsLayer room h.level size l (Each-left (IsDrawn size) (tree room h.level l) [] h.each)).body

@@ -1,5 +1,6 @@
 -- The tree of a well-formed map is one that a file can say.
-use Rattle.std.proofs.Common.{◌≡◌, IsUtf8, Bool, true, ℕ, zero, suc, ◌*◌, ◌^◌, ◌<◌, ◌≤◌, ℤ, pos, negsuc, List, [], ◌∷◌, ◌++◌, Option, Some, None, refl, subst, arith}
+use Rattle.std.proofs.Common.{◌≡◌, IsUtf8, Bool, true, ℕ, zero, suc, ◌*◌, ◌^◌, ◌<◌, ◌≤◌, ℤ, pos, negsuc, List, [], ◌∷◌, ◌++◌, Option, Some, None, refl, subst}
+use Rattle.std.proofs.Common.{arith}
 use Rattle.std.specs.Prelude.{codes, IfSome}
 use Rattle.std.specs.List.{flat_map}
 use Rattle.std.specs.Option.{option_map}
@@ -27,11 +28,14 @@ use Rattle.map_model.specs.Groups.{all_drawn, drawn, inside, tree}
 use Rattle.map_model.specs.Keeping.{inner_level, layer_level, map_level, object_level, property_level}
 use Rattle.map_model.specs.Lists.{Each}
 use Rattle.map_model.specs.Readable.{IsReadable, AreReadableItems, AreReadableMembers}
-use Rattle.map_model.specs.WellFormed.{IsId, IsWhole, IsPixels, IsTileValue, IsValue, IsProperty, AreProperties, IsObject, IsBody, IsDrawn, IsLayer, IsTileset, IsWellFormed, ids_of, ids_of_object, object_ids_in, object_ids_of}
+use Rattle.map_model.specs.WellFormed.{IsId, IsWhole, IsPixels, IsTileValue, IsValue, IsProperty, AreProperties, IsObject, IsBody, IsDrawn, IsLayer, IsTileset}
+use Rattle.map_model.specs.WellFormed.{IsWellFormed, ids_of, ids_of_object, object_ids_in, object_ids_of}
 use Rattle.map_model.proofs.GroupBodies.{IsLayer-without, object_ids-with}
 use Rattle.json_members.specs.Members.{put_some}
 use Rattle.map_json.specs.Members.{Own, with_own}
-use Rattle.map_json.specs.Trees.{items_by, whole_tree, value_tree, property_own, property_tree, properties_member, object_own, object_tree, tileset_own, tileset_tree, bytes_of, cells_tree, encoding_member, type_word, body_own, layer_own, layer_tree, layers_tree, plain_own, lists_own, map_own, tree_of}
+use Rattle.map_json.specs.Trees.{items_by, whole_tree, value_tree, property_own, property_tree, properties_member, object_own, object_tree, tileset_own}
+use Rattle.map_json.specs.Trees.{tileset_tree, bytes_of, cells_tree, encoding_member, type_word, body_own, layer_own, layer_tree, layers_tree, plain_own}
+use Rattle.map_json.specs.Trees.{lists_own, map_own, tree_of}
 use Rattle.map_json.proofs.DrawnLayers.{Each-left, Each-right, tree-Each}
 use Rattle.map_json.proofs.Orders.{AreReadableMembers-put}
 
@@ -154,7 +158,8 @@ object_readable level o h =
 tileset_readable : (t : Tileset) → IsTileset t → IsReadable (tileset_tree t)
 unfolding tileset_tree
 tileset_readable t h =
-    own_readable (tileset_own t) t.kept (refl, number_below t.first_id MAX_FIRST_ID h.high (omega arith), (refl, text_readable t.source h.source, tt)) h.kept.readable
+    own_readable (tileset_own t) t.kept (refl, number_below t.first_id MAX_FIRST_ID h.high (omega arith), (refl, text_readable t.source h.source, tt))
+    h.kept.readable
 
 -- ---- layers
 cells_readable : (e : Encoding) (cells : List ℕ) → Each IsTileValue cells → IsReadable (cells_tree e cells)
@@ -196,7 +201,19 @@ module _ (width height : ℕ) (wide : IsSmall width) (high : IsSmall height) whe
       own_readable (layer_own width height d l) l.kept (
         refl,
         type_readable l.body,
-        (refl, id, (refl, h.name, (refl, tt, (refl, properties_readable level l.properties h.properties, body_readable level size d layers l.body h.body ids)))),
+        (
+          refl,
+          id,
+          (
+            refl,
+            h.name,
+            (
+              refl,
+              tt,
+              (refl, properties_readable level l.properties h.properties, body_readable level size d layers l.body h.body ids),
+            ),
+          ),
+        ),
       )
       h.kept.readable
 
@@ -237,7 +254,8 @@ drawn_small m h =
     let ids = small_ids m.next_layer_id (flat_map ids_of ds) h.layers.layer_ids.next_high h.layers.layer_ids.each in
     let object_ids = small_ids m.next_object_id (flat_map object_ids_of ds) h.layers.object_ids.next_high h.layers.object_ids.each in
     Each-pair (IsDrawn (m.width * m.height)) (λ (d : ℕ × Layer). Each IsSmall (ids_of d) × Each IsSmall (object_ids_of d)) ds h.layers.each
-    (Each-pair (λ (d : ℕ × Layer). Each IsSmall (ids_of d)) (λ (d : ℕ × Layer). Each IsSmall (object_ids_of d)) ds (Each-of_flat_map IsSmall ids_of ds ids) (Each-of_flat_map IsSmall object_ids_of ds object_ids))
+    (Each-pair (λ (d : ℕ × Layer). Each IsSmall (ids_of d)) (λ (d : ℕ × Layer). Each IsSmall (object_ids_of d)) ds (Each-of_flat_map IsSmall ids_of ds ids)
+    (Each-of_flat_map IsSmall object_ids_of ds object_ids))
 
 plain_readable : (m : MapParts) → IsWellFormed m → AreReadableOwn (plain_own m)
 plain_readable m h =

@@ -37,8 +37,8 @@ abbrev pub are_named_apart : List Property → Bool
 are_named_apart ps = are_distinct bytes_eq (flat_map names_of_property ps)
 
 -- no id and no first id is used twice, nor a name within one owner
-abbrev pub has_no_double : MapParts → Bool
-has_no_double m =
+abbrev pub ids_are_unique : MapParts → Bool
+ids_are_unique m =
     are_distinct (λ a b. a == b) (layer_ids m.layers)
     && are_distinct (λ a b. a == b) (object_ids m.layers)
     && are_distinct (λ a b. a == b) (flat_map first_ids_of m.tilesets)

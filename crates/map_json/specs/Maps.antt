@@ -6,7 +6,8 @@ use Rattle.serde_json.specs.Data.{Data, null, boolean, number, string, array, ob
 use Rattle.serde_json.specs.Find.{as_object, as_str, get_member}
 use Rattle.serde_json.specs.Read.{read}
 use Rattle.serde_json.specs.Written.{has_float, members_have_float}
-use Rattle.map_model.specs.declared.names.TheConstants.{TYPE, WIDTH, HEIGHT, TILE_WIDTH, TILE_HEIGHT, INFINITE, NEXT_LAYER_ID, NEXT_OBJECT_ID, LAYERS, TILESETS, VERSION}
+use Rattle.map_model.specs.declared.names.TheConstants.{TYPE, WIDTH, HEIGHT, TILE_WIDTH, TILE_HEIGHT, INFINITE, NEXT_LAYER_ID, NEXT_OBJECT_ID, LAYERS, TILESETS}
+use Rattle.map_model.specs.declared.names.TheConstants.{VERSION}
 use Rattle.map_model.specs.declared.limits.TheConstants.{MAX_SIDE, MAX_CELLS, MAX_TILE_SIDE, MAX_TILESETS, MAX_NEXT_ID}
 use Rattle.map_model.specs.declared.parts.MapParts.{MapParts}
 use Rattle.map_model.specs.Keeping.{map_names}
@@ -20,7 +21,7 @@ use Rattle.map_json.specs.Scalars.{whole_at, truth_at}
 use Rattle.map_json.specs.Elements.{elements_at}
 use Rattle.json_members.specs.Members.{without, without_all}
 use Rattle.map_json.specs.Reading.{properties_of, tileset_at, map_layers_at}
-use Rattle.map_json.specs.Distinctness.{has_no_double, are_below_next}
+use Rattle.map_json.specs.Distinctness.{ids_are_unique, are_below_next}
 
 -- ---- fractions
 -- whether a version that is no number has a number with a fraction in it
@@ -83,7 +84,7 @@ parts_of ms = do
 -- a map whose ids fit together
 unfoldable pub consistent : MapParts → Result MapParts MapRefusal
 consistent m = do
-  check (has_no_double m) IdUsedTwice
+  check (ids_are_unique m) IdUsedTwice
   check (are_below_next m) OverLimit
   Ok m
 

@@ -5,7 +5,8 @@ use Rattle.std.specs.Option.{ok_or}
 use Rattle.serde_json.specs.Data.{Num, Data, null, boolean, number, string, array, object, Members}
 use Rattle.serde_json.specs.Events.{items_len}
 use Rattle.serde_json.specs.Find.{as_object, as_array, as_number, as_u64, as_i64, as_str, get_member}
-use Rattle.map_model.specs.declared.names.TheConstants.{ID, NAME, TYPE, VISIBLE, PROPERTIES, WIDTH, HEIGHT, LAYERS, ENCODING, COMPRESSION, DATA, OBJECTS, X, Y, GID, FIRST_ID, SOURCE, VALUE}
+use Rattle.map_model.specs.declared.names.TheConstants.{ID, NAME, TYPE, VISIBLE, PROPERTIES, WIDTH, HEIGHT, LAYERS, ENCODING, COMPRESSION, DATA, OBJECTS, X, Y}
+use Rattle.map_model.specs.declared.names.TheConstants.{GID, FIRST_ID, SOURCE, VALUE}
 use Rattle.map_model.specs.declared.limits.TheConstants.{MAX_LAYERS, MAX_GROUPS, MAX_NEXT_ID, MAX_PIXELS, MAX_PROPERTIES, MAX_OBJECTS, MAX_FIRST_ID}
 use Rattle.map_model.specs.declared.parts.Encoding.{Encoding}
 use Rattle.map_model.specs.declared.parts.Encoding.TheVariants.{Array, Base64}
@@ -163,7 +164,17 @@ layer_by inner width height count d = do
   ms ← ok_or (as_object d) MemberOfAnotherKind
   head ← head_of ms
   body ← body_by inner head.kind width height count ms
-  Ok (body.0, record { id = head.id; name = head.name; visible = head.visible; properties = head.properties; kept = without_all (layer_names body.1) ms; body = body.1 })
+  Ok (
+    body.0,
+    record {
+      id = head.id;
+      name = head.name;
+      visible = head.visible;
+      properties = head.properties;
+      kept = without_all (layer_names body.1) ms;
+      body = body.1;
+    },
+  )
 
 -- an array of layers, where so many such arrays may stand in one another, itself among them
 --

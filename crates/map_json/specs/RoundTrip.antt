@@ -8,7 +8,8 @@ use Rattle.map_json.specs.Trees.{tree_of, text_of}
 
 -- bytes that have the map's tree say the map, and nothing else; or memory ran out
 abbrev pub WrittenIsRead : MapParts → Type 0
-WrittenIsRead m = (bytes : List ℕ) (answer : Result MapParts MapFault) → IsTreeOf bytes (tree_of m) → Says bytes answer → (answer ≡ Ok m) ⊎ (answer ≡ Err Memory)
+WrittenIsRead m = (bytes : List ℕ) (answer : Result MapParts MapFault) → IsTreeOf bytes (tree_of m) → Says bytes answer
+    → (answer ≡ Ok m) ⊎ (answer ≡ Err Memory)
 
 -- what is saved, then opened, is the same map: its text says the map, and nothing else; or memory ran out
 abbrev pub SavedIsOpened : MapParts → Type 0

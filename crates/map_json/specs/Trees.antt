@@ -7,7 +7,9 @@ use Rattle.base64.specs.GeneralPurpose.{encode_of}
 use Rattle.serde_json.specs.Data.{Data, boolean, number, string, array, object, unsigned, Items, no_items, item}
 use Rattle.serde_json.specs.Find.{of_integer}
 use Rattle.serde_json.specs.Written.{compact_text}
-use Rattle.map_model.specs.declared.names.TheConstants.{ID, NAME, TYPE, VISIBLE, PROPERTIES, WIDTH, HEIGHT, TILE_WIDTH, TILE_HEIGHT, INFINITE, NEXT_LAYER_ID, NEXT_OBJECT_ID, LAYERS, TILESETS, VERSION, ENCODING, COMPRESSION, DATA, OBJECTS, X, Y, GID, FIRST_ID, SOURCE, VALUE}
+use Rattle.map_model.specs.declared.names.TheConstants.{ID, NAME, TYPE, VISIBLE, PROPERTIES, WIDTH, HEIGHT, TILE_WIDTH, TILE_HEIGHT, INFINITE, NEXT_LAYER_ID}
+use Rattle.map_model.specs.declared.names.TheConstants.{NEXT_OBJECT_ID, LAYERS, TILESETS, VERSION, ENCODING, COMPRESSION, DATA, OBJECTS, X, Y, GID, FIRST_ID}
+use Rattle.map_model.specs.declared.names.TheConstants.{SOURCE, VALUE}
 use Rattle.map_model.specs.declared.limits.TheConstants.{MAX_GROUPS}
 use Rattle.map_model.specs.declared.parts.Encoding.{Encoding}
 use Rattle.map_model.specs.declared.parts.Encoding.TheVariants.{Array, Base64}

@@ -3,7 +3,7 @@ ghost use Rattle.std.specs.Prelude.{◌≡◌, ◌==◌, ◌++◌, [], ◌∷◌
 ghost use Rattle.std.specs.List.{list_all, flat_map};
 ghost use Rattle.std.specs.Ordering.{is_eq};
 ghost use Rattle.map_model.specs.WellFormed.{ids_of, layer_ids, object_ids, object_ids_in, object_ids_of, first_ids_of};
-ghost use Rattle.map_json.specs.Distinctness.{are_distinct, has_no_double, are_below_next, lists_in, lists_of_drawn, lists_of_layer, are_named_apart};
+ghost use Rattle.map_json.specs.Distinctness.{are_distinct, ids_are_unique, are_below_next, lists_in, lists_of_drawn, lists_of_layer, are_named_apart};
 ghost use Rattle.map_model.specs.declared.parts.Body.TheVariants.{Objects};
 ghost use Rattle.map_model.specs.Groups.{drawn};
 ghost use Rattle.map_model.specs.Keeping.{layer_level};
@@ -308,7 +308,7 @@ fn layer_names_are_distinct<T: Trail>(
 }
 
 /// Whether no id and no first id is used twice, nor a name within one owner. Else the trail stands at the second one.
-pub fn has_no_double<T: Trail>(
+pub fn ids_are_unique<T: Trail>(
     alloc: Global,
     parts: &MapParts,
     ids: &Ids,
@@ -316,7 +316,7 @@ pub fn has_no_double<T: Trail>(
 ) -> Result<bool, AllocError>
     requires layers { ids.now.layers.items ≡ layer_ids parts.now.layers }
     requires objects { ids.now.objects.items ≡ object_ids parts.now.layers }
-    ensures { IfOk result (λ answer. answer ≡ has_no_double parts.now) }
+    ensures { IfOk result (λ answer. answer ≡ ids_are_unique parts.now) }
 {
     let layer = second_number(alloc, &ids.layers)?;
     if !is_none_at_fault(&parts.layers, Owners::Layers, layer, trail) {

@@ -4,7 +4,7 @@ ghost use Rattle.serde_json.specs.View.{view as data_of};
 ghost use Rattle.map_json.specs.Steps.{Gives};
 ghost use Rattle.map_json.specs.Maps.{is_map_type, parts_of, consistent, map_of, Says};
 
-use crate::doubles::{are_below_next, has_no_double, ids_of_map};
+use crate::doubles::{are_below_next, ids_are_unique, ids_of_map};
 use crate::fault::{MapFault, MapRefusal};
 use crate::fractions::has_fraction;
 use crate::json_object::JsonObject;
@@ -66,7 +66,7 @@ fn consistent<T: Trail>(alloc: Global, parts: MapParts, trail: &mut T) -> Result
     ensures { Gives result (consistent parts) }
 {
     let ids = ids_of_map(alloc, &parts)?;
-    if !has_no_double(alloc, &parts, &ids, trail)? {
+    if !ids_are_unique(alloc, &parts, &ids, trail)? {
         return Err(MapFault::Refused(MapRefusal::IdUsedTwice));
     }
     if !are_below_next(&parts, &ids, trail) {

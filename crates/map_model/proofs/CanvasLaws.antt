@@ -1,5 +1,6 @@
 -- Documents that are put on a canvas, and undone.
-use Rattle.std.proofs.Common.{◌≡◌, ℕ, ◌+◌, ◌*◌, ℤ, ◌+ℤ◌, neg_ℤ, suc, List, [], ◌∷◌, ◌++◌, append-nil, length, map, get_or, Option, Some, None, option_map, refl, sym, ap, ◌∙◌, arith, append_assoc, length-append}
+use Rattle.std.proofs.Common.{◌≡◌, ℕ, ◌+◌, ◌*◌, ℤ, ◌+ℤ◌, neg_ℤ, suc, List, [], ◌∷◌, ◌++◌, append-nil, length, map, get_or, Option, Some, None, option_map, refl}
+use Rattle.std.proofs.Common.{sym, ap, ◌∙◌, arith, append_assoc, length-append}
 use Rattle.std.specs.List.{flat_map}
 use Rattle.std.proofs.Math.IntN.{+ℤ-neg_ℤ_cancel}
 use Rattle.std.proofs.Math.Seq.{get_or-append_seam}
@@ -14,7 +15,8 @@ use Rattle.map_model.specs.declared.parts.Object.{Object}
 use Rattle.map_model.specs.declared.parts.MapParts.{MapParts}
 use Rattle.std.specs.FinSet as set
 use Rattle.region.specs.Cells.{cell_cmp}
-use Rattle.map_model.specs.Canvas.{with_lists, lists_in, lists_of, tile_layers, body_on, layer_on, layers_on, map_on, with_canvas, canvas_back, IsShift, AreCells, MayBeMoved, BodyMayBeMoved, MayBeDrawn, IsCanvasOf}
+use Rattle.map_model.specs.Canvas.{with_lists, lists_in, lists_of, tile_layers, body_on, layer_on, layers_on, map_on, with_canvas, canvas_back, IsShift}
+use Rattle.map_model.specs.Canvas.{AreCells, MayBeMoved, BodyMayBeMoved, MayBeDrawn, IsCanvasOf}
 use Rattle.map_model.specs.Objects.{object_moved}
 use Rattle.map_model.specs.Document.{DocumentParts, IsDocument}
 use Rattle.map_model.specs.Groups.{all_drawn}
@@ -46,7 +48,8 @@ body-back c d prefix rest number (Objects os) is = ap Objects (objects-back c.ri
 body-back c d prefix rest number Other is = refl
 body-back c d prefix rest number (Group' s r) is = refl
 
-layers-back : (c : Canvas) (d : DocumentParts) (ls : List Layer) → layers_on MAX_GROUPS (held c d (flat_map lists_of (all_drawn ls))) 0 (layers_on MAX_GROUPS c 0 ls) ≡ ls
+layers-back : (c : Canvas) (d : DocumentParts) (ls : List Layer)
+    → layers_on MAX_GROUPS (held c d (flat_map lists_of (all_drawn ls))) 0 (layers_on MAX_GROUPS c 0 ls) ≡ ls
 layers-back c d ls =
     ap (λ xs. layers_on MAX_GROUPS (held c d xs) 0 (layers_on MAX_GROUPS c 0 ls)) (sym (append-nil (flat_map lists_of (all_drawn ls))))
     ∙ back_layers (held c d) c (body-back c d) MAX_GROUPS [] [] 0 ls refl
@@ -59,7 +62,8 @@ lists-laid : (c : Canvas) (prefix rest : List (List ℕ)) (number : ℕ) (ls : L
     → length rest ≡ length (flat_map lists_of ls) → flat_map lists_of (drawn_on c number ls) ≡ rest
 lists-laid c prefix [] number [] held is count = refl
 lists-laid c prefix (cells ∷ rest) number [] held is count = absurd (omega arith)
-lists-laid c prefix rest number (l ∷ ls) held is count = by_body l.1.body rest held count (λ next more. lists-laid c next more (number + length (lists_of l)) ls)
+lists-laid c prefix rest number (l ∷ ls) held is count = by_body l.1.body rest held count
+    (λ next more. lists-laid c next more (number + length (lists_of l)) ls)
   where
     by_body : (b : Body) (rest : List (List ℕ)) → c.layers ≡ prefix ++ rest → length rest ≡ length (lists_in b ++ flat_map lists_of ls)
         → ((next more : List (List ℕ)) → c.layers ≡ next ++ more → number + length (lists_in b) ≡ length next → length more ≡ length (flat_map lists_of ls)
@@ -76,7 +80,8 @@ lists-laid c prefix rest number (l ∷ ls) held is count = by_body l.1.body rest
     by_body (Group' s r) more at many later = later prefix more at (omega arith) many
 
 pub tile_layers-on : (c : Canvas) (m : MapParts) → length c.layers ≡ length (tile_layers m) → tile_layers (map_on c m) ≡ c.layers
-tile_layers-on c m count = ap (flat_map lists_of) (drawn-layers_on MAX_GROUPS c layer_level 0 m.layers) ∙ lists-laid c [] c.layers 0 (all_drawn m.layers) refl refl count
+tile_layers-on c m count = ap (flat_map lists_of) (drawn-layers_on MAX_GROUPS c layer_level 0 m.layers)
+    ∙ lists-laid c [] c.layers 0 (all_drawn m.layers) refl refl count
 
 -- ---- what stays of a layer
 object_ids-moved : (right down : ℤ) (os : List Object) → flat_map ids_of_object (map (object_moved right down) os) ≡ flat_map ids_of_object os
@@ -107,7 +112,8 @@ objects-on right down level [] h may = tt
 objects-on right down level (o ∷ os) h may =
     (record { placing = may.0; name = h.0.name; gid = h.0.gid; properties = h.0.properties; kept = h.0.kept }, objects-on right down level os h.1 may.1)
 
-IsBody-on : (c : Canvas) (number level old size : ℕ) (b : Body) → IsBody level old b → BodyMayBeMoved c.right c.down b → Each (AreCells size) (lists_in (body_on c number b))
+IsBody-on : (c : Canvas) (number level old size : ℕ) (b : Body) → IsBody level old b → BodyMayBeMoved c.right c.down b
+    → Each (AreCells size) (lists_in (body_on c number b))
     → IsBody level size (body_on c number b)
 IsBody-on c number level old size (Tiles e own) h may cells = cells.0
 IsBody-on c number level old size (Objects os) h may cells =
@@ -122,7 +128,12 @@ layers-on c number old size (d ∷ ds) h may cells =
     let l = d.1 in
     let own = Each-prefix (AreCells size) (lists_in (body_on c number l.body)) (flat_map lists_of (drawn_on c (number + length (lists_of d)) ds)) cells in
     let rest = Each-rest (AreCells size) (lists_in (body_on c number l.body)) (flat_map lists_of (drawn_on c (number + length (lists_of d)) ds)) cells in (
-      record { name = h.0.name; properties = h.0.properties; kept = rw (body_names-on c number l.body) h.0.kept; body = IsBody-on c number d.0 old size l.body h.0.body may.0 own },
+      record {
+        name = h.0.name;
+        properties = h.0.properties;
+        kept = rw (body_names-on c number l.body) h.0.kept;
+        body = IsBody-on c number d.0 old size l.body h.0.body may.0 own;
+      },
       layers-on c (number + length (lists_of d)) old size ds h.1 may.1 rest,
     )
 
@@ -158,7 +169,8 @@ on-IsDocument c d fits h =
 IsShift-neg : (z : ℤ) → IsShift z → IsShift (neg_ℤ z)
 IsShift-neg z h = record { low = omega (arith, ints, h.low, h.high); high = omega (arith, ints, h.low, h.high) }
 
-objects-may : (right down : ℤ) (level : ℕ) (os : List Object) → Each (IsObject level) os → Each (MayBeMoved (neg_ℤ right) (neg_ℤ down)) (map (object_moved right down) os)
+objects-may : (right down : ℤ) (level : ℕ) (os : List Object) → Each (IsObject level) os
+    → Each (MayBeMoved (neg_ℤ right) (neg_ℤ down)) (map (object_moved right down) os)
 objects-may right down level [] h = tt
 objects-may right down level (o ∷ os) h = (rw (number-back o.placing.x right, number-back o.placing.y down) h.0.placing, objects-may right down level os h.1)
 
@@ -168,7 +180,8 @@ body-may c number level size (Objects os) h = objects-may c.right c.down (object
 body-may c number level size Other h = tt
 body-may c number level size (Group' s r) h = tt
 
-layers-may : (c : Canvas) (number size : ℕ) (ds : List (ℕ × Layer)) → Each (IsDrawn size) ds → Each (MayBeDrawn (neg_ℤ c.right) (neg_ℤ c.down)) (drawn_on c number ds)
+layers-may : (c : Canvas) (number size : ℕ) (ds : List (ℕ × Layer)) → Each (IsDrawn size) ds
+    → Each (MayBeDrawn (neg_ℤ c.right) (neg_ℤ c.down)) (drawn_on c number ds)
 layers-may c number size [] h = tt
 layers-may c number size (d ∷ ds) h = (body-may c number d.0 size d.1.body h.0.body, layers-may c (number + length (lists_of d)) size ds h.1)
 
@@ -197,7 +210,8 @@ back-IsCanvasOf c d fits h =
     }
 
 -- ---- the document as its parts were exchanged
-pub on-parts : (c back : Canvas) (d : DocumentParts) (m : MapParts) (selection : set.FinSet cell_cmp) (width height : ℕ) (lists : List (List ℕ)) (ls : List Layer) → m ≡ d.map
+pub on-parts : (c back : Canvas) (d : DocumentParts) (m : MapParts) (selection : set.FinSet cell_cmp) (width height : ℕ) (lists : List (List ℕ))
+    (ls : List Layer) → m ≡ d.map
     → back ≡ with_lists lists c → width ≡ back.width → height ≡ back.height → ls ≡ layers_on MAX_GROUPS c 0 m.layers → selection ≡ back.selection
     → record { map = record m { width = width; height = height; layers = ls }; selection = selection } ≡ with_canvas c d
 on-parts c back d m selection width height lists ls is held wide high laid selected =

@@ -1,5 +1,6 @@
 -- Layers and objects that are put on a canvas one after another.
-use Rattle.std.proofs.Common.{append-nil, append_assoc, ◌-◌, ◌≡◌, ℕ, zero, suc, ◌+◌, ◌≤◌, ℤ, List, [], ◌∷◌, ◌++◌, length, map, take, drop, get_or, Some, refl, sym, ap, ◌∙◌, subst, arith, add-one, length-append, length-drop}
+use Rattle.std.proofs.Common.{append-nil, append_assoc, ◌-◌, ◌≡◌, ℕ, zero, suc, ◌+◌, ◌≤◌, ℤ, List, [], ◌∷◌, ◌++◌, length, map, take, drop, get_or, Some, refl}
+use Rattle.std.proofs.Common.{sym, ap, ◌∙◌, subst, arith, add-one, length-append, length-drop}
 use Rattle.std.specs.List.{AllByRecursion, AllZip, flat_map, slice_get, slice_set}
 use Rattle.std.proofs.Math.Seq.{drop-append-add, drop-append_seam, take-append_seam, take-length, drop-length, set-append_seam}
 use Rattle.std.proofs.lemmas.List.{get_or-append_right, length-take-le, take-append-drop}
@@ -7,7 +8,8 @@ use Rattle.map_model.specs.declared.canvas.Canvas.{Canvas}
 use Rattle.map_model.specs.declared.parts.Body.{Body}
 use Rattle.map_model.specs.declared.parts.Body.TheVariants.{Tiles, Objects, Other, Group'}
 use Rattle.map_model.specs.declared.parts.Layer.{Layer}
-use Rattle.map_model.specs.Canvas.{BodyMayBeMoved, MayBeDrawn, body_on, each_on, layers_on, lists_after, lists_in, lists_left, lists_of, lists_under, one_on, with_lists}
+use Rattle.map_model.specs.Canvas.{BodyMayBeMoved, MayBeDrawn, body_on, each_on, layers_on, lists_after, lists_in, lists_left, lists_of, lists_under, one_on}
+use Rattle.map_model.specs.Canvas.{with_lists}
 use Rattle.map_model.specs.Groups.{body_with_layers, drawn, group_in, inside, layer_with_layers, tree}
 use Rattle.map_model.specs.Keeping.{inner_level, layer_level}
 use Rattle.map_model.specs.Lists.{Each, or_empty}
@@ -67,15 +69,18 @@ total-cells room g (l ∷ ls) =
     let own = ap length (lists_under-list room l ls) in
     omega (arith, later, own, length-append (lists_under room l) (cells room ls))
 
-cells-more : (room : ℕ) (ls : List Layer) (k : ℕ) (l : Layer) → slice_get ls k ≡ Some l → cells room (take (suc k) ls) ≡ cells room (take k ls) ++ lists_under room l
+cells-more : (room : ℕ) (ls : List Layer) (k : ℕ) (l : Layer) → slice_get ls k ≡ Some l
+    → cells room (take (suc k) ls) ≡ cells room (take k ls) ++ lists_under room l
 cells-more room [] zero l e = cc
 cells-more room [] (suc k) l e = cc
 cells-more room (m ∷ ls) zero l e = let same : m ≡ l = cc in lists_under-list room m [] ∙ append-nil (lists_under room m) ∙ ap (lists_under room) same
 cells-more room (m ∷ ls) (suc k) l e =
     lists_under-list room m (take (suc k) ls) ∙ ap (λ xs. lists_under room m ++ xs) (cells-more room ls k l e)
-    ∙ sym (append_assoc (lists_under room m) (cells room (take k ls)) (lists_under room l)) ∙ ap (λ xs. xs ++ lists_under room l) (sym (lists_under-list room m (take k ls)))
+    ∙ sym (append_assoc (lists_under room m) (cells room (take k ls)) (lists_under room l))
+    ∙ ap (λ xs. xs ++ lists_under room l) (sym (lists_under-list room m (take k ls)))
 
-cells-room : (room : ℕ) (ls : List Layer) (k : ℕ) (l : Layer) → slice_get ls k ≡ Some l → length (cells room (take k ls)) + length (lists_under room l) ≤ length (cells room ls)
+cells-room : (room : ℕ) (ls : List Layer) (k : ℕ) (l : Layer) → slice_get ls k ≡ Some l
+    → length (cells room (take k ls)) + length (lists_under room l) ≤ length (cells room ls)
 cells-room room [] zero l e = cc
 cells-room room [] (suc k) l e = cc
 cells-room room (m ∷ ls) zero l e =
@@ -93,10 +98,12 @@ cells-room room (m ∷ ls) (suc k) l e =
 split : {X : Type 0} (xs : List X) (number n : ℕ) → xs ≡ take number xs ++ (take n (drop number xs) ++ drop n (drop number xs))
 split xs number n = sym (take-append-drop number xs) ∙ ap (λ ys. take number xs ++ ys) (sym (take-append-drop n (drop number xs)))
 
-left-split : (prefix piece own rest : List (List ℕ)) (number : ℕ) → number ≡ length prefix → length own ≡ length piece → lists_left number own (prefix ++ (piece ++ rest)) ≡ prefix ++ (own ++ rest)
+left-split : (prefix piece own rest : List (List ℕ)) (number : ℕ) → number ≡ length prefix → length own ≡ length piece
+    → lists_left number own (prefix ++ (piece ++ rest)) ≡ prefix ++ (own ++ rest)
 left-split prefix piece own rest number is long =
     ap (λ k. lists_left k own (prefix ++ (piece ++ rest))) is
-    ∙ (λ i. take-append_seam prefix (piece ++ rest) i ++ (own ++ (drop-append-add prefix (piece ++ rest) (length own) ∙ ap (λ k. drop k (piece ++ rest)) long ∙ drop-append_seam piece rest) i))
+    ∙ (λ i. take-append_seam prefix (piece ++ rest) i ++ (own ++
+    (drop-append-add prefix (piece ++ rest) (length own) ∙ ap (λ k. drop k (piece ++ rest)) long ∙ drop-append_seam piece rest) i))
 
 module _ (number : ℕ) (own more lists : List (List ℕ)) (fits : number + length own + length more ≤ length lists) where
   abbrev prefix : List (List ℕ)
@@ -121,7 +128,8 @@ module _ (number : ℕ) (own more lists : List (List ℕ)) (fits : number + leng
   piece-long = sym (length-take-le (length own) (drop number lists) (omega (arith, fits, length-drop number lists)))
 
   next-long : length more ≡ length next
-  next-long = sym (length-take-le (length more) (drop (length own) (drop number lists)) (omega (arith, fits, length-drop (length own) (drop number lists), length-drop number lists)))
+  next-long = sym (length-take-le (length more) (drop (length own) (drop number lists))
+      (omega (arith, fits, length-drop (length own) (drop number lists), length-drop number lists)))
 
   left-is : lists_left number own lists ≡ prefix ++ (own ++ (next ++ rest))
   left-is = ap (lists_left number own) are ∙ left-split prefix piece own (next ++ rest) number prefix-long piece-long
@@ -134,15 +142,19 @@ module _ (number : ℕ) (own more lists : List (List ℕ)) (fits : number + leng
       let both : length (own ++ more) ≡ length (piece ++ next) = omega (arith, piece-long, next-long, length-append own more, length-append piece next) in
       ap (lists_left (number + length own) more) (left-is ∙ seam) ∙ left-split (prefix ++ own) next more rest (number + length own) there next-long
       ∙ append_assoc prefix own (more ++ rest) ∙ ap (λ xs. prefix ++ xs) (sym (append_assoc own more rest))
-      ∙ sym (ap (lists_left number (own ++ more)) (are ∙ ap (λ xs. prefix ++ xs) (sym (append_assoc piece next rest))) ∙ left-split prefix (piece ++ next) (own ++ more) rest number prefix-long both)
+      ∙ sym (ap (lists_left number (own ++ more)) (are ∙ ap (λ xs. prefix ++ xs) (sym (append_assoc piece next rest)))
+      ∙ left-split prefix (piece ++ next) (own ++ more) rest number prefix-long both)
 
   pub length-left : length (lists_left number own lists) ≡ length lists
   length-left =
-      ap length left-is ∙ (let a = length-append prefix (own ++ (next ++ rest)) in let b = length-append own (next ++ rest) in let c = length-append prefix (piece ++ (next ++ rest)) in let d = length-append piece (next ++ rest) in
-      let same : length (prefix ++ (own ++ (next ++ rest))) ≡ length (prefix ++ (piece ++ (next ++ rest))) = omega (arith, a, b, c, d, piece-long) in same) ∙ sym (ap length are)
+      ap length left-is ∙ (let a = length-append prefix (own ++ (next ++ rest)) in let b = length-append own (next ++ rest) in
+      let c = length-append prefix (piece ++ (next ++ rest)) in let d = length-append piece (next ++ rest) in
+      let same : length (prefix ++ (own ++ (next ++ rest))) ≡ length (prefix ++ (piece ++ (next ++ rest))) = omega (arith, a, b, c, d, piece-long) in same)
+      ∙ sym (ap length are)
 
 -- the cells behind the piece are as they were
-left-agree : (number : ℕ) (own lists : List (List ℕ)) → number + length own ≤ length lists → (j : ℕ) (d : List ℕ) → number + length own ≤ j → get_or (lists_left number own lists) j d ≡ get_or lists j d
+left-agree : (number : ℕ) (own lists : List (List ℕ)) → number + length own ≤ length lists → (j : ℕ) (d : List ℕ) → number + length own ≤ j
+    → get_or (lists_left number own lists) j d ≡ get_or lists j d
 left-agree number own lists fits j d behind =
     let f = take number lists in
     let p = take (length own) (drop number lists) in
@@ -150,7 +162,8 @@ left-agree number own lists fits j d behind =
     let is = split lists number (length own) in
     let f-long : number ≡ length f = sym (length-take-le number lists (omega (arith, fits))) in
     let p-long : length own ≡ length p = sym (length-take-le (length own) (drop number lists) (omega (arith, fits, length-drop number lists))) in
-    let left : lists_left number own lists ≡ (f ++ own) ++ r = ap (lists_left number own) is ∙ left-split f p own r number f-long p-long ∙ sym (append_assoc f own r) in
+    let left : lists_left number own lists ≡ (f ++ own) ++ r = ap (lists_left number own) is ∙ left-split f p own r number f-long p-long
+    ∙ sym (append_assoc f own r) in
     let was : lists ≡ (f ++ p) ++ r = is ∙ sym (append_assoc f p r) in
     let a = length-append f own in
     let b = length-append f p in
@@ -175,7 +188,8 @@ module _ (c : Canvas) (lists : List (List ℕ)) (from : ℕ) (agree : Agree from
   list-same room each number (l ∷ ls) low = λ i. each number l low i ∷ list-same room each (number + counted room l) ls (omega (arith, low)) i
 
   pub one-same : (room number : ℕ) (l : Layer) → from ≤ number → one_on room (with_lists lists c) number l ≡ one_on room c number l
-  one-same zero number l low = one_on-is zero (with_lists lists c) number l ∙ (λ i. record l { body = body-same number l.body low i }) ∙ sym (one_on-is zero c number l)
+  one-same zero number l low = one_on-is zero (with_lists lists c) number l ∙ (λ i. record l { body = body-same number l.body low i })
+      ∙ sym (one_on-is zero c number l)
   one-same (suc room) number l low =
       let behind = number + length (lists_in l.body) in
       let far : from ≤ behind = omega (arith, low) in
@@ -199,12 +213,15 @@ lists_left-none start lists = let here : start + 0 ≡ start = omega arith in ap
 pub none-AreLaid : (room : ℕ) (c : Canvas) (start : ℕ) (ls : List Layer) → AreLaid room c start ls ls c 0 start
 none-AreLaid room c start ls = record { layers = refl; canvas = ap (λ xs. with_lists xs c) (sym (lists_left-none start c.layers)); placed = omega arith }
 
-pub length-laid : (room : ℕ) (c : Canvas) (start : ℕ) (ls now : List Layer) (back : Canvas) (k number : ℕ) → AreLaid room c start ls now back k number → length now ≡ length ls
+pub length-laid : (room : ℕ) (c : Canvas) (start : ℕ) (ls now : List Layer) (back : Canvas) (k number : ℕ) → AreLaid room c start ls now back k number
+    → length now ≡ length ls
 length-laid room c start ls now back k number laid =
     ap length laid.layers ∙ length-append (layers_on room c start (take k ls)) (drop k ls)
-    ∙ ap (λ n. n + length (drop k ls)) (length-each_on (one_on room c) (counted room) start (take k ls)) ∙ sym (length-append (take k ls) (drop k ls)) ∙ ap length (take-append-drop k ls)
+    ∙ ap (λ n. n + length (drop k ls)) (length-each_on (one_on room c) (counted room) start (take k ls)) ∙ sym (length-append (take k ls) (drop k ls))
+    ∙ ap length (take-append-drop k ls)
 
-module _ (room : ℕ) (c : Canvas) (start : ℕ) (ls now : List Layer) (back : Canvas) (k number : ℕ) (l : Layer) (laid : AreLaid room c start ls now back k number) (e : slice_get now k ≡ Some l)
+module _ (room : ℕ) (c : Canvas) (start : ℕ) (ls now : List Layer) (back : Canvas) (k number : ℕ) (l : Layer) (laid : AreLaid room c start ls now back k number)
+    (e : slice_get now k ≡ Some l)
     (count : start + length (cells room ls) ≤ length c.layers) where
   pub laid-layer : slice_get ls k ≡ Some l
   laid-layer = sym (laid-at (one_on room c) (counted room) start ls k) ∙ (rw (← laid.layers) e)
@@ -217,7 +234,8 @@ module _ (room : ℕ) (c : Canvas) (start : ℕ) (ls now : List Layer) (back : C
       let long = length-left start (cells room (take k ls)) [] c.layers (omega (arith, laid-fits)) in
       rw (laid.canvas, long) (omega (arith, laid-fits, laid.placed))
 
-  pub laid-next : (new : Layer) (after : Canvas) (next : ℕ) → new ≡ one_on room back number l → after ≡ with_lists (lists_left number (lists_under room l) back.layers) back
+  pub laid-next : (new : Layer) (after : Canvas) (next : ℕ) → new ≡ one_on room back number l
+      → after ≡ with_lists (lists_left number (lists_under room l) back.layers) back
       → next ≡ number + length (lists_under room l) → AreLaid room c start ls (slice_set now k new) after (k + 1) next
   laid-next new after next is left placed =
       let own = cells room (take k ls) in
@@ -239,12 +257,14 @@ module _ (room : ℕ) (c : Canvas) (start : ℕ) (ls now : List Layer) (back : C
 drop-all : {X : Type 0} (xs : List X) (k : ℕ) → k ≡ length xs → drop k xs ≡ []
 drop-all xs k e = ap (λ n. drop n xs) e ∙ drop-length xs
 
-pub all-AreLaid : (room : ℕ) (c : Canvas) (start : ℕ) (ls now : List Layer) (back : Canvas) (k number : ℕ) → AreLaid room c start ls now back k number → k ≡ length ls
+pub all-AreLaid : (room : ℕ) (c : Canvas) (start : ℕ) (ls now : List Layer) (back : Canvas) (k number : ℕ) → AreLaid room c start ls now back k number
+    → k ≡ length ls
     → (now ≡ layers_on room c start ls) × ((back ≡ with_lists (lists_left start (cells room ls) c.layers) c) × (number ≡ start + length (cells room ls)))
 all-AreLaid room c start ls now back k number laid end =
     let taken : take k ls ≡ ls = ap (λ n. take n ls) end ∙ take-length ls in
     let gone : drop k ls ≡ [] = drop-all ls k end in (
-      laid.layers ∙ ap (λ ms. layers_on room c start ms ++ drop k ls) taken ∙ ap (λ ms. layers_on room c start ls ++ ms) gone ∙ append-nil (layers_on room c start ls),
+      laid.layers ∙ ap (λ ms. layers_on room c start ms ++ drop k ls) taken ∙ ap (λ ms. layers_on room c start ls ++ ms) gone
+          ∙ append-nil (layers_on room c start ls),
       (
         laid.canvas ∙ ap (λ ms. with_lists (lists_left start (cells room ms) c.layers) c) taken,
         laid.placed ∙ ap (λ ms. start + length (cells room ms)) taken,
@@ -252,14 +272,16 @@ all-AreLaid room c start ls now back k number laid end =
     )
 
 -- ---- one layer, and those that stand in it
-after-left : (number : ℕ) (b : Body) (lists : List (List ℕ)) → number + length (lists_in b) ≤ length lists → lists_after number b lists ≡ lists_left number (lists_in b) lists
+after-left : (number : ℕ) (b : Body) (lists : List (List ℕ)) → number + length (lists_in b) ≤ length lists
+    → lists_after number b lists ≡ lists_left number (lists_in b) lists
 after-left number (Tiles e own) lists fits =
     let is = split lists number 1 in
     let f-long : number ≡ length (take number lists) = sym (length-take-le number lists (omega (arith, fits))) in
     let p-long : length (take 1 (drop number lists)) ≡ 1 = length-take-le 1 (drop number lists) (omega (arith, fits, length-drop number lists)) in
     by_piece (take 1 (drop number lists)) p-long is f-long
   where
-    by_piece : (piece : List (List ℕ)) → length piece ≡ 1 → lists ≡ take number lists ++ (piece ++ drop 1 (drop number lists)) → number ≡ length (take number lists) → slice_set lists number own ≡ lists_left number (own ∷ []) lists
+    by_piece : (piece : List (List ℕ)) → length piece ≡ 1 → lists ≡ take number lists ++ (piece ++ drop 1 (drop number lists))
+        → number ≡ length (take number lists) → slice_set lists number own ≡ lists_left number (own ∷ []) lists
     by_piece [] long is prefix = absurd (omega (arith, long))
     by_piece (x ∷ y ∷ zs) long is prefix = absurd (omega (arith, long))
     by_piece (x ∷ []) long is prefix =
@@ -274,12 +296,14 @@ may-list : (right down : ℤ) (room : ℕ) → ((a b : ℕ) (l : Layer) → Each
 may-list right down room each a b [] h = tt
 may-list right down room each a b (l ∷ ls) h =
     let P : ℕ × Layer → Type 0 = MayBeDrawn right down in
-    Each-append P (tree room b l) (drawn room b ls) (each a b l (Each-prefix P (tree room a l) (drawn room a ls) h)) (may-list right down room each a b ls (Each-rest P (tree room a l) (drawn room a ls) h))
+    Each-append P (tree room b l) (drawn room b ls) (each a b l (Each-prefix P (tree room a l) (drawn room a ls) h))
+    (may-list right down room each a b ls (Each-rest P (tree room a l) (drawn room a ls) h))
 
 may-tree : (right down : ℤ) (room a b : ℕ) (l : Layer) → Each (MayBeDrawn right down) (tree room a l) → Each (MayBeDrawn right down) (tree room b l)
 may-tree right down zero a b l h = rw (tree-is zero b l) (let own = rw (tree-is zero a l) at h in (own.0, tt))
 may-tree right down (suc room) a b l h =
-    rw (tree-is (suc room) b l) (let own = rw (tree-is (suc room) a l) at h in (own.0, may-list right down room (may-tree right down room) (inner_level a) (inner_level b) (inside l) own.1))
+    rw (tree-is (suc room) b l) (let own = rw (tree-is (suc room) a l) at h in
+    (own.0, may-list right down room (may-tree right down room) (inner_level a) (inner_level b) (inside l) own.1))
 
 module _ (room : ℕ) (c : Canvas) (number : ℕ) (l : Layer) (count : number + length (lists_under room l) ≤ length c.layers) where
   own-fits : number + length (lists_in l.body) ≤ length c.layers
@@ -299,14 +323,16 @@ module _ (room : ℕ) (c : Canvas) (number : ℕ) (l : Layer) (count : number + 
     pub alone-layer : (body : Body) → body ≡ body_on c number l.body → record l { body = body } ≡ one_on room c number l
     alone-layer body is = (λ i. record l { body = is i }) ∙ sym (ap (λ n. one_on n c number l) none ∙ one_on-is zero c number l)
 
-    pub alone-canvas : (after : Canvas) → after ≡ with_lists (lists_after number l.body c.layers) c → after ≡ with_lists (lists_left number (lists_under room l) c.layers) c
+    pub alone-canvas : (after : Canvas) → after ≡ with_lists (lists_after number l.body c.layers) c
+        → after ≡ with_lists (lists_left number (lists_under room l) c.layers) c
     alone-canvas after is = is ∙ ap (λ xs. with_lists xs c) (after-left number l.body c.layers own-fits ∙ ap (λ xs. lists_left number xs c.layers) (sym alone))
 
     pub alone-next : (end : ℕ) → end ≡ number + length (lists_in l.body) → end ≡ number + length (lists_under room l)
     alone-next end is = is ∙ ap (λ xs. number + length xs) (sym alone)
 
   -- a layer with room in it, whose body is on the canvas
-  module _ (some : 1 ≤ room) (body : Body) (after : Canvas) (behind : ℕ) (laid : body ≡ body_on c number l.body) (left : after ≡ with_lists (lists_after number l.body c.layers) c)
+  module _ (some : 1 ≤ room) (body : Body) (after : Canvas) (behind : ℕ) (laid : body ≡ body_on c number l.body)
+      (left : after ≡ with_lists (lists_after number l.body c.layers) c)
       (next : behind ≡ number + length (lists_in l.body)) where
     within : List (List ℕ)
     within = cells (room - 1) (or_empty (group_in body))
@@ -332,22 +358,26 @@ module _ (room : ℕ) (c : Canvas) (number : ℕ) (l : Layer) (count : number + 
         let long = length-left number (lists_in l.body) [] c.layers (omega (arith, fits)) in
         rw (after-is, long, inner) (omega (arith, fits, next))
 
-    pub inside-may : Each (MayBeDrawn c.right c.down) (tree room layer_level l) → Each (MayBeDrawn after.right after.down) (drawn (room - 1) layer_level (or_empty (group_in body)))
+    pub inside-may : Each (MayBeDrawn c.right c.down) (tree room layer_level l)
+        → Each (MayBeDrawn after.right after.down) (drawn (room - 1) layer_level (or_empty (group_in body)))
     inside-may h = rw (after-is, inner) (by_room room some h)
       where
-        by_room : (n : ℕ) → 1 ≤ n → Each (MayBeDrawn c.right c.down) (tree n layer_level l) → Each (MayBeDrawn c.right c.down) (drawn (n - 1) layer_level (inside l))
+        by_room : (n : ℕ) → 1 ≤ n → Each (MayBeDrawn c.right c.down) (tree n layer_level l)
+            → Each (MayBeDrawn c.right c.down) (drawn (n - 1) layer_level (inside l))
         by_room zero low k = absurd (omega (arith, low))
         by_room (suc n) low k =
             let same : n ≡ suc n - 1 = omega arith in
             let own = rw (tree-is (suc n) layer_level l) at k in
-            subst (λ j. Each (MayBeDrawn c.right c.down) (drawn j layer_level (inside l))) same (may-list c.right c.down n (may-tree c.right c.down n) (inner_level layer_level) layer_level (inside l) own.1)
+            subst (λ j. Each (MayBeDrawn c.right c.down) (drawn j layer_level (inside l))) same
+            (may-list c.right c.down n (may-tree c.right c.down n) (inner_level layer_level) layer_level (inside l) own.1)
 
     pub inside-layer : (new : Body) → new ≡ body_with_layers (layers_on (room - 1) after behind) body → record l { body = new } ≡ one_on room c number l
     inside-layer new is =
         let agree = left-agree number (lists_in l.body) c.layers own-fits in
         let same : (ls : List Layer) → layers_on (room - 1) after behind ls ≡ layers_on (room - 1) c behind ls = λ ls.
         ap (λ b. layers_on (room - 1) b behind ls) after-is
-        ∙ layers-same c (lists_left number (lists_in l.body) c.layers) behind (λ j d low. agree j d (omega (arith, low, next))) (room - 1) behind ls (omega arith) in
+        ∙ layers-same c (lists_left number (lists_in l.body) c.layers) behind (λ j d low. agree j d (omega (arith, low, next))) (room - 1) behind ls
+        (omega arith) in
         (λ i. record l { body = (is ∙ (λ j. body_with_layers (λ ls. same ls j) (laid j))) i }) ∙ by_room room some
       where
         by_room : (n : ℕ) → 1 ≤ n → record l { body = body_with_layers (layers_on (n - 1) c behind) (body_on c number l.body) } ≡ one_on n c number l
@@ -356,7 +386,8 @@ module _ (room : ℕ) (c : Canvas) (number : ℕ) (l : Layer) (count : number + 
             let n-is : suc n - 1 ≡ n = omega arith in
             (λ i. record l { body = body_with_layers (layers_on (n-is i) c (next i)) (body_on c number l.body) }) ∙ sym (one_on-is (suc n) c number l)
 
-    pub inside-canvas : (end : Canvas) → end ≡ with_lists (lists_left behind (cells (room - 1) (or_empty (group_in body))) after.layers) after → end ≡ with_lists (lists_left number (lists_under room l) c.layers) c
+    pub inside-canvas : (end : Canvas) → end ≡ with_lists (lists_left behind (cells (room - 1) (or_empty (group_in body))) after.layers) after
+        → end ≡ with_lists (lists_left number (lists_under room l) c.layers) c
     inside-canvas end is =
         is ∙ ap (λ b. with_lists (lists_left behind (cells (room - 1) (or_empty (group_in body))) b.layers) b) after-is
         ∙ (λ i. with_lists (lists_left (next i) (cells (room - 1) (inner i)) (lists_left number (lists_in l.body) c.layers)) c)
@@ -370,10 +401,12 @@ module _ (room : ℕ) (c : Canvas) (number : ℕ) (l : Layer) (count : number + 
         omega (arith, is, next, sum, same, length-append (lists_in l.body) (cells (room - 1) (inside l)))
 
 -- what each layer has, each of the tree of one of them has
-pub Each-tree_at : (P : ℕ × Layer → Type 0) (room : ℕ) (ls : List Layer) (k : ℕ) (l : Layer) → slice_get ls k ≡ Some l → Each P (drawn room layer_level ls) → Each P (tree room layer_level l)
+pub Each-tree_at : (P : ℕ × Layer → Type 0) (room : ℕ) (ls : List Layer) (k : ℕ) (l : Layer) → slice_get ls k ≡ Some l → Each P (drawn room layer_level ls)
+    → Each P (tree room layer_level l)
 Each-tree_at P room [] zero l e h = cc
 Each-tree_at P room [] (suc k) l e h = cc
-Each-tree_at P room (x ∷ xs) zero l e h = let same : x ≡ l = cc in subst (λ y. Each P (tree room layer_level y)) same (Each-prefix P (tree room layer_level x) (drawn room layer_level xs) h)
+Each-tree_at P room (x ∷ xs) zero l e h = let same : x ≡ l = cc in
+    subst (λ y. Each P (tree room layer_level y)) same (Each-prefix P (tree room layer_level x) (drawn room layer_level xs) h)
 Each-tree_at P room (x ∷ xs) (suc k) l e h = Each-tree_at P room xs k l e (Each-rest P (tree room layer_level x) (drawn room layer_level xs) h)
 
 -- all lists exchanged

@@ -17,7 +17,8 @@ use Rattle.map_model.proofs.TreeChanges.{change_among-along}
 body-along : (f g : Object → Object) (b : Body) (k : ℕ) (o : Object) → option_and_then (λ os. slice_get os k) (objects_in b) ≡ Some o → f o ≡ g o
     → body_with_objects (change_at k f) b ≡ body_with_objects (change_at k g) b
 body-along f g (Tiles e cells) k o found same = refl
-body-along f g (Objects os) k o found same = ap Objects (change_at-along f g os k (λ a there. let is : o ≡ a = cc (found, there) in ap f (sym is) ∙ (same ∙ ap g is)))
+body-along f g (Objects os) k o found same = ap Objects (change_at-along f g os k
+    (λ a there. let is : o ≡ a = cc (found, there) in ap f (sym is) ∙ (same ∙ ap g is)))
 body-along f g Other k o found same = refl
 body-along f g (Group' s r) k o found same = refl
 

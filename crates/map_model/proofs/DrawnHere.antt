@@ -21,7 +21,8 @@ set-same (l ∷ layers) (suc at) layer e = ap (λ rest. l ∷ rest) (set-same la
 pub IsDrawnIn-own : (room : ℕ) (ls : List Layer) (at : ℕ) (l : Layer) → slice_get ls at ≡ Some l → IsDrawnIn room ls l
 IsDrawnIn-own room ls at l e level distinct = own-found l.id room ls at l (position-holder l.id room level ls at l e refl distinct) e refl
 
-IsDrawnIn-group : (room : ℕ) (ls ks : List Layer) (at : ℕ) (k l : Layer) → slice_get ls at ≡ Some k → 0 < room → group_of k ≡ Some ks → IsDrawnIn (room - 1) ks l → IsDrawnIn room ls l
+IsDrawnIn-group : (room : ℕ) (ls ks : List Layer) (at : ℕ) (k l : Layer) → slice_get ls at ≡ Some k → 0 < room → group_of k ≡ Some ks
+    → IsDrawnIn (room - 1) ks l → IsDrawnIn room ls l
 IsDrawnIn-group zero ls ks at k l e some g h level distinct = absurd (omega (arith, some))
 IsDrawnIn-group (suc room) ls ks at k l e some g h level distinct =
     let same : suc room - 1 ≡ room = omega arith in
@@ -35,7 +36,8 @@ IsDrawnIn-group (suc room) ls ks at k l e some g h level distinct =
     (first_some-at (find_one l.id (suc room)) ls at k place e).0 ∙ one
 
 -- what is found in the group of a layer is drawn in the layers where that one stands; f gives its layer
-pub IsDrawnIn-inside : {X : Type 0} (room : ℕ) (ls ks : List Layer) (at : ℕ) (k : Layer) (f : X → Layer) (found : Option X) → slice_get ls at ≡ Some k → room ≢ 0 → group_of k ≡ Some ks
+pub IsDrawnIn-inside : {X : Type 0} (room : ℕ) (ls ks : List Layer) (at : ℕ) (k : Layer) (f : X → Layer) (found : Option X) → slice_get ls at ≡ Some k
+    → room ≢ 0 → group_of k ≡ Some ks
     → IfSome found (λ x. IsDrawnIn (room - 1) ks (f x)) → IfSome found (λ x. IsDrawnIn room ls (f x))
 IsDrawnIn-inside room ls ks at k f None e some g h = tt
 IsDrawnIn-inside room ls ks at k f (Some x) e some g h = IsDrawnIn-group room ls ks at k (f x) e (omega (arith, some)) g h

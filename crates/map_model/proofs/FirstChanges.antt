@@ -27,7 +27,8 @@ module _ {X : Type 0} (p : X → Bool) (f g : X → X) where
   change_first-along [] e = refl
   change_first-along (x ∷ xs) e = by_test (p x) e (change_first-along xs)
     where
-      by_test : (b : Bool) → ((y : X) → cond b (Some x) (find p xs) ≡ Some y → f y ≡ g y) → (((y : X) → find p xs ≡ Some y → f y ≡ g y) → change_first p f xs ≡ change_first p g xs)
+      by_test : (b : Bool) → ((y : X) → cond b (Some x) (find p xs) ≡ Some y → f y ≡ g y)
+          → (((y : X) → find p xs ≡ Some y → f y ≡ g y) → change_first p f xs ≡ change_first p g xs)
           → cond b (f x ∷ xs) (x ∷ change_first p f xs) ≡ cond b (g x ∷ xs) (x ∷ change_first p g xs)
       by_test true e h = ap (λ y. y ∷ xs) (e x refl)
       by_test false e h = ap (λ ys. x ∷ ys) (h e)

@@ -20,7 +20,8 @@ module _ {A K V : Type 0} (place : A → Option K) (p : K → Lens A V) (k : K) 
   found-update f = rw e refl
 
 -- changes of the lens that keep what the look-up finds
-module _ {A K V : Type 0} (place : A → Option K) (p : K → Lens A V) (keeps : (k : K) (f : V → V) (a : A) → place a ≡ Some k → place ((p k).update f a) ≡ Some k) where
+module _ {A K V : Type 0} (place : A → Option K) (p : K → Lens A V)
+    (keeps : (k : K) (f : V → V) (a : A) → place a ≡ Some k → place ((p k).update f a) ≡ Some k) where
   pub found-keeps : (f : V → V) (a : A) → place ((found place p).update f a) ≡ place a
   found-keeps f a = by_place (place a) refl
     where
@@ -44,6 +45,7 @@ module _ {A K V : Type 0} (place : A → Option K) (p : K → Lens A V) (keeps :
       unchanged f v a same None g = refl
       unchanged f v a same (Some k) g = (laws k).update-same f v a g same
 
-      twice : (f g : V → V) (a : A) (o : Option K) → place a ≡ o → update_found p f (update_found p g a o) (place (update_found p g a o)) ≡ update_found p (λ v. f (g v)) a o
+      twice : (f g : V → V) (a : A) (o : Option K) → place a ≡ o
+          → update_found p f (update_found p g a o) (place (update_found p g a o)) ≡ update_found p (λ v. f (g v)) a o
       twice f g a None e = rw e refl
       twice f g a (Some k) e = rw (keeps k g a e) ((laws k).update-update f g a)

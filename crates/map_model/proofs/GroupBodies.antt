@@ -38,18 +38,21 @@ pub group_of-with : (f : List Layer → List Layer) (l : Layer) (ls : List Layer
 group_of-with f l ls h = group_in-with f l.body ls h
 
 -- a body is a group, or has no layers and stays as it is
-pub group_cases : (P : Body → Type 0) → ((b : Body) → group_in b ≡ None → ((f : List Layer → List Layer) → body_with_layers f b ≡ b) → P b) → ((ls : List Layer) → P (Group ls)) → (b : Body) → P b
+pub group_cases : (P : Body → Type 0) → ((b : Body) → group_in b ≡ None → ((f : List Layer → List Layer) → body_with_layers f b ≡ b) → P b)
+    → ((ls : List Layer) → P (Group ls)) → (b : Body) → P b
 group_cases P other group (Tiles e cells) = other (Tiles e cells) refl (λ f. refl)
 group_cases P other group (Objects os) = other (Objects os) refl (λ f. refl)
 group_cases P other group Other = other Other refl (λ f. refl)
-group_cases P other group (Group' s r) = subst P (sym (Group-layers_by (Group' s r) (layers_by (out-Body (Group' s r))) refl)) (group (layers_by (out-Body (Group' s r))))
+group_cases P other group (Group' s r) = subst P (sym (Group-layers_by (Group' s r) (layers_by (out-Body (Group' s r))) refl))
+    (group (layers_by (out-Body (Group' s r))))
 
 -- what stands in a layer that gets other layers
 pub inside-with : (f : List Layer → List Layer) → f [] ≡ [] → (l : Layer) → inside (layer_with_layers f l) ≡ f (inside l)
 inside-with f none l =
     group_cases (λ b. or_empty (group_in (body_with_layers f b)) ≡ f (or_empty (group_in b)))
     (λ b no same. ap (λ c. or_empty (group_in c)) (same f) ∙ ap or_empty no ∙ sym none ∙ ap (λ o. f (or_empty o)) (sym no))
-    (λ ls. ap (λ c. or_empty (group_in c)) (body_with_layers-Group f ls) ∙ ap or_empty (group_in-Group (f ls)) ∙ ap (λ o. f (or_empty o)) (sym (group_in-Group ls)))
+    (λ ls. ap (λ c. or_empty (group_in c)) (body_with_layers-Group f ls) ∙ ap or_empty (group_in-Group (f ls))
+    ∙ ap (λ o. f (or_empty o)) (sym (group_in-Group ls)))
     l.body
 
 pub body_with_layers-twice : (f g : List Layer → List Layer) (b : Body) → body_with_layers f (body_with_layers g b) ≡ body_with_layers (λ ls. f (g ls)) b
@@ -59,7 +62,8 @@ body_with_layers-twice f g =
     (λ ls. ap (body_with_layers f) (body_with_layers-Group g ls) ∙ body_with_layers-Group f (g ls) ∙ sym (body_with_layers-Group (λ ks. f (g ks)) ls))
 
 -- two changes that agree on the layers that stand there
-pub body_with_layers-along : (f g : List Layer → List Layer) (b : Body) → ((ls : List Layer) → group_in b ≡ Some ls → f ls ≡ g ls) → body_with_layers f b ≡ body_with_layers g b
+pub body_with_layers-along : (f g : List Layer → List Layer) (b : Body) → ((ls : List Layer) → group_in b ≡ Some ls → f ls ≡ g ls)
+    → body_with_layers f b ≡ body_with_layers g b
 body_with_layers-along f g =
     group_cases (λ b. ((ls : List Layer) → group_in b ≡ Some ls → f ls ≡ g ls) → body_with_layers f b ≡ body_with_layers g b)
     (λ b no same k. same f ∙ sym (same g))

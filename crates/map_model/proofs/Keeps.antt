@@ -1,5 +1,7 @@
 -- Changes that keep a map well formed, and where its cells stand.
-use Rattle.std.proofs.Common.{◌≡◌, ◌≢◌, IsUtf8, ℕ, zero, suc, ◌+◌, ◌*◌, ◌^◌, ◌<◌, ◌≤◌, List, [], ◌∷◌, ◌++◌, append-nil, append_assoc, length, length-append, take, drop, Bool, true, false, cond, find, Option, Some, None, IsSome, IsSomeAnd, option_and_then, refl, sym, ap, ◌∙◌, subst, arith}
+use Rattle.std.proofs.Common.{◌≡◌, ◌≢◌, IsUtf8, ℕ, zero, suc, ◌+◌, ◌*◌, ◌^◌, ◌<◌, ◌≤◌, List, [], ◌∷◌, ◌++◌, append-nil, append_assoc, length, length-append}
+use Rattle.std.proofs.Common.{take, drop, Bool, true, false, cond, find, Option, Some, None, IsSome, IsSomeAnd, option_and_then, refl, sym, ap, ◌∙◌, subst}
+use Rattle.std.proofs.Common.{arith}
 use Rattle.std.specs.List.{flat_map, slice_get, insert, remove}
 use Rattle.std.proofs.lemmas.Nat.{mul-add-lt}
 use Rattle.std.proofs.lemmas.Grind.{flat_map-append}
@@ -21,13 +23,16 @@ use Rattle.map_model.specs.Groups.{all_drawn, bare, change_among, drawn, group_i
 use Rattle.map_model.specs.Keeping.{body_names, deepest_level, inner_level, layer_level}
 use Rattle.map_model.specs.Layers.{layer_at, layer_with_name, layer_with_visible, siblings_of, with_next_ids, with_siblings, without_layer_at}
 use Rattle.map_model.specs.Properties.{level_by, level_of}
-use Rattle.map_model.specs.WellFormed.{IsId, AreIds, IsTileValue, IsBody, IsDrawn, IsLayer, AreDrawn, AreLayers, IsWellFormed, ids_of, object_ids_in, object_ids_of, object_ids}
+use Rattle.map_model.specs.WellFormed.{IsId, AreIds, IsTileValue, IsBody, IsDrawn, IsLayer, AreDrawn, AreLayers, IsWellFormed, ids_of, object_ids_in}
+use Rattle.map_model.specs.WellFormed.{object_ids_of, object_ids}
 use Rattle.map_model.proofs.GroupBodies.{IsLayer-with, IsLayer-without, bare-with, group_of-with, object_ids-with}
-use Rattle.map_model.proofs.Listings.{Each-append, Each-prefix, Each-rest, IsReplaced, flat-IsReplaced, insert-IsReplaced, remove-IsReplaced, take-one, AreNewIds, AreNewIds-none, AreIds-replaced, AreNewIds-piece}
+use Rattle.map_model.proofs.Listings.{Each-append, Each-prefix, Each-rest, IsReplaced, flat-IsReplaced, insert-IsReplaced, remove-IsReplaced, take-one}
+use Rattle.map_model.proofs.Listings.{AreNewIds, AreNewIds-none, AreIds-replaced, AreNewIds-piece}
 use Rattle.map_model.proofs.Trees.{Stands, below, change_among-none, stands, tree-is}
 
 -- ---- other layers in the place of a map's
-pub layers-IsWellFormed : (m : MapParts) (ls : List Layer) → AreLayers (m.width * m.height) m.next_layer_id m.next_object_id ls → IsWellFormed m → IsWellFormed (record m { layers = ls })
+pub layers-IsWellFormed : (m : MapParts) (ls : List Layer) → AreLayers (m.width * m.height) m.next_layer_id m.next_object_id ls → IsWellFormed m
+    → IsWellFormed (record m { layers = ls })
 layers-IsWellFormed m ls are h = record {
   size = h.size;
   tile_size = h.tile_size;
@@ -55,16 +60,19 @@ IsReplaced-within {X = X} {prefix = prefix} {piece = piece} {new = new} {rest = 
     longer : (p : List X) → (prefix ++ (p ++ rest)) ++ behind ≡ prefix ++ (p ++ (rest ++ behind))
     longer p = append_assoc prefix (p ++ rest) behind ∙ ap (λ zs. prefix ++ zs) (append_assoc p rest behind)
 
-IsReplaced-as : {X : Type 0} {prefix piece new rest xs ys vs ws : List X} → vs ≡ xs → ws ≡ ys → IsReplaced prefix piece new rest xs ys → IsReplaced prefix piece new rest vs ws
+IsReplaced-as : {X : Type 0} {prefix piece new rest xs ys vs ws : List X} → vs ≡ xs → ws ≡ ys → IsReplaced prefix piece new rest xs ys
+    → IsReplaced prefix piece new rest vs ws
 IsReplaced-as e f r = record { was = e ∙ r.was; now = f ∙ r.now }
 
 -- what is the same of the old piece and the new one is the same of both lists
-flat-same : {X A : Type 0} (g : X → List A) {prefix piece new rest xs ys : List X} → IsReplaced prefix piece new rest xs ys → flat_map g new ≡ flat_map g piece → flat_map g ys ≡ flat_map g xs
+flat-same : {X A : Type 0} (g : X → List A) {prefix piece new rest xs ys : List X} → IsReplaced prefix piece new rest xs ys → flat_map g new ≡ flat_map g piece
+    → flat_map g ys ≡ flat_map g xs
 flat-same g {prefix = prefix} {rest = rest} r same =
     let f = flat-IsReplaced g r in
     f.now ∙ ap (λ p. flat_map g prefix ++ (p ++ flat_map g rest)) same ∙ sym f.was
 
-module _ {size next next_object : ℕ} {prefix piece new rest xs ys : List (ℕ × Layer)} (r : IsReplaced prefix piece new rest xs ys) (h : AreDrawn size next next_object xs) where
+module _ {size next next_object : ℕ} {prefix piece new rest xs ys : List (ℕ × Layer)} (r : IsReplaced prefix piece new rest xs ys)
+    (h : AreDrawn size next next_object xs) where
   was-each : Each (IsDrawn size) (prefix ++ (piece ++ rest))
   was-each = rw (← r.was) h.each
 
@@ -77,7 +85,8 @@ module _ {size next next_object : ℕ} {prefix piece new rest xs ys : List (ℕ 
       (Each-append (IsDrawn size) new rest k (Each-rest (IsDrawn size) piece rest (Each-rest (IsDrawn size) prefix (piece ++ rest) was-each))))
 
   -- another piece, as long, with the same ids of layers
-  pub AreDrawn-changed : length new ≡ length piece → Each (IsDrawn size) new → flat_map ids_of new ≡ flat_map ids_of piece → AreIds next_object (flat_map object_ids_of ys) → AreDrawn size next next_object ys
+  pub AreDrawn-changed : length new ≡ length piece → Each (IsDrawn size) new → flat_map ids_of new ≡ flat_map ids_of piece
+      → AreIds next_object (flat_map object_ids_of ys) → AreDrawn size next next_object ys
   AreDrawn-changed long k same objects = record {
     few = let lengths = length-pieces r in omega (arith, lengths, long, h.few);
     each = now-each k;
@@ -86,7 +95,8 @@ module _ {size next next_object : ℕ} {prefix piece new rest xs ys : List (ℕ 
   }
 
   -- another piece with new ids
-  pub AreDrawn-replaced : length xs + length new ≤ MAX_LAYERS → Each (IsDrawn size) new → AreNewIds next (flat_map ids_of new) (flat_map ids_of prefix ++ flat_map ids_of rest)
+  pub AreDrawn-replaced : length xs + length new ≤ MAX_LAYERS → Each (IsDrawn size) new
+      → AreNewIds next (flat_map ids_of new) (flat_map ids_of prefix ++ flat_map ids_of rest)
       → AreNewIds next_object (flat_map object_ids_of new) (flat_map object_ids_of prefix ++ flat_map object_ids_of rest) → AreDrawn size next next_object ys
   AreDrawn-replaced few k ids objects = record {
     few = let lengths = length-pieces r in omega (arith, lengths, few);
@@ -96,18 +106,22 @@ module _ {size next next_object : ℕ} {prefix piece new rest xs ys : List (ℕ 
   }
 
 -- without the piece
-pub AreDrawn-taken : {size next next_object : ℕ} {prefix piece rest xs ys : List (ℕ × Layer)} → IsReplaced prefix piece [] rest xs ys → AreDrawn size next next_object xs → AreDrawn size next next_object ys
+pub AreDrawn-taken : {size next next_object : ℕ} {prefix piece rest xs ys : List (ℕ × Layer)} → IsReplaced prefix piece [] rest xs ys
+    → AreDrawn size next next_object xs → AreDrawn size next next_object ys
 AreDrawn-taken {next = next} {next_object = next_object} {prefix = prefix} {rest = rest} r h =
-    AreDrawn-replaced r h (omega (arith, h.few)) tt (AreNewIds-none next (flat_map ids_of prefix ++ flat_map ids_of rest)) (AreNewIds-none next_object (flat_map object_ids_of prefix ++ flat_map object_ids_of rest))
+    AreDrawn-replaced r h (omega (arith, h.few)) tt (AreNewIds-none next (flat_map ids_of prefix ++ flat_map ids_of rest))
+    (AreNewIds-none next_object (flat_map object_ids_of prefix ++ flat_map object_ids_of rest))
 
 -- with the piece at another place
-pub AreDrawn-moved : {size next next_object : ℕ} {prefix piece rest before behind xs ys zs : List (ℕ × Layer)} → IsReplaced prefix piece [] rest xs ys → IsReplaced before [] piece behind ys zs
+pub AreDrawn-moved : {size next next_object : ℕ} {prefix piece rest before behind xs ys zs : List (ℕ × Layer)} → IsReplaced prefix piece [] rest xs ys
+    → IsReplaced before [] piece behind ys zs
     → AreDrawn size next next_object xs → AreDrawn size next next_object zs
 AreDrawn-moved {next = next} {next_object = next_object} {prefix = prefix} {piece = piece} {rest = rest} {before = before} {behind = behind} r q h =
     let between : prefix ++ rest ≡ before ++ behind = sym r.now ∙ q.was in
     AreDrawn-replaced q (AreDrawn-taken r h) (let lengths = length-pieces r in omega (arith, lengths, h.few)) (piece-IsDrawn r h)
     (rw (← flat_map-append ids_of before behind, ← between, flat_map-append ids_of prefix rest) (AreNewIds-piece (flat-IsReplaced ids_of r) h.layer_ids))
-    (rw (← flat_map-append object_ids_of before behind, ← between, flat_map-append object_ids_of prefix rest) (AreNewIds-piece (flat-IsReplaced object_ids_of r) h.object_ids))
+    (rw (← flat_map-append object_ids_of before behind, ← between, flat_map-append object_ids_of prefix rest)
+    (AreNewIds-piece (flat-IsReplaced object_ids_of r) h.object_ids))
 
 -- ---- the layer with an id
 -- what is drawn behind a layer, where the same layers stand in it
@@ -121,11 +135,13 @@ module _ {id room level : ℕ} {l : Layer} {xs : List (ℕ × Layer)} {ys : (Lay
       → IsReplaced s.prefix ((s.own_level, bare l) ∷ []) ((s.own_level, bare (f l)) ∷ []) (below s.own_room s.own_level l ++ s.rest) xs (ys f)
   own-IsReplaced f same = record {
     was = s.was ∙ ap (λ t. s.prefix ++ (t ++ s.rest)) (tree-is s.own_room s.own_level l);
-    now = s.now f ∙ ap (λ t. s.prefix ++ (t ++ s.rest)) (tree-is s.own_room s.own_level (f l) ∙ ap (λ t. (s.own_level, bare (f l)) ∷ t) (below-same s.own_room s.own_level l (f l) same));
+    now = s.now f ∙ ap (λ t. s.prefix ++ (t ++ s.rest)) (tree-is s.own_room s.own_level (f l) ∙ ap (λ t. (s.own_level, bare (f l)) ∷ t)
+        (below-same s.own_room s.own_level l (f l) same));
   }
 
 -- where the layer with an id stands in a map
-pub layer-Stands : (m : MapParts) (id : ℕ) (l : Layer) → layer_of m id ≡ Some l → Stands id MAX_GROUPS layer_level l (all_drawn m.layers) (λ f. all_drawn (change_among id MAX_GROUPS f m.layers))
+pub layer-Stands : (m : MapParts) (id : ℕ) (l : Layer) → layer_of m id ≡ Some l
+    → Stands id MAX_GROUPS layer_level l (all_drawn m.layers) (λ f. all_drawn (change_among id MAX_GROUPS f m.layers))
 layer-Stands m id l e = stands id MAX_GROUPS layer_level m.layers l e
 
 pub level_of-found : (m : MapParts) (id : ℕ) (l : Layer) (e : layer_of m id ≡ Some l) → level_of m id ≡ (layer-Stands m id l e).own_level
@@ -145,11 +161,13 @@ changed-keeps id f l m e same own_id is ids h =
     let s = layer-Stands m id l e in
     let here : IsLayer s.own_level (m.width * m.height) (f l) = rw (← level_of-found m id l e) is in
     layers-IsWellFormed m (change_among id MAX_GROUPS f m.layers)
-    (AreDrawn-changed (own-IsReplaced s f same) h.layers refl (IsLayer-with (λ ls. []) s.own_level (m.width * m.height) (f l) here, tt) (ap (λ n. n ∷ []) own_id) ids) h
+    (AreDrawn-changed (own-IsReplaced s f same) h.layers refl (IsLayer-with (λ ls. []) s.own_level (m.width * m.height) (f l) here, tt)
+    (ap (λ n. n ∷ []) own_id) ids) h
 
 -- its objects' ids replaced in those of all
 pub object_ids-IsReplaced : (id : ℕ) (f : Layer → Layer) (l : Layer) (m : MapParts) (e : layer_of m id ≡ Some l) → inside (f l) ≡ inside l
-    → (prefix : List ℕ) × ((rest : List ℕ) × IsReplaced prefix (object_ids_in l.body) (object_ids_in (f l).body) rest (object_ids m.layers) (object_ids (change_among id MAX_GROUPS f m.layers)))
+    → (prefix : List ℕ) × ((rest : List ℕ) × IsReplaced prefix (object_ids_in l.body) (object_ids_in (f l).body) rest (object_ids m.layers)
+    (object_ids (change_among id MAX_GROUPS f m.layers)))
 object_ids-IsReplaced id f l m e same =
     let r = flat-IsReplaced object_ids_of (own-IsReplaced (layer-Stands m id l e) f same) in
     let was = append-nil (object_ids_in (bare l).body) ∙ object_ids-with (λ ls. []) l.body in
@@ -172,8 +190,10 @@ with_layer-keeps id f m layers is k h = rw is (by_layer (layer_of m id) refl)
     by_layer None e = rw (change_among-none id MAX_GROUPS f m.layers e) h
     by_layer (Some l) e =
         let r = object_ids-IsReplaced id f l m e (k.inside l) in
-        let same : object_ids (change_among id MAX_GROUPS f m.layers) ≡ object_ids m.layers = r.1.1.now ∙ ap (λ p. r.0 ++ (p ++ r.1.0)) (k.object_ids l) ∙ sym r.1.1.was in
-        changed-keeps id f l m e (k.inside l) (k.ids l) (k.layers (level_of m id) (m.width * m.height) l (layer_of-IsLayer m id l e h)) (rw same h.layers.object_ids) h
+        let same : object_ids (change_among id MAX_GROUPS f m.layers) ≡ object_ids m.layers = r.1.1.now ∙ ap (λ p. r.0 ++ (p ++ r.1.0)) (k.object_ids l)
+        ∙ sym r.1.1.was in
+        changed-keeps id f l m e (k.inside l) (k.ids l) (k.layers (level_of m id) (m.width * m.height) l (layer_of-IsLayer m id l e h))
+        (rw same h.layers.object_ids) h
 
 pub layer_with_visible-keeps : (visible : Bool) → KeepsLayers (layer_with_visible visible)
 layer_with_visible-keeps visible = record {
@@ -260,13 +280,15 @@ length-tiles_in m id t h = by_layer (layer_of m id) refl t
     by_layer None e q = absurd q
     by_layer (Some l) e q = length-tiles_of (level_of m id) (m.width * m.height) l.body q (layer_of-IsLayer m id l e h).body
 
-pub number-within : (m : MapParts) (id x y number : ℕ) → number ≡ y * m.width + x → x < m.width → y < m.height → HasTiles m id → IsWellFormed m → number < length (tiles_in m id)
+pub number-within : (m : MapParts) (id x y number : ℕ) → number ≡ y * m.width + x → x < m.width → y < m.height → HasTiles m id → IsWellFormed m
+    → number < length (tiles_in m id)
 number-within m id x y number is column row t h =
     let size = length-tiles_in m id t h in
     let inside = mul-add-lt y m.width x m.height row column in
     omega arith
 
-pub numbers-within : (m : MapParts) (id : ℕ) (es : List CellEdit) → Each (IsWithin m) es → HasTiles m id → IsWellFormed m → Each (IsBelow m.width (length (tiles_in m id))) es
+pub numbers-within : (m : MapParts) (id : ℕ) (es : List CellEdit) → Each (IsWithin m) es → HasTiles m id → IsWellFormed m
+    → Each (IsBelow m.width (length (tiles_in m id))) es
 numbers-within m id [] h t w = tt
 numbers-within m id (e ∷ es) h t w = (number-within m id e.x e.y (e.y * m.width + e.x) refl h.0.0 h.0.1 t w, numbers-within m id es h.1 t w)
 
@@ -281,7 +303,8 @@ pub record StandAmong (m : MapParts) (parent : Option ℕ) (ls : List Layer) : T
   pub now : (f : List Layer → List Layer) → all_drawn (with_siblings parent f m).layers ≡ prefix ++ (drawn room level (f ls) ++ rest)
 
 -- a group has room for layers in it
-has_room : (room level deep : ℕ) (size : ℕ) (b : Body) (ls : List Layer) → group_in b ≡ Some ls → IsBody level size b → level + 2 * room ≡ deepest_level → (r : ℕ) × (room ≡ suc r)
+has_room : (room level deep : ℕ) (size : ℕ) (b : Body) (ls : List Layer) → group_in b ≡ Some ls → IsBody level size b → level + 2 * room ≡ deepest_level
+    → (r : ℕ) × (room ≡ suc r)
 has_room zero level deep size (Tiles e cells) ls g h d = cc
 has_room zero level deep size (Objects os) ls g h d = cc
 has_room zero level deep size Other ls g h d = cc
@@ -301,8 +324,10 @@ siblings-StandAmong m None ls e h =
     }
 siblings-StandAmong m (Some id) ls e h = by_layer (layer_of m id) refl e
   where
-    by_room : (l : Layer) (found : layer_of m id ≡ Some l) → group_of l ≡ Some ls → (room level : ℕ) (prefix rest : List (ℕ × Layer)) → all_drawn m.layers ≡ prefix ++ (tree room level l ++ rest)
-        → ((f : Layer → Layer) → all_drawn (change_among id MAX_GROUPS f m.layers) ≡ prefix ++ (tree room level (f l) ++ rest)) → (r : ℕ) × (room ≡ suc r) → StandAmong m (Some id) ls
+    by_room : (l : Layer) (found : layer_of m id ≡ Some l) → group_of l ≡ Some ls → (room level : ℕ) (prefix rest : List (ℕ × Layer))
+        → all_drawn m.layers ≡ prefix ++ (tree room level l ++ rest)
+        → ((f : Layer → Layer) → all_drawn (change_among id MAX_GROUPS f m.layers) ≡ prefix ++ (tree room level (f l) ++ rest)) → (r : ℕ) × (room ≡ suc r)
+        → StandAmong m (Some id) ls
     by_room l found g room level prefix rest was now more = record {
       room = more.0;
       level = inner_level level;
@@ -312,7 +337,8 @@ siblings-StandAmong m (Some id) ls e h = by_layer (layer_of m id) refl e
       now = λ f. now (layer_with_layers f) ∙ pieces (layer_with_layers f l) (ap or_empty (group_of-with f l ls g)) (bare-with f l);
     }
       where
-        pieces : (k : Layer) {ks : List Layer} → inside k ≡ ks → bare k ≡ bare l → prefix ++ (tree room level k ++ rest) ≡ (prefix ++ ((level, bare l) ∷ [])) ++ (drawn more.0 (inner_level level) ks ++ rest)
+        pieces : (k : Layer) {ks : List Layer} → inside k ≡ ks → bare k ≡ bare l
+            → prefix ++ (tree room level k ++ rest) ≡ (prefix ++ ((level, bare l) ∷ [])) ++ (drawn more.0 (inner_level level) ks ++ rest)
         pieces k are same =
             ap (λ n. prefix ++ (tree n level k ++ rest)) more.1 ∙ ap (λ t. prefix ++ (t ++ rest)) (tree-is (suc more.0) level k)
             ∙ (λ i. prefix ++ (((level, same i) ∷ drawn more.0 (inner_level level) (are i)) ++ rest))
@@ -327,10 +353,12 @@ siblings-StandAmong m (Some id) ls e h = by_layer (layer_of m id) refl e
         by_room l found g s.own_room s.own_level s.prefix s.rest s.was s.now (has_room s.own_room s.own_level 0 (m.width * m.height) l.body ls g here (s.deep))
 
 module _ (m : MapParts) (parent : Option ℕ) (ls : List Layer) (e : siblings_of m parent ≡ Some ls) (h : IsWellFormed m) where
-  siblings-IsWellFormed : (f : List Layer → List Layer) → AreLayers (m.width * m.height) m.next_layer_id m.next_object_id (with_siblings parent f m).layers → IsWellFormed (with_siblings parent f m)
+  siblings-IsWellFormed : (f : List Layer → List Layer) → AreLayers (m.width * m.height) m.next_layer_id m.next_object_id (with_siblings parent f m).layers
+      → IsWellFormed (with_siblings parent f m)
   siblings-IsWellFormed f are = by_parent parent are
     where
-      by_parent : (p : Option ℕ) → AreLayers (m.width * m.height) m.next_layer_id m.next_object_id (with_siblings p f m).layers → IsWellFormed (with_siblings p f m)
+      by_parent : (p : Option ℕ) → AreLayers (m.width * m.height) m.next_layer_id m.next_object_id (with_siblings p f m).layers
+          → IsWellFormed (with_siblings p f m)
       by_parent None k = layers-IsWellFormed m (f m.layers) k h
       by_parent (Some id) k = layers-IsWellFormed m (change_among id MAX_GROUPS (layer_with_layers f) m.layers) k h
 
@@ -339,20 +367,24 @@ module _ (m : MapParts) (parent : Option ℕ) (ls : List Layer) (e : siblings_of
   removed-keeps k =
       let s = siblings-StandAmong m parent ls e h in
       siblings-IsWellFormed (λ ks. remove ks k)
-      (AreDrawn-taken (IsReplaced-as s.was (s.now (λ ks. remove ks k)) (IsReplaced-within s.prefix s.rest (flat-IsReplaced (tree s.room s.level) (remove-IsReplaced ls k)))) h.layers)
+      (AreDrawn-taken (IsReplaced-as s.was (s.now (λ ks. remove ks k))
+      (IsReplaced-within s.prefix s.rest (flat-IsReplaced (tree s.room s.level) (remove-IsReplaced ls k)))) h.layers)
 
   -- the map with one of the layers of a parent at another place among them
   pub moved-keeps : (from to : ℕ) (l : Layer) → slice_get ls from ≡ Some l → IsWellFormed (with_siblings parent (λ ks. insert (remove ks from) to l) m)
   moved-keeps from to l there =
       let s = siblings-StandAmong m parent ls e h in
-      let gone = IsReplaced-as s.was (s.now (λ ks. remove ks from)) (IsReplaced-within s.prefix s.rest (flat-IsReplaced (tree s.room s.level) (rw (take-one ls from l there) at (remove-IsReplaced ls from)))) in
-      let back = IsReplaced-as (s.now (λ ks. remove ks from)) (s.now (λ ks. insert (remove ks from) to l)) (IsReplaced-within s.prefix s.rest (flat-IsReplaced (tree s.room s.level) (insert-IsReplaced (remove ls from) to l))) in
+      let gone = IsReplaced-as s.was (s.now (λ ks. remove ks from))
+      (IsReplaced-within s.prefix s.rest (flat-IsReplaced (tree s.room s.level) (rw (take-one ls from l there) at (remove-IsReplaced ls from)))) in
+      let back = IsReplaced-as (s.now (λ ks. remove ks from)) (s.now (λ ks. insert (remove ks from) to l))
+      (IsReplaced-within s.prefix s.rest (flat-IsReplaced (tree s.room s.level) (insert-IsReplaced (remove ls from) to l))) in
       siblings-IsWellFormed (λ ks. insert (remove ks from) to l) (AreDrawn-moved gone back h.layers)
 
 pub remove-keeps : (m : MapParts) (place : LayerPlace) → IsSome (layer_at m place) → IsWellFormed m → IsWellFormed (without_layer_at place m)
 remove-keeps m place there h = by_siblings (siblings_of m place.parent) refl there
   where
-    by_siblings : (o : Option (List Layer)) → siblings_of m place.parent ≡ o → IsSome (option_and_then (λ ls. slice_get ls place.at) o) → IsWellFormed (without_layer_at place m)
+    by_siblings : (o : Option (List Layer)) → siblings_of m place.parent ≡ o → IsSome (option_and_then (λ ls. slice_get ls place.at) o)
+        → IsWellFormed (without_layer_at place m)
     by_siblings None e q = cc
     by_siblings (Some ls) e q = removed-keeps m place.parent ls e h place.at
 
@@ -392,14 +424,17 @@ tree-alone zero level l none = tree-is zero level l
 tree-alone (suc room) level l none = tree-is (suc room) level l ∙ ap (λ ks. (level, bare l) ∷ drawn room (inner_level level) ks) none
 
 -- a layer without objects and layers, with the next id, put in at a place in no group
-pub numbered-keeps : (m : MapParts) (k : ℕ) (l : Layer) → length (all_drawn m.layers) < MAX_LAYERS → m.next_layer_id < MAX_NEXT_ID → IsLayer layer_level (m.width * m.height) l
+pub numbered-keeps : (m : MapParts) (k : ℕ) (l : Layer) → length (all_drawn m.layers) < MAX_LAYERS → m.next_layer_id < MAX_NEXT_ID
+    → IsLayer layer_level (m.width * m.height) l
     → l.id ≡ m.next_layer_id → object_ids_in l.body ≡ [] → inside l ≡ [] → IsWellFormed m
     → IsWellFormed (record (with_next_ids (m.next_layer_id + 1) m.next_object_id m) { layers = insert m.layers k l })
 numbered-keeps m k l few below layer id none alone h =
     let raised = raised-keeps m below h in
-    let own : drawn MAX_GROUPS layer_level (l ∷ []) ≡ (layer_level, bare l) ∷ [] = append-nil (tree MAX_GROUPS layer_level l) ∙ tree-alone MAX_GROUPS layer_level l alone in
+    let own : drawn MAX_GROUPS layer_level (l ∷ []) ≡ (layer_level, bare l) ∷ [] = append-nil (tree MAX_GROUPS layer_level l)
+    ∙ tree-alone MAX_GROUPS layer_level l alone in
     let r = rw own at (flat-IsReplaced (tree MAX_GROUPS layer_level) (insert-IsReplaced m.layers k l)) in
-    let was : flat_map ids_of (drawn MAX_GROUPS layer_level (take k m.layers) ++ drawn MAX_GROUPS layer_level (drop k m.layers)) ≡ flat_map ids_of (all_drawn m.layers) = ap (flat_map ids_of) (sym r.was) in
+    let was : flat_map ids_of (drawn MAX_GROUPS layer_level (take k m.layers) ++ drawn MAX_GROUPS layer_level (drop k m.layers))
+    ≡ flat_map ids_of (all_drawn m.layers) = ap (flat_map ids_of) (sym r.was) in
     layers-IsWellFormed (with_next_ids (m.next_layer_id + 1) m.next_object_id m) (insert m.layers k l)
     (AreDrawn-replaced r raised.layers (omega (arith, few)) (IsLayer-with (λ ls. []) layer_level (m.width * m.height) l layer, tt)
     (rw (← flat_map-append ids_of (drawn MAX_GROUPS layer_level (take k m.layers)) (drawn MAX_GROUPS layer_level (drop k m.layers)), was, id) (record {
@@ -411,7 +446,8 @@ numbered-keeps m k l few below layer id none alone h =
 
 -- ---- what stays with other layers
 -- the selection lies in the map with other layers too
-pub with_siblings-IsSelectionOf : (parent : Option ℕ) (f : List Layer → List Layer) (m : MapParts) (selection : set.FinSet cell_cmp) → IsSelectionOf m selection → IsSelectionOf (with_siblings parent f m) selection
+pub with_siblings-IsSelectionOf : (parent : Option ℕ) (f : List Layer → List Layer) (m : MapParts) (selection : set.FinSet cell_cmp) → IsSelectionOf m selection
+    → IsSelectionOf (with_siblings parent f m) selection
 with_siblings-IsSelectionOf None f m selection h = h
 with_siblings-IsSelectionOf (Some id) f m selection h = h
 
@@ -430,9 +466,11 @@ siblings_of-few m parent ls e h =
     let own = length-drawn_le s.room s.level ls in
     omega (arith, h.layers.few, long, own, length-append s.prefix (drawn s.room s.level ls ++ s.rest), length-append (drawn s.room s.level ls) s.rest)
 
-pub siblings_of-room : (m : MapParts) (place : LayerPlace) → IsSomeAnd (siblings_of m place.parent) (λ ls. place.at ≤ length ls) → IsWellFormed m → IsSomeAnd (siblings_of m place.parent) (λ ls. length ls + 1 < 2 ^ 63)
+pub siblings_of-room : (m : MapParts) (place : LayerPlace) → IsSomeAnd (siblings_of m place.parent) (λ ls. place.at ≤ length ls) → IsWellFormed m
+    → IsSomeAnd (siblings_of m place.parent) (λ ls. length ls + 1 < 2 ^ 63)
 siblings_of-room m place there h = by_siblings (siblings_of m place.parent) refl there
   where
-    by_siblings : (o : Option (List Layer)) → siblings_of m place.parent ≡ o → IsSomeAnd o (λ ls. place.at ≤ length ls) → IsSomeAnd o (λ ls. length ls + 1 < 2 ^ 63)
+    by_siblings : (o : Option (List Layer)) → siblings_of m place.parent ≡ o → IsSomeAnd o (λ ls. place.at ≤ length ls)
+        → IsSomeAnd o (λ ls. length ls + 1 < 2 ^ 63)
     by_siblings None e q = q
     by_siblings (Some ls) e q = let few = siblings_of-few m place.parent ls e h in omega (arith, few)

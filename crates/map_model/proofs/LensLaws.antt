@@ -15,7 +15,8 @@ use Rattle.map_model.specs.Lookups.{layer_of}
 use Rattle.map_model.proofs.GroupBodies.{group_of-with, body_with_layers-along, body_with_layers-same, body_with_layers-twice}
 use Rattle.map_model.proofs.TreeChanges.{layer_among-change_among, change_among-change_among, change_among-along, change_among-same}
 use Rattle.map_model.proofs.FirstChanges.{change_first-change_first, find-change_first, change_first-along, change_first-same}
-use Rattle.map_model.specs.Lens.{Lens, IsLawfulLens, AreApart, whole, inner, of_first, of_place, layers, group, siblings, of_layer, objects, layer_objects, of_object, next_layer_id, next_object_id, name, visible, selection, tilesets, placing, put}
+use Rattle.map_model.specs.Lens.{Lens, IsLawfulLens, AreApart, whole, inner, of_first, of_place, layers, group, siblings, of_layer, objects, layer_objects}
+use Rattle.map_model.specs.Lens.{of_object, next_layer_id, next_object_id, name, visible, selection, tilesets, placing, put}
 
 pub some-eq : {V : Type 0} (v w : V) → Some v ≡ Some w → v ≡ w
 some-eq v w e = cc
@@ -35,15 +36,18 @@ whole-laws get set get-set set-get set-set = record {
 
 pub inner-laws : {A V W : Type 0} (p : Lens A V) (q : Lens V W) → IsLawfulLens p → IsLawfulLens q → IsLawfulLens (inner p q)
 inner-laws p q ps qs = record {
-  get-update = λ f w a e. let s = within q.get w (p.get a) e in ap (option_and_then q.get) (ps.get-update (q.update f) s.0 a s.1.0) ∙ qs.get-update f w s.0 s.1.1;
+  get-update = λ f w a e. let s = within q.get w (p.get a) e in ap (option_and_then q.get) (ps.get-update (q.update f) s.0 a s.1.0)
+      ∙ qs.get-update f w s.0 s.1.1;
   update-same = λ f w a e same. let s = within q.get w (p.get a) e in ps.update-same (q.update f) s.0 a s.1.0 (qs.update-same f w s.0 s.1.1 same);
   update-update = λ f g a. ps.update-update (q.update f) (q.update g) a ∙ (λ i. p.update (λ v. qs.update-update f g v i) a);
 }
 
-pub of_first-laws : {A V : Type 0} (test : A → Bool) (p : Lens A V) → ((f : V → V) (a : A) → test (p.update f a) ≡ test a) → IsLawfulLens p → IsLawfulLens (of_first test p)
+pub of_first-laws : {A V : Type 0} (test : A → Bool) (p : Lens A V) → ((f : V → V) (a : A) → test (p.update f a) ≡ test a) → IsLawfulLens p
+    → IsLawfulLens (of_first test p)
 of_first-laws test p stays ps = record {
   get-update = λ f v xs e. let s = within p.get v (find test xs) e in
-      ap (option_and_then p.get) (find-change_first test (p.update f) (p.update f) (stays f) xs ∙ ap (option_map (p.update f)) s.1.0) ∙ ps.get-update f v s.0 s.1.1;
+      ap (option_and_then p.get) (find-change_first test (p.update f) (p.update f) (stays f) xs ∙ ap (option_map (p.update f)) s.1.0)
+      ∙ ps.get-update f v s.0 s.1.1;
   update-same = λ f v xs e same. let s = within p.get v (find test xs) e in
       change_first-along test (p.update f) (λ k. k) xs
       (λ k q. let found : s.0 ≡ k = cc in subst (λ j. p.update f j ≡ j) found (ps.update-same f v s.0 s.1.1 same))
@@ -93,10 +97,12 @@ pub layers-laws : IsLawfulLens layers
 layers-laws = whole-laws (λ d. d.map.layers) (λ ls d. record d { map = record d.map { layers = ls } }) (λ v d. refl) (λ d. refl) (λ v w d. refl)
 
 pub next_layer_id-laws : IsLawfulLens next_layer_id
-next_layer_id-laws = whole-laws (λ d. d.map.next_layer_id) (λ n d. record d { map = record d.map { next_layer_id = n } }) (λ v d. refl) (λ d. refl) (λ v w d. refl)
+next_layer_id-laws = whole-laws (λ d. d.map.next_layer_id) (λ n d. record d { map = record d.map { next_layer_id = n } }) (λ v d. refl) (λ d. refl)
+    (λ v w d. refl)
 
 pub next_object_id-laws : IsLawfulLens next_object_id
-next_object_id-laws = whole-laws (λ d. d.map.next_object_id) (λ n d. record d { map = record d.map { next_object_id = n } }) (λ v d. refl) (λ d. refl) (λ v w d. refl)
+next_object_id-laws = whole-laws (λ d. d.map.next_object_id) (λ n d. record d { map = record d.map { next_object_id = n } }) (λ v d. refl) (λ d. refl)
+    (λ v w d. refl)
 
 pub tilesets-laws : IsLawfulLens tilesets
 tilesets-laws = whole-laws (λ d. d.map.tilesets) (λ ts d. record d { map = record d.map { tilesets = ts } }) (λ v d. refl) (λ d. refl) (λ v w d. refl)
@@ -107,10 +113,12 @@ selection-laws = whole-laws (λ d. d.selection) with_selection (λ v d. refl) (�
 pub layers-next_layer_id : AreApart layers next_layer_id
 layers-next_layer_id = record { get-left = λ g d. refl; get-right = λ f d. refl; swapped = λ f g d. refl }
 
-pub of_layer-laws : {V : Type 0} (id : ℕ) (p : Lens Layer V) → ((f : V → V) (l : Layer) → (p.update f l).id ≡ l.id) → IsLawfulLens p → IsLawfulLens (of_layer id p)
+pub of_layer-laws : {V : Type 0} (id : ℕ) (p : Lens Layer V) → ((f : V → V) (l : Layer) → (p.update f l).id ≡ l.id) → IsLawfulLens p
+    → IsLawfulLens (of_layer id p)
 of_layer-laws id p stays ps = record {
   get-update = λ f v d e. let s = within p.get v (layer_of d.map id) e in
-      ap (option_and_then p.get) (layer_among-change_among id (p.update f) (stays f) MAX_GROUPS d.map.layers ∙ ap (option_map (p.update f)) s.1.0) ∙ ps.get-update f v s.0 s.1.1;
+      ap (option_and_then p.get) (layer_among-change_among id (p.update f) (stays f) MAX_GROUPS d.map.layers ∙ ap (option_map (p.update f)) s.1.0)
+      ∙ ps.get-update f v s.0 s.1.1;
   update-same = λ f v d e same. let s = within p.get v (layer_of d.map id) e in
       ap (λ ls. record d { map = record d.map { layers = ls } })
       (change_among-along id (p.update f) (λ k. k) MAX_GROUPS d.map.layers
@@ -179,7 +187,8 @@ layer_objects-laws id = of_layer-laws id objects (λ f l. refl) objects-laws
 
 pub of_object-laws : {V : Type 0} (place : ObjectPlace) (p : Lens Object V) → IsLawfulLens p → IsLawfulLens (of_object place p)
 of_object-laws place p ps =
-    of_layer-laws place.layer (inner objects (of_place place.at p)) (λ f l. refl) (inner-laws objects (of_place place.at p) objects-laws (of_place-laws place.at p ps))
+    of_layer-laws place.layer (inner objects (of_place place.at p)) (λ f l. refl)
+    (inner-laws objects (of_place place.at p) objects-laws (of_place-laws place.at p ps))
 
 pub placing-laws : (place : ObjectPlace) → IsLawfulLens (of_object place placing)
 placing-laws place = of_object-laws place placing (whole-laws object_placing object_with_placing (λ v o. refl) (λ o. refl) (λ v w o. refl))
@@ -188,10 +197,12 @@ pub layer_objects-next_object_id : (id : ℕ) → AreApart (layer_objects id) ne
 layer_objects-next_object_id id = record { get-left = λ g d. refl; get-right = λ f d. refl; swapped = λ f g d. refl }
 
 -- a lens of the object at a place is that lens of the object that stands there
-pub of_object-get : {V : Type 0} (place : ObjectPlace) (p : Lens Object V) (d : DocumentParts) → (of_object place p).get d ≡ option_and_then p.get (object_at d.map place)
+pub of_object-get : {V : Type 0} (place : ObjectPlace) (p : Lens Object V) (d : DocumentParts)
+    → (of_object place p).get d ≡ option_and_then p.get (object_at d.map place)
 of_object-get {V = V} place p d = by_layer (layer_of d.map place.layer)
   where
-    by_objects : (o : Option (List Object)) → option_and_then (λ os. option_and_then p.get (slice_get os place.at)) o ≡ option_and_then p.get (option_and_then (λ os. slice_get os place.at) o)
+    by_objects : (o : Option (List Object)) → option_and_then (λ os. option_and_then p.get (slice_get os place.at)) o
+        ≡ option_and_then p.get (option_and_then (λ os. slice_get os place.at) o)
     by_objects None = refl
     by_objects (Some os) = refl
 

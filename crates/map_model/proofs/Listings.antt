@@ -109,19 +109,23 @@ module _ {X A : Type 0} (g : X → List A) where
       [ true ↦ ap (λ ys. ys ++ flat_map g xs) (same x) | false ↦ ap (λ ys. g x ++ ys) (flat-change_first p f same xs) ]
 
 -- a list stays distinct with a new piece that stands in none of the others
-pub Distinct-replaced : {X : Type 0} {prefix piece new rest xs ys : List X} → IsReplaced prefix piece new rest xs ys → Distinct xs → Distinct new → Apart new (prefix ++ rest) → Distinct ys
+pub Distinct-replaced : {X : Type 0} {prefix piece new rest xs ys : List X} → IsReplaced prefix piece new rest xs ys → Distinct xs → Distinct new
+    → Apart new (prefix ++ rest) → Distinct ys
 Distinct-replaced {prefix = prefix} {piece = piece} {new = new} {rest = rest} r h n apart =
     let distinct : Distinct (prefix ++ (piece ++ rest)) = rw (← r.was) h in
     let behind = Distinct-rest prefix (piece ++ rest) distinct in
     rw r.now (Distinct-append prefix (new ++ rest)
-    (Apart-append prefix new rest (Apart-turned new prefix (Apart-prefix new prefix rest apart)) (Apart-rest prefix piece rest (Apart-pieces prefix (piece ++ rest) distinct)))
+    (Apart-append prefix new rest (Apart-turned new prefix (Apart-prefix new prefix rest apart))
+    (Apart-rest prefix piece rest (Apart-pieces prefix (piece ++ rest) distinct)))
     (Distinct-prefix prefix (piece ++ rest) distinct)
     (Distinct-append new rest (Apart-rest new prefix rest apart) n (Distinct-rest piece rest behind)))
 
 module _ {X A : Type 0} (g : X → List A) where
-  pub Distinct-insert : (xs : List X) (k : ℕ) (x : X) → Distinct (g x) → Apart (g x) (flat_map g xs) → Distinct (flat_map g xs) → Distinct (flat_map g (insert xs k x))
+  pub Distinct-insert : (xs : List X) (k : ℕ) (x : X) → Distinct (g x) → Apart (g x) (flat_map g xs) → Distinct (flat_map g xs)
+      → Distinct (flat_map g (insert xs k x))
   Distinct-insert xs k x n apart h =
-      let all : flat_map g xs ≡ flat_map g (take k xs) ++ flat_map g (drop k xs) = ap (flat_map g) (sym (take-append-drop k xs)) ∙ flat_map-append g (take k xs) (drop k xs) in
+      let all : flat_map g xs ≡ flat_map g (take k xs) ++ flat_map g (drop k xs) = ap (flat_map g) (sym (take-append-drop k xs))
+      ∙ flat_map-append g (take k xs) (drop k xs) in
       Distinct-replaced (flat-IsReplaced g (insert-IsReplaced xs k x)) h (rw (flat-one g x) n) (rw (flat-one g x, ← all) apart)
 
   pub Distinct-remove : (xs : List X) (k : ℕ) → Distinct (flat_map g xs) → Distinct (flat_map g (remove xs k))
@@ -160,17 +164,21 @@ module _ {next : ℕ} {prefix piece new rest xs ys : List ℕ} (r : IsReplaced p
       record {
         each = Each-prefix (IsId next) piece rest (Each-rest (IsId next) prefix (piece ++ rest) each);
         distinct = Distinct-prefix piece rest behind;
-        apart = Apart-append piece prefix rest (Apart-turned prefix piece (Apart-prefix prefix piece rest (Apart-pieces prefix (piece ++ rest) distinct))) (Apart-pieces piece rest behind);
+        apart = Apart-append piece prefix rest (Apart-turned prefix piece (Apart-prefix prefix piece rest (Apart-pieces prefix (piece ++ rest) distinct)))
+            (Apart-pieces piece rest behind);
       }
 
 module _ {X : Type 0} (g : X → List ℕ) (next : ℕ) where
-  pub AreIds-insert : (xs : List X) (k : ℕ) (x : X) → AreNewIds next (g x) (flat_map g xs) → AreIds next (flat_map g xs) → AreIds next (flat_map g (insert xs k x))
+  pub AreIds-insert : (xs : List X) (k : ℕ) (x : X) → AreNewIds next (g x) (flat_map g xs) → AreIds next (flat_map g xs)
+      → AreIds next (flat_map g (insert xs k x))
   AreIds-insert xs k x new h =
-      let all : flat_map g xs ≡ flat_map g (take k xs) ++ flat_map g (drop k xs) = ap (flat_map g) (sym (take-append-drop k xs)) ∙ flat_map-append g (take k xs) (drop k xs) in
+      let all : flat_map g xs ≡ flat_map g (take k xs) ++ flat_map g (drop k xs) = ap (flat_map g) (sym (take-append-drop k xs))
+      ∙ flat_map-append g (take k xs) (drop k xs) in
       AreIds-replaced (flat-IsReplaced g (insert-IsReplaced xs k x)) h (rw (flat-one g x, ← all) new)
 
   pub AreIds-remove : (xs : List X) (k : ℕ) → AreIds next (flat_map g xs) → AreIds next (flat_map g (remove xs k))
-  AreIds-remove xs k h = AreIds-replaced (flat-IsReplaced g (remove-IsReplaced xs k)) h (AreNewIds-none next (flat_map g (take k xs) ++ flat_map g (drop (suc k) xs)))
+  AreIds-remove xs k h = AreIds-replaced (flat-IsReplaced g (remove-IsReplaced xs k)) h
+      (AreNewIds-none next (flat_map g (take k xs) ++ flat_map g (drop (suc k) xs)))
 
   -- the ids of an element that was taken out may be put in again
   pub AreNewIds-taken : (xs : List X) (k : ℕ) (x : X) → slice_get xs k ≡ Some x → AreIds next (flat_map g xs) → AreNewIds next (g x) (flat_map g (remove xs k))
@@ -179,5 +187,6 @@ module _ {X : Type 0} (g : X → List ℕ) (next : ℕ) where
       let taken = AreNewIds-piece (flat-IsReplaced g (remove-IsReplaced xs k)) h in
       rw (← piece, flat_map-append g (take k xs) (drop (suc k) xs)) taken
 
-  pub AreIds-change_first : (p : X → Bool) (f : X → X) → ((x : X) → g (f x) ≡ g x) → (xs : List X) → AreIds next (flat_map g xs) → AreIds next (flat_map g (change_first p f xs))
+  pub AreIds-change_first : (p : X → Bool) (f : X → X) → ((x : X) → g (f x) ≡ g x) → (xs : List X) → AreIds next (flat_map g xs)
+      → AreIds next (flat_map g (change_first p f xs))
   AreIds-change_first p f same xs h = rw (flat-change_first g p f same xs) h

@@ -21,14 +21,16 @@ first_some-append {Y = Y} h (x ∷ xs) ys = ap (or_else (h x)) (first_some-appen
     turned None b c = refl
     turned (Some y) b c = refl
 
-first_some-replaced : {X Y : Type 0} (h : X → Option Y) {prefix rest xs ys : List X} {x y : X} → IsReplaced prefix (x ∷ []) (y ∷ []) rest xs ys → h y ≡ h x → first_some h ys ≡ first_some h xs
+first_some-replaced : {X Y : Type 0} (h : X → Option Y) {prefix rest xs ys : List X} {x y : X} → IsReplaced prefix (x ∷ []) (y ∷ []) rest xs ys → h y ≡ h x
+    → first_some h ys ≡ first_some h xs
 first_some-replaced h {prefix = prefix} {rest = rest} {x = x} {y = y} r same =
     ap (first_some h) r.now ∙ first_some-append h prefix (y ∷ rest)
     ∙ ap (λ o. or_else (first_some h prefix) (or_else o (first_some h rest))) same
     ∙ sym (first_some-append h prefix (x ∷ rest)) ∙ ap (first_some h) (sym r.was)
 
 -- a look-up that sees the change of no layer
-pub first_some-with_layer : {Y : Type 0} (id : ℕ) (f : Layer → Layer) (h : ℕ × Layer → Option Y) → ((l : Layer) → inside (f l) ≡ inside l) → ((level : ℕ) (l : Layer) → h (level, bare (f l)) ≡ h (level, bare l)) → (m : MapParts)
+pub first_some-with_layer : {Y : Type 0} (id : ℕ) (f : Layer → Layer) (h : ℕ × Layer → Option Y) → ((l : Layer) → inside (f l) ≡ inside l)
+    → ((level : ℕ) (l : Layer) → h (level, bare (f l)) ≡ h (level, bare l)) → (m : MapParts)
     → first_some h (all_drawn (with_layer id f m).layers) ≡ first_some h (all_drawn m.layers)
 first_some-with_layer id f h inner same m = by_layer (layer_of m id) refl
   where
@@ -59,7 +61,8 @@ module _ (own : ℕ) (f : Layer → Layer) (inner : (l : Layer) → inside (f l)
 
   -- the levels of layers stay
   pub level_of-with_layer : (id : ℕ) → level_of (with_layer own f m) id ≡ level_of m id
-  level_of-with_layer id = by_level (all_drawn (with_layer own f m).layers) ∙ ap level_or (find-with_layer (λ d. d.0) (λ level l. refl) id) ∙ sym (by_level (all_drawn m.layers))
+  level_of-with_layer id = by_level (all_drawn (with_layer own f m).layers) ∙ ap level_or (find-with_layer (λ d. d.0) (λ level l. refl) id)
+      ∙ sym (by_level (all_drawn m.layers))
     where
       level_or : Option ℕ → ℕ
       level_or None = layer_level

@@ -19,7 +19,8 @@ use Rattle.map_model.specs.Keeping.{deepest_level, layer_level, object_level, ma
 use Rattle.map_model.specs.Groups.{all_drawn, bare, inside, tree}
 use Rattle.map_model.specs.Lists.{Each}
 use Rattle.map_model.specs.Readable.{AreReadableMembers}
-use Rattle.map_model.specs.NewMap.{empty_layer, external_tileset, new_layer, new_map, tile_layer_members, object_layer_members, map_members, new_object, object_members}
+use Rattle.map_model.specs.NewMap.{empty_layer, external_tileset, new_layer, new_map, tile_layer_members, object_layer_members, map_members, new_object}
+use Rattle.map_model.specs.NewMap.{object_members}
 use Rattle.map_model.specs.WellFormed.{IsTileset, IsTileValue, IsLayer, IsSize, IsTileSize, IsWellFormed, AreProperties, IsPlacing, IsObject}
 use Rattle.map_model.proofs.GroupBodies.{IsLayer-with}
 use Rattle.map_model.proofs.Keeps.{tree-alone}
@@ -32,12 +33,14 @@ no_properties : (level : ℕ) → AreProperties level []
 no_properties level = record { few = omega arith; each = tt; distinct = tt }
 
 -- members without these names, by a test
-pub unread-test : (ms : Members) (names : List (List ℕ)) → list_all (λ name. not (is_some (get_member name ms))) names ≡ true → Each (λ name. get_member name ms ≡ None) names
+pub unread-test : (ms : Members) (names : List (List ℕ)) → list_all (λ name. not (is_some (get_member name ms))) names ≡ true
+    → Each (λ name. get_member name ms ≡ None) names
 unread-test ms [] e = tt
 unread-test ms (name ∷ names) e = by_member (get_member name ms) e (unread-test ms names)
   where
     by_member : (o : Option Data) → (not (is_some o) && list_all (λ n. not (is_some (get_member n ms))) names) ≡ true
-        → (list_all (λ n. not (is_some (get_member n ms))) names ≡ true → Each (λ n. get_member n ms ≡ None) names) → (o ≡ None) × Each (λ n. get_member n ms ≡ None) names
+        → (list_all (λ n. not (is_some (get_member n ms))) names ≡ true → Each (λ n. get_member n ms ≡ None) names)
+        → (o ≡ None) × Each (λ n. get_member n ms ≡ None) names
     by_member None q rest = (refl, rest q)
     by_member (Some d) q rest = cc
 
@@ -78,13 +81,23 @@ pub new_layer-IsLayer : (kind : LayerKind) (id : ℕ) (name : List ℕ) (size : 
 new_layer-IsLayer kinds.Tile id name size utf8 = record {
   name = utf8;
   properties = no_properties layer_level;
-  kept = record { unread = unread-test tile_layer_members (layer_names (Tiles Array [])) refl; whole = refl; shallow = omega arith; readable = tile_layer_readable };
+  kept = record {
+    unread = unread-test tile_layer_members (layer_names (Tiles Array [])) refl;
+    whole = refl;
+    shallow = omega arith;
+    readable = tile_layer_readable;
+  };
   body = (length-replicate size 0, Each-replicate IsTileValue size 0 (omega arith));
 }
 new_layer-IsLayer kinds.Object id name size utf8 = record {
   name = utf8;
   properties = no_properties layer_level;
-  kept = record { unread = unread-test object_layer_members (layer_names (Objects [])) refl; whole = refl; shallow = omega arith; readable = object_layer_readable };
+  kept = record {
+    unread = unread-test object_layer_members (layer_names (Objects [])) refl;
+    whole = refl;
+    shallow = omega arith;
+    readable = object_layer_readable;
+  };
   body = (omega arith, tt);
 }
 
@@ -124,7 +137,11 @@ new_map-IsWellFormed width height tile_width tile_height source utf8 size tile_s
   tile_size = tile_size;
   layers = rw (alone (empty_layer 1 (codes "Tile Layer 1") (width * height)) refl) (record {
     few = omega arith;
-    each = (IsLayer-with (λ ls. []) layer_level (width * height) (empty_layer 1 (codes "Tile Layer 1") (width * height)) (new_layer-IsLayer kinds.Tile 1 (codes "Tile Layer 1") (width * height) first_name), tt);
+    each = (
+      IsLayer-with (λ ls. []) layer_level (width * height) (empty_layer 1 (codes "Tile Layer 1") (width * height))
+          (new_layer-IsLayer kinds.Tile 1 (codes "Tile Layer 1") (width * height) first_name),
+      tt,
+    );
     layer_ids = record { next_low = omega arith; next_high = omega arith; each = (record { low = omega arith; high = omega arith }, tt); distinct = (tt, tt) };
     object_ids = record { next_low = omega arith; next_high = omega arith; each = tt; distinct = tt };
   });

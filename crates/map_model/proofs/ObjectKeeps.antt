@@ -1,5 +1,6 @@
 -- Changes of the objects of a layer that keep a map well formed.
-use Rattle.std.proofs.Common.{◌≡◌, ℕ, zero, suc, ◌+◌, ◌*◌, ◌<◌, ◌≤◌, List, [], ◌∷◌, ◌++◌, append_assoc, length, Option, Some, None, IsSome, IsSomeAnd, option_map, option_and_then, refl, sym, ap, ◌∙◌, subst, arith}
+use Rattle.std.proofs.Common.{◌≡◌, ℕ, zero, suc, ◌+◌, ◌*◌, ◌<◌, ◌≤◌, List, [], ◌∷◌, ◌++◌, append_assoc, length, Option, Some, None, IsSome, IsSomeAnd}
+use Rattle.std.proofs.Common.{option_map, option_and_then, refl, sym, ap, ◌∙◌, subst, arith}
 use Rattle.std.specs.List.{slice_get, slice_set, insert, remove, flat_map}
 use Rattle.map_model.specs.declared.limits.TheConstants.{MAX_GROUPS, MAX_OBJECTS, MAX_NEXT_ID}
 use Rattle.map_model.specs.declared.parts.Body.{Body}
@@ -13,7 +14,8 @@ use Rattle.map_model.specs.Keeping.{body_names, object_level}
 use Rattle.map_model.specs.Layers.{with_next_ids}
 use Rattle.map_model.specs.Groups.{group_in}
 use Rattle.map_model.specs.Lists.{Each, change_at, or_empty}
-use Rattle.map_model.specs.Objects.{objects_in, objects_of, body_with_objects, layer_with_objects, objects_of_layer, object_at, with_objects, without_object_at, with_object, object_placing, object_with_placing}
+use Rattle.map_model.specs.Objects.{objects_in, objects_of, body_with_objects, layer_with_objects, objects_of_layer, object_at, with_objects, without_object_at}
+use Rattle.map_model.specs.Objects.{with_object, object_placing, object_with_placing}
 use Rattle.map_model.specs.Lookups.{layer_of}
 use Rattle.map_model.specs.Properties.{level_of}
 use Rattle.map_model.specs.WellFormed.{IsId, AreIds, IsPlacing, IsObject, IsBody, IsLayer, IsWellFormed, ids_of_object, object_ids_in, object_ids}
@@ -34,19 +36,22 @@ length-change_at (suc k) f [] = refl
 length-change_at zero f (x ∷ xs) = refl
 length-change_at (suc k) f (x ∷ xs) = ap suc (length-change_at k f xs)
 
-pub Each-change_at : {X : Type 0} (P : X → Type 0) (k : ℕ) (f : X → X) (xs : List X) → ((x : X) → slice_get xs k ≡ Some x → P x → P (f x)) → Each P xs → Each P (change_at k f xs)
+pub Each-change_at : {X : Type 0} (P : X → Type 0) (k : ℕ) (f : X → X) (xs : List X) → ((x : X) → slice_get xs k ≡ Some x → P x → P (f x)) → Each P xs
+    → Each P (change_at k f xs)
 Each-change_at P zero f [] keeps h = tt
 Each-change_at P (suc k) f [] keeps h = tt
 Each-change_at P zero f (x ∷ xs) keeps h = (keeps x refl h.0, h.1)
 Each-change_at P (suc k) f (x ∷ xs) keeps h = (h.0, Each-change_at P k f xs keeps h.1)
 
-ids-change_at : (k : ℕ) (f : Object → Object) → ((o : Object) → (f o).id ≡ o.id) → (os : List Object) → flat_map ids_of_object (change_at k f os) ≡ flat_map ids_of_object os
+ids-change_at : (k : ℕ) (f : Object → Object) → ((o : Object) → (f o).id ≡ o.id) → (os : List Object)
+    → flat_map ids_of_object (change_at k f os) ≡ flat_map ids_of_object os
 ids-change_at zero f same [] = refl
 ids-change_at (suc k) f same [] = refl
 ids-change_at zero f same (o ∷ os) = ap (λ id. id ∷ flat_map ids_of_object os) (same o)
 ids-change_at (suc k) f same (o ∷ os) = ap (λ ids. o.id ∷ ids) (ids-change_at k f same os)
 
-object_ids-change_at : (k : ℕ) (f : Object → Object) → ((o : Object) → (f o).id ≡ o.id) → (b : Body) → object_ids_in (body_with_objects (change_at k f) b) ≡ object_ids_in b
+object_ids-change_at : (k : ℕ) (f : Object → Object) → ((o : Object) → (f o).id ≡ o.id) → (b : Body)
+    → object_ids_in (body_with_objects (change_at k f) b) ≡ object_ids_in b
 object_ids-change_at k f same (Tiles e cells) = refl
 object_ids-change_at k f same (Objects os) = ids-change_at k f same os
 object_ids-change_at k f same Other = refl
@@ -64,7 +69,8 @@ group_in-objects g (Objects os) = refl
 group_in-objects g Other = refl
 group_in-objects g (Group' s r) = refl
 
-IsBody-change_at : (k : ℕ) (f : Object → Object) → KeepsObjects f → (level size : ℕ) (b : Body) → IsBody level size b → IsBody level size (body_with_objects (change_at k f) b)
+IsBody-change_at : (k : ℕ) (f : Object → Object) → KeepsObjects f → (level size : ℕ) (b : Body) → IsBody level size b
+    → IsBody level size (body_with_objects (change_at k f) b)
 IsBody-change_at k f keeps level size (Tiles e cells) h = h
 IsBody-change_at k f keeps level size (Objects os) h =
     (rw (length-change_at k f os) h.0, Each-change_at (IsObject (object_level level)) k f os (λ o e. keeps.objects (object_level level) o) h.1)
@@ -95,7 +101,8 @@ object_with_placing-keeps placing is = record {
 }
 
 -- ---- the objects of one layer
-IsLayer-objects : (g : List Object → List Object) (os : List Object) (level size : ℕ) (l : Layer) → objects_of l ≡ Some os → length (g os) ≤ MAX_OBJECTS → Each (IsObject (object_level level)) (g os)
+IsLayer-objects : (g : List Object → List Object) (os : List Object) (level size : ℕ) (l : Layer) → objects_of l ≡ Some os → length (g os) ≤ MAX_OBJECTS
+    → Each (IsObject (object_level level)) (g os)
     → IsLayer level size l → IsLayer level size (layer_with_objects g l)
 IsLayer-objects g os level size l e few each h = record {
   name = h.name;
@@ -116,8 +123,10 @@ found_layer os None e = cc
 found_layer os (Some l) e = (l, (refl, e))
 
 -- other objects in the place of those of the layer with the id
-with_objects-keeps : (layer : ℕ) (g : List Object → List Object) (os : List Object) (m : MapParts) → objects_of_layer m layer ≡ Some os → length (g os) ≤ MAX_OBJECTS
-    → Each (IsObject (object_level (level_of m layer))) (g os) → AreIds m.next_object_id (object_ids (with_objects layer g m).layers) → IsWellFormed m → IsWellFormed (with_objects layer g m)
+with_objects-keeps : (layer : ℕ) (g : List Object → List Object) (os : List Object) (m : MapParts) → objects_of_layer m layer ≡ Some os
+    → length (g os) ≤ MAX_OBJECTS
+    → Each (IsObject (object_level (level_of m layer))) (g os) → AreIds m.next_object_id (object_ids (with_objects layer g m).layers) → IsWellFormed m
+    → IsWellFormed (with_objects layer g m)
 with_objects-keeps layer g os m e few each ids h =
     let found = found_layer os (layer_of m layer) e in
     let l = found.0 in
@@ -157,10 +166,13 @@ HasReplaced-behind {piece = piece} {new = new} more r = (
 )
 
 -- a piece of a piece
-HasReplaced-inner : {piece new prefix was now rest xs ys : List ℕ} → IsReplaced prefix was now rest xs ys → HasReplaced piece new was now → HasReplaced piece new xs ys
-HasReplaced-inner {piece = piece} {new = new} {prefix = prefix} {rest = rest} r inner = rw (r.was, r.now) (HasReplaced-behind prefix (HasReplaced-before rest inner))
+HasReplaced-inner : {piece new prefix was now rest xs ys : List ℕ} → IsReplaced prefix was now rest xs ys → HasReplaced piece new was now
+    → HasReplaced piece new xs ys
+HasReplaced-inner {piece = piece} {new = new} {prefix = prefix} {rest = rest} r inner =
+    rw (r.was, r.now) (HasReplaced-behind prefix (HasReplaced-before rest inner))
 
-HasReplaced-layer : {piece new : List ℕ} (g : List Object → List Object) (os : List Object) (b : Body) → objects_in b ≡ Some os → HasReplaced piece new (flat_map ids_of_object os) (flat_map ids_of_object (g os))
+HasReplaced-layer : {piece new : List ℕ} (g : List Object → List Object) (os : List Object) (b : Body) → objects_in b ≡ Some os
+    → HasReplaced piece new (flat_map ids_of_object os) (flat_map ids_of_object (g os))
     → HasReplaced piece new (object_ids_in b) (object_ids_in (body_with_objects g b))
 HasReplaced-layer g os (Tiles t cells) e r = cc
 HasReplaced-layer {piece = piece} {new = new} g os (Objects own) e r =
@@ -169,7 +181,8 @@ HasReplaced-layer g os Other e r = cc
 HasReplaced-layer g os (Group' s k) e r = cc
 
 HasReplaced-objects : {piece new : List ℕ} (layer : ℕ) (g : List Object → List Object) (os : List Object) (m : MapParts) → objects_of_layer m layer ≡ Some os
-    → HasReplaced piece new (flat_map ids_of_object os) (flat_map ids_of_object (g os)) → HasReplaced piece new (object_ids m.layers) (object_ids (with_objects layer g m).layers)
+    → HasReplaced piece new (flat_map ids_of_object os) (flat_map ids_of_object (g os))
+    → HasReplaced piece new (object_ids m.layers) (object_ids (with_objects layer g m).layers)
 HasReplaced-objects layer g os m e r =
     let found = found_layer os (layer_of m layer) e in
     let l = found.0 in
@@ -178,43 +191,51 @@ HasReplaced-objects layer g os m e r =
 
 -- ---- objects that come and go
 -- the objects of a layer of a well-formed map
-pub objects_of_layer-IsBody : (m : MapParts) (layer : ℕ) (os : List Object) → objects_of_layer m layer ≡ Some os → IsWellFormed m → IsBody (level_of m layer) (m.width * m.height) (Objects os)
+pub objects_of_layer-IsBody : (m : MapParts) (layer : ℕ) (os : List Object) → objects_of_layer m layer ≡ Some os → IsWellFormed m
+    → IsBody (level_of m layer) (m.width * m.height) (Objects os)
 objects_of_layer-IsBody m layer os e h =
     let found = found_layer os (layer_of m layer) e in
     by_body found.0.body found.1.1 (layer_of-IsLayer m layer found.0 found.1.0 h).body
   where
-    by_body : (b : Body) → objects_in b ≡ Some os → IsBody (level_of m layer) (m.width * m.height) b → IsBody (level_of m layer) (m.width * m.height) (Objects os)
+    by_body : (b : Body) → objects_in b ≡ Some os → IsBody (level_of m layer) (m.width * m.height) b
+        → IsBody (level_of m layer) (m.width * m.height) (Objects os)
     by_body (Tiles t cells) q k = cc
     by_body (Objects own) q k = let is : own ≡ os = cc in subst (λ ps. IsBody (level_of m layer) (m.width * m.height) (Objects ps)) is k
     by_body Other q k = cc
     by_body (Group' s r) q k = cc
 
-pub objects_of_layer-few : (m : MapParts) (layer k : ℕ) → IsSomeAnd (objects_of_layer m layer) (λ os. k ≤ length os) → IsWellFormed m → IsSomeAnd (objects_of_layer m layer) (λ os. length os ≤ MAX_OBJECTS)
+pub objects_of_layer-few : (m : MapParts) (layer k : ℕ) → IsSomeAnd (objects_of_layer m layer) (λ os. k ≤ length os) → IsWellFormed m
+    → IsSomeAnd (objects_of_layer m layer) (λ os. length os ≤ MAX_OBJECTS)
 objects_of_layer-few m layer k room h = by_objects (objects_of_layer m layer) refl room
   where
-    by_objects : (option : Option (List Object)) → objects_of_layer m layer ≡ option → IsSomeAnd option (λ os. k ≤ length os) → IsSomeAnd option (λ os. length os ≤ MAX_OBJECTS)
+    by_objects : (option : Option (List Object)) → objects_of_layer m layer ≡ option → IsSomeAnd option (λ os. k ≤ length os)
+        → IsSomeAnd option (λ os. length os ≤ MAX_OBJECTS)
     by_objects None e q = q
     by_objects (Some os) e q = (objects_of_layer-IsBody m layer os e h).0
 
 -- where there is an object, there is a layer with objects
-listed : (k : ℕ) (o : Object) (option : Option (List Object)) → option_and_then (λ os. slice_get os k) option ≡ Some o → (os : List Object) × ((option ≡ Some os) × (slice_get os k ≡ Some o))
+listed : (k : ℕ) (o : Object) (option : Option (List Object)) → option_and_then (λ os. slice_get os k) option ≡ Some o
+    → (os : List Object) × ((option ≡ Some os) × (slice_get os k ≡ Some o))
 listed k o None e = cc
 listed k o (Some os) e = (os, (refl, e))
 
-pub object_at-IsObject : (m : MapParts) (place : ObjectPlace) (o : Object) → object_at m place ≡ Some o → IsWellFormed m → IsObject (object_level (level_of m place.layer)) o
+pub object_at-IsObject : (m : MapParts) (place : ObjectPlace) (o : Object) → object_at m place ≡ Some o → IsWellFormed m
+    → IsObject (object_level (level_of m place.layer)) o
 object_at-IsObject m place o e h =
     let found = listed place.at o (objects_of_layer m place.layer) e in
     Each-at (IsObject (object_level (level_of m place.layer))) found.0 place.at o found.1.1 (objects_of_layer-IsBody m place.layer found.0 found.1.0 h).1
 
 -- the placing of an object is one
-pub object_at-IsPlacing : (m : MapParts) (place : ObjectPlace) (placing : Placing) → option_map object_placing (object_at m place) ≡ Some placing → IsWellFormed m → IsPlacing placing
+pub object_at-IsPlacing : (m : MapParts) (place : ObjectPlace) (placing : Placing) → option_map object_placing (object_at m place) ≡ Some placing
+    → IsWellFormed m → IsPlacing placing
 object_at-IsPlacing m place placing e h = by_object (object_at m place) refl e
   where
     by_object : (option : Option Object) → object_at m place ≡ option → option_map object_placing option ≡ Some placing → IsPlacing placing
     by_object None f q = cc
     by_object (Some o) f q = let is : o.placing ≡ placing = cc in subst IsPlacing is (object_at-IsObject m place o f h).placing
 
-pub object_at-within : (m : MapParts) (place : ObjectPlace) → IsSome (object_at m place) → IsSomeAnd (objects_of_layer m place.layer) (λ os. place.at < length os)
+pub object_at-within : (m : MapParts) (place : ObjectPlace) → IsSome (object_at m place)
+    → IsSomeAnd (objects_of_layer m place.layer) (λ os. place.at < length os)
 object_at-within m place there = by_objects (objects_of_layer m place.layer) there
   where
     within : (os : List Object) (o : Option Object) → slice_get os place.at ≡ o → IsSome o → place.at < length os
@@ -226,7 +247,8 @@ object_at-within m place there = by_objects (objects_of_layer m place.layer) the
     by_objects (Some os) q = within os (slice_get os place.at) refl q
 
 -- an object changed at its place, where the change keeps that one alone
-pub with_object-keeps_there : (place : ObjectPlace) (f : Object → Object) (o : Object) (m : MapParts) → object_at m place ≡ Some o → ((p : Object) → (f p).id ≡ p.id)
+pub with_object-keeps_there : (place : ObjectPlace) (f : Object → Object) (o : Object) (m : MapParts) → object_at m place ≡ Some o
+    → ((p : Object) → (f p).id ≡ p.id)
     → IsObject (object_level (level_of m place.layer)) (f o) → IsWellFormed m → IsWellFormed (with_object place f m)
 with_object-keeps_there place f o m e same is h =
     let found = listed place.at o (objects_of_layer m place.layer) e in
@@ -235,8 +257,10 @@ with_object-keeps_there place f o m e same is h =
     let old = objects_of_layer-IsBody m place.layer os found.1.0 h in
     let layer = found_layer os (layer_of m place.layer) found.1.0 in
     let l = layer.0 in
-    let r = object_ids-IsReplaced place.layer (layer_with_objects (change_at place.at f)) l m layer.1.0 (ap or_empty (group_in-objects (change_at place.at f) l.body)) in
-    let ids : object_ids (with_object place f m).layers ≡ object_ids m.layers = r.1.1.now ∙ ap (λ p. r.0 ++ (p ++ r.1.0)) (object_ids-change_at place.at f same l.body) ∙ sym r.1.1.was in
+    let r = object_ids-IsReplaced place.layer (layer_with_objects (change_at place.at f)) l m layer.1.0
+    (ap or_empty (group_in-objects (change_at place.at f) l.body)) in
+    let ids : object_ids (with_object place f m).layers ≡ object_ids m.layers = r.1.1.now
+    ∙ ap (λ p. r.0 ++ (p ++ r.1.0)) (object_ids-change_at place.at f same l.body) ∙ sym r.1.1.was in
     with_objects-keeps place.layer (change_at place.at f) os m found.1.0 (rw (length-change_at place.at f os) old.0)
     (Each-change_at (IsObject level) place.at f os
     (λ p q k. let own : o ≡ p = cc (found.1.1, q) in subst (λ z. IsObject level (f z)) own is) old.1)
@@ -245,7 +269,8 @@ with_object-keeps_there place f o m e same is h =
 pub without_object_at-keeps : (place : ObjectPlace) (m : MapParts) → IsSome (object_at m place) → IsWellFormed m → IsWellFormed (without_object_at place m)
 without_object_at-keeps place m there h = by_objects (objects_of_layer m place.layer) refl there
   where
-    by_objects : (option : Option (List Object)) → objects_of_layer m place.layer ≡ option → IsSome (option_and_then (λ os. slice_get os place.at) option) → IsWellFormed (without_object_at place m)
+    by_objects : (option : Option (List Object)) → objects_of_layer m place.layer ≡ option → IsSome (option_and_then (λ os. slice_get os place.at) option)
+        → IsWellFormed (without_object_at place m)
     by_objects None e q = cc
     by_objects (Some os) e q =
         let old = objects_of_layer-IsBody m place.layer os e h in
@@ -281,20 +306,24 @@ next_id-AreNewIds next id ids is low h =
     rw is (record { each = (record { low = low; high = omega arith }, tt); distinct = (tt, tt); apart = (Each-apart next ids h, tt) })
 
 -- an object with the next id, put in at a place of the objects that g gives for those of the layer
-pub numbered_object-keeps : (m : MapParts) (layer : ℕ) (g : List Object → List Object) (os : List Object) (k : ℕ) (o : Object) → objects_of_layer m layer ≡ Some os → g os ≡ insert os k o
+pub numbered_object-keeps : (m : MapParts) (layer : ℕ) (g : List Object → List Object) (os : List Object) (k : ℕ) (o : Object)
+    → objects_of_layer m layer ≡ Some os → g os ≡ insert os k o
     → length os < MAX_OBJECTS → m.next_object_id < MAX_NEXT_ID → IsObject (object_level (level_of m layer)) o → o.id ≡ m.next_object_id → IsWellFormed m
     → IsWellFormed (with_next_ids m.next_layer_id (m.next_object_id + 1) (with_objects layer g m))
 numbered_object-keeps m layer g os k o e is few below object id h =
     let raised_is = raised_object-keeps m below h in
     let old = objects_of_layer-IsBody m layer os e h in
-    let put : HasReplaced [] (o.id ∷ []) (flat_map ids_of_object os) (flat_map ids_of_object (g os)) = rw is (_, (_, flat-IsReplaced ids_of_object (insert-IsReplaced os k o))) in
+    let put : HasReplaced [] (o.id ∷ []) (flat_map ids_of_object os) (flat_map ids_of_object (g os)) =
+    rw is (_, (_, flat-IsReplaced ids_of_object (insert-IsReplaced os k o))) in
     let r = HasReplaced-objects layer g os m e put in
-    with_objects-keeps layer g os (with_next_ids m.next_layer_id (m.next_object_id + 1) m) e (let more = length-insert os k o in rw is (omega (arith, few))) (rw is (Each-insert _ os k o object old.1))
+    with_objects-keeps layer g os (with_next_ids m.next_layer_id (m.next_object_id + 1) m) e (let more = length-insert os k o in rw is (omega (arith, few)))
+    (rw is (Each-insert _ os k o object old.1))
     (AreIds-replaced r.1.1 raised_is.layers.object_ids
     (next_id-AreNewIds m.next_object_id o.id (r.0 ++ r.1.0) id h.layers.object_ids.next_low (rw (← r.1.1.was) h.layers.object_ids.each))) raised_is
 
 -- two changes that agree on the objects of the layer
-pub with_objects-along : (m : MapParts) (layer : ℕ) (f g : List Object → List Object) (os : List Object) → objects_of_layer m layer ≡ Some os → f os ≡ g os → with_objects layer f m ≡ with_objects layer g m
+pub with_objects-along : (m : MapParts) (layer : ℕ) (f g : List Object → List Object) (os : List Object) → objects_of_layer m layer ≡ Some os → f os ≡ g os
+    → with_objects layer f m ≡ with_objects layer g m
 with_objects-along m layer f g os e same =
     ap (λ ls. record m { layers = ls })
     (change_among-along layer (layer_with_objects f) (layer_with_objects g) MAX_GROUPS m.layers

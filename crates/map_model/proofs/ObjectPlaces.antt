@@ -1,5 +1,6 @@
 -- The place of the object with an id.
-use Rattle.std.proofs.Common.{◌≡◌, ◌≢◌, ℕ, zero, suc, ◌+◌, List, [], ◌∷◌, ◌++◌, length, Bool, false, find, nat_eq, Bor, Option, IfSome, Some, None, option_map, option_and_then, refl, sym, ap, ◌∙◌, subst, arith}
+use Rattle.std.proofs.Common.{◌≡◌, ◌≢◌, ℕ, zero, suc, ◌+◌, List, [], ◌∷◌, ◌++◌, length, Bool, false, find, nat_eq, Bor, Option, IfSome, Some, None, option_map}
+use Rattle.std.proofs.Common.{option_and_then, refl, sym, ap, ◌∙◌, subst, arith}
 use Rattle.std.specs.List.{flat_map, position, position_from, slice_get}
 use Rattle.std.proofs.lemmas.Bool.Decides.{nat_tests}
 use Rattle.std.proofs.lemmas.List.Quantifiers.{position-Some}
@@ -29,11 +30,13 @@ use Rattle.map_model.proofs.Places.{Each-id_at, position-only}
 
 -- ---- the layer that is drawn at a place
 -- the layers of a well-formed map have distinct ids
-layer_of-drawn : (m : MapParts) (k : ℕ) (d : ℕ × Layer) → slice_get (all_drawn m.layers) k ≡ Some d → IsWellFormed m → (l : Layer) × ((layer_of m d.1.id ≡ Some l) × (bare l ≡ d.1))
+layer_of-drawn : (m : MapParts) (k : ℕ) (d : ℕ × Layer) → slice_get (all_drawn m.layers) k ≡ Some d → IsWellFormed m
+    → (l : Layer) × ((layer_of m d.1.id ≡ Some l) × (bare l ≡ d.1))
 layer_of-drawn m k d e h = by_layer (layer_of m d.1.id) refl
   where
     found : find (is_drawn_with d.1.id) (all_drawn m.layers) ≡ Some d
-    found = find-at_position (is_drawn_with d.1.id) (all_drawn m.layers) k d (position-only (λ (j : ℕ × Layer). j.1.id) (all_drawn m.layers) k d e h.layers.layer_ids.distinct) e
+    found = find-at_position (is_drawn_with d.1.id) (all_drawn m.layers) k d
+        (position-only (λ (j : ℕ × Layer). j.1.id) (all_drawn m.layers) k d e h.layers.layer_ids.distinct) e
 
     by_layer : (o : Option Layer) → layer_of m d.1.id ≡ o → (l : Layer) × ((layer_of m d.1.id ≡ Some l) × (bare l ≡ d.1))
     by_layer None q = let none = none_among d.1.id MAX_GROUPS layer_level m.layers q in cc (found, none)
@@ -42,7 +45,8 @@ layer_of-drawn m k d e h = by_layer (layer_of m d.1.id) refl
         let same : (s.own_level, bare l) ≡ d = some-eq (s.own_level, bare l) d (sym s.first ∙ found) in
         (l, (q, ap (λ (p : ℕ × Layer). p.1) same))
 
-object_at-drawn : (m : MapParts) (k : ℕ) (d : ℕ × Layer) (os : List Object) (at : ℕ) (o : Object) → slice_get (all_drawn m.layers) k ≡ Some d → objects_of d.1 ≡ Some os → slice_get os at ≡ Some o → IsWellFormed m
+object_at-drawn : (m : MapParts) (k : ℕ) (d : ℕ × Layer) (os : List Object) (at : ℕ) (o : Object) → slice_get (all_drawn m.layers) k ≡ Some d
+    → objects_of d.1 ≡ Some os → slice_get os at ≡ Some o → IsWellFormed m
     → object_at m (place_of_layer d.1 at) ≡ Some o
 object_at-drawn m k d os at o e f g h =
     let layer = layer_of-drawn m k d e h in
@@ -50,7 +54,8 @@ object_at-drawn m k d os at o e f g h =
     rw (layer.1.0, own) g
 
 -- ---- the one object with an id
-Each-object_at : (P : ℕ → Type 0) (ls : List (ℕ × Layer)) (k : ℕ) (l : ℕ × Layer) (os : List Object) (at : ℕ) (o : Object) → slice_get ls k ≡ Some l → objects_of l.1 ≡ Some os → slice_get os at ≡ Some o
+Each-object_at : (P : ℕ → Type 0) (ls : List (ℕ × Layer)) (k : ℕ) (l : ℕ × Layer) (os : List Object) (at : ℕ) (o : Object) → slice_get ls k ≡ Some l
+    → objects_of l.1 ≡ Some os → slice_get os at ≡ Some o
     → Each P (flat_map object_ids_of ls) → P o.id
 Each-object_at P [] zero l os at o e f g h = cc
 Each-object_at P [] (suc k) l os at o e f g h = cc
@@ -73,7 +78,8 @@ position_from-none id i (o ∷ os) h =
 place_in_layer-none : (id : ℕ) (l : ℕ × Layer) → Each (λ n. n ≢ id) (object_ids_of l) → place_in_layer id l ≡ None
 place_in_layer-none id l h = by_body l.1.body h
   where
-    by_body : (b : Body) → Each (λ n. n ≢ id) (object_ids_in b) → option_map (place_of_layer l.1) (option_and_then (position (has_object_id id)) (objects_in b)) ≡ None
+    by_body : (b : Body) → Each (λ n. n ≢ id) (object_ids_in b)
+        → option_map (place_of_layer l.1) (option_and_then (position (has_object_id id)) (objects_in b)) ≡ None
     by_body (Tiles t cells) k = refl
     by_body (Objects os) k = ap (option_map (place_of_layer l.1)) (position_from-zero (has_object_id id) os ∙ position_from-none id 0 os k)
     by_body Other k = refl
@@ -83,7 +89,8 @@ Each-apart_from : (P : ℕ → ℕ → Type 0) (id : ℕ) (ns ids : List ℕ) �
 Each-apart_from P id [] ids at h = tt
 Each-apart_from P id (n ∷ ns) ids at h = (at n h.0, Each-apart_from P id ns ids at h.1)
 
-first_some-only : (ls : List (ℕ × Layer)) (k : ℕ) (l : ℕ × Layer) (os : List Object) (at : ℕ) (o : Object) → slice_get ls k ≡ Some l → objects_of l.1 ≡ Some os → slice_get os at ≡ Some o
+first_some-only : (ls : List (ℕ × Layer)) (k : ℕ) (l : ℕ × Layer) (os : List Object) (at : ℕ) (o : Object) → slice_get ls k ≡ Some l → objects_of l.1 ≡ Some os
+    → slice_get os at ≡ Some o
     → Distinct (flat_map object_ids_of ls) → first_some (place_in_layer o.id) ls ≡ Some (place_of_layer l.1 at)
 first_some-only [] zero l os at o e f g h = cc
 first_some-only [] (suc k) l os at o e f g h = cc
@@ -101,7 +108,8 @@ first_some-only (j ∷ ls) zero l os at o e f g h =
     by_body (Group' s r) q d = cc
 first_some-only (j ∷ ls) (suc k) l os at o e f g h =
     let apart = Apart-pieces (object_ids_of j) (flat_map object_ids_of ls) h in
-    let others = Each-apart_from (λ n i. n ≢ i) o.id (object_ids_of j) (flat_map object_ids_of ls) (λ n a. Each-object_at (λ i. n ≢ i) ls k l os at o e f g a) apart in
+    let others = Each-apart_from (λ n i. n ≢ i) o.id (object_ids_of j) (flat_map object_ids_of ls)
+    (λ n a. Each-object_at (λ i. n ≢ i) ls k l os at o e f g a) apart in
     ap (λ p. or_else p (first_some (place_in_layer o.id) ls)) (place_in_layer-none o.id j others)
     ∙ first_some-only ls k l os at o e f g (Distinct-rest (object_ids_of j) (flat_map object_ids_of ls) h)
 
@@ -113,17 +121,20 @@ drawn-found m l e =
       length s.prefix,
       (
         s.own_level,
-        ap (λ ds. slice_get ds (length s.prefix)) s.was ∙ ap (slice_get (s.prefix ++ (tree s.own_room s.own_level l ++ s.rest))) (sym start) ∙ slice_get-behind s.prefix (tree s.own_room s.own_level l ++ s.rest) 0
+        ap (λ ds. slice_get ds (length s.prefix)) s.was ∙ ap (slice_get (s.prefix ++ (tree s.own_room s.own_level l ++ s.rest))) (sym start)
+            ∙ slice_get-behind s.prefix (tree s.own_room s.own_level l ++ s.rest) 0
             ∙ ap (λ t. slice_get (t ++ s.rest) 0) (tree-is s.own_room s.own_level l),
       ),
     )
   where
     slice_get-behind : {X : Type 0} (xs ys : List X) (j : ℕ) → slice_get (xs ++ ys) (length xs + j) ≡ slice_get ys j
     slice_get-behind [] ys j = let same : 0 + j ≡ j = omega arith in ap (slice_get ys) same
-    slice_get-behind (x ∷ xs) ys j = let same : suc (length xs) + j ≡ suc (length xs + j) = omega arith in ap (slice_get (x ∷ (xs ++ ys))) same ∙ slice_get-behind xs ys j
+    slice_get-behind (x ∷ xs) ys j = let same : suc (length xs) + j ≡ suc (length xs + j) = omega arith in ap (slice_get (x ∷ (xs ++ ys))) same
+        ∙ slice_get-behind xs ys j
 
 -- an object of the object layer with an id stands at its place, which is that of the first with its id
-pub object_place-only : (m : MapParts) (l : Layer) (os : List Object) (at : ℕ) (o : Object) → layer_of m l.id ≡ Some l → objects_of l ≡ Some os → slice_get os at ≡ Some o → IsWellFormed m
+pub object_place-only : (m : MapParts) (l : Layer) (os : List Object) (at : ℕ) (o : Object) → layer_of m l.id ≡ Some l → objects_of l ≡ Some os
+    → slice_get os at ≡ Some o → IsWellFormed m
     → (object_place m o.id ≡ Some (place_of_layer l at)) × (object_at m (place_of_layer l at) ≡ Some o)
 object_place-only m l os at o e f g h =
     let d = drawn-found m l e in
@@ -137,9 +148,11 @@ slice_get-position p xs at d e = slice_get-Some xs at (position-Some p xs at d e
 place_in_layer-found : (id : ℕ) (l : ℕ × Layer) → place_in_layer id l ≡ option_map (λ q. q.0) (found_in_layer id l)
 place_in_layer-found id l = by_body l.1.body
   where
-    by_place : (os : List Object) (at : Option ℕ) → position (has_object_id id) os ≡ at → option_map (place_of_layer l.1) at ≡ option_map (λ q. q.0) (option_and_then (found_at l.1 os) at)
+    by_place : (os : List Object) (at : Option ℕ) → position (has_object_id id) os ≡ at
+        → option_map (place_of_layer l.1) at ≡ option_map (λ q. q.0) (option_and_then (found_at l.1 os) at)
     by_place os None e = refl
-    by_place os (Some at) e = let there = slice_get-position (has_object_id id) os at (new_object 0 (record { x = None; y = None; width = None; height = None }) []) e in rw there.1 refl
+    by_place os (Some at) e = let there = slice_get-position (has_object_id id) os at
+        (new_object 0 (record { x = None; y = None; width = None; height = None }) []) e in rw there.1 refl
 
     by_body : (b : Body) → option_map (place_of_layer l.1) (option_and_then (position (has_object_id id)) (objects_in b))
         ≡ option_map (λ q. q.0) (option_and_then (λ os. option_and_then (found_at l.1 os) (position (has_object_id id) os)) (objects_in b))
@@ -159,7 +172,8 @@ object_place-found id (l ∷ ls) = rw (place_in_layer-found id l) (by_found (fou
     by_found (Some q) e = refl
 
 -- the layer in which an object is found
-found-slice : (id : ℕ) (ls : List (ℕ × Layer)) (q : ObjectPlace × Object) → first_some (found_in_layer id) ls ≡ Some q → (k : ℕ) × ((l : ℕ × Layer) × ((slice_get ls k ≡ Some l) × (found_in_layer id l ≡ Some q)))
+found-slice : (id : ℕ) (ls : List (ℕ × Layer)) (q : ObjectPlace × Object) → first_some (found_in_layer id) ls ≡ Some q
+    → (k : ℕ) × ((l : ℕ × Layer) × ((slice_get ls k ≡ Some l) × (found_in_layer id l ≡ Some q)))
 found-slice id [] q e = cc
 found-slice id (l ∷ ls) q e = by_found (found_in_layer id l) refl e (found-slice id ls q)
   where
@@ -169,24 +183,29 @@ found-slice id (l ∷ ls) q e = by_found (found_in_layer id l) refl e (found-sli
     by_found None f g later = let rest = later g in (suc rest.0, rest.1)
     by_found (Some r) f g later = (0, (l, (refl, f ∙ g)))
 
-found_in_layer-at : (id : ℕ) (l : ℕ × Layer) (q : ObjectPlace × Object) → found_in_layer id l ≡ Some q → (os : List Object) × ((objects_of l.1 ≡ Some os) × ((slice_get os q.0.at ≡ Some q.1) × (place_of_layer l.1 q.0.at ≡ q.0)))
+found_in_layer-at : (id : ℕ) (l : ℕ × Layer) (q : ObjectPlace × Object) → found_in_layer id l ≡ Some q
+    → (os : List Object) × ((objects_of l.1 ≡ Some os) × ((slice_get os q.0.at ≡ Some q.1) × (place_of_layer l.1 q.0.at ≡ q.0)))
 found_in_layer-at id l q e = by_objects (objects_of l.1) refl e
   where
-    by_object : (os : List Object) (at : ℕ) (o : Option Object) → slice_get os at ≡ o → option_map (λ p. (place_of_layer l.1 at, p)) o ≡ Some q → (slice_get os q.0.at ≡ Some q.1) × (place_of_layer l.1 q.0.at ≡ q.0)
+    by_object : (os : List Object) (at : ℕ) (o : Option Object) → slice_get os at ≡ o → option_map (λ p. (place_of_layer l.1 at, p)) o ≡ Some q
+        → (slice_get os q.0.at ≡ Some q.1) × (place_of_layer l.1 q.0.at ≡ q.0)
     by_object os at None f g = cc
     by_object os at (Some o) f g = let is : (place_of_layer l.1 at, o) ≡ q = cc in rw (← is) (f, refl)
 
-    by_place : (os : List Object) (at : Option ℕ) → option_and_then (found_at l.1 os) at ≡ Some q → (slice_get os q.0.at ≡ Some q.1) × (place_of_layer l.1 q.0.at ≡ q.0)
+    by_place : (os : List Object) (at : Option ℕ) → option_and_then (found_at l.1 os) at ≡ Some q
+        → (slice_get os q.0.at ≡ Some q.1) × (place_of_layer l.1 q.0.at ≡ q.0)
     by_place os None g = cc
     by_place os (Some at) g = by_object os at (slice_get os at) refl g
 
-    by_objects : (o : Option (List Object)) → objects_of l.1 ≡ o → option_and_then (λ os. option_and_then (found_at l.1 os) (position (has_object_id id) os)) o ≡ Some q
+    by_objects : (o : Option (List Object)) → objects_of l.1 ≡ o
+        → option_and_then (λ os. option_and_then (found_at l.1 os) (position (has_object_id id) os)) o ≡ Some q
         → (os : List Object) × ((objects_of l.1 ≡ Some os) × ((slice_get os q.0.at ≡ Some q.1) × (place_of_layer l.1 q.0.at ≡ q.0)))
     by_objects None f g = cc
     by_objects (Some os) f g = (os, (f, by_place os (position (has_object_id id) os) g))
 
 -- the object that is found stands at its place
-pub object_at-found : (m : MapParts) (id : ℕ) (q : ObjectPlace × Object) → first_some (found_in_layer id) (all_drawn m.layers) ≡ Some q → IsWellFormed m → object_at m q.0 ≡ Some q.1
+pub object_at-found : (m : MapParts) (id : ℕ) (q : ObjectPlace × Object) → first_some (found_in_layer id) (all_drawn m.layers) ≡ Some q → IsWellFormed m
+    → object_at m q.0 ≡ Some q.1
 object_at-found m id q e h =
     let layer = found-slice id (all_drawn m.layers) q e in
     let l = layer.1.0 in
@@ -194,11 +213,13 @@ object_at-found m id q e h =
     ap (object_at m) (sym found.1.1.1) ∙ object_at-drawn m layer.0 l found.0 q.0.at q.1 layer.1.1.0 found.1.0 found.1.1.0 h
 
 -- what is found, seen behind its reference
-pub shown_place : (r : Option (ObjectPlace × Bor Object)) (o : Option (ObjectPlace × Object)) → option_map (λ found. (found.0, found.1.now)) r ≡ o → option_map (λ found. found.0) r ≡ option_map (λ q. q.0) o
+pub shown_place : (r : Option (ObjectPlace × Bor Object)) (o : Option (ObjectPlace × Object)) → option_map (λ found. (found.0, found.1.now)) r ≡ o
+    → option_map (λ found. found.0) r ≡ option_map (λ q. q.0) o
 shown_place None o e = rw (← e) refl
 shown_place (Some found) o e = rw (← e) refl
 
-pub shown_object : (m : MapParts) (id : ℕ) (r : Option (ObjectPlace × Bor Object)) → option_map (λ found. (found.0, found.1.now)) r ≡ first_some (found_in_layer id) (all_drawn m.layers) → IsWellFormed m
+pub shown_object : (m : MapParts) (id : ℕ) (r : Option (ObjectPlace × Bor Object))
+    → option_map (λ found. (found.0, found.1.now)) r ≡ first_some (found_in_layer id) (all_drawn m.layers) → IsWellFormed m
     → IfSome r (λ found. object_at m found.0 ≡ Some found.1.now)
 shown_object m id None e h = tt
 shown_object m id (Some found) e h = object_at-found m id (found.0, found.1.now) (sym e) h

@@ -1,5 +1,6 @@
 -- The place of the layer with an id.
-use Rattle.std.proofs.Common.{◌≡◌, ◌≢◌, ℕ, zero, suc, ◌+◌, ◌<◌, List, [], ◌∷◌, ◌++◌, length, true, false, nat_eq, Option, Some, None, is_some, IsSome, option_map, option_and_then, ◌⊎◌, inl, inr, refl, sym, ap, ◌∙◌, subst, arith}
+use Rattle.std.proofs.Common.{◌≡◌, ◌≢◌, ℕ, zero, suc, ◌+◌, ◌<◌, List, [], ◌∷◌, ◌++◌, length, true, false, nat_eq, Option, Some, None, is_some, IsSome}
+use Rattle.std.proofs.Common.{option_map, option_and_then, ◌⊎◌, inl, inr, refl, sym, ap, ◌∙◌, subst, arith}
 use Rattle.std.specs.List.{flat_map, position_from, slice_get}
 use Rattle.std.proofs.lemmas.Bool.Decides.{nat_tests}
 use Rattle.std.proofs.lemmas.Grind.{flat_map-append}
@@ -23,13 +24,16 @@ use Rattle.map_model.proofs.Walks.{holds-own}
 
 -- ---- ids in a tree
 -- what each id of the list has, the id of the layer that stands in it has
-stands-id : {id room level : ℕ} {l : Layer} {xs : List (ℕ × Layer)} {ys : (Layer → Layer) → List (ℕ × Layer)} (P : ℕ → Type 0) → Stands id room level l xs ys → Each P (flat_map ids_of xs) → P id
+stands-id : {id room level : ℕ} {l : Layer} {xs : List (ℕ × Layer)} {ys : (Layer → Layer) → List (ℕ × Layer)} (P : ℕ → Type 0) → Stands id room level l xs ys
+    → Each P (flat_map ids_of xs) → P id
 stands-id {id = id} {l = l} P s h =
     let is : l.id ≡ id = grind (arith, nat_tests, s.has) in
     let all : Each P (flat_map ids_of (s.prefix ++ (tree s.own_room s.own_level l ++ s.rest))) = rw (← s.was) h in
-    let behind = Each-rest P (flat_map ids_of s.prefix) (flat_map ids_of (tree s.own_room s.own_level l ++ s.rest)) (rw (flat_map-append ids_of s.prefix (tree s.own_room s.own_level l ++ s.rest)) at all) in
+    let behind = Each-rest P (flat_map ids_of s.prefix) (flat_map ids_of (tree s.own_room s.own_level l ++ s.rest))
+    (rw (flat_map-append ids_of s.prefix (tree s.own_room s.own_level l ++ s.rest)) at all) in
     let own : Each P (flat_map ids_of (tree s.own_room s.own_level l)) =
-    Each-prefix P (flat_map ids_of (tree s.own_room s.own_level l)) (flat_map ids_of s.rest) (rw (flat_map-append ids_of (tree s.own_room s.own_level l) s.rest) at behind) in
+    Each-prefix P (flat_map ids_of (tree s.own_room s.own_level l)) (flat_map ids_of s.rest)
+    (rw (flat_map-append ids_of (tree s.own_room s.own_level l) s.rest) at behind) in
     subst P is (rw (tree-is s.own_room s.own_level l) at own).0
 
 -- where each id is another, no layer is found
@@ -41,7 +45,8 @@ found-none id room level l h = by_found (find_one id room l) refl
     by_found (Some k) e = absurd (stands-id (λ n. n ≢ id) (stands_one id room level k l e) h refl)
 
 -- what each id has, that has which a layer of the list has or holds
-pub Each-held : (P : ℕ → Type 0) (id room level : ℕ) (ls : List Layer) (k : ℕ) (l : Layer) → slice_get ls k ≡ Some l → holds id room l ≡ true → Each P (flat_map ids_of (drawn room level ls)) → P id
+pub Each-held : (P : ℕ → Type 0) (id room level : ℕ) (ls : List Layer) (k : ℕ) (l : Layer) → slice_get ls k ≡ Some l → holds id room l ≡ true
+    → Each P (flat_map ids_of (drawn room level ls)) → P id
 Each-held P id room level [] zero l e held h = cc
 Each-held P id room level [] (suc k) l e held h = cc
 Each-held P id room level (x ∷ xs) zero l e held h = by_found (find_one id room x) refl (ap (holds id room) same ∙ held)
@@ -50,24 +55,29 @@ Each-held P id room level (x ∷ xs) zero l e held h = by_found (find_one id roo
     same = cc
 
     own : Each P (flat_map ids_of (tree room level x))
-    own = Each-prefix P (flat_map ids_of (tree room level x)) (flat_map ids_of (drawn room level xs)) (rw (flat_map-append ids_of (tree room level x) (drawn room level xs)) at h)
+    own = Each-prefix P (flat_map ids_of (tree room level x)) (flat_map ids_of (drawn room level xs))
+        (rw (flat_map-append ids_of (tree room level x) (drawn room level xs)) at h)
 
     by_found : (o : Option Layer) → find_one id room x ≡ o → is_some (find_one id room x) ≡ true → P id
     by_found None q some = let none : false ≡ true = rw q at some in cc
     by_found (Some found) q some = stands-id P (stands_one id room level found x q) own
 Each-held P id room level (x ∷ xs) (suc k) l e held h =
-    Each-held P id room level xs k l e held (Each-rest P (flat_map ids_of (tree room level x)) (flat_map ids_of (drawn room level xs)) (rw (flat_map-append ids_of (tree room level x) (drawn room level xs)) at h))
+    Each-held P id room level xs k l e held (Each-rest P (flat_map ids_of (tree room level x)) (flat_map ids_of (drawn room level xs))
+    (rw (flat_map-append ids_of (tree room level x) (drawn room level xs)) at h))
 
 -- the ids of a layer of the list are distinct
-pub Distinct-tree : (room level : ℕ) (ls : List Layer) (k : ℕ) (l : Layer) → slice_get ls k ≡ Some l → Distinct (flat_map ids_of (drawn room level ls)) → Distinct (flat_map ids_of (tree room level l))
+pub Distinct-tree : (room level : ℕ) (ls : List Layer) (k : ℕ) (l : Layer) → slice_get ls k ≡ Some l → Distinct (flat_map ids_of (drawn room level ls))
+    → Distinct (flat_map ids_of (tree room level l))
 Distinct-tree room level [] zero l e h = cc
 Distinct-tree room level [] (suc k) l e h = cc
 Distinct-tree room level (x ∷ xs) zero l e h =
     let same : x ≡ l = cc in
     subst (λ (y : Layer). Distinct (flat_map ids_of (tree room level y))) same
-    (Distinct-prefix (flat_map ids_of (tree room level x)) (flat_map ids_of (drawn room level xs)) (rw (flat_map-append ids_of (tree room level x) (drawn room level xs)) at h))
+    (Distinct-prefix (flat_map ids_of (tree room level x)) (flat_map ids_of (drawn room level xs))
+    (rw (flat_map-append ids_of (tree room level x) (drawn room level xs)) at h))
 Distinct-tree room level (x ∷ xs) (suc k) l e h =
-    Distinct-tree room level xs k l e (Distinct-rest (flat_map ids_of (tree room level x)) (flat_map ids_of (drawn room level xs)) (rw (flat_map-append ids_of (tree room level x) (drawn room level xs)) at h))
+    Distinct-tree room level xs k l e (Distinct-rest (flat_map ids_of (tree room level x)) (flat_map ids_of (drawn room level xs))
+    (rw (flat_map-append ids_of (tree room level x) (drawn room level xs)) at h))
 
 -- an id of the second list is none of the first one's
 Each-apart_from : (id : ℕ) (ns ids : List ℕ) → ((n : ℕ) → Each (λ i. n ≢ i) ids → n ≢ id) → Each (λ n. Each (λ i. n ≢ i) ids) ns → Each (λ n. n ≢ id) ns
@@ -93,7 +103,8 @@ own_place : (id : ℕ) (parent : Option ℕ) (ls : List Layer) (place : LayerPla
     → (place.parent ≡ parent) × IsSome (slice_get ls place.at)
 own_place id parent ls place e = by_position (position (has_id id) ls) refl e
   where
-    by_position : (o : Option ℕ) → position (has_id id) ls ≡ o → option_map (place_under parent) o ≡ Some place → (place.parent ≡ parent) × IsSome (slice_get ls place.at)
+    by_position : (o : Option ℕ) → position (has_id id) ls ≡ o → option_map (place_under parent) o ≡ Some place
+        → (place.parent ≡ parent) × IsSome (slice_get ls place.at)
     by_position None f q = cc
     by_position (Some at) f q =
         let same : at ≡ place.at = ap at_of q in
@@ -113,7 +124,8 @@ inside-group l at h = by_group (group_of l) h
     by_group (Some ks) q = q
 
 -- the layer that is found among those that stand in one with another id
-pub found-inside : (room level : ℕ) (l g : Layer) → layer_among g.id room (inside l) ≡ Some g → Distinct (flat_map ids_of (tree (suc room) level l)) → find_one g.id (suc room) l ≡ Some g
+pub found-inside : (room level : ℕ) (l g : Layer) → layer_among g.id room (inside l) ≡ Some g → Distinct (flat_map ids_of (tree (suc room) level l))
+    → find_one g.id (suc room) l ≡ Some g
 found-inside room level l g e h =
     let apart : Distinct (l.id ∷ flat_map ids_of (drawn room (inner_level level) (inside l))) = rw (tree-is (suc room) level l) at h in
     let other : l.id ≢ g.id = stands-id (λ n. l.id ≢ n) (stands g.id room (inner_level level) (inside l) g e) apart.0 in
@@ -121,11 +133,15 @@ found-inside room level l g e h =
     find_one-is g.id (suc room) l ∙ rw (passed) e
 
 -- the layers within groups, one after another
-places_within : (id room level : ℕ) → ((l : Layer) (place : LayerPlace) → place_among id room (Some l.id) (inside l) ≡ Some place → Distinct (flat_map ids_of (drawn room (inner_level level) (inside l))) → StandsAt room (Some l.id) (inside l) place)
-    → (ls : List Layer) (place : LayerPlace) → first_some (λ l. place_among id room (Some l.id) (inside l)) ls ≡ Some place → Distinct (flat_map ids_of (drawn (suc room) level ls))
-    → (g : Layer) × ((place.parent ≡ Some g.id) × ((layer_among g.id (suc room) ls ≡ Some g) × IsSome (option_and_then (λ ks. slice_get ks place.at) (group_of g))))
+places_within : (id room level : ℕ) → ((l : Layer) (place : LayerPlace) → place_among id room (Some l.id) (inside l) ≡ Some place → Distinct
+    (flat_map ids_of (drawn room (inner_level level) (inside l))) → StandsAt room (Some l.id) (inside l) place)
+    → (ls : List Layer) (place : LayerPlace) → first_some (λ l. place_among id room (Some l.id) (inside l)) ls ≡ Some place
+    → Distinct (flat_map ids_of (drawn (suc room) level ls))
+    → (g : Layer) × ((place.parent ≡ Some g.id) × ((layer_among g.id (suc room) ls ≡ Some g) × IsSome
+    (option_and_then (λ ks. slice_get ks place.at) (group_of g))))
 places_within id room level within [] place e h = cc
-places_within id room level within (l ∷ ls) place e h = by_first (place_among id room (Some l.id) (inside l)) refl e (places_within id room level within ls place)
+places_within id room level within (l ∷ ls) place e h = by_first (place_among id room (Some l.id) (inside l)) refl e
+    (places_within id room level within ls place)
   where
     pieces : Distinct (flat_map ids_of (tree (suc room) level l) ++ flat_map ids_of (drawn (suc room) level ls))
     pieces = rw (flat_map-append ids_of (tree (suc room) level l) (drawn (suc room) level ls)) at h
@@ -134,7 +150,8 @@ places_within id room level within (l ∷ ls) place e h = by_first (place_among 
     own = Distinct-prefix (flat_map ids_of (tree (suc room) level l)) (flat_map ids_of (drawn (suc room) level ls)) pieces
 
     by_stands : StandsAt room (Some l.id) (inside l) place
-        → (g : Layer) × ((place.parent ≡ Some g.id) × ((layer_among g.id (suc room) (l ∷ ls) ≡ Some g) × IsSome (option_and_then (λ ks. slice_get ks place.at) (group_of g))))
+        → (g : Layer) × ((place.parent ≡ Some g.id) × ((layer_among g.id (suc room) (l ∷ ls) ≡ Some g) × IsSome
+        (option_and_then (λ ks. slice_get ks place.at) (group_of g))))
     by_stands (inl q) =
         let here : has_id l.id l ≡ true = grind (arith, nat_tests) in
         let found : find_one l.id (suc room) l ≡ Some l = find_one-is l.id (suc room) l ∙ rw here refl in
@@ -143,10 +160,13 @@ places_within id room level within (l ∷ ls) place e h = by_first (place_among 
         let found = found-inside room level l q.0 q.1.1.0 own in
         (q.0, (q.1.0, (ap (λ o. or_else o (layer_among q.0.id (suc room) ls)) found, q.1.1.1)))
 
-    by_first : (o : Option LayerPlace) → place_among id room (Some l.id) (inside l) ≡ o → or_else o (first_some (λ k. place_among id room (Some k.id) (inside k)) ls) ≡ Some place
+    by_first : (o : Option LayerPlace) → place_among id room (Some l.id) (inside l) ≡ o
+        → or_else o (first_some (λ k. place_among id room (Some k.id) (inside k)) ls) ≡ Some place
         → (first_some (λ k. place_among id room (Some k.id) (inside k)) ls ≡ Some place → Distinct (flat_map ids_of (drawn (suc room) level ls))
-        → (g : Layer) × ((place.parent ≡ Some g.id) × ((layer_among g.id (suc room) ls ≡ Some g) × IsSome (option_and_then (λ ks. slice_get ks place.at) (group_of g)))))
-        → (g : Layer) × ((place.parent ≡ Some g.id) × ((layer_among g.id (suc room) (l ∷ ls) ≡ Some g) × IsSome (option_and_then (λ ks. slice_get ks place.at) (group_of g))))
+        → (g : Layer) × ((place.parent ≡ Some g.id) × ((layer_among g.id (suc room) ls ≡ Some g) × IsSome
+        (option_and_then (λ ks. slice_get ks place.at) (group_of g)))))
+        → (g : Layer) × ((place.parent ≡ Some g.id) × ((layer_among g.id (suc room) (l ∷ ls) ≡ Some g) × IsSome
+        (option_and_then (λ ks. slice_get ks place.at) (group_of g))))
     by_first None f q later =
         let found = later q (Distinct-rest (flat_map ids_of (tree (suc room) level l)) (flat_map ids_of (drawn (suc room) level ls)) pieces) in
         let g = found.0 in
@@ -158,16 +178,19 @@ places_within id room level within (l ∷ ls) place e h = by_first (place_among 
         let inner : Distinct (l.id ∷ flat_map ids_of (drawn room (inner_level level) (inside l))) = rw (tree-is (suc room) level l) at own in
         by_stands (within l place (f ∙ q) inner.1)
 
-pub place_among-there : (id room level : ℕ) (parent : Option ℕ) (ls : List Layer) (place : LayerPlace) → place_among id room parent ls ≡ Some place → Distinct (flat_map ids_of (drawn room level ls)) → StandsAt room parent ls place
+pub place_among-there : (id room level : ℕ) (parent : Option ℕ) (ls : List Layer) (place : LayerPlace) → place_among id room parent ls ≡ Some place
+    → Distinct (flat_map ids_of (drawn room level ls)) → StandsAt room parent ls place
 unfolding place_among
 place_among-there id zero level parent ls place e h = inl (own_place id parent ls place e)
 place_among-there id (suc room) level parent ls place e h =
     by_own (option_map (place_under parent) (position (has_id id) ls)) refl e
     (λ q. places_within id room level (λ l p f d. place_among-there id room (inner_level level) (Some l.id) (inside l) p f d) ls place q h)
   where
-    by_own : (o : Option LayerPlace) → option_map (place_under parent) (position (has_id id) ls) ≡ o → or_else o (first_some (λ l. place_among id room (Some l.id) (inside l)) ls) ≡ Some place
+    by_own : (o : Option LayerPlace) → option_map (place_under parent) (position (has_id id) ls) ≡ o
+        → or_else o (first_some (λ l. place_among id room (Some l.id) (inside l)) ls) ≡ Some place
         → (first_some (λ l. place_among id room (Some l.id) (inside l)) ls ≡ Some place
-        → (g : Layer) × ((place.parent ≡ Some g.id) × ((layer_among g.id (suc room) ls ≡ Some g) × IsSome (option_and_then (λ ks. slice_get ks place.at) (group_of g)))))
+        → (g : Layer) × ((place.parent ≡ Some g.id) × ((layer_among g.id (suc room) ls ≡ Some g) × IsSome
+        (option_and_then (λ ks. slice_get ks place.at) (group_of g)))))
         → StandsAt (suc room) parent ls place
     by_own None f q later = inr (later q)
     by_own (Some p) f q later = inl (own_place id parent ls place (f ∙ q))
@@ -187,7 +210,8 @@ module _ {X : Type 0} (id_of : X → ℕ) where
   Each-id_at P (y ∷ ys) zero x e h = let same : y ≡ x = cc in subst (λ z. P (id_of z)) same h.0
   Each-id_at P (y ∷ ys) (suc k) x e h = Each-id_at P ys k x e h.1
 
-  position_from-only : (xs : List X) (i k : ℕ) (x : X) → slice_get xs k ≡ Some x → Distinct (flat_map (λ y. id_of y ∷ []) xs) → position_from (λ y. nat_eq (id_of y) (id_of x)) i xs ≡ Some (i + k)
+  position_from-only : (xs : List X) (i k : ℕ) (x : X) → slice_get xs k ≡ Some x → Distinct (flat_map (λ y. id_of y ∷ []) xs)
+      → position_from (λ y. nat_eq (id_of y) (id_of x)) i xs ≡ Some (i + k)
   position_from-only [] i zero x e h = cc
   position_from-only [] i (suc k) x e h = cc
   position_from-only (y ∷ ys) i zero x e h =
@@ -202,13 +226,15 @@ module _ {X : Type 0} (id_of : X → ℕ) where
       rw passed (position_from-only ys (i + 1) k x e h.1 ∙ ap Some here)
 
   -- where the ids are distinct, the place of an element is that of the first with its id
-  pub position-only : (xs : List X) (k : ℕ) (x : X) → slice_get xs k ≡ Some x → Distinct (flat_map (λ y. id_of y ∷ []) xs) → position (λ y. nat_eq (id_of y) (id_of x)) xs ≡ Some k
+  pub position-only : (xs : List X) (k : ℕ) (x : X) → slice_get xs k ≡ Some x → Distinct (flat_map (λ y. id_of y ∷ []) xs)
+      → position (λ y. nat_eq (id_of y) (id_of x)) xs ≡ Some k
   position-only xs k x e h =
       let here : 0 + k ≡ k = omega arith in
       position_from-zero (λ y. nat_eq (id_of y) (id_of x)) xs ∙ position_from-only xs 0 k x e h ∙ ap Some here
 
 -- ---- the first layer that has an id, or one within it
-position_from-held : (id room level : ℕ) (ls : List Layer) (i k : ℕ) (l : Layer) → slice_get ls k ≡ Some l → holds id room l ≡ true → Distinct (flat_map ids_of (drawn room level ls)) → position_from (holds id room) i ls ≡ Some (i + k)
+position_from-held : (id room level : ℕ) (ls : List Layer) (i k : ℕ) (l : Layer) → slice_get ls k ≡ Some l → holds id room l ≡ true
+    → Distinct (flat_map ids_of (drawn room level ls)) → position_from (holds id room) i ls ≡ Some (i + k)
 position_from-held id room level [] i zero l e held h = cc
 position_from-held id room level [] i (suc k) l e held h = cc
 position_from-held id room level (x ∷ xs) i zero l e held h =
@@ -217,17 +243,22 @@ position_from-held id room level (x ∷ xs) i zero l e held h =
     let here : i ≡ i + 0 = omega arith in
     rw own (ap Some here)
 position_from-held id room level (x ∷ xs) i (suc k) l e held h =
-    let pieces : Distinct (flat_map ids_of (tree room level x) ++ flat_map ids_of (drawn room level xs)) = rw (flat_map-append ids_of (tree room level x) (drawn room level xs)) at h in
+    let pieces : Distinct (flat_map ids_of (tree room level x) ++ flat_map ids_of (drawn room level xs)) =
+    rw (flat_map-append ids_of (tree room level x) (drawn room level xs)) at h in
     let apart = Apart-pieces (flat_map ids_of (tree room level x)) (flat_map ids_of (drawn room level xs)) pieces in
-    let others = Each-apart_from id (flat_map ids_of (tree room level x)) (flat_map ids_of (drawn room level xs)) (λ n a. Each-held (λ m. n ≢ m) id room level xs k l e held a) apart in
+    let others = Each-apart_from id (flat_map ids_of (tree room level x)) (flat_map ids_of (drawn room level xs))
+    (λ n a. Each-held (λ m. n ≢ m) id room level xs k l e held a) apart in
     let passed : holds id room x ≡ false = ap is_some (found-none id room level x others) in
     let here : (i + 1) + k ≡ i + suc k = omega arith in
-    rw passed (position_from-held id room level xs (i + 1) k l e held (Distinct-rest (flat_map ids_of (tree room level x)) (flat_map ids_of (drawn room level xs)) pieces) ∙ ap Some here)
+    rw passed (position_from-held id room level xs (i + 1) k l e held
+    (Distinct-rest (flat_map ids_of (tree room level x)) (flat_map ids_of (drawn room level xs)) pieces) ∙ ap Some here)
 
-pub position-held : (id room level : ℕ) (ls : List Layer) (k : ℕ) (l : Layer) → slice_get ls k ≡ Some l → holds id room l ≡ true → Distinct (flat_map ids_of (drawn room level ls)) → position (holds id room) ls ≡ Some k
+pub position-held : (id room level : ℕ) (ls : List Layer) (k : ℕ) (l : Layer) → slice_get ls k ≡ Some l → holds id room l ≡ true
+    → Distinct (flat_map ids_of (drawn room level ls)) → position (holds id room) ls ≡ Some k
 position-held id room level ls k l e held h =
     let here : 0 + k ≡ k = omega arith in
     position_from-zero (holds id room) ls ∙ position_from-held id room level ls 0 k l e held h ∙ ap Some here
 
-pub position-holder : (id room level : ℕ) (ls : List Layer) (k : ℕ) (l : Layer) → slice_get ls k ≡ Some l → l.id ≡ id → Distinct (flat_map ids_of (drawn room level ls)) → position (holds id room) ls ≡ Some k
+pub position-holder : (id room level : ℕ) (ls : List Layer) (k : ℕ) (l : Layer) → slice_get ls k ≡ Some l → l.id ≡ id
+    → Distinct (flat_map ids_of (drawn room level ls)) → position (holds id room) ls ≡ Some k
 position-holder id room level ls k l e is h = position-held id room level ls k l e (sym (holds-own id room l is)) h

@@ -1,5 +1,6 @@
 -- Changes of properties that keep a map well formed.
-use Rattle.std.proofs.Common.{◌≡◌, ◌≢◌, IsUtf8, ℕ, zero, suc, ◌+◌, ◌<◌, ◌≤◌, List, [], ◌∷◌, length, Bool, true, false, true≢false, cond, Option, Some, None, IsSome, IsSomeAnd, option_map, option_and_then, refl, sym, ap, ◌∙◌, subst, arith}
+use Rattle.std.proofs.Common.{◌≡◌, ◌≢◌, IsUtf8, ℕ, zero, suc, ◌+◌, ◌<◌, ◌≤◌, List, [], ◌∷◌, length, Bool, true, false, true≢false, cond, Option, Some, None}
+use Rattle.std.proofs.Common.{IsSome, IsSomeAnd, option_map, option_and_then, refl, sym, ap, ◌∙◌, subst, arith}
 use Rattle.std.specs.Bool.{Decides}
 use Rattle.std.specs.List.{slice_get, slice_set, insert, remove, flat_map, position, position_from}
 use Rattle.std.specs.Str.{bytes_eq}
@@ -22,7 +23,9 @@ use Rattle.map_model.specs.Keeping.{map_level, object_level, property_level, pro
 use Rattle.map_model.specs.Lists.{Each, Distinct, change_at, or_empty}
 use Rattle.map_model.specs.Objects.{layer_with_objects, object_at}
 use Rattle.map_model.specs.Lookups.{layer_of}
-use Rattle.map_model.specs.Properties.{has_name, layer_properties, layer_with_properties, level_of, new_property, object_properties, object_with_properties, owner_level, properties_of, property_at, property_with_setting, setting_of, with_properties, with_property, with_property_at, without_property_at, IsSetting}
+use Rattle.map_model.specs.Properties.{has_name, layer_properties, layer_with_properties, level_of, new_property, object_properties, object_with_properties}
+use Rattle.map_model.specs.Properties.{owner_level, properties_of, property_at, property_with_setting, setting_of, with_properties, with_property}
+use Rattle.map_model.specs.Properties.{with_property_at, without_property_at, IsSetting}
 use Rattle.map_model.specs.WellFormed.{AreProperties, IsProperty, IsValue, IsWellFormed, names_of_property}
 use Rattle.map_model.proofs.Changes.{length-insert, length-remove_le, Each-at, Each-insert, Each-remove}
 use Rattle.map_model.proofs.Keeps.{changed-keeps, layer_of-IsLayer, object_ids-IsReplaced}
@@ -39,7 +42,8 @@ placed : {X Y : Type 0} (f : X → Option Y) (o : Option X) (y : Y) → option_a
 placed f None y e = cc
 placed f (Some x) y e = (x, (refl, e))
 
-pub AreProperties-of : (owner : OwnerPlace) (ps : List Property) (m : MapParts) → properties_of m owner ≡ Some ps → IsWellFormed m → AreProperties (owner_level m owner) ps
+pub AreProperties-of : (owner : OwnerPlace) (ps : List Property) (m : MapParts) → properties_of m owner ≡ Some ps → IsWellFormed m
+    → AreProperties (owner_level m owner) ps
 AreProperties-of places.Map ps m e h = let is : m.properties ≡ ps = cc in subst (AreProperties map_level) is h.properties
 AreProperties-of (places.Layer id) ps m e h =
     let found = mapped layer_properties (layer_of m id) ps e in
@@ -49,7 +53,8 @@ AreProperties-of (places.Object place) ps m e h =
     subst (AreProperties (object_level (level_of m place.layer))) found.1.1 (object_at-IsObject m place found.0 found.1.0 h).properties
 
 -- the map with others in their place
-pub with_properties-keeps : (owner : OwnerPlace) (f : List Property → List Property) (ps : List Property) (m : MapParts) → properties_of m owner ≡ Some ps → AreProperties (owner_level m owner) (f ps)
+pub with_properties-keeps : (owner : OwnerPlace) (f : List Property → List Property) (ps : List Property) (m : MapParts) → properties_of m owner ≡ Some ps
+    → AreProperties (owner_level m owner) (f ps)
     → IsWellFormed m → IsWellFormed (with_properties owner f m)
 with_properties-keeps places.Map f ps m e are h =
     let is : ps ≡ m.properties = cc in
@@ -123,7 +128,8 @@ pub other_names : (name : List ℕ) (ps : List Property) → position (has_name 
 other_names name ps e = other_names_from name ps 0 (sym (position_from-zero (has_name name) ps) ∙ e)
 
 -- ---- properties put in, taken out and changed
-pub AreProperties-insert : (level : ℕ) (ps : List Property) (k : ℕ) (p : Property) → length ps < MAX_PROPERTIES → IsProperty (property_level level) p → position (has_name p.name) ps ≡ None
+pub AreProperties-insert : (level : ℕ) (ps : List Property) (k : ℕ) (p : Property) → length ps < MAX_PROPERTIES → IsProperty (property_level level) p
+    → position (has_name p.name) ps ≡ None
     → AreProperties level ps → AreProperties level (insert ps k p)
 AreProperties-insert level ps k p few is new h = record {
   few = rw length-insert few;
@@ -142,7 +148,8 @@ pub AreProperties-change_at : (level : ℕ) (ps : List Property) (k : ℕ) (s : 
     → AreProperties level ps → AreProperties level (change_at k (property_with_setting s) ps)
 AreProperties-change_at level ps k s kind value h = record {
   few = rw (length-change_at k (property_with_setting s) ps) h.few;
-  each = Each-change_at (IsProperty (property_level level)) k (property_with_setting s) ps (λ p e q. record { name = q.name; kind = kind; value = value; kept = q.kept }) h.each;
+  each = Each-change_at (IsProperty (property_level level)) k (property_with_setting s) ps
+      (λ p e q. record { name = q.name; kind = kind; value = value; kept = q.kept }) h.each;
   distinct = rw (names-change_at k s ps) h.distinct;
 }
 
@@ -166,10 +173,12 @@ some_properties : (o : Option (List Property)) (at : ℕ) → IsSome (option_and
 some_properties None at h = cc
 some_properties (Some ps) at h = (ps, refl)
 
-pub without_property_at-keeps : (owner : OwnerPlace) (at : ℕ) (m : MapParts) → IsSome (property_at m owner at) → IsWellFormed m → IsWellFormed (without_property_at owner at m)
+pub without_property_at-keeps : (owner : OwnerPlace) (at : ℕ) (m : MapParts) → IsSome (property_at m owner at) → IsWellFormed m
+    → IsWellFormed (without_property_at owner at m)
 without_property_at-keeps owner at m there h =
     let found = some_properties (properties_of m owner) at there in
-    with_properties-keeps owner (λ ps. remove ps at) found.0 m found.1 (AreProperties-remove (owner_level m owner) found.0 at (AreProperties-of owner found.0 m found.1 h)) h
+    with_properties-keeps owner (λ ps. remove ps at) found.0 m found.1
+    (AreProperties-remove (owner_level m owner) found.0 at (AreProperties-of owner found.0 m found.1 h)) h
 
 pub with_setting-keeps : (owner : OwnerPlace) (at : ℕ) (s : Setting) (m : MapParts) → IsSome (property_at m owner at) → IsSetting m owner s → IsWellFormed m
     → IsWellFormed (with_property owner at (property_with_setting s) m)
@@ -179,7 +188,8 @@ with_setting-keeps owner at s m there is h =
     (AreProperties-change_at (owner_level m owner) found.0 at s is.kind is.value (AreProperties-of owner found.0 m found.1 h)) h
 
 -- a property that is there has a setting of its owner's
-pub property_at-IsSetting : (owner : OwnerPlace) (at : ℕ) (s : Setting) (m : MapParts) → option_map setting_of (property_at m owner at) ≡ Some s → IsWellFormed m → IsSetting m owner s
+pub property_at-IsSetting : (owner : OwnerPlace) (at : ℕ) (s : Setting) (m : MapParts) → option_map setting_of (property_at m owner at) ≡ Some s
+    → IsWellFormed m → IsSetting m owner s
 property_at-IsSetting owner at s m e h =
     let p = mapped setting_of (property_at m owner at) s e in
     let ps = placed (λ qs. slice_get qs at) (properties_of m owner) p.0 p.1.0 in
@@ -187,38 +197,47 @@ property_at-IsSetting owner at s m e h =
     subst (IsSetting m owner) p.1.1 (record { kind = is.kind; value = is.value })
 
 -- a property with a new name, put in
-pub with_property_at-keeps : (owner : OwnerPlace) (at : ℕ) (p : Property) (ps : List Property) (m : MapParts) → properties_of m owner ≡ Some ps → length ps < MAX_PROPERTIES
+pub with_property_at-keeps : (owner : OwnerPlace) (at : ℕ) (p : Property) (ps : List Property) (m : MapParts) → properties_of m owner ≡ Some ps
+    → length ps < MAX_PROPERTIES
     → IsProperty (property_level (owner_level m owner)) p → position (has_name p.name) ps ≡ None → IsWellFormed m → IsWellFormed (with_property_at owner at p m)
 with_property_at-keeps owner at p ps m e few is new h =
-    with_properties-keeps owner (λ qs. insert qs at p) ps m e (AreProperties-insert (owner_level m owner) ps at p few is new (AreProperties-of owner ps m e h)) h
+    with_properties-keeps owner (λ qs. insert qs at p) ps m e
+    (AreProperties-insert (owner_level m owner) ps at p few is new (AreProperties-of owner ps m e h)) h
 
 -- the selection lies in the map with other properties too
-pub with_properties-IsSelectionOf : (owner : OwnerPlace) (f : List Property → List Property) (m : MapParts) (selection : set.FinSet cell_cmp) → IsSelectionOf m selection
+pub with_properties-IsSelectionOf : (owner : OwnerPlace) (f : List Property → List Property) (m : MapParts) (selection : set.FinSet cell_cmp)
+    → IsSelectionOf m selection
     → IsSelectionOf (with_properties owner f m) selection
 with_properties-IsSelectionOf places.Map f m selection h = h
 with_properties-IsSelectionOf (places.Layer id) f m selection h = h
 with_properties-IsSelectionOf (places.Object place) f m selection h = h
 
 -- ---- levels
-placed_level : (own : ObjectPlace) (f : List Property → List Property) (m : MapParts) (id : ℕ) → level_of (with_properties (places.Object own) f m) id ≡ level_of m id
+placed_level : (own : ObjectPlace) (f : List Property → List Property) (m : MapParts) (id : ℕ)
+    → level_of (with_properties (places.Object own) f m) id ≡ level_of m id
 placed_level own f m id =
-    level_of-with_layer own.layer (layer_with_objects (change_at own.at (object_with_properties f))) (λ l. ap or_empty (group_in-objects (change_at own.at (object_with_properties f)) l.body)) (λ l. refl) m id
+    level_of-with_layer own.layer (layer_with_objects (change_at own.at (object_with_properties f)))
+    (λ l. ap or_empty (group_in-objects (change_at own.at (object_with_properties f)) l.body)) (λ l. refl) m id
 
 -- the levels of owners stay where properties change
-pub owner_level-with_properties : (own : OwnerPlace) (f : List Property → List Property) (m : MapParts) (owner : OwnerPlace) → owner_level (with_properties own f m) owner ≡ owner_level m owner
+pub owner_level-with_properties : (own : OwnerPlace) (f : List Property → List Property) (m : MapParts) (owner : OwnerPlace)
+    → owner_level (with_properties own f m) owner ≡ owner_level m owner
 owner_level-with_properties own f m places.Map = refl
 owner_level-with_properties places.Map f m (places.Layer id) = refl
 owner_level-with_properties (places.Layer own) f m (places.Layer id) = level_of-with_layer own (layer_with_properties f) (λ l. refl) (λ l. refl) m id
 owner_level-with_properties (places.Object place) f m (places.Layer id) = placed_level place f m id
 owner_level-with_properties places.Map f m (places.Object place) = refl
-owner_level-with_properties (places.Layer own) f m (places.Object place) = ap object_level (level_of-with_layer own (layer_with_properties f) (λ l. refl) (λ l. refl) m place.layer)
+owner_level-with_properties (places.Layer own) f m (places.Object place) =
+    ap object_level (level_of-with_layer own (layer_with_properties f) (λ l. refl) (λ l. refl) m place.layer)
 owner_level-with_properties (places.Object own) f m (places.Object place) = ap object_level (placed_level own f m place.layer)
 
 -- ---- where a property may be put in
 module _ (at : ℕ) (m : MapParts) where
-  pub room_in_layer : (id : ℕ) → (l : Layer) → layer_of m id ≡ Some l → IsSomeAnd (properties_of m (places.Layer id)) (λ ps. at ≤ length ps) → IsWellFormed m → (at ≤ length l.properties) × (length l.properties ≤ MAX_PROPERTIES)
+  pub room_in_layer : (id : ℕ) → (l : Layer) → layer_of m id ≡ Some l → IsSomeAnd (properties_of m (places.Layer id)) (λ ps. at ≤ length ps) → IsWellFormed m
+      → (at ≤ length l.properties) × (length l.properties ≤ MAX_PROPERTIES)
   room_in_layer id l e place h = (rw e at place, (layer_of-IsLayer m id l e h).properties.few)
 
-  pub room_in_object : (place : ObjectPlace) (o : Object) → object_at m place ≡ Some o → IsSomeAnd (properties_of m (places.Object place)) (λ ps. at ≤ length ps) → IsWellFormed m
+  pub room_in_object : (place : ObjectPlace) (o : Object) → object_at m place ≡ Some o
+      → IsSomeAnd (properties_of m (places.Object place)) (λ ps. at ≤ length ps) → IsWellFormed m
       → (at ≤ length o.properties) × (length o.properties ≤ MAX_PROPERTIES)
   room_in_object place o e room h = (rw e at room, (object_at-IsObject m place o e h).properties.few)

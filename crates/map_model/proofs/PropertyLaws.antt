@@ -17,7 +17,8 @@ use Rattle.map_model.proofs.SlotLaws.{place_in-laws}
 
 -- ---- lenses
 -- a lens that is read in another way keeps the laws
-read-laws : {A V : Type 0} (p : Lens A V) (get : A → Option V) → ((a : A) → get a ≡ p.get a) → IsLawfulLens p → IsLawfulLens (record { get = get; update = p.update })
+read-laws : {A V : Type 0} (p : Lens A V) (get : A → Option V) → ((a : A) → get a ≡ p.get a) → IsLawfulLens p
+    → IsLawfulLens (record { get = get; update = p.update })
 read-laws p get same laws = record {
   get-update = λ f v a e. same (p.update f a) ∙ laws.get-update f v a (sym (same a) ∙ e);
   update-same = λ f v a e. laws.update-same f v a (sym (same a) ∙ e);
@@ -42,12 +43,14 @@ map-then_placed : {V : Type 0} (f : Object → V) (at : ℕ) (o : Option Layer)
 map-then_placed f at None = refl
 map-then_placed f at (Some l) = by_objects (objects_of l)
   where
-    by_objects : (o : Option (List Object)) → option_map f (option_and_then (λ os. slice_get os at) o) ≡ option_and_then (λ os. option_and_then (λ b. Some (f b)) (slice_get os at)) o
+    by_objects : (o : Option (List Object)) → option_map f (option_and_then (λ os. slice_get os at) o)
+        ≡ option_and_then (λ os. option_and_then (λ b. Some (f b)) (slice_get os at)) o
     by_objects None = refl
     by_objects (Some os) = map-then f (slice_get os at)
 
 pub properties-laws : (owner : OwnerPlace) → IsLawfulLens (properties owner)
-properties-laws places.Map = whole-laws (λ d. d.map.properties) (λ ps d. record d { map = record d.map { properties = ps } }) (λ v d. refl) (λ d. refl) (λ v w d. refl)
+properties-laws places.Map = whole-laws (λ d. d.map.properties) (λ ps d. record d { map = record d.map { properties = ps } }) (λ v d. refl) (λ d. refl)
+    (λ v w d. refl)
 properties-laws (places.Layer id) =
     let lens : Lens Layer (List Property) = whole layer_properties (λ ps l. record l { properties = ps }) in
     read-laws (of_layer id lens) (properties (places.Layer id)).get (λ d. map-then layer_properties (layer_of d.map id))

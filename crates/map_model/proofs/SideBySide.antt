@@ -1,5 +1,6 @@
 -- Changed cells that stand side by side, and cells that all get one value.
-use Rattle.std.proofs.Common.{◌≡◌, ◌⊎◌, inl, inr, ℕ, zero, suc, ◌+◌, ◌*◌, ◌-◌, ◌<◌, ◌≤◌, List, [], ◌∷◌, length, take, drop, get_or, refl, sym, ap, subst, ◌∙◌, arith, add-one, length-set}
+use Rattle.std.proofs.Common.{◌≡◌, ◌⊎◌, inl, inr, ℕ, zero, suc, ◌+◌, ◌*◌, ◌-◌, ◌<◌, ◌≤◌, List, [], ◌∷◌, length, take, drop, get_or, refl, sym, ap, subst, ◌∙◌}
+use Rattle.std.proofs.Common.{arith, add-one, length-set}
 use Rattle.std.proofs.lemmas.Bool.Decides.{nat_tests}
 use Rattle.std.specs.List.{slice_set}
 use Rattle.std.specs.declared.cmp.Ordering.TheVariants.{Less}
@@ -78,13 +79,15 @@ fill_values-split width value (suc n) (e ∷ es) vs = fill_values-split width va
 
 pub length-fill_values : (width value : ℕ) (es : List CellEdit) (vs : List ℕ) → length (fill_values width value es vs) ≡ length vs
 length-fill_values width value [] vs = refl
-length-fill_values width value (e ∷ es) vs = length-fill_values width value es (slice_set vs (cell_number width e) value) ∙ length-set vs (cell_number width e) value
+length-fill_values width value (e ∷ es) vs = length-fill_values width value es (slice_set vs (cell_number width e) value)
+    ∙ length-set vs (cell_number width e) value
 
 same_side : (side : Side) (e f : CellEdit) → HasValuesOf e f → side_value side f ≡ side_value side e
 same_side Before e f h = h.0
 same_side After e f h = h.1
 
-put-fill : (width : ℕ) (side : Side) (e : CellEdit) (es : List CellEdit) (vs : List ℕ) → Each (HasValuesOf e) es → put_values width side es vs ≡ fill_values width (side_value side e) es vs
+put-fill : (width : ℕ) (side : Side) (e : CellEdit) (es : List CellEdit) (vs : List ℕ) → Each (HasValuesOf e) es
+    → put_values width side es vs ≡ fill_values width (side_value side e) es vs
 put-fill width side e [] vs h = refl
 put-fill width side e (f ∷ fs) vs h =
     put-fill width side e fs (slice_set vs (cell_number width f) (side_value side f)) h.1
@@ -102,7 +105,8 @@ each-range : (side : Side) (e : CellEdit) (es : List CellEdit) → IsTileValue (
 each-range side e [] range h = tt
 each-range side e (f ∷ fs) range h = (subst IsTileValue (sym (same_side side e f h.0)) range, each-range side e fs range h.1)
 
-pub alike-range : (side : Side) (first : CellEdit) (es : List CellEdit) → AreAlike es → 1 ≤ length es → first ≡ get_or es 0 first → IsTileValue (side_value side first) → HaveRange side es
+pub alike-range : (side : Side) (first : CellEdit) (es : List CellEdit) → AreAlike es → 1 ≤ length es → first ≡ get_or es 0 first
+    → IsTileValue (side_value side first) → HaveRange side es
 alike-range side first [] h l f range = absurd (omega arith)
 alike-range side first (e ∷ es) h l f range =
     let own : IsTileValue (side_value side e) = subst (λ (c : CellEdit). IsTileValue (side_value side c)) f range in
@@ -114,7 +118,8 @@ abbrev pub set_from : ℕ → ℕ → ℕ → List ℕ → List ℕ
 set_from value at zero vs = vs
 set_from value at (suc n) vs = set_from value (suc at) n (slice_set vs at value)
 
-pub set_from-step : (value at end : ℕ) (vs : List ℕ) → at < end → set_from value at (end - at) vs ≡ set_from value (at + 1) (end - (at + 1)) (slice_set vs at value)
+pub set_from-step : (value at end : ℕ) (vs : List ℕ) → at < end
+    → set_from value at (end - at) vs ≡ set_from value (at + 1) (end - (at + 1)) (slice_set vs at value)
 set_from-step value at end vs l =
     let left : end - at ≡ suc (end - (at + 1)) = omega arith in
     ap (λ n. set_from value at n vs) left ∙ ap (λ k. set_from value k (end - (at + 1)) (slice_set vs at value)) (sym (add-one at))
@@ -150,7 +155,8 @@ row-set width value first [] vs h l f = absurd (omega arith)
 row-set width value first (e ∷ es) vs h l f =
     ap (λ (c : CellEdit). set_from value (cell_number width c) (length (e ∷ es)) vs) f ∙ row-fill width value e es vs h
 
-pub row-below : (width count : ℕ) (first : CellEdit) (es : List CellEdit) → AreSideBySide es → Each (IsBelow width count) es → 1 ≤ length es → first ≡ get_or es 0 first
+pub row-below : (width count : ℕ) (first : CellEdit) (es : List CellEdit) → AreSideBySide es → Each (IsBelow width count) es → 1 ≤ length es
+    → first ≡ get_or es 0 first
     → cell_number width first + length es ≤ count
 row-below width count first [] h i l f = absurd (omega arith)
 row-below width count first (e ∷ es) h i l f =

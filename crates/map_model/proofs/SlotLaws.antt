@@ -7,7 +7,8 @@ use Rattle.map_model.specs.declared.place.ObjectPlace.{ObjectPlace}
 use Rattle.map_model.specs.Document.{DocumentParts}
 use Rattle.map_model.specs.Lens.{Lens, IsLawfulLens, AreApart, layers, siblings, next_layer_id, tilesets, layer_objects, next_object_id}
 use Rattle.map_model.specs.Slot.{IsLawfulSlot, place_in, next_in, layer_slot, next_layer_slot, tileset_slot, object_slot, next_object_slot}
-use Rattle.map_model.proofs.LensLaws.{layers-laws, siblings-laws, next_layer_id-laws, layers-next_layer_id, tilesets-laws, layer_objects-laws, next_object_id-laws, layer_objects-next_object_id}
+use Rattle.map_model.proofs.LensLaws.{layers-laws, siblings-laws, next_layer_id-laws, layers-next_layer_id, tilesets-laws, layer_objects-laws}
+use Rattle.map_model.proofs.LensLaws.{next_object_id-laws, layer_objects-next_object_id}
 use Rattle.map_model.proofs.Changes.{remove-insert, insert-remove, slice_get-insert, length-insert, slice_get-within, slice_get-Some, within-removed}
 
 -- ---- places in a list
@@ -50,7 +51,8 @@ module _ {X : Type 0} (xs : List X) (x : X) where
       let place : length (remove xs (length xs - 1)) ≡ length xs - 1 = let less = length-remove xs (length xs - 1) within in omega arith in
       ap (λ k. insert (remove xs (length xs - 1)) k x) place ∙ insert-remove xs (length xs - 1) x there
 
-pub next_in-laws : {X : Type 0} (p : Lens DocumentParts (List X)) (ids : Lens DocumentParts ℕ) → IsLawfulLens p → IsLawfulLens ids → AreApart p ids → (id : ℕ) → IsLawfulSlot (next_in p ids id)
+pub next_in-laws : {X : Type 0} (p : Lens DocumentParts (List X)) (ids : Lens DocumentParts ℕ) → IsLawfulLens p → IsLawfulLens ids → AreApart p ids → (id : ℕ)
+    → IsLawfulSlot (next_in p ids id)
 next_in-laws {X = X} p ids laws id-laws apart id = record {
   there = λ d h. let s = some_list (p.get d) h.1 in rw s.1.0 (last_there s.0 s.1.1);
   filled = λ x d h. let s = some (p.get d) h.1 in (
@@ -85,7 +87,8 @@ next_in-laws {X = X} p ids laws id-laws apart id = record {
     some_list None h = absurd h
     some_list (Some xs) h = (xs, (refl, h))
 
-    found : (x : X) (o : Option (List X)) → option_and_then (λ xs. slice_get xs (length xs - 1)) o ≡ Some x → (xs : List X) × ((o ≡ Some xs) × (slice_get xs (length xs - 1) ≡ Some x))
+    found : (x : X) (o : Option (List X)) → option_and_then (λ xs. slice_get xs (length xs - 1)) o ≡ Some x
+        → (xs : List X) × ((o ≡ Some xs) × (slice_get xs (length xs - 1) ≡ Some x))
     found x None e = cc
     found x (Some xs) e = (xs, (refl, e))
 
@@ -105,4 +108,5 @@ pub object_slot-laws : (place : ObjectPlace) → IsLawfulSlot (object_slot place
 object_slot-laws place = place_in-laws (layer_objects place.layer) (layer_objects-laws place.layer) place.at
 
 pub next_object_slot-laws : (layer id : ℕ) → IsLawfulSlot (next_object_slot layer id)
-next_object_slot-laws layer = next_in-laws (layer_objects layer) next_object_id (layer_objects-laws layer) next_object_id-laws (layer_objects-next_object_id layer)
+next_object_slot-laws layer = next_in-laws (layer_objects layer) next_object_id (layer_objects-laws layer) next_object_id-laws
+    (layer_objects-next_object_id layer)

@@ -1,5 +1,6 @@
 -- Changes that leave objects, owners and properties at their places.
-use Rattle.std.proofs.Common.{◌≡◌, ℕ, zero, suc, ◌+◌, List, [], ◌∷◌, length, nat_eq, Bool, true, false, cond, Option, Some, None, IsSomeAnd, option_map, option_and_then, refl, sym, ap, ◌∙◌, arith}
+use Rattle.std.proofs.Common.{◌≡◌, ℕ, zero, suc, ◌+◌, List, [], ◌∷◌, length, nat_eq, Bool, true, false, cond, Option, Some, None, IsSomeAnd, option_map}
+use Rattle.std.proofs.Common.{option_and_then, refl, sym, ap, ◌∙◌, arith}
 use Rattle.std.specs.List.{insert, remove, position, position_from, slice_get}
 use Rattle.std.proofs.lemmas.Iterator.Adapters.{position_from-zero}
 use Rattle.std.proofs.lemmas.Slice.Eq.{bytes_eq-Decides}
@@ -19,9 +20,11 @@ use Rattle.map_model.specs.declared.setting.Setting.{Setting}
 use Rattle.map_model.specs.Document.{DocumentParts, with_map}
 use Rattle.map_model.specs.Groups.{bare, body_with_layers}
 use Rattle.map_model.specs.Lists.{change_at, or_empty}
-use Rattle.map_model.specs.Objects.{objects_in, has_object_id, place_of_layer, place_in_layer, object_place, layer_with_objects, with_object, body_with_objects, object_with_placing}
+use Rattle.map_model.specs.Objects.{objects_in, has_object_id, place_of_layer, place_in_layer, object_place, layer_with_objects, with_object, body_with_objects}
+use Rattle.map_model.specs.Objects.{object_with_placing}
 use Rattle.map_model.specs.Lens.{IsLawfulLens, of_object, placing, placing_with_id, put}
-use Rattle.map_model.specs.Properties.{has_name, layer_with_properties, new_property, object_with_properties, owner_place, properties_of, property_at, property_place, property_with_setting, setting_of, with_properties, with_property_at, without_property_at}
+use Rattle.map_model.specs.Properties.{has_name, layer_with_properties, new_property, object_with_properties, owner_place, properties_of, property_at}
+use Rattle.map_model.specs.Properties.{property_place, property_with_setting, setting_of, with_properties, with_property_at, without_property_at}
 use Rattle.map_model.specs.PropertyLenses.{properties, setting_at, setting_named, setting_place, without_setting}
 use Rattle.map_model.proofs.FoundLaws.{found-get, found-keeps, found-laws, found-update}
 use Rattle.map_model.proofs.Lookups.{first_some-with_layer, found-with_layer}
@@ -42,11 +45,13 @@ module _ {X : Type 0} (q : X → Bool) (f : X → X) (same : (x : X) → q (f x)
 
 -- ---- look-ups in a list with one element more at its end, and without its last one
 module _ {X : Type 0} (q : X → Bool) where
-  position_from-last : (i : ℕ) (x : X) (xs : List X) → q x ≡ true → position_from q i xs ≡ None → position_from q i (insert xs (length xs) x) ≡ Some (i + length xs)
+  position_from-last : (i : ℕ) (x : X) (xs : List X) → q x ≡ true → position_from q i xs ≡ None
+      → position_from q i (insert xs (length xs) x) ≡ Some (i + length xs)
   position_from-last i x [] e none = rw e (let more : i ≡ i + 0 = omega arith in ap Some more)
   position_from-last i x (y ∷ ys) e none = by_test (q y) none (position_from-last (i + 1) x ys e)
     where
-      by_test : (b : Bool) → cond b (Some i) (position_from q (i + 1) ys) ≡ None → (position_from q (i + 1) ys ≡ None → position_from q (i + 1) (insert ys (length ys) x) ≡ Some (i + 1 + length ys))
+      by_test : (b : Bool) → cond b (Some i) (position_from q (i + 1) ys) ≡ None
+          → (position_from q (i + 1) ys ≡ None → position_from q (i + 1) (insert ys (length ys) x) ≡ Some (i + 1 + length ys))
           → cond b (Some i) (position_from q (i + 1) (insert ys (length ys) x)) ≡ Some (i + suc (length ys))
       by_test true n rest = cc
       by_test false n rest = let more : i + 1 + length ys ≡ i + suc (length ys) = omega arith in rest n ∙ ap Some more
@@ -75,10 +80,12 @@ module _ {X : Type 0} (q : X → Bool) where
 
 -- ---- an object that changes at its place, and keeps its id
 module _ (f : Object → Object) (same : (o : Object) → (f o).id ≡ o.id) (place : ObjectPlace) (id : ℕ) where
-  place_in_layer-change_at : (level : ℕ) (l : Layer) → place_in_layer id (level, bare (layer_with_objects (change_at place.at f) l)) ≡ place_in_layer id (level, bare l)
+  place_in_layer-change_at : (level : ℕ) (l : Layer) → place_in_layer id (level, bare (layer_with_objects (change_at place.at f) l))
+      ≡ place_in_layer id (level, bare l)
   place_in_layer-change_at level l = by_body l.body
     where
-      by_body : (b : Body) → option_map (place_of_layer l) (option_and_then (position (has_object_id id)) (objects_in (body_with_layers (λ ls. []) (body_with_objects (change_at place.at f) b))))
+      by_body : (b : Body) → option_map (place_of_layer l) (option_and_then (position (has_object_id id))
+          (objects_in (body_with_layers (λ ls. []) (body_with_objects (change_at place.at f) b))))
           ≡ option_map (place_of_layer l) (option_and_then (position (has_object_id id)) (objects_in (body_with_layers (λ ls. []) b)))
       by_body (Tiles e cells) = refl
       by_body (Objects os) = ap (option_map (place_of_layer l)) (position-change_at (has_object_id id) f (λ o. ap (λ n. nat_eq n id) (same o)) place.at os)
@@ -87,10 +94,12 @@ module _ (f : Object → Object) (same : (o : Object) → (f o).id ≡ o.id) (pl
 
   pub object_place-with_object : (m : MapParts) → object_place (with_object place f m) id ≡ object_place m id
   object_place-with_object =
-      first_some-with_layer place.layer (layer_with_objects (change_at place.at f)) (place_in_layer id) (λ l. ap or_empty (group_in-objects (change_at place.at f) l.body)) place_in_layer-change_at
+      first_some-with_layer place.layer (layer_with_objects (change_at place.at f)) (place_in_layer id)
+      (λ l. ap or_empty (group_in-objects (change_at place.at f) l.body)) place_in_layer-change_at
 
 -- no placing moves an object to another place of its layer
-placing-stays : (id : ℕ) (place : ObjectPlace) (f : Placing → Placing) (d : DocumentParts) → object_place d.map id ≡ Some place → object_place ((of_object place placing).update f d).map id ≡ Some place
+placing-stays : (id : ℕ) (place : ObjectPlace) (f : Placing → Placing) (d : DocumentParts) → object_place d.map id ≡ Some place
+    → object_place ((of_object place placing).update f d).map id ≡ Some place
 placing-stays id place f d e = object_place-with_object (λ o. object_with_placing (f o.placing) o) (λ o. refl) place id d.map ∙ e
 
 pub placing_with_id-keeps : (id : ℕ) (f : Placing → Placing) (d : DocumentParts) → object_place ((placing_with_id id).update f d).map id ≡ object_place d.map id
@@ -100,16 +109,20 @@ pub placing_with_id-laws : (id : ℕ) → IsLawfulLens (placing_with_id id)
 placing_with_id-laws id = found-laws (λ d. object_place d.map id) (λ place. of_object place placing) (placing-stays id) placing-laws
 
 -- ---- an owner whose properties change
-owner_place-with_properties : (owner : Owner) (place : OwnerPlace) (f : List Property → List Property) (m : MapParts) → owner_place (with_properties place f m) owner ≡ owner_place m owner
+owner_place-with_properties : (owner : Owner) (place : OwnerPlace) (f : List Property → List Property) (m : MapParts)
+    → owner_place (with_properties place f m) owner ≡ owner_place m owner
 owner_place-with_properties owners.Map place f m = refl
 owner_place-with_properties (owners.Layer id) places.Map f m = refl
-owner_place-with_properties (owners.Layer id) (places.Layer own) f m = found-with_layer own (layer_with_properties f) (λ l. refl) (λ l. refl) m (places.Layer id) id
+owner_place-with_properties (owners.Layer id) (places.Layer own) f m =
+    found-with_layer own (layer_with_properties f) (λ l. refl) (λ l. refl) m (places.Layer id) id
 owner_place-with_properties (owners.Layer id) (places.Object place) f m =
-    found-with_layer place.layer (layer_with_objects (change_at place.at (object_with_properties f))) (λ l. ap or_empty (group_in-objects (change_at place.at (object_with_properties f)) l.body)) (λ l. refl) m (places.Layer id) id
+    found-with_layer place.layer (layer_with_objects (change_at place.at (object_with_properties f)))
+    (λ l. ap or_empty (group_in-objects (change_at place.at (object_with_properties f)) l.body)) (λ l. refl) m (places.Layer id) id
 owner_place-with_properties (owners.Object id) places.Map f m = refl
 owner_place-with_properties (owners.Object id) (places.Layer own) f m =
     ap (option_map places.Object) (first_some-with_layer own (layer_with_properties f) (place_in_layer id) (λ l. refl) (λ level l. refl) m)
-owner_place-with_properties (owners.Object id) (places.Object place) f m = ap (option_map places.Object) (object_place-with_object (object_with_properties f) (λ o. refl) place id m)
+owner_place-with_properties (owners.Object id) (places.Object place) f m =
+    ap (option_map places.Object) (object_place-with_object (object_with_properties f) (λ o. refl) place id m)
 
 -- ---- the property of an owner with a name
 -- where it is found, its owner stands there, and has it there
@@ -126,7 +139,8 @@ setting_place-there owner name d k e = by_owner (owner_place d.map owner) refl e
         by_place None h = cc
         by_place (Some at) h = let is : (place, at) ≡ k = cc in (ap (λ q. q.0) is, ap (λ q. Some q.1) is)
 
-    by_owner : (o : Option OwnerPlace) → owner_place d.map owner ≡ o → option_and_then (λ place. option_map (λ at. (place, at)) (property_place d.map place name)) o ≡ Some k
+    by_owner : (o : Option OwnerPlace) → owner_place d.map owner ≡ o
+        → option_and_then (λ place. option_map (λ at. (place, at)) (property_place d.map place name)) o ≡ Some k
         → (owner_place d.map owner ≡ Some k.0) × ((ps : List Property) × ((properties_of d.map k.0 ≡ Some ps) × (position (has_name name) ps ≡ Some k.1)))
     by_owner None q g = cc
     by_owner (Some place) q g =
@@ -135,19 +149,24 @@ setting_place-there owner name d k e = by_owner (owner_place d.map owner) refl e
         (q ∙ ap Some same, (found.0, (ap (properties_of d.map) (sym same) ∙ found.1.0, found.1.1.1)))
 
 -- where it is found behind a change of its owner's properties
-module _ (owner : Owner) (name : List ℕ) (place : OwnerPlace) (d : DocumentParts) (ps : List Property) (there : owner_place d.map owner ≡ Some place) (are : properties_of d.map place ≡ Some ps) where
-  setting_place-with : (f : List Property → List Property) → setting_place owner name (with_map (with_properties place f) d) ≡ option_map (λ at. (place, at)) (position (has_name name) (f ps))
+module _ (owner : Owner) (name : List ℕ) (place : OwnerPlace) (d : DocumentParts) (ps : List Property) (there : owner_place d.map owner ≡ Some place)
+    (are : properties_of d.map place ≡ Some ps) where
+  setting_place-with : (f : List Property → List Property) → setting_place owner name (with_map (with_properties place f) d)
+      ≡ option_map (λ at. (place, at)) (position (has_name name) (f ps))
   setting_place-with f = rw (owner_place-with_properties owner place f d.map, there, (properties-laws place).get-update f ps d are) refl
 
   -- a new one goes last
-  pub setting_place-added : (p : Property) → p.name ≡ name → position (has_name name) ps ≡ None → setting_place owner name (with_map (with_property_at place (length ps) p) d) ≡ Some (place, length ps)
+  pub setting_place-added : (p : Property) → p.name ≡ name → position (has_name name) ps ≡ None
+      → setting_place owner name (with_map (with_property_at place (length ps) p) d) ≡ Some (place, length ps)
   setting_place-added p named none =
       let own : has_name name p ≡ true = (bytes_eq-Decides p.name name).1 named in
       setting_place-with (λ qs. insert qs (length ps) p) ∙ ap (option_map (λ at. (place, at))) (position-last (has_name name) p ps own none)
 
   -- the last one is taken out
-  setting_place-taken : (at : ℕ) → position (has_name name) ps ≡ Some at → length ps ≡ at + 1 → setting_place owner name (with_map (without_property_at place at) d) ≡ None
-  setting_place-taken at found last = setting_place-with (λ qs. remove qs at) ∙ ap (option_map (λ at. (place, at))) (position-removed (has_name name) at ps found last)
+  setting_place-taken : (at : ℕ) → position (has_name name) ps ≡ Some at → length ps ≡ at + 1
+      → setting_place owner name (with_map (without_property_at place at) d) ≡ None
+  setting_place-taken at found last = setting_place-with (λ qs. remove qs at)
+      ∙ ap (option_map (λ at. (place, at))) (position-removed (has_name name) at ps found last)
 
 -- no setting moves a property
 setting-stays : (owner : Owner) (name : List ℕ) (k : OwnerPlace × ℕ) (f : Setting → Setting) (d : DocumentParts) → setting_place owner name d ≡ Some k
@@ -158,7 +177,8 @@ setting-stays owner name k f d e =
     setting_place-with owner name k.0 d found.1.0 found.0 found.1.1.0 (change_at k.1 change)
     ∙ ap (option_map (λ at. (k.0, at))) (position-change_at (has_name name) change (λ p. refl) k.1 found.1.0 ∙ found.1.1.1)
 
-pub setting_named-keeps : (owner : Owner) (name : List ℕ) (f : Setting → Setting) (d : DocumentParts) → setting_place owner name ((setting_named owner name).update f d) ≡ setting_place owner name d
+pub setting_named-keeps : (owner : Owner) (name : List ℕ) (f : Setting → Setting) (d : DocumentParts)
+    → setting_place owner name ((setting_named owner name).update f d) ≡ setting_place owner name d
 setting_named-keeps owner name = found-keeps (setting_place owner name) (λ k. setting_at k.0 k.1) (setting-stays owner name)
 
 pub setting_named-laws : (owner : Owner) (name : List ℕ) → IsLawfulLens (setting_named owner name)
@@ -179,7 +199,8 @@ remove-change_at f (suc k) [] = refl
 remove-change_at f zero (x ∷ xs) = refl
 remove-change_at f (suc k) (x ∷ xs) = ap (λ ys. x ∷ ys) (remove-change_at f k xs)
 
-module _ (owner : Owner) (name : List ℕ) (place : OwnerPlace) (at : ℕ) (d : DocumentParts) (before : Setting) (stands : setting_place owner name d ≡ Some (place, at)) where
+module _ (owner : Owner) (name : List ℕ) (place : OwnerPlace) (at : ℕ) (d : DocumentParts) (before : Setting)
+    (stands : setting_place owner name d ≡ Some (place, at)) where
   put-is : put (setting_named owner name) before d ≡ with_map (with_properties place (change_at at (property_with_setting before))) d
   put-is = found-update (setting_place owner name) (λ k. setting_at k.0 k.1) (place, at) d stands (λ own. before)
 
@@ -192,7 +213,8 @@ module _ (owner : Owner) (name : List ℕ) (place : OwnerPlace) (at : ℕ) (d : 
       ∙ (λ i. (properties place).update (λ ps. remove-change_at f at ps i) d)
 
   -- one that keeps no members with a setting kept none before
-  pub new_property-put : (own s : Setting) → (setting_named owner name).get d ≡ Some s → property_at (put (setting_named owner name) before d).map place at ≡ Some (new_property name own)
+  pub new_property-put : (own s : Setting) → (setting_named owner name).get d ≡ Some s
+      → property_at (put (setting_named owner name) before d).map place at ≡ Some (new_property name own)
       → property_at d.map place at ≡ Some (new_property name s)
   new_property-put own s has e =
       let found = setting_place-there owner name d (place, at) stands in
@@ -205,7 +227,8 @@ module _ (owner : Owner) (name : List ℕ) (place : OwnerPlace) (at : ℕ) (d : 
       rw found.1.1.0 at (sym (found-get (setting_place owner name) (λ k. setting_at k.0 k.1) (place, at) d stands) ∙ has) in
       rw found.1.1.0 (by_property (slice_get ps at) here gives)
     where
-      by_property : (o : Option Property) → option_map (property_with_setting before) o ≡ Some (new_property name own) → option_and_then (λ p. Some (setting_of p)) o ≡ Some s → o ≡ Some (new_property name s)
+      by_property : (o : Option Property) → option_map (property_with_setting before) o ≡ Some (new_property name own)
+          → option_and_then (λ p. Some (setting_of p)) o ≡ Some s → o ≡ Some (new_property name s)
       by_property None g h = cc
       by_property (Some p) g h =
           let is : property_with_setting before p ≡ new_property name own = some-eq _ _ g in

@@ -1,5 +1,6 @@
 -- Tilesets that come and go, and the range of a tileset's values.
-use Rattle.std.proofs.Common.{◌≡◌, ◌≢◌, ℕ, ◌<◌, ◌≤◌, List, [], ◌∷◌, length, Bool, true, false, cond, nat_lt, nat_le, nat_eq, ◌&&◌, ◌||◌, get_or, Option, Some, None, IsSome, IfSome, IfNone, ◌⊎◌, inl, inr, true≢false, lit<, refl, sym, ap, ◌∙◌, arith}
+use Rattle.std.proofs.Common.{◌≡◌, ◌≢◌, ℕ, ◌<◌, ◌≤◌, List, [], ◌∷◌, length, Bool, true, false, cond, nat_lt, nat_le, nat_eq, ◌&&◌, ◌||◌, get_or, Option, Some}
+use Rattle.std.proofs.Common.{None, IsSome, IfSome, IfNone, ◌⊎◌, inl, inr, true≢false, lit<, refl, sym, ap, ◌∙◌, arith}
 use Rattle.std.specs.Prelude.{Contains}
 use Rattle.std.specs.List.{AllByRecursion, flat_map, list_any, insert, remove}
 use Rattle.std.proofs.lemmas.List.Elements.{All-contains, All-from_recursion}
@@ -16,7 +17,8 @@ use Rattle.map_model.specs.declared.parts.Tileset.{Tileset}
 use Rattle.map_model.specs.declared.parts.MapParts.{MapParts}
 use Rattle.map_model.specs.Groups.{all_drawn}
 use Rattle.map_model.specs.Lists.{Each}
-use Rattle.map_model.specs.Tilesets.{tileset_of, best_of, IsTilesetOf, HasNoTileset, has_first_id, tileset_place, is_first, is_value_of, has_uses, values_of, with_tileset_at}
+use Rattle.map_model.specs.Tilesets.{tileset_of, best_of, IsTilesetOf, HasNoTileset, has_first_id, tileset_place, is_first, is_value_of, has_uses, values_of}
+use Rattle.map_model.specs.Tilesets.{with_tileset_at}
 use Rattle.map_model.specs.Uses.{is_between, nearer, end_of, base_limit}
 use Rattle.map_model.specs.WellFormed.{IsTileset, AreTilesets, IsWellFormed, first_ids_of}
 use Rattle.map_model.proofs.Changes.{Each-at, Each-insert, Each-remove, length-insert, length-remove_le}
@@ -47,7 +49,8 @@ below_apart : (n : ℕ) (ts : List Tileset) → Each (λ t. t.first_id < n) ts �
 below_apart n [] h = tt
 below_apart n (t ∷ ts) h = (λ e. omega (arith, h.0, e), below_apart n ts h.1)
 
-pub insert_tileset-keeps : (m : MapParts) (at : ℕ) (t : Tileset) → length m.tilesets < MAX_TILESETS → IsTileset t → Each (λ s. s.first_id < t.first_id) m.tilesets → IsWellFormed m
+pub insert_tileset-keeps : (m : MapParts) (at : ℕ) (t : Tileset) → length m.tilesets < MAX_TILESETS → IsTileset t
+    → Each (λ s. s.first_id < t.first_id) m.tilesets → IsWellFormed m
     → IsWellFormed (with_tileset_at at t m)
 insert_tileset-keeps m at t few is above h =
     tilesets-IsWellFormed m (insert m.tilesets at t) (record {
@@ -67,8 +70,11 @@ end_of-le first end (t ∷ ts) = let later = end_of-le first (nearer first end t
 -- no first id of the tilesets lies above this one and below the end
 end_of-nearest : (first end : ℕ) (ts : List Tileset) → Each (λ t. first < t.first_id → end_of first end ts ≤ t.first_id) ts
 end_of-nearest first end [] = tt
-end_of-nearest first end (t ∷ ts) =
-    (λ above. let later = end_of-le first (nearer first end t) ts in let step : nearer first end t ≤ t.first_id = grind (arith, nat_tests, above) in omega arith, end_of-nearest first (nearer first end t) ts)
+end_of-nearest first end (t ∷ ts) = (
+  λ above. let later = end_of-le first (nearer first end t) ts in let step : nearer first end t ≤ t.first_id = grind (arith, nat_tests, above) in
+      omega arith,
+  end_of-nearest first (nearer first end t) ts,
+)
 
 -- below the end is what lies below the end so far, and below the first id of each tileset above this one
 end_of-above : (first end b : ℕ) (ts : List Tileset) → b < end → Each (λ t. first < t.first_id → b < t.first_id) ts → b < end_of first end ts
@@ -77,7 +83,8 @@ end_of-above first end b (t ∷ ts) h each = end_of-above first (nearer first en
   where
     step : (first end b : ℕ) (t : Tileset) → b < end → (first < t.first_id → b < t.first_id) → b < nearer first end t
     step first end b t h above =
-        cond_both (nat_lt first t.first_id && nat_lt t.first_id end) t.first_id end (λ e. b < e) (λ is. above (ltb-true first t.first_id (and_parts _ _ is).0)) (λ _. h)
+        cond_both (nat_lt first t.first_id && nat_lt t.first_id end) t.first_id end (λ e. b < e) (λ is. above (ltb-true first t.first_id (and_parts _ _ is).0))
+        (λ _. h)
 
 -- ---- what is found in lists
 pub list_any-flat_map : {X A : Type 0} (p : A → Bool) (g : X → List A) (xs : List X) → list_any p (flat_map g xs) ≡ list_any (λ x. list_any p (g x)) xs
@@ -120,7 +127,8 @@ tileset_of-unfound m value = by_zero (nat_eq (base_of value) 0) refl
     by_zero true e = λ l. absurd (omega (arith, l, nat_eq-true (base_of value) 0 e))
     by_zero false e = tileset_of-none m value
 
-is_value_of-range : (m : MapParts) (first value : ℕ) → IsFirstOf m first → is_value_of m first value ≡ is_between first (end_of first base_limit m.tilesets) value
+is_value_of-range : (m : MapParts) (first value : ℕ) → IsFirstOf m first
+    → is_value_of m first value ≡ is_between first (end_of first base_limit m.tilesets) value
 is_value_of-range m first value f =
     by_tileset (tileset_of m value) (tileset_of-found m value) (tileset_of-unfound m value)
   where
@@ -198,5 +206,6 @@ position-IsFirstOf m first some h = by_place (tileset_place m first) refl some
 pub has_uses-range : (m : MapParts) (first : ℕ) → IsSome (tileset_place m first) → IsWellFormed m
     → has_uses m first ≡ list_any (λ l. list_any (is_between first (end_of first base_limit m.tilesets)) (values_of l)) (all_drawn m.layers)
 has_uses-range m first some h =
-    list_any-same (is_value_of m first) (is_between first (end_of first base_limit m.tilesets)) (λ value. is_value_of-range m first value (position-IsFirstOf m first some h)) (flat_map values_of (all_drawn m.layers))
+    list_any-same (is_value_of m first) (is_between first (end_of first base_limit m.tilesets))
+    (λ value. is_value_of-range m first value (position-IsFirstOf m first some h)) (flat_map values_of (all_drawn m.layers))
     ∙ list_any-flat_map (is_between first (end_of first base_limit m.tilesets)) values_of (all_drawn m.layers)

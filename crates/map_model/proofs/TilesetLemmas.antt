@@ -1,5 +1,6 @@
 -- The best tileset of a list.
-use Rattle.std.proofs.Common.{◌≡◌, ℕ, suc, ◌<◌, ◌≤◌, List, [], ◌∷◌, Bool, true, false, cond, nat_lt, nat_eq, Option, Some, None, IfSome, IfNone, ◌⊎◌, inl, inr, refl, subst, arith}
+use Rattle.std.proofs.Common.{◌≡◌, ℕ, suc, ◌<◌, ◌≤◌, List, [], ◌∷◌, Bool, true, false, cond, nat_lt, nat_eq, Option, Some, None, IfSome, IfNone, ◌⊎◌, inl, inr}
+use Rattle.std.proofs.Common.{refl, subst, arith}
 use Rattle.std.proofs.lemmas.Bool.{ltb-true}
 use Rattle.std.specs.Prelude.{Contains}
 use Rattle.std.proofs.lemmas.Bool.Decides.{nat_tests}
@@ -56,7 +57,8 @@ better_over base None s t = by_test (nat_lt base s.first_id) refl
     by_test false e q l = let is : s ≡ t = cc in subst (λ (u : Tileset). s.first_id ≤ u.first_id) is (omega arith)
 better_over base (Some r) s t = by_test (nat_lt base s.first_id) (nat_lt r.first_id s.first_id) refl refl
   where
-    by_test : (b c : Bool) → nat_lt base s.first_id ≡ b → nat_lt r.first_id s.first_id ≡ c → cond b (Some r) (cond c (Some s) (Some r)) ≡ Some t → IsOver base t s
+    by_test : (b c : Bool) → nat_lt base s.first_id ≡ b → nat_lt r.first_id s.first_id ≡ c → cond b (Some r) (cond c (Some s) (Some r)) ≡ Some t
+        → IsOver base t s
     by_test true c e f q l = let above = ltb-true base s.first_id e in absurd (omega arith)
     by_test false true e f q l = let is : s ≡ t = cc in subst (λ (u : Tileset). s.first_id ≤ u.first_id) is (omega arith)
     by_test false false e f q l = let is : r ≡ t = cc in subst (λ (u : Tileset). s.first_id ≤ u.first_id) is (test_false r.first_id s.first_id f)
@@ -96,7 +98,8 @@ best_old : (base : ℕ) (r : Tileset) (ts : List Tileset) (t : Tileset) → best
 best_old base r [] t q = let is : r ≡ t = cc in subst (λ (u : Tileset). r.first_id ≤ u.first_id) is (omega arith)
 best_old base r (s ∷ ts) t q = by_best (better base (Some r) s) refl q (λ b p. best_old base b ts t p)
   where
-    by_best : (o : Option Tileset) → better base (Some r) s ≡ o → best_of base o ts ≡ Some t → ((b : Tileset) → best_of base (Some b) ts ≡ Some t → b.first_id ≤ t.first_id)
+    by_best : (o : Option Tileset) → better base (Some r) s ≡ o → best_of base o ts ≡ Some t
+        → ((b : Tileset) → best_of base (Some b) ts ≡ Some t → b.first_id ≤ t.first_id)
         → r.first_id ≤ t.first_id
     by_best None e p later = absurd (better_some base r s e)
     by_best (Some b) e p later =
@@ -113,7 +116,8 @@ best_none base (Some r) (s ∷ ts) q =
     let rest = best_none base (better base (Some r) s) ts q in
     absurd (better_some base r s rest.0)
 
-best_low : (base : ℕ) (o : Option Tileset) (ts : List Tileset) (t : Tileset) → IfSome o (λ b. b.first_id ≤ base) → best_of base o ts ≡ Some t → t.first_id ≤ base
+best_low : (base : ℕ) (o : Option Tileset) (ts : List Tileset) (t : Tileset) → IfSome o (λ b. b.first_id ≤ base) → best_of base o ts ≡ Some t
+    → t.first_id ≤ base
 best_low base None [] t h q = cc
 best_low base (Some r) [] t h q = let is : r ≡ t = cc in subst (λ (u : Tileset). u.first_id ≤ base) is h
 best_low base o (s ∷ ts) t h q = by_best (better base o s) refl q (λ b k p. best_low base b ts t k p)

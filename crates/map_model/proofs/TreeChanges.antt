@@ -1,5 +1,6 @@
 -- Changes of the layer with an id, one after another.
-use Rattle.std.proofs.Common.{◌≡◌, ℕ, zero, suc, List, [], ◌∷◌, nat_eq, Bool, true, false, cond, Option, Some, None, is_some, IsSomeAnd, option_map, refl, ap, ◌∙◌}
+use Rattle.std.proofs.Common.{◌≡◌, ℕ, zero, suc, List, [], ◌∷◌, nat_eq, Bool, true, false, cond, Option, Some, None, is_some, IsSomeAnd, option_map, refl, ap}
+use Rattle.std.proofs.Common.{◌∙◌}
 use Rattle.map_model.specs.declared.limits.TheConstants.{MAX_GROUPS}
 use Rattle.map_model.specs.declared.parts.Layer.{Layer}
 use Rattle.map_model.specs.declared.parts.MapParts.{MapParts}
@@ -21,7 +22,8 @@ module _ (id : ℕ) (g : Layer → Layer) (stays : (l : Layer) → (g l).id ≡ 
   found_list room one (l ∷ ls) = by_one (find_one id room l) refl (found_list room one ls)
     where
       by_one : (o : Option Layer) → find_one id room l ≡ o → layer_among id room (change_among id room g ls) ≡ option_map g (layer_among id room ls)
-          → layer_among id room (cond (holds id room l) (change_one id room g l ∷ ls) (l ∷ change_among id room g ls)) ≡ option_map g (or_else (find_one id room l) (layer_among id room ls))
+          → layer_among id room (cond (holds id room l) (change_one id room g l ∷ ls) (l ∷ change_among id room g ls))
+          ≡ option_map g (or_else (find_one id room l) (layer_among id room ls))
       by_one None q later = rw q (rw q later)
       by_one (Some k) q later = rw q (rw (one l, q) refl)
 
@@ -29,7 +31,8 @@ module _ (id : ℕ) (g : Layer → Layer) (stays : (l : Layer) → (g l).id ≡ 
       → (has_id id (changed_below id room g l) ≡ has_id id l) → find_one id room (change_one id room g l) ≡ option_map g (find_one id room l)
   found_own room l deeper same = rw (change_one-is id room g l, find_one-is id room l) (by_own (has_id id l) refl)
     where
-      by_own : (b : Bool) → has_id id l ≡ b → find_one id room (cond b (g l) (changed_below id room g l)) ≡ option_map g (cond b (Some l) (found_below id room l))
+      by_own : (b : Bool) → has_id id l ≡ b → find_one id room (cond b (g l) (changed_below id room g l))
+          ≡ option_map g (cond b (Some l) (found_below id room l))
       by_own true q = find_one-is id room (g l) ∙ rw (own_id l, q) refl
       by_own false q = find_one-is id room (changed_below id room g l) ∙ rw (same, q) (deeper q)
 
@@ -61,7 +64,8 @@ module _ (id : ℕ) (g : Layer → Layer) (stays : (l : Layer) → (g l).id ≡ 
       → (has_id id (changed_below id room g l) ≡ has_id id l) → change_one id room f (change_one id room g l) ≡ change_one id room (λ k. f (g k)) l
   twice_own room f l deeper same = rw (change_one-is id room g l, change_one-is id room (λ k. f (g k)) l) (by_own (has_id id l) refl)
     where
-      by_own : (b : Bool) → has_id id l ≡ b → change_one id room f (cond b (g l) (changed_below id room g l)) ≡ cond b (f (g l)) (changed_below id room (λ k. f (g k)) l)
+      by_own : (b : Bool) → has_id id l ≡ b → change_one id room f (cond b (g l) (changed_below id room g l))
+          ≡ cond b (f (g l)) (changed_below id room (λ k. f (g k)) l)
       by_own true q = change_one-is id room f (g l) ∙ rw (own_id l, q) refl
       by_own false q = change_one-is id room f (changed_below id room g l) ∙ rw (same, q) deeper
 
@@ -76,7 +80,8 @@ module _ (id : ℕ) (g : Layer → Layer) (stays : (l : Layer) → (g l).id ≡ 
       })
       refl
 
-  pub change_among-change_among : (room : ℕ) (f : Layer → Layer) (ls : List Layer) → change_among id room f (change_among id room g ls) ≡ change_among id room (λ k. f (g k)) ls
+  pub change_among-change_among : (room : ℕ) (f : Layer → Layer) (ls : List Layer)
+      → change_among id room f (change_among id room g ls) ≡ change_among id room (λ k. f (g k)) ls
   change_among-change_among room f ls = twice_list room f (change_one-change_one room f) ls
 
 -- ---- two changes that agree on the layer that is found
@@ -88,12 +93,14 @@ module _ (id : ℕ) (f g : Layer → Layer) where
     where
       by_one : (o : Option Layer) → find_one id room l ≡ o → ((k : Layer) → or_else (find_one id room l) (layer_among id room ls) ≡ Some k → f k ≡ g k)
           → (((k : Layer) → layer_among id room ls ≡ Some k → f k ≡ g k) → change_among id room f ls ≡ change_among id room g ls)
-          → cond (holds id room l) (change_one id room f l ∷ ls) (l ∷ change_among id room f ls) ≡ cond (holds id room l) (change_one id room g l ∷ ls) (l ∷ change_among id room g ls)
+          → cond (holds id room l) (change_one id room f l ∷ ls) (l ∷ change_among id room f ls)
+          ≡ cond (holds id room l) (change_one id room g l ∷ ls) (l ∷ change_among id room g ls)
       by_one None q k later = rw q (ap (λ ks. l ∷ ks) (later (λ j e. k j (rw q e))))
       by_one (Some found) q k later = rw q (ap (λ j. j ∷ ls) (one l (λ j e. k j (ap (λ o. or_else o (layer_among id room ls)) e))))
 
   along_own : (room : ℕ) (l : Layer) → ((k : Layer) → find_one id room l ≡ Some k → f k ≡ g k)
-      → (((k : Layer) → found_below id room l ≡ Some k → f k ≡ g k) → changed_below id room f l ≡ changed_below id room g l) → change_one id room f l ≡ change_one id room g l
+      → (((k : Layer) → found_below id room l ≡ Some k → f k ≡ g k) → changed_below id room f l ≡ changed_below id room g l)
+      → change_one id room f l ≡ change_one id room g l
   along_own room l h deeper = rw (change_one-is id room f l, change_one-is id room g l) (by_own (has_id id l) refl)
     where
       by_own : (b : Bool) → has_id id l ≡ b → cond b (f l) (changed_below id room f l) ≡ cond b (g l) (changed_below id room g l)
@@ -104,9 +111,13 @@ module _ (id : ℕ) (f g : Layer → Layer) where
   change_one-along zero l h = along_own zero l h (λ k. refl)
   change_one-along (suc room) l h =
       along_own (suc room) l h
-      (λ k i. record l { body = body_with_layers-along (change_among id room f) (change_among id room g) l.body (λ ks e. along_list room (change_one-along room) ks (λ j q. k j (rw e q))) i })
+      (λ k i. record l {
+        body = body_with_layers-along (change_among id room f) (change_among id room g) l.body
+            (λ ks e. along_list room (change_one-along room) ks (λ j q. k j (rw e q))) i;
+      })
 
-  pub change_among-along : (room : ℕ) (ls : List Layer) → ((k : Layer) → layer_among id room ls ≡ Some k → f k ≡ g k) → change_among id room f ls ≡ change_among id room g ls
+  pub change_among-along : (room : ℕ) (ls : List Layer) → ((k : Layer) → layer_among id room ls ≡ Some k → f k ≡ g k)
+      → change_among id room f ls ≡ change_among id room g ls
   change_among-along room ls h = along_list room (change_one-along room) ls h
 
 -- ---- a change that changes nothing
@@ -124,26 +135,32 @@ pub change_one-same : (id room : ℕ) (l : Layer) → change_one id room (λ k. 
 change_one-same id zero l = same_own id zero l refl
 change_one-same id (suc room) l =
     same_own id (suc room) l
-    (λ i. record l { body = (body_with_layers-along (change_among id room (λ k. k)) (λ ks. ks) l.body (λ ks e. same_list id room (change_one-same id room) ks) ∙ body_with_layers-same l.body) i })
+    (λ i. record l {
+      body = (body_with_layers-along (change_among id room (λ k. k)) (λ ks. ks) l.body (λ ks e. same_list id room (change_one-same id room) ks)
+          ∙ body_with_layers-same l.body) i;
+    })
 
 pub change_among-same : (id room : ℕ) (ls : List Layer) → change_among id room (λ k. k) ls ≡ ls
 change_among-same id room ls = same_list id room (change_one-same id room) ls
 
 -- ---- a layer that was changed where it stands
 -- what was left there is f of the layer
-pub changed_by : (id room : ℕ) (f : Layer → Layer) (old new : List Layer) (layer left : Layer) → layer_among id room old ≡ Some layer → new ≡ change_among id room (λ own. left) old → left ≡ f layer
+pub changed_by : (id room : ℕ) (f : Layer → Layer) (old new : List Layer) (layer left : Layer) → layer_among id room old ≡ Some layer
+    → new ≡ change_among id room (λ own. left) old → left ≡ f layer
     → new ≡ change_among id room f old
 changed_by id room f old new layer left found is same =
     is ∙ change_among-along id (λ own. left) f room old (λ k e. let here : layer ≡ k = cc (found, e) in same ∙ ap f here)
 
 -- what was left there is f of the layer and of an item that was put in
-pub changed_with : {X : Type 0} (id room : ℕ) (f : X → Layer → Layer) (item : Option X) (old new : List Layer) (layer left : Layer) → layer_among id room old ≡ Some layer
+pub changed_with : {X : Type 0} (id room : ℕ) (f : X → Layer → Layer) (item : Option X) (old new : List Layer) (layer left : Layer)
+    → layer_among id room old ≡ Some layer
     → new ≡ change_among id room (λ own. left) old → IsSomeAnd item (λ x. left ≡ f x layer) → IsSomeAnd item (λ x. new ≡ change_among id room (f x) old)
 changed_with id room f None old new layer left found is h = h
 changed_with id room f (Some x) old new layer left found is h = changed_by id room (f x) old new layer left found is h
 
 -- the map with the layers in which it was changed
-pub changed_map : {X : Type 0} (id : ℕ) (f : X → Layer → Layer) (item : Option X) (m : MapParts) (new : List Layer) → IsSomeAnd item (λ x. new ≡ change_among id MAX_GROUPS (f x) m.layers)
+pub changed_map : {X : Type 0} (id : ℕ) (f : X → Layer → Layer) (item : Option X) (m : MapParts) (new : List Layer)
+    → IsSomeAnd item (λ x. new ≡ change_among id MAX_GROUPS (f x) m.layers)
     → IsSomeAnd item (λ x. record m { layers = new } ≡ with_layer id (f x) m)
 changed_map id f None m new h = h
 changed_map id f (Some x) m new h = ap (λ ls. record m { layers = ls }) h

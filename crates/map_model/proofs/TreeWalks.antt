@@ -11,13 +11,16 @@ use Rattle.map_model.proofs.Trees.{below, tree-is}
 
 -- ---- the first layer for which there is something
 module _ {Y : Type 0} (h : ℕ × Layer → Option Y) (same : (a b : ℕ) (l : Layer) → h (a, bare l) ≡ h (b, l)) where
-  levels_list : (room : ℕ) → ((a b : ℕ) (l : Layer) → first_some h (tree room a l) ≡ first_some h (tree room b l)) → (a b : ℕ) (ls : List Layer) → first_some h (drawn room a ls) ≡ first_some h (drawn room b ls)
+  levels_list : (room : ℕ) → ((a b : ℕ) (l : Layer) → first_some h (tree room a l) ≡ first_some h (tree room b l)) → (a b : ℕ) (ls : List Layer)
+      → first_some h (drawn room a ls) ≡ first_some h (drawn room b ls)
   levels_list room each a b [] = refl
   levels_list room each a b (l ∷ ls) =
-      first_some-append h (tree room a l) (drawn room a ls) ∙ (λ i. or_else (each a b l i) (levels_list room each a b ls i)) ∙ sym (first_some-append h (tree room b l) (drawn room b ls))
+      first_some-append h (tree room a l) (drawn room a ls) ∙ (λ i. or_else (each a b l i) (levels_list room each a b ls i))
+      ∙ sym (first_some-append h (tree room b l) (drawn room b ls))
 
   levels_one : (room a b : ℕ) (l : Layer) → first_some h (tree room a l) ≡ first_some h (tree room b l)
-  levels_one zero a b l = ap (first_some h) (tree-is zero a l) ∙ ap (λ o. or_else o None) (same a b l ∙ sym (same b b l)) ∙ sym (ap (first_some h) (tree-is zero b l))
+  levels_one zero a b l = ap (first_some h) (tree-is zero a l) ∙ ap (λ o. or_else o None) (same a b l ∙ sym (same b b l))
+      ∙ sym (ap (first_some h) (tree-is zero b l))
   levels_one (suc room) a b l =
       ap (first_some h) (tree-is (suc room) a l)
       ∙ (λ i. or_else ((same a b l ∙ sym (same b b l)) i) (levels_list room (levels_one room) (inner_level a) (inner_level b) (inside l) i))
@@ -43,20 +46,24 @@ module _ {Y : Type 0} (h : ℕ × Layer → Option Y) (same : (a b : ℕ) (l : L
             ap (first_some h) (tree-is (suc n) level l) ∙ ap (λ o. or_else o (first_some h (drawn n (inner_level level) (inside l)))) (same level level l ∙ e)
             ∙ ap (λ o. first_some h (drawn n (inner_level level) (or_empty o))) g
 
-  pub first-group : (room : ℕ) (l : Layer) (ks : List Layer) → h (layer_level, l) ≡ None → room ≢ 0 → group_of l ≡ Some ks → first_some h (drawn (room - 1) layer_level ks) ≡ first_some h (tree room layer_level l)
+  pub first-group : (room : ℕ) (l : Layer) (ks : List Layer) → h (layer_level, l) ≡ None → room ≢ 0 → group_of l ≡ Some ks
+      → first_some h (drawn (room - 1) layer_level ks) ≡ first_some h (tree room layer_level l)
   first-group zero l ks e z g = absurd (z refl)
   first-group (suc room) l ks e z g =
       let n : suc room - 1 ≡ room = omega arith in
       ap (λ k. first_some h (drawn k layer_level ks)) n ∙ levels_list room (levels_one room) layer_level (inner_level layer_level) ks
-      ∙ sym (ap (first_some h) (tree-is (suc room) layer_level l) ∙ ap (λ o. or_else o (first_some h (drawn room (inner_level layer_level) (inside l)))) (same layer_level layer_level l ∙ e)
+      ∙ sym (ap (first_some h) (tree-is (suc room) layer_level l)
+      ∙ ap (λ o. or_else o (first_some h (drawn room (inner_level layer_level) (inside l)))) (same layer_level layer_level l ∙ e)
       ∙ ap (λ o. first_some h (drawn room (inner_level layer_level) (or_empty o))) g)
 
 -- ---- whether a layer passes
 module _ (p : ℕ × Layer → Bool) (same : (a b : ℕ) (l : Layer) → p (a, bare l) ≡ p (b, l)) where
-  any_list : (room : ℕ) → ((a b : ℕ) (l : Layer) → list_any p (tree room a l) ≡ list_any p (tree room b l)) → (a b : ℕ) (ls : List Layer) → list_any p (drawn room a ls) ≡ list_any p (drawn room b ls)
+  any_list : (room : ℕ) → ((a b : ℕ) (l : Layer) → list_any p (tree room a l) ≡ list_any p (tree room b l)) → (a b : ℕ) (ls : List Layer)
+      → list_any p (drawn room a ls) ≡ list_any p (drawn room b ls)
   any_list room each a b [] = refl
   any_list room each a b (l ∷ ls) =
-      list_any-append p (tree room a l) (drawn room a ls) ∙ (λ i. each a b l i || any_list room each a b ls i) ∙ sym (list_any-append p (tree room b l) (drawn room b ls))
+      list_any-append p (tree room a l) (drawn room a ls) ∙ (λ i. each a b l i || any_list room each a b ls i)
+      ∙ sym (list_any-append p (tree room b l) (drawn room b ls))
 
   any_one : (room a b : ℕ) (l : Layer) → list_any p (tree room a l) ≡ list_any p (tree room b l)
   any_one zero a b l = ap (list_any p) (tree-is zero a l) ∙ ap (λ o. o || false) (same a b l ∙ sym (same b b l)) ∙ sym (ap (list_any p) (tree-is zero b l))
@@ -85,10 +92,12 @@ module _ (p : ℕ × Layer → Bool) (same : (a b : ℕ) (l : Layer) → p (a, b
             ap (list_any p) (tree-is (suc n) level l) ∙ ap (λ o. o || list_any p (drawn n (inner_level level) (inside l))) (same level level l ∙ e)
             ∙ ap (λ o. list_any p (drawn n (inner_level level) (or_empty o))) g
 
-  pub any-group : (room : ℕ) (l : Layer) (ks : List Layer) → p (layer_level, l) ≡ false → room ≢ 0 → group_of l ≡ Some ks → list_any p (drawn (room - 1) layer_level ks) ≡ list_any p (tree room layer_level l)
+  pub any-group : (room : ℕ) (l : Layer) (ks : List Layer) → p (layer_level, l) ≡ false → room ≢ 0 → group_of l ≡ Some ks
+      → list_any p (drawn (room - 1) layer_level ks) ≡ list_any p (tree room layer_level l)
   any-group zero l ks e z g = absurd (z refl)
   any-group (suc room) l ks e z g =
       let n : suc room - 1 ≡ room = omega arith in
       ap (λ k. list_any p (drawn k layer_level ks)) n ∙ any_list room (any_one room) layer_level (inner_level layer_level) ks
-      ∙ sym (ap (list_any p) (tree-is (suc room) layer_level l) ∙ ap (λ o. o || list_any p (drawn room (inner_level layer_level) (inside l))) (same layer_level layer_level l ∙ e)
+      ∙ sym (ap (list_any p) (tree-is (suc room) layer_level l)
+      ∙ ap (λ o. o || list_any p (drawn room (inner_level layer_level) (inside l))) (same layer_level layer_level l ∙ e)
       ∙ ap (λ o. list_any p (drawn room (inner_level layer_level) (or_empty o))) g)

@@ -58,7 +58,8 @@ pub with_tiles-along : (m : MapParts) (id : ℕ) (f g : List ℕ → List ℕ) �
 with_tiles-along m id f g h =
     ap (λ ls. record m { layers = ls }) (
     change_among-along id (layer_with_tiles f) (layer_with_tiles g) MAX_GROUPS m.layers
-    (λ l e. ap (λ b. record l { body = b }) (body-along f g l.body (let P : Option Layer → Type 0 = λ o. f (tiles_of_layer o) ≡ g (tiles_of_layer o) in subst P e h)))
+    (λ l e. ap (λ b. record l { body = b }) (body-along f g l.body
+    (let P : Option Layer → Type 0 = λ o. f (tiles_of_layer o) ≡ g (tiles_of_layer o) in subst P e h)))
     )
 
 pub with_tiles-same : (m : MapParts) (id : ℕ) → with_tiles m id (λ vs. vs) ≡ m

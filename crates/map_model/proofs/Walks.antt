@@ -1,5 +1,6 @@
 -- Walks through layers and those that stand in them, one step at a time.
-use Rattle.std.proofs.Common.{◌≡◌, ◌≢◌, ℕ, zero, suc, ◌+◌, ◌-◌, ◌≤◌, List, [], ◌∷◌, length, cond, true, false, Option, Some, None, is_some, IsSome, IsSomeAnd, option_map, option_and_then, find, refl, sym, ap, ◌∙◌, arith}
+use Rattle.std.proofs.Common.{◌≡◌, ◌≢◌, ℕ, zero, suc, ◌+◌, ◌-◌, ◌≤◌, List, [], ◌∷◌, length, cond, true, false, Option, Some, None, is_some, IsSome, IsSomeAnd}
+use Rattle.std.proofs.Common.{option_map, option_and_then, find, refl, sym, ap, ◌∙◌, arith}
 use Rattle.std.specs.List.{position, position_from, slice_get, slice_set}
 use Rattle.std.proofs.lemmas.Iterator.Adapters.{position_from-zero}
 use Rattle.std.proofs.lemmas.Bool.Decides.{nat_tests}
@@ -20,7 +21,8 @@ find_one-other : (id room : ℕ) (l : Layer) → l.id ≢ id → found_below id 
 find_one-other id room l e = let other : has_id id l ≡ false = grind (arith, nat_tests, e) in sym (find_one-is id room l ∙ rw other refl)
 
 -- where a look-up gives something, there is a place at which it does
-position_from-first_some : {X Y : Type 0} (f : X → Option Y) (xs : List X) (i : ℕ) → is_some (position_from (λ x. is_some (f x)) i xs) ≡ is_some (first_some f xs)
+position_from-first_some : {X Y : Type 0} (f : X → Option Y) (xs : List X) (i : ℕ)
+    → is_some (position_from (λ x. is_some (f x)) i xs) ≡ is_some (first_some f xs)
 position_from-first_some f [] i = refl
 position_from-first_some {Y = Y} f (x ∷ xs) i = by_first (f x) (position_from-first_some f xs (i + 1))
   where
@@ -53,7 +55,8 @@ module _ (id : ℕ) where
   pub find_one-no_group : (room : ℕ) (l : Layer) → l.id ≢ id → group_of l ≡ None → None ≡ find_one id room l
   find_one-no_group room l e g = below-no_group room l g ∙ find_one-other id room l e
 
-  pub find_one-group : (room : ℕ) (l : Layer) (ks : List Layer) → l.id ≢ id → room ≢ 0 → group_of l ≡ Some ks → layer_among id (room - 1) ks ≡ find_one id room l
+  pub find_one-group : (room : ℕ) (l : Layer) (ks : List Layer) → l.id ≢ id → room ≢ 0 → group_of l ≡ Some ks
+      → layer_among id (room - 1) ks ≡ find_one id room l
   find_one-group room l ks e z g = below-group room l ks z g ∙ find_one-other id room l e
 
   -- ---- whether a layer has the id, or one that stands in it
@@ -66,7 +69,8 @@ module _ (id : ℕ) where
   pub holds-no_group : (room : ℕ) (l : Layer) → l.id ≢ id → group_of l ≡ None → false ≡ holds id room l
   holds-no_group room l e g = ap is_some (find_one-no_group room l e g)
 
-  pub holds-group : (room : ℕ) (l : Layer) (ks : List Layer) → l.id ≢ id → room ≢ 0 → group_of l ≡ Some ks → is_some (position (holds id (room - 1)) ks) ≡ holds id room l
+  pub holds-group : (room : ℕ) (l : Layer) (ks : List Layer) → l.id ≢ id → room ≢ 0 → group_of l ≡ Some ks
+      → is_some (position (holds id (room - 1)) ks) ≡ holds id room l
   holds-group room l ks e z g = position-first_some (find_one id (room - 1)) ks ∙ ap is_some (find_one-group room l ks e z g)
 
 -- ---- the place of a layer
@@ -82,12 +86,14 @@ place_inside-no_group id room l g = ap (λ o. place_among id room (Some l.id) (o
 pub place_inside-group : (id room : ℕ) (l : Layer) (ks : List Layer) → group_of l ≡ Some ks → place_among id room (Some l.id) ks ≡ place_inside id room l
 place_inside-group id room l ks g = ap (λ o. place_among id room (Some l.id) (or_empty o)) (sym g)
 
-pub place_among-own : (id room : ℕ) (parent : Option ℕ) (ls : List Layer) (at : ℕ) → position (has_id id) ls ≡ Some at → Some (place_under parent at) ≡ place_among id room parent ls
+pub place_among-own : (id room : ℕ) (parent : Option ℕ) (ls : List Layer) (at : ℕ) → position (has_id id) ls ≡ Some at
+    → Some (place_under parent at) ≡ place_among id room parent ls
 unfolding place_among
 place_among-own id zero parent ls at e = ap (option_map (place_under parent)) (sym e)
 place_among-own id (suc room) parent ls at e = ap (λ o. or_else (option_map (place_under parent) o) (first_some (place_inside id room) ls)) (sym e)
 
-pub place_among-within : (id room : ℕ) (parent : Option ℕ) (ls : List Layer) → room ≢ 0 → position (has_id id) ls ≡ None → first_some (place_inside id (room - 1)) ls ≡ place_among id room parent ls
+pub place_among-within : (id room : ℕ) (parent : Option ℕ) (ls : List Layer) → room ≢ 0 → position (has_id id) ls ≡ None
+    → first_some (place_inside id (room - 1)) ls ≡ place_among id room parent ls
 unfolding place_among
 place_among-within id zero parent ls z e = absurd (z refl)
 place_among-within id (suc room) parent ls z e =
@@ -108,7 +114,8 @@ pub count-no_group : (room level : ℕ) (l : Layer) → group_of l ≡ None → 
 count-no_group zero level l g = sym (ap length (tree-is zero level l))
 count-no_group (suc room) level l g = sym (ap length (tree-is (suc room) level l) ∙ ap (λ o. suc (length (drawn room (inner_level level) (or_empty o)))) g)
 
-pub count-group : (room : ℕ) (l : Layer) (ks : List Layer) → room ≢ 0 → group_of l ≡ Some ks → suc (length (drawn (room - 1) layer_level ks)) ≡ length (tree room layer_level l)
+pub count-group : (room : ℕ) (l : Layer) (ks : List Layer) → room ≢ 0 → group_of l ≡ Some ks
+    → suc (length (drawn (room - 1) layer_level ks)) ≡ length (tree room layer_level l)
 count-group zero l ks z g = absurd (z refl)
 count-group (suc room) l ks z g =
     let same : suc room - 1 ≡ room = omega arith in
@@ -117,7 +124,8 @@ count-group (suc room) l ks z g =
 
 -- ---- a change where the layer stands
 -- what a look-up gives of the first element for which it gives something
-pub first_some-at : {X Y : Type 0} (f : X → Option Y) (xs : List X) (at : ℕ) (x : X) → position (λ y. is_some (f y)) xs ≡ Some at → slice_get xs at ≡ Some x → (first_some f xs ≡ f x) × (is_some (f x) ≡ true)
+pub first_some-at : {X Y : Type 0} (f : X → Option Y) (xs : List X) (at : ℕ) (x : X) → position (λ y. is_some (f y)) xs ≡ Some at → slice_get xs at ≡ Some x
+    → (first_some f xs ≡ f x) × (is_some (f x) ≡ true)
 first_some-at {X = X} {Y = Y} f xs at x e g = by_find xs (find-at_position (λ y. is_some (f y)) xs at x e g)
   where
     by_find : (zs : List X) → find (λ y. is_some (f y)) zs ≡ Some x → (first_some f zs ≡ f x) × (is_some (f x) ≡ true)
@@ -125,7 +133,8 @@ first_some-at {X = X} {Y = Y} f xs at x e g = by_find xs (find-at_position (λ y
     by_find (z ∷ zs) h = by_own (f z) refl h (by_find zs)
       where
         by_own : (o : Option Y) → f z ≡ o → cond (is_some o) (Some z) (find (λ y. is_some (f y)) zs) ≡ Some x
-            → (find (λ y. is_some (f y)) zs ≡ Some x → (first_some f zs ≡ f x) × (is_some (f x) ≡ true)) → (or_else o (first_some f zs) ≡ f x) × (is_some (f x) ≡ true)
+            → (find (λ y. is_some (f y)) zs ≡ Some x → (first_some f zs ≡ f x) × (is_some (f x) ≡ true))
+            → (or_else o (first_some f zs) ≡ f x) × (is_some (f x) ≡ true)
         by_own None q k later = later k
         by_own (Some y) q k later = let is : z ≡ x = cc in (sym q ∙ ap f is, ap is_some (sym (ap f is) ∙ q))
 
@@ -138,7 +147,8 @@ module _ (id room : ℕ) (ls : List Layer) (at : ℕ) (l : Layer) (place : posit
     pub own-changed : (new : Layer) → slice_set ls at new ≡ change_among id room (λ k. new) ls
     own-changed new =
         let has : has_id id l ≡ true = grind (arith, nat_tests, own) in
-        ap (slice_set ls at) (sym (change_one-is id room (λ k. new) l ∙ rw has refl)) ∙ set-at_position (holds id room) (change_one id room (λ k. new)) ls at l place there
+        ap (slice_set ls at) (sym (change_one-is id room (λ k. new) l ∙ rw has refl))
+        ∙ set-at_position (holds id room) (change_one id room (λ k. new)) ls at l place there
 
   -- or one that stands in it
   module _ (other : l.id ≢ id) where
@@ -164,20 +174,25 @@ module _ (id room : ℕ) (ls : List Layer) (at : ℕ) (l : Layer) (place : posit
 
         by_room : (n : ℕ) → 1 ≤ n → found_below id n l ≡ layer_among id room ls → option_and_then (layer_among id (n - 1)) (group_of l) ≡ layer_among id room ls
         by_room zero low q = absurd (omega (arith, low))
-        by_room (suc n) low q = let same : suc n - 1 ≡ n = omega arith in ap (λ k. option_and_then (layer_among id k) (group_of l)) same ∙ by_group n (group_of l) ∙ q
+        by_room (suc n) low q = let same : suc n - 1 ≡ n = omega arith in ap (λ k. option_and_then (layer_among id k) (group_of l)) same
+            ∙ by_group n (group_of l) ∙ q
 
-    pub other-changed : (new : Body) (left : Layer) → new ≡ body_with_layers (change_among id (room - 1) (λ k. left)) l.body → slice_set ls at (record l { body = new }) ≡ change_among id room (λ k. left) ls
+    pub other-changed : (new : Body) (left : Layer) → new ≡ body_with_layers (change_among id (room - 1) (λ k. left)) l.body
+        → slice_set ls at (record l { body = new }) ≡ change_among id room (λ k. left) ls
     other-changed new left is =
         let passed : has_id id l ≡ false = grind (arith, nat_tests, other) in
         ap (slice_set ls at) (by_room room other-room is ∙ sym (change_one-is id room (λ k. left) l ∙ rw passed refl))
         ∙ set-at_position (holds id room) (change_one id room (λ k. left)) ls at l place there
       where
-        by_room : (n : ℕ) → 1 ≤ n → new ≡ body_with_layers (change_among id (n - 1) (λ k. left)) l.body → record l { body = new } ≡ changed_below id n (λ k. left) l
+        by_room : (n : ℕ) → 1 ≤ n → new ≡ body_with_layers (change_among id (n - 1) (λ k. left)) l.body
+            → record l { body = new } ≡ changed_below id n (λ k. left) l
         by_room zero q e = absurd (omega (arith, q))
-        by_room (suc n) q e = let same : suc n - 1 ≡ n = omega arith in λ i. record l { body = (e ∙ ap (λ k. body_with_layers (change_among id k (λ j. left)) l.body) same) i }
+        by_room (suc n) q e = let same : suc n - 1 ≡ n = omega arith in
+            λ i. record l { body = (e ∙ ap (λ k. body_with_layers (change_among id k (λ j. left)) l.body) same) i }
 
 -- where one is found inside a layer, it is a group
-pub some_inside : (id room : ℕ) (l : Layer) → IsSome (option_and_then (layer_among id room) (group_of l)) → IsSomeAnd (group_of l) (λ ls. IsSome (layer_among id room ls))
+pub some_inside : (id room : ℕ) (l : Layer) → IsSome (option_and_then (layer_among id room) (group_of l))
+    → IsSomeAnd (group_of l) (λ ls. IsSome (layer_among id room ls))
 some_inside id room l h = by_group (group_of l) h
   where
     by_group : (o : Option (List Layer)) → IsSome (option_and_then (layer_among id room) o) → IsSomeAnd o (λ ls. IsSome (layer_among id room ls))

@@ -1,5 +1,6 @@
 -- Ways to a layer within groups, one step at a time.
-use Rattle.std.proofs.Common.{◌≡◌, ◌≢◌, ℕ, zero, suc, ◌+◌, ◌-◌, ◌<◌, List, [], ◌∷◌, ◌++◌, length, drop, Option, Some, None, IsSomeAnd, is_some, true, ◌≤◌, refl, sym, ap, ◌∙◌, arith}
+use Rattle.std.proofs.Common.{◌≡◌, ◌≢◌, ℕ, zero, suc, ◌+◌, ◌-◌, ◌<◌, List, [], ◌∷◌, ◌++◌, length, drop, Option, Some, None, IsSomeAnd, is_some, true, ◌≤◌, refl}
+use Rattle.std.proofs.Common.{sym, ap, ◌∙◌, arith}
 use mathlib.Core.List.{reverse}
 use Rattle.std.specs.List.{flat_map, position, slice_get}
 use Rattle.std.proofs.lemmas.List.{reverse-append}
@@ -28,7 +29,8 @@ leads-own id zero l way e own = rw e own
 leads-own id (suc room) l way e own = rw e own
 
 -- what leads from a group leads from the layers that stand in it, and the other way
-pub leads-group : (id room : ℕ) (l : Layer) (ks : List Layer) (way : List ℕ) → l.id ≢ id → room ≢ 0 → group_of l ≡ Some ks → IsWay id (room - 1) way ks → LeadsFrom id room way l
+pub leads-group : (id room : ℕ) (l : Layer) (ks : List Layer) (way : List ℕ) → l.id ≢ id → room ≢ 0 → group_of l ≡ Some ks → IsWay id (room - 1) way ks
+    → LeadsFrom id room way l
 unfolding LeadsFrom
 leads-group id zero l ks way other some g h = absurd (some refl)
 leads-group id (suc room) l ks [] other some g h = absurd h
@@ -42,11 +44,13 @@ leads-inside id zero l (at ∷ way) other h = absurd h
 leads-inside id (suc room) l (at ∷ way) other h = let same : suc room - 1 ≡ room = omega arith in rw same h.1
 
 -- ---- a way, and its outermost place
-pub way-pushed : (id room : ℕ) (ls : List Layer) (l : Layer) (way : List ℕ) (at : ℕ) → position (holds id room) ls ≡ Some at → slice_get ls at ≡ Some l → LeadsFrom id room (reverse way) l
+pub way-pushed : (id room : ℕ) (ls : List Layer) (l : Layer) (way : List ℕ) (at : ℕ) → position (holds id room) ls ≡ Some at → slice_get ls at ≡ Some l
+    → LeadsFrom id room (reverse way) l
     → IsWay id room (reverse (way ++ at ∷ [])) ls
 way-pushed id room ls l way at place there leads = rw (reverse-append way (at ∷ [])) (place, rw there leads)
 
-pub way-split : (id room : ℕ) (ls : List Layer) (way rest : List ℕ) (at : ℕ) → way ≡ rest ++ at ∷ [] → IsWay id room (reverse way) ls → IsWay id room (at ∷ reverse rest) ls
+pub way-split : (id room : ℕ) (ls : List Layer) (way rest : List ℕ) (at : ℕ) → way ≡ rest ++ at ∷ [] → IsWay id room (reverse way) ls
+    → IsWay id room (at ∷ reverse rest) ls
 way-split id room ls way rest at e h = rw (reverse-append rest (at ∷ [])) at (rw e at h)
 
 pub way-some : (id room : ℕ) (ls : List Layer) (way : List ℕ) → IsWay id room (reverse way) ls → 0 < length way
@@ -72,21 +76,26 @@ unfolding ArrivesAt
 arrives-group id l ks [] g h = absurd h
 arrives-group id l ks (at ∷ way) g h = rw g h
 
-pub arrives-pushed : (id : ℕ) (ls : List Layer) (l : Layer) (way : List ℕ) (at : ℕ) → slice_get ls at ≡ Some l → ArrivesAt id (reverse way) l → ArrivesIn id (reverse (way ++ at ∷ [])) ls
+pub arrives-pushed : (id : ℕ) (ls : List Layer) (l : Layer) (way : List ℕ) (at : ℕ) → slice_get ls at ≡ Some l → ArrivesAt id (reverse way) l
+    → ArrivesIn id (reverse (way ++ at ∷ [])) ls
 arrives-pushed id ls l way at there arrives = rw (reverse-append way (at ∷ [])) (rw there arrives)
 
 -- where a list of places arrives, it leads to, and it is held
-arrived_one : (id : ℕ) (way : List ℕ) (room level : ℕ) (l : Layer) → length way ≤ room → Distinct (flat_map ids_of (tree room level l)) → ArrivesAt id way l → LeadsFrom id room way l × (holds id room l ≡ true)
+arrived_one : (id : ℕ) (way : List ℕ) (room level : ℕ) (l : Layer) → length way ≤ room → Distinct (flat_map ids_of (tree room level l)) → ArrivesAt id way l
+    → LeadsFrom id room way l × (holds id room l ≡ true)
 unfolding LeadsFrom ArrivesAt
 arrived_one id [] room level l short distinct h = (leads-own id room l [] refl h, sym (holds-own id room l h))
 arrived_one id (at ∷ way) zero level l short distinct h = absurd (omega (arith, short))
-arrived_one id (at ∷ way) (suc room) level l short distinct h = by_group (λ k d r. arrived_one id way room (inner_level level) k (omega (arith, short)) d r) (group_of l) refl h
+arrived_one id (at ∷ way) (suc room) level l short distinct h =
+    by_group (λ k d r. arrived_one id way room (inner_level level) k (omega (arith, short)) d r) (group_of l) refl h
   where
     inner : Distinct (l.id ∷ flat_map ids_of (drawn room (inner_level level) (inside l)))
     inner = rw (tree-is (suc room) level l) at distinct
 
-    by_group : ((k : Layer) → Distinct (flat_map ids_of (tree room (inner_level level) k)) → ArrivesAt id way k → LeadsFrom id room way k × (holds id room k ≡ true))
-        → (o : Option (List Layer)) → group_of l ≡ o → IsSomeAnd o (λ ls. IsSomeAnd (slice_get ls at) (ArrivesAt id way)) → LeadsFrom id (suc room) (at ∷ way) l × (holds id (suc room) l ≡ true)
+    by_group : ((k : Layer) → Distinct (flat_map ids_of (tree room (inner_level level) k)) → ArrivesAt id way k
+        → LeadsFrom id room way k × (holds id room k ≡ true))
+        → (o : Option (List Layer)) → group_of l ≡ o → IsSomeAnd o (λ ls. IsSomeAnd (slice_get ls at) (ArrivesAt id way))
+        → LeadsFrom id (suc room) (at ∷ way) l × (holds id (suc room) l ≡ true)
     by_group further None g q = absurd q
     by_group further (Some ks) g q = by_slot (slice_get ks at) refl q
       where
@@ -96,7 +105,8 @@ arrived_one id (at ∷ way) (suc room) level l short distinct h = by_group (λ k
         apart : Distinct (l.id ∷ flat_map ids_of (drawn room (inner_level level) ks))
         apart = rw those at inner
 
-        by_slot : (o : Option Layer) → slice_get ks at ≡ o → IsSomeAnd o (ArrivesAt id way) → LeadsFrom id (suc room) (at ∷ way) l × (holds id (suc room) l ≡ true)
+        by_slot : (o : Option Layer) → slice_get ks at ≡ o → IsSomeAnd o (ArrivesAt id way)
+            → LeadsFrom id (suc room) (at ∷ way) l × (holds id (suc room) l ≡ true)
         by_slot None e r = absurd r
         by_slot (Some k) e r =
             let there = further k (Distinct-tree room (inner_level level) ks at k e apart.1) r in
@@ -106,7 +116,8 @@ arrived_one id (at ∷ way) (suc room) level l short distinct h = by_group (λ k
             let held = rw same at (holds-group id (suc room) l ks other (λ z. absurd (omega (arith, z))) g) in
             ((other, rw g (place, rw e there.0)), sym held ∙ ap is_some place)
 
-pub way-arrived : (id : ℕ) (way : List ℕ) (room level : ℕ) (ls : List Layer) → length way ≤ room + 1 → Distinct (flat_map ids_of (drawn room level ls)) → ArrivesIn id way ls → IsWay id room way ls
+pub way-arrived : (id : ℕ) (way : List ℕ) (room level : ℕ) (ls : List Layer) → length way ≤ room + 1 → Distinct (flat_map ids_of (drawn room level ls))
+    → ArrivesIn id way ls → IsWay id room way ls
 way-arrived id [] room level ls short distinct h = h
 way-arrived id (at ∷ way) room level ls short distinct h = by_slot (slice_get ls at) refl h
   where

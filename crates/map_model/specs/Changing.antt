@@ -12,7 +12,8 @@ use Rattle.map_model.specs.Lists.{change_at}
 use Rattle.map_model.specs.Objects.{body_with_objects, layer_with_objects, objects_in, objects_of}
 
 -- the layer with the id is changed by one call of f, which gives r; what the call leaves stands in its place
-pub record ChangesLayer {F R : Type 0} (g : Once F (MutBor Layer × Unit {0}) (R × (MutBor Layer × Unit {0}))) (f : F) (id room : ℕ) (old : List Layer) (r : R) (new : List Layer) : Type 0 where
+pub record ChangesLayer {F R : Type 0} (g : Once F (MutBor Layer × Unit {0}) (R × (MutBor Layer × Unit {0}))) (f : F) (id room : ℕ) (old : List Layer) (r : R)
+    (new : List Layer) : Type 0 where
   pub layer : Layer
   pub left : Layer
   pub found : layer_among id room old ≡ Some layer
@@ -20,7 +21,8 @@ pub record ChangesLayer {F R : Type 0} (g : Once F (MutBor Layer × Unit {0}) (R
   pub is : new ≡ change_among id room (λ own. left) old
 
 -- the layer with the id, among those that stand in a group, is changed by one call of f, which gives r
-pub record ChangesInside {F R : Type 0} (g : Once F (MutBor Layer × Unit {0}) (R × (MutBor Layer × Unit {0}))) (f : F) (id room : ℕ) (old : Body) (r : R) (new : Body) : Type 0 where
+pub record ChangesInside {F R : Type 0} (g : Once F (MutBor Layer × Unit {0}) (R × (MutBor Layer × Unit {0}))) (f : F) (id room : ℕ) (old : Body) (r : R)
+    (new : Body) : Type 0 where
   pub layer : Layer
   pub left : Layer
   pub found : option_and_then (layer_among id room) (group_in old) ≡ Some layer
@@ -28,7 +30,8 @@ pub record ChangesInside {F R : Type 0} (g : Once F (MutBor Layer × Unit {0}) (
   pub is : new ≡ body_with_layers (change_among id room (λ own. left)) old
 
 -- the object at a place of a layer's body is changed by one call of f, which gives r
-pub record ChangesObjectIn {F R : Type 0} (g : Once F (MutBor Object × Unit {0}) (R × (MutBor Object × Unit {0}))) (f : F) (at : ℕ) (old : Body) (r : R) (new : Body) : Type 0 where
+pub record ChangesObjectIn {F R : Type 0} (g : Once F (MutBor Object × Unit {0}) (R × (MutBor Object × Unit {0}))) (f : F) (at : ℕ) (old : Body) (r : R)
+    (new : Body) : Type 0 where
   pub object : Object
   pub left : Object
   pub found : option_and_then (λ os. slice_get os at) (objects_in old) ≡ Some object
@@ -36,7 +39,8 @@ pub record ChangesObjectIn {F R : Type 0} (g : Once F (MutBor Object × Unit {0}
   pub is : new ≡ body_with_objects (change_at at (λ own. left)) old
 
 -- the object at a place is changed by one call of f, which gives r; what the call leaves stands there
-pub record ChangesObject {F R : Type 0} (g : Once F (MutBor Object × Unit {0}) (R × (MutBor Object × Unit {0}))) (f : F) (place : ObjectPlace) (old : List Layer) (r : R) (new : List Layer) : Type 0 where
+pub record ChangesObject {F R : Type 0} (g : Once F (MutBor Object × Unit {0}) (R × (MutBor Object × Unit {0}))) (f : F) (place : ObjectPlace)
+    (old : List Layer) (r : R) (new : List Layer) : Type 0 where
   pub object : Object
   pub left : Object
   pub found : option_and_then (λ os. slice_get os place.at) (option_and_then objects_of (layer_among place.layer MAX_GROUPS old)) ≡ Some object

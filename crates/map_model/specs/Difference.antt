@@ -16,7 +16,8 @@ change_at width number before after = if nat_eq before after then [] else edit_a
 -- with the value before and the value after
 abbrev pub difference : ℕ → List ℕ → List ℕ → ℕ → List CellEdit
 difference width before after zero = []
-difference width before after (suc number) = difference width before after number ++ change_at width number (slice_index before number) (slice_index after number)
+difference width before after (suc number) = difference width before after number
+    ++ change_at width number (slice_index before number) (slice_index after number)
 
 -- the difference of two maps of one size in the tile layer with the id
 abbrev pub difference_in : ℕ → MapParts → MapParts → List CellEdit

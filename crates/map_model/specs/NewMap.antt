@@ -13,7 +13,8 @@ use Rattle.map_model.specs.declared.parts.Placing.{Placing}
 
 -- the members that a new tile layer keeps
 abbrev pub tile_layer_members : Members
-tile_layer_members = member (codes "opacity") (number (unsigned 1)) (member (codes "x") (number (unsigned 0)) (member (codes "y") (number (unsigned 0)) no_members))
+tile_layer_members = member (codes "opacity") (number (unsigned 1))
+    (member (codes "x") (number (unsigned 0)) (member (codes "y") (number (unsigned 0)) no_members))
 
 -- the members that a new object layer keeps
 abbrev pub object_layer_members : Members

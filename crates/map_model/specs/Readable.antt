@@ -3,7 +3,8 @@ use Rattle.std.specs.Prelude.{◌≡◌, IsUtf8, ℕ, ◌^◌, ◌<◌, pos, neg
 use Rattle.std.specs.Cmp.Lexicographic.{slice_cmp}
 use Rattle.std.specs.Ordering.{nat_cmp}
 use Rattle.std.specs.declared.cmp.Ordering.TheVariants.{Less}
-use Rattle.serde_json.specs.Data.{Num, unsigned, negative, float, Data, null, boolean, number, string, array, object, Items, no_items, item, Members, no_members, member}
+use Rattle.serde_json.specs.Data.{Num, unsigned, negative, float, Data, null, boolean, number, string, array, object, Items, no_items, item, Members}
+use Rattle.serde_json.specs.Data.{no_members, member}
 
 -- a whole number has 64 bits, and a sign only where it is below 0
 abbrev pub IsReadableNumber : Num → Type 0

@@ -1,5 +1,6 @@
 -- The tileset of a value.
-use Rattle.std.specs.Prelude.{ℕ, ◌<◌, ◌≤◌, List, [], ◌∷◌, Bool, false, nat_lt, nat_eq, if◌then◌else◌, Option, Some, None, is_some, Contains, slice_get, position}
+use Rattle.std.specs.Prelude.{ℕ, ◌<◌, ◌≤◌, List, [], ◌∷◌, Bool, false, nat_lt, nat_eq, if◌then◌else◌, Option, Some, None, is_some, Contains, slice_get}
+use Rattle.std.specs.Prelude.{position}
 use Rattle.std.specs.List.{flat_map, list_any, insert, remove}
 use Rattle.map_model.specs.declared.parts.Body.{Body}
 use Rattle.map_model.specs.declared.parts.Body.TheVariants.{Tiles, Objects, Other, Group'}

@@ -11,7 +11,8 @@ use Rattle.map_model.specs.WellFormed.{ids_of}
 unfoldable pub LeadsFrom : ℕ → ℕ → List ℕ → Layer → Type 0
 LeadsFrom id room [] l = l.id ≡ id
 LeadsFrom id zero (at ∷ way) l = ⊥
-LeadsFrom id (suc room) (at ∷ way) l = (l.id ≢ id) × IsSomeAnd (group_of l) (λ ls. (position (holds id room) ls ≡ Some at) × IsSomeAnd (slice_get ls at) (LeadsFrom id room way))
+LeadsFrom id (suc room) (at ∷ way) l = (l.id ≢ id) × IsSomeAnd (group_of l)
+    (λ ls. (position (holds id room) ls ≡ Some at) × IsSomeAnd (slice_get ls at) (LeadsFrom id room way))
 
 -- the places lead from a list of layers to the layer with the id: the first is a place in the list
 abbrev pub IsWay : ℕ → ℕ → List ℕ → List Layer → Type 0

@@ -1,7 +1,8 @@
 -- When a map is well formed.
 use Rattle.std.specs.Prelude.{◌≡◌, IsUtf8, ℕ, ◌-◌, ◌*◌, ◌^◌, ◌<◌, ◌≤◌, ℤ, pos, neg_ℤ, ◌≤ℤ◌, List, [], ◌∷◌, length, IfSome}
 use Rattle.std.specs.List.{flat_map}
-use Rattle.map_model.specs.declared.limits.TheConstants.{MAX_SIDE, MAX_CELLS, MAX_TILE_SIDE, MAX_LAYERS, MAX_OBJECTS, MAX_PROPERTIES, MAX_TILESETS, MAX_NEXT_ID, MAX_FIRST_ID, MAX_PIXELS}
+use Rattle.map_model.specs.declared.limits.TheConstants.{MAX_SIDE, MAX_CELLS, MAX_TILE_SIDE, MAX_LAYERS, MAX_OBJECTS, MAX_PROPERTIES, MAX_TILESETS, MAX_NEXT_ID}
+use Rattle.map_model.specs.declared.limits.TheConstants.{MAX_FIRST_ID, MAX_PIXELS}
 use Rattle.map_model.specs.declared.parts.PropValue.{PropValue}
 use Rattle.map_model.specs.declared.parts.PropValue.TheVariants as values
 use Rattle.map_model.specs.declared.parts.Property.{Property}
@@ -14,7 +15,8 @@ use Rattle.map_model.specs.declared.parts.Tileset.{Tileset}
 use Rattle.map_model.specs.declared.parts.MapParts.{MapParts}
 use Rattle.map_model.specs.Groups.{all_drawn}
 use Rattle.map_model.specs.Lists.{Each, Distinct}
-use Rattle.map_model.specs.Keeping.{AreKept, IsKeptValue, map_level, deepest_level, object_level, tileset_level, property_level, map_names, layer_names, object_names, tileset_names, property_names}
+use Rattle.map_model.specs.Keeping.{AreKept, IsKeptValue, map_level, deepest_level, object_level, tileset_level, property_level, map_names, layer_names}
+use Rattle.map_model.specs.Keeping.{object_names, tileset_names, property_names}
 
 -- ---- sizes
 -- a map is at least 1 cell wide and high

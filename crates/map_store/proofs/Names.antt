@@ -5,7 +5,8 @@ use Rattle.atomic_save.specs.Saving.{IsBeside}
 use Rattle.map_store.specs.Paths.{path_to, front_of, IsName}
 
 -- what follows the folder in both paths
-rests : (folder name other rest : List ℕ) → path_to folder other ≡ front_of folder name ++ rest → codes "/" ++ other ≡ codes "/." ++ ((name ++ codes ".") ++ rest)
+rests : (folder name other rest : List ℕ) → path_to folder other ≡ front_of folder name ++ rest
+    → codes "/" ++ other ≡ codes "/." ++ ((name ++ codes ".") ++ rest)
 rests folder name other rest e = append_cancel_left folder _ _ (e ∙ append_assoc folder (codes "/." ++ (name ++ codes ".")) rest)
 
 -- a file is not one of those by which it is replaced

@@ -18,7 +18,8 @@ pub record FuseParts : Type 0 where
 -- these parts are coded as the tuple of their fields
 abbrev pub fuse_code : Coded FuseParts
 fuse_code =
-    code_by (Files × (ℕ × (ℕ × List Asked))) (coded× (code {R = slice_cmp nat_cmp} (coded_list coded_ℕ) (coded_list coded_ℕ)) (coded× coded_ℕ (coded× coded_ℕ (coded_list coded_asked))))
+    code_by (Files × (ℕ × (ℕ × List Asked))) (coded× (code {R = slice_cmp nat_cmp} (coded_list coded_ℕ) (coded_list coded_ℕ))
+    (coded× coded_ℕ (coded× coded_ℕ (coded_list coded_asked))))
     (λ p. (p.files, (p.failures, (p.left, p.asked))))
     (λ t. record { files = t.0; failures = t.1.0; left = t.1.1.0; asked = t.1.1.1 }) (λ _. refl)
 

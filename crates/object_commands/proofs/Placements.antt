@@ -1,5 +1,6 @@
 -- An object that is moved or resized.
-use Rattle.std.proofs.Common.{◌≡◌, ℕ, Bool, true, false, ◌&&◌, ℤ, pos, int_eq, int_le, Option, Some, None, IsSome, option_and_then, Result, Ok, cond, refl, sym, ap, ◌∙◌, subst, arith}
+use Rattle.std.proofs.Common.{◌≡◌, ℕ, Bool, true, false, ◌&&◌, ℤ, pos, int_eq, int_le, Option, Some, None, IsSome, option_and_then, Result, Ok, cond, refl, sym}
+use Rattle.std.proofs.Common.{ap, ◌∙◌, subst, arith}
 use Rattle.std.specs.Bool.{Decides}
 use Rattle.std.specs.Cmp.Derive.{both_true}
 use Rattle.std.specs.Option.{option_eq}
@@ -102,23 +103,37 @@ module _ (id : ℕ) (place : ObjectPlace) (d : DocumentParts) (stands : object_p
   placing-put p = sym (found-update (λ e. object_place e.map id) (λ k. of_object k placing) place d stands (λ own. p))
 
 -- a command that fits finds the object at its place
-pub placed-there : (id : ℕ) (place : ObjectPlace) (made : Bool) (after held : Placing) (d : DocumentParts) → FitsShown (placing_with_id id) (AllowsPlacing id place) made after held d → IsSome (object_at d.map place)
+pub placed-there : (id : ℕ) (place : ObjectPlace) (made : Bool) (after held : Placing) (d : DocumentParts)
+    → FitsShown (placing_with_id id) (AllowsPlacing id place) made after held d → IsSome (object_at d.map place)
 placed-there id place false after held d h = object_at-given id place d h.allowed.stands h.given.0
 placed-there id place true after held d h = object_at-given id place d h.allowed.stands (rw h.given refl)
 
 -- the object stands where it stood, whatever its placing
-pub AllowsPlacing-put : (id : ℕ) (place : ObjectPlace) (d : DocumentParts) (p new : Placing) → object_place d.map id ≡ Some place → IsPlacing new → AllowsPlacing id place (put (placing_with_id id) p d) new
+pub AllowsPlacing-put : (id : ℕ) (place : ObjectPlace) (d : DocumentParts) (p new : Placing) → object_place d.map id ≡ Some place → IsPlacing new
+    → AllowsPlacing id place (put (placing_with_id id) p d) new
 AllowsPlacing-put id place d p new stands is = record { stands = placing_with_id-keeps id (λ own. p) d ∙ stands; placing = is }
 
-pub AllowsPlacing-back : (id : ℕ) (place : ObjectPlace) (d : DocumentParts) (p held : Placing) → AllowsPlacing id place (put (placing_with_id id) p d) held → AllowsPlacing id place d held
+pub AllowsPlacing-back : (id : ℕ) (place : ObjectPlace) (d : DocumentParts) (p held : Placing) → AllowsPlacing id place (put (placing_with_id id) p d) held
+    → AllowsPlacing id place d held
 AllowsPlacing-back id place d p held h = record { stands = sym (placing_with_id-keeps id (λ own. p) d) ∙ h.stands; placing = h.placing }
 
 abbrev pub new_place_object : PlacingKind → ℕ → Bool → ObjectPlace → Placing → Bool → PlaceObject
-new_place_object kind id follows place p same = record { place = place; placing = p; after = p; object = id; kind = kind; follows = follows; is_made = false; is_same = same }
+new_place_object kind id follows place p same = record {
+  place = place;
+  placing = p;
+  after = p;
+  object = id;
+  kind = kind;
+  follows = follows;
+  is_made = false;
+  is_same = same;
+}
 
-pub place_object_made : {E : Type 0} {after : Result DocumentParts E} (d : DocumentParts) (kind : PlacingKind) (id : ℕ) (follows : Bool) (place : ObjectPlace) (o : Object) (f : Placing → Placing) (same : Bool)
+pub place_object_made : {E : Type 0} {after : Result DocumentParts E} (d : DocumentParts) (kind : PlacingKind) (id : ℕ) (follows : Bool) (place : ObjectPlace)
+    (o : Object) (f : Placing → Placing) (same : Bool)
     → (place_object_names kind id follows).vanishing ≡ WhenEqual → object_place d.map id ≡ Some place → object_at d.map place ≡ Some o → IsWellFormed d.map
-    → ((p : Placing) → IsPlacing p → IsPlacing (f p)) → same ≡ placing_test o.placing (f o.placing) → after ≡ Ok (with_map (with_object place (λ p. object_with_placing (f p.placing) p)) d)
+    → ((p : Placing) → IsPlacing p → IsPlacing (f p)) → same ≡ placing_test o.placing (f o.placing)
+    → after ≡ Ok (with_map (with_object place (λ p. object_with_placing (f p.placing) p)) d)
     → Makes (place_object_names kind id follows) d after (place_object_change (new_place_object kind id follows place (f o.placing) same))
 place_object_made d kind id follows place o f same vanishes stands e h keeps test leads =
     let given = placing-given id place d stands o.placing (rw e refl) in
@@ -129,7 +144,8 @@ place_object_made d kind id follows place o f same vanishes stands e h keeps tes
     sym at_place ∙ update-put (placing_with_id-laws id) f o.placing d given in
     shown_made (AllowsPlacing id place) (placing_with_id-laws id) vanishes o.placing given (λ t. decides.0 (sym test ∙ t)) (λ q. test ∙ decides.1 q)
     (record { stands = stands; placing = is }) h
-    (subst (λ (e : DocumentParts). IsWellFormed e.map) (placing-put id place d stands (f o.placing)) (with_object-keeps place (object_with_placing (f o.placing)) d.map (object_with_placing-keeps (f o.placing) is) h))
+    (subst (λ (e : DocumentParts). IsWellFormed e.map) (placing-put id place d stands (f o.placing))
+    (with_object-keeps place (object_with_placing (f o.placing)) d.map (object_with_placing-keeps (f o.placing) is) h))
     (leads ∙ ap Ok put_in)
 
 -- ---- a move that takes a newer one in
@@ -138,6 +154,7 @@ place_object-WhenEqual Move id follows = refl
 place_object-WhenEqual Resize id follows = refl
 
 -- one that has the tag of moves of an object moves that object
-pub tag-object : (kind : PlacingKind) (own : ℕ) (follows : Bool) (id : ℕ) → (place_object_names kind own follows).tag ≡ Some (record { kind = MOVE_ID; subject = OfObject id }) → own ≡ id
+pub tag-object : (kind : PlacingKind) (own : ℕ) (follows : Bool) (id : ℕ)
+    → (place_object_names kind own follows).tag ≡ Some (record { kind = MOVE_ID; subject = OfObject id }) → own ≡ id
 tag-object Move own follows id e = OfObject-same MOVE_ID own id e
 tag-object Resize own follows id e = cc

@@ -53,7 +53,8 @@ frame_made d id after change follows is =
 
 -- ---- what a frame shows, and a frame that takes a newer one in
 -- what a frame shows is a lawful offer
-pub frame-offered : (layer : ℕ) (follows made : Bool) (cells : List CellEdit) → IsOfferOf (frame_change (frame layer follows made cells)) (shown_frame follows layer cells)
+pub frame-offered : (layer : ℕ) (follows made : Bool) (cells : List CellEdit)
+    → IsOfferOf (frame_change (frame layer follows made cells)) (shown_frame follows layer cells)
 frame-offered layer false made cells = nothing-offered _ refl
 frame-offered layer true made cells = follower-offered _ _ refl refl (λ e. cc) (λ d f. cells-offered made layer cells d f.0 f.1.fits)
 
@@ -68,7 +69,8 @@ of_tag None = 0
 of_tag (Some t) = of_subject t.subject
 
 -- a frame that has the tag of a layer is on this layer
-pub tag-layer : (own : ℕ) (follows : Bool) (kind layer : ℕ) → (frame_names own follows).tag ≡ Some (record { kind = kind; subject = OfLayer layer }) → layer ≡ own
+pub tag-layer : (own : ℕ) (follows : Bool) (kind layer : ℕ) → (frame_names own follows).tag ≡ Some (record { kind = kind; subject = OfLayer layer })
+    → layer ≡ own
 tag-layer own follows kind layer e = sym (ap of_tag e)
 
 pub frame_merged : (layer : ℕ) (follows made : Bool) (older newer : List CellEdit) (d : DocumentParts) → FitsCells layer newer d

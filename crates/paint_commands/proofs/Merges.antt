@@ -24,7 +24,8 @@ use Rattle.paint_commands.specs.declared.paint.PaintKind.TheVariants.{Stamp, Era
 use Rattle.paint_commands.specs.Painting.{IsDifference, paint_change, paint_exchange, paint_names, shown_cells, side_of}
 use Rattle.paint_commands.proofs.Paints.{difference-settled}
 
-module _ (layer : ℕ) (older newer : List CellEdit) (d : DocumentParts) (n : FitsCells layer newer d) (o : IsDifference true layer older (painted layer newer Before d)) where
+module _ (layer : ℕ) (older newer : List CellEdit) (d : DocumentParts) (n : FitsCells layer newer d)
+    (o : IsDifference true layer older (painted layer newer Before d)) where
   middle : DocumentParts
   middle = painted layer newer Before d
 
@@ -54,7 +55,8 @@ module _ (layer : ℕ) (older newer : List CellEdit) (d : DocumentParts) (n : Fi
   unfolding first
   merged-undone =
       ap (λ m. record d { map = m })
-      (with_edits-back d.map layer back (joined older newer) back-length (exact ∙ ap (λ m. difference_in layer m d.map) first-is) n.tiles n.well_formed ∙ sym first-is)
+      (with_edits-back d.map layer back (joined older newer) back-length (exact ∙ ap (λ m. difference_in layer m d.map) first-is) n.tiles n.well_formed
+      ∙ sym first-is)
 
   pub merged-IsDifference : IsDifference true layer (joined older newer) d
   unfolding first
@@ -69,7 +71,8 @@ module _ (layer : ℕ) (older newer : List CellEdit) (d : DocumentParts) (n : Fi
   unfolding first
   merged-AreInRowOrder =
       let m = first.map in
-      subst AreInRowOrder (sym exact) (difference-AreInRowOrder m.width (tiles_in m layer) (tiles_in d.map layer) (m.width * m.height) (omega (arith, n.well_formed.size.wide)))
+      subst AreInRowOrder (sym exact) (difference-AreInRowOrder m.width (tiles_in m layer) (tiles_in d.map layer) (m.width * m.height)
+      (omega (arith, n.well_formed.size.wide)))
 
 -- ---- the command
 -- the id that a tag names
@@ -83,7 +86,8 @@ of_tag None = 0
 of_tag (Some t) = of_subject t.subject
 
 -- a paint that has the tag of a layer paints this layer
-pub tag-layer : (k : PaintKind) (own : ℕ) (follows : Bool) (kind layer : ℕ) → (paint_names k own follows).tag ≡ Some (record { kind = kind; subject = OfLayer layer }) → layer ≡ own
+pub tag-layer : (k : PaintKind) (own : ℕ) (follows : Bool) (kind layer : ℕ)
+    → (paint_names k own follows).tag ≡ Some (record { kind = kind; subject = OfLayer layer }) → layer ≡ own
 tag-layer Stamp own follows kind layer e = sym (ap of_tag e)
 tag-layer Erase own follows kind layer e = sym (ap of_tag e)
 tag-layer Fill own follows kind layer e = cc
@@ -104,7 +108,8 @@ cells-offered false layer cells d turn h = absurd (turn refl)
 cells-offered true layer cells d turn h = (record { well_formed = h.well_formed; tiles = h.tiles; exact = h.exact; back = h.back refl }, refl)
 
 -- what a paint shows is a lawful offer
-pub paint-offered : (k : PaintKind) (layer : ℕ) (follows made : Bool) (cells : List CellEdit) → IsOfferOf (paint_change (paint k layer follows made cells)) (shown_cells k follows layer cells)
+pub paint-offered : (k : PaintKind) (layer : ℕ) (follows made : Bool) (cells : List CellEdit)
+    → IsOfferOf (paint_change (paint k layer follows made cells)) (shown_cells k follows layer cells)
 paint-offered Stamp layer false made cells = nothing-offered _ refl
 paint-offered Stamp layer true made cells = follower-offered _ _ refl refl (λ e. cc) (λ d f. cells-offered made layer cells d f.0 f.1.fits)
 paint-offered Erase layer false made cells = nothing-offered _ refl

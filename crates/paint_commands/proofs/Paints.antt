@@ -45,7 +45,8 @@ difference_by-not : (made : Bool) (layer : ℕ) (d e : DocumentParts) → differ
 difference_by-not false layer d e = refl
 difference_by-not true layer d e = refl
 
-pub painted-IsDifference : (made : Bool) (layer : ℕ) (cells : List CellEdit) (d : DocumentParts) → IsWellFormed (painted layer cells (side_of made) d).map → IsDifference made layer cells d
+pub painted-IsDifference : (made : Bool) (layer : ℕ) (cells : List CellEdit) (d : DocumentParts) → IsWellFormed (painted layer cells (side_of made) d).map
+    → IsDifference made layer cells d
     → IsDifference (not made) layer cells (painted layer cells (side_of made) d)
 painted-IsDifference made layer cells d formed h =
     let e = painted layer cells (side_of made) d in
@@ -104,7 +105,8 @@ module _ (d : DocumentParts) (id : ℕ) (after : Result DocumentParts EditFault)
   new-IsDifference = record {
     well_formed = is.well_formed;
     tiles = rw is.exact.layer is.tiles;
-    exact = is.exact.cells ∙ ap (λ k. difference_in k d.map (covered_map id is.over d.map)) (sym is.exact.layer) ∙ ap (difference_in change.layer d.map) (sym turned);
+    exact = is.exact.cells ∙ ap (λ k. difference_in k d.map (covered_map id is.over d.map)) (sym is.exact.layer)
+        ∙ ap (difference_in change.layer d.map) (sym turned);
     back = λ made_now. cc;
   }
 
@@ -115,7 +117,13 @@ module _ (d : DocumentParts) (id : ℕ) (after : Result DocumentParts EditFault)
   pub paint_made : (kind : PaintKind) (follows : Bool) (names : Names) → paint_names kind change.layer follows ≡ names → names.vanishing ≡ WhenEqual
       → Makes names d after (paint_change (new_paint kind follows change))
   paint_made kind follows names called vanishes = record {
-    fits = (λ e. cc, record { fits = new-IsDifference; settled = rw (called, vanishes) (difference-settled false change.layer change.cells d new-IsDifference) });
+    fits = (
+      λ e. cc,
+      record {
+        fits = new-IsDifference;
+        settled = rw (called, vanishes) (difference-settled false change.layer change.cells d new-IsDifference);
+      },
+    );
     document = new-document;
     names = called;
   }

@@ -1,5 +1,6 @@
 -- Commands of properties, as they are made and turned.
-use Rattle.std.proofs.Common.{IsUtf8, ◌≡◌, ℕ, ◌<◌, ◌≤◌, List, length, Bool, false, Option, Some, None, IsSomeAnd, Result, Ok, Err, IfOk, option_map, option_and_then, refl, sym, ap, ◌∙◌, subst, arith}
+use Rattle.std.proofs.Common.{IsUtf8, ◌≡◌, ℕ, ◌<◌, ◌≤◌, List, length, Bool, false, Option, Some, None, IsSomeAnd, Result, Ok, Err, IfOk, option_map}
+use Rattle.std.proofs.Common.{option_and_then, refl, sym, ap, ◌∙◌, subst, arith}
 use Rattle.std.specs.Prelude.{◌↔◌, IsTrue}
 use Rattle.std.specs.List.{slice_get}
 use Rattle.std.specs.Option.{ok_or}
@@ -16,7 +17,8 @@ use Rattle.map_model.specs.declared.setting.GivenSetting.{GivenSetting}
 use Rattle.map_model.specs.declared.setting.Setting.{Setting}
 use Rattle.map_model.specs.Document.{DocumentParts, with_map}
 use Rattle.map_model.specs.Given.{given_setting}
-use Rattle.map_model.specs.Properties.{new_property, owner_place, properties_of, property_at, property_place, property_with_setting, setting_of, setting_with, with_property, IsSetting}
+use Rattle.map_model.specs.Properties.{new_property, owner_place, properties_of, property_at, property_place, property_with_setting, setting_of, setting_with}
+use Rattle.map_model.specs.Properties.{with_property, IsSetting}
 use Rattle.map_model.specs.PropertyLenses.{properties, setting_at, setting_place}
 use Rattle.map_model.specs.WellFormed.{IsWellFormed}
 use Rattle.map_model.proofs.LensLaws.{mapped}
@@ -38,7 +40,8 @@ use Rattle.property_commands.specs.Names.{set_property_names}
 use Rattle.property_commands.proofs.Settings.{setting_named-get, setting-put}
 
 -- the type and the value at a place, as a part reads them
-pub setting_at-get : (d : DocumentParts) (owner : OwnerPlace) (at : ℕ) (s : Setting) → option_map setting_of (property_at d.map owner at) ≡ Some s → (setting_at owner at).get d ≡ Some s
+pub setting_at-get : (d : DocumentParts) (owner : OwnerPlace) (at : ℕ) (s : Setting) → option_map setting_of (property_at d.map owner at) ≡ Some s
+    → (setting_at owner at).get d ≡ Some s
 setting_at-get d owner at s e = by_list (properties_of d.map owner) e
   where
     by_list : (o : Option (List Property)) → option_map setting_of (option_and_then (λ ps. slice_get ps at) o) ≡ Some s
@@ -62,7 +65,8 @@ owner-there m owners.Map place e = let is : places.Map ≡ place = cc in ap Some
 owner-there m (owners.Layer id) place e = given_place (owner_place m (owners.Layer id)) NoSuchLayer place e
 owner-there m (owners.Object id) place e = given_place (owner_place m (owners.Object id)) NoSuchObject place e
 
-module _ (d : DocumentParts) (owner : Owner) (name kind : List ℕ) (value : PropValue) (follows : Bool) (place : OwnerPlace) (found : owner_or_fault d.map owner ≡ Ok place) (h : IsWellFormed d.map) where
+module _ (d : DocumentParts) (owner : Owner) (name kind : List ℕ) (value : PropValue) (follows : Bool) (place : OwnerPlace)
+    (found : owner_or_fault d.map owner ≡ Ok place) (h : IsWellFormed d.map) where
   -- what is shown is what is given
   made-shown : (at : ℕ) (how : SetKind) (shown : GivenSetting) → given_setting shown ≡ setting_with kind value
       → Makes (set_property_names owner name follows) d (after_set_property d owner name kind value)
@@ -75,8 +79,10 @@ module _ (d : DocumentParts) (owner : Owner) (name kind : List ℕ) (value : Pro
       (change_of (set_kind_exchange (set_property_names owner name follows) owner name place at s how)))
       (sym is) makes
 
-  pub replace-made : (at : ℕ) (p : Property) (same : Bool) (setting : Setting) (shown : GivenSetting) → property_place d.map place name ≡ Some at → property_at d.map place at ≡ Some p
-      → IsTrue same ↔ setting_of p ≡ setting_with kind value → setting ≡ setting_with kind value → given_setting shown ≡ setting_with kind value → IsSetting d.map place setting
+  pub replace-made : (at : ℕ) (p : Property) (same : Bool) (setting : Setting) (shown : GivenSetting) → property_place d.map place name ≡ Some at
+      → property_at d.map place at ≡ Some p
+      → IsTrue same ↔ setting_of p ≡ setting_with kind value → setting ≡ setting_with kind value → given_setting shown ≡ setting_with kind value
+      → IsSetting d.map place setting
       → Makes (set_property_names owner name follows) d (after_set_property d owner name kind value)
       (property_set_change (record { owner = owner; name = name; follows = follows; place = place; at = at; shown = shown; kind = Replace setting false same }))
   replace-made at p same setting shown there has told is shows allowed =
@@ -90,14 +96,16 @@ module _ (d : DocumentParts) (owner : Owner) (name kind : List ℕ) (value : Pro
       let stays = with_setting-keeps place at s d.map (rw has refl) may h in
       made-shown at (Replace setting false same) shown shows (
       rw is (
-      shown_made (AllowsSetting owner name place at) (setting_named-laws owner name) refl (setting_of p) given told.0 told.1 (record { stands = stands; setting = may }) h
+      shown_made (AllowsSetting owner name place at) (setting_named-laws owner name) refl (setting_of p) given told.0 told.1
+      (record { stands = stands; setting = may }) h
       (subst (λ (e : DocumentParts). IsWellFormed e.map) put_in stays) (leads ∙ ap Ok put_in)
       )
       )
 
   pub add-made : (ps : List Property) (at : ℕ) (loose : Option Property) (shown : GivenSetting) → IsUtf8 name → at ≡ length ps
       → property_place d.map place name ≡ None → properties_of d.map place ≡ Some ps
-      → length ps < MAX_PROPERTIES → loose ≡ Some (new_property name (setting_with kind value)) → given_setting shown ≡ setting_with kind value → IsSetting d.map place (setting_with kind value)
+      → length ps < MAX_PROPERTIES → loose ≡ Some (new_property name (setting_with kind value)) → given_setting shown ≡ setting_with kind value
+      → IsSetting d.map place (setting_with kind value)
       → Makes (set_property_names owner name follows) d (after_set_property d owner name kind value)
       (property_set_change (record { owner = owner; name = name; follows = follows; place = place; at = at; shown = shown; kind = Add (Some loose) }))
   add-made ps at loose shown utf8 last none are few is shows allowed =
@@ -115,7 +123,8 @@ module _ (d : DocumentParts) (owner : Owner) (name kind : List ℕ) (value : Pro
               link = record {
                 ready = free;
                 before = h;
-                after = with_property_at-keeps place (length ps) p ps d.map are few (new_property-IsProperty d.map place name (setting_with kind value) utf8 allowed) new h;
+                after = with_property_at-keeps place (length ps) p ps d.map are few
+                    (new_property-IsProperty d.map place name (setting_with kind value) utf8 allowed) new h;
               };
               new = (refl, record { stands = owner-there d.map owner place found; new = none; last = count });
             };

@@ -32,7 +32,8 @@ add_tileset_made d first source at loose utf8 last is above low high few h =
     link_made refl (record {
       ready = omega arith;
       before = h;
-      after = insert_tileset-keeps d.map (length d.map.tilesets) (external_tileset first source) few (external_tileset-IsTileset first source utf8 low high) (below first d.map.tilesets above) h;
+      after = insert_tileset-keeps d.map (length d.map.tilesets) (external_tileset first source) few (external_tileset-IsTileset first source utf8 low high)
+          (below first d.map.tilesets above) h;
     })
     (rw (above, le-leb 1 first low, le-leb first MAX_FIRST_ID high, lt-ltb (length d.map.tilesets) MAX_TILESETS few) refl)
     )

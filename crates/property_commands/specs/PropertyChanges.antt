@@ -35,11 +35,13 @@ pub record IsNewAt (owner : Owner) (name : List ℕ) (place : OwnerPlace) (at : 
 
 -- the property that is held is new with the setting, or the one that stands last, where none is held, is
 abbrev pub IsNew : Owner → List ℕ → OwnerPlace → ℕ → Setting → Option (Option Property) → DocumentParts → Type 0
-IsNew owner name place at s None d = (property_at d.map place at ≡ Some (new_property name s)) × IsNewAt owner name place at (with_map (without_property_at place at) d)
+IsNew owner name place at s None d = (property_at d.map place at ≡ Some (new_property name s))
+    × IsNewAt owner name place at (with_map (without_property_at place at) d)
 IsNew owner name place at s (Some loose) d = (loose ≡ Some (new_property name s)) × IsNewAt owner name place at d
 
 -- a link of a new property, that has the setting
-pub record FitsNewLink (owner : Owner) (name : List ℕ) (place : OwnerPlace) (at : ℕ) (s : Setting) (held : Option (Option Property)) (d : DocumentParts) : Type 0 where
+pub record FitsNewLink (owner : Owner) (name : List ℕ) (place : OwnerPlace) (at : ℕ) (s : Setting) (held : Option (Option Property))
+    (d : DocumentParts) : Type 0 where
   pub link : FitsLink (property_slot place at) held d
   pub new : IsNew owner name place at s held d
 
@@ -55,7 +57,8 @@ new_link names owner name place at s held = record {
 
 -- the type and the value of a property that is there are exchanged, or a new property is put in and taken out
 abbrev pub set_kind_exchange : Names → Owner → List ℕ → OwnerPlace → ℕ → Setting → SetKind → Exchange
-set_kind_exchange names owner name place at s (Replace setting is_made is_same) = swap_shown names (setting_named owner name) (AllowsSetting owner name place at) is_same is_made s setting
+set_kind_exchange names owner name place at s (Replace setting is_made is_same) =
+    swap_shown names (setting_named owner name) (AllowsSetting owner name place at) is_same is_made s setting
 set_kind_exchange names owner name place at s (Add property) = new_link names owner name place at s property
 
 abbrev pub property_set_exchange : PropertySet → Exchange

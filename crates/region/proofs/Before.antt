@@ -1,5 +1,6 @@
 -- What runs have before another run.
-use Rattle.std.proofs.Common.{◌≡◌, ℕ, ◌+◌, ◌<◌, ◌≤◌, ◌⊎◌, inl, inr, Bool, true, false, not, ◌&&◌, ◌||◌, List, ◌∷◌, ◌++◌, append_assoc, refl, sym, ap, ◌∙◌, arith, Option, Some, None, IfSome}
+use Rattle.std.proofs.Common.{◌≡◌, ℕ, ◌+◌, ◌<◌, ◌≤◌, ◌⊎◌, inl, inr, Bool, true, false, not, ◌&&◌, ◌||◌, List, ◌∷◌, ◌++◌, append_assoc, refl, sym, ap, ◌∙◌}
+use Rattle.std.proofs.Common.{arith, Option, Some, None, IfSome}
 use Rattle.std.proofs.lemmas.Bool.Decides.{nat_tests}
 use Rattle.region.specs.declared.runs.Run.{Run}
 use Rattle.region.specs.Cells.{IsFrom}
@@ -33,7 +34,8 @@ behind_lasting r t q h a b = by_cases a (before_cases t q b)
     by_cases (inr a) (inl b) = let ended = row_before r r (t.x, t.y) (omega (arith, a.0)) in cc
     by_cases (inr a) (inr b) = let ended = end_before r (t.x, t.y) (a.0 ∙ b.0) (omega (arith, a.1, b.1)) in cc
 
-pub later_none : (r : Run) (rs : List Run) (t : Run) (q : ℕ × ℕ) → IsMaximalRuns (r ∷ rs) → is_after (t.x, t.y) r ≡ false → (in_runs rs q && is_before q t) ≡ false
+pub later_none : (r : Run) (rs : List Run) (t : Run) (q : ℕ × ℕ) → IsMaximalRuns (r ∷ rs) → is_after (t.x, t.y) r ≡ false
+    → (in_runs rs q && is_before q t) ≡ false
 later_none r rs t q h k = by_tests (in_runs rs q) (is_before q t) refl refl
   where
     by_tests : (a b : Bool) → in_runs rs q ≡ a → is_before q t ≡ b → (a && b) ≡ false
@@ -51,7 +53,8 @@ pub first_only : (r : Run) (rs : List Run) (t : Run) (q : ℕ × ℕ) → IsMaxi
     → (in_run r q && is_before q t) ≡ (in_runs (r ∷ rs) q && is_before q t)
 first_only r rs t q h k = first_tests (in_run r q) (in_runs rs q) (is_before q t) (later_none r rs t q h k)
 
-pub within_order_of : (out : List Run) (o : Option Run) (r : Run) → IfSome o (λ p. LiesWithin p r) → HaveEnded (r.x, r.y) out → IfSome o (λ p. HaveEnded (p.x, p.y) out)
+pub within_order_of : (out : List Run) (o : Option Run) (r : Run) → IfSome o (λ p. LiesWithin p r) → HaveEnded (r.x, r.y) out
+    → IfSome o (λ p. HaveEnded (p.x, p.y) out)
 within_order_of out None r i h = tt
 within_order_of out (Some p) r i h = HaveEnded-later out (r.x, r.y) (p.x, p.y) h (inr (sym i.row, i.start))
 
@@ -109,7 +112,8 @@ module _ (runs prefix cut near rest : List Run) (t : Run) (end : ℕ) (run : IsR
   before_cells out new q e =
       let outside = sides t q run in
       rw (e, whole, in_runs-append prefix (cut ++ rest) q, in_runs-append cut rest q, outside, not_not (is_before q t || is_after q t))
-      (before_tests (in_runs out q) (in_runs prefix q) (in_runs cut q) (in_runs rest q) (is_before q t) (is_after q t) (rw outside at (prefix_apart q)) (cut_after q))
+      (before_tests (in_runs out q) (in_runs prefix q) (in_runs cut q) (in_runs rest q) (is_before q t) (is_after q t) (rw outside at (prefix_apart q))
+      (cut_after q))
 
   pub before_none : (out new : List Run) (q : ℕ × ℕ) → in_runs new q ≡ ((in_runs out q || in_runs prefix q) || (in_runs cut q && is_before q t))
       → IsFrom q (t.x, t.y) → in_runs new q ≡ in_runs out q

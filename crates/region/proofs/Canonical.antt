@@ -71,7 +71,8 @@ past_end r rs h e =
       | inr k ↦ elim (after r rs (r.x + r.len, r.y) h k) [ inl m ↦ omega arith | inr m ↦ omega (arith, m.1) ]
     ]
 
-not_longer : (r s : Run) (rs ss : List Run) → IsMaximalRuns (r ∷ rs) → r.y ≡ s.y → r.x ≡ s.x → ((q : ℕ × ℕ) → in_runs (r ∷ rs) q ≡ in_runs (s ∷ ss) q) → r.len < s.len → ⊥
+not_longer : (r s : Run) (rs ss : List Run) → IsMaximalRuns (r ∷ rs) → r.y ≡ s.y → r.x ≡ s.x → ((q : ℕ × ℕ) → in_runs (r ∷ rs) q ≡ in_runs (s ∷ ss) q)
+    → r.len < s.len → ⊥
 not_longer r s rs ss h e f same l =
     let inside : in_run s (r.x + r.len, s.y) ≡ true = in_run-has s (r.x + r.len) (omega arith) (omega arith) in
     let there : in_runs (s ∷ ss) (r.x + r.len, s.y) ≡ true = or_left (in_run s (r.x + r.len, s.y)) (in_runs ss (r.x + r.len, s.y)) inside in
@@ -91,7 +92,8 @@ apart r rs q h e = by_test (in_runs rs q) refl
     ]
     by_test false k = k
 
-rest_same : (r : Run) (rs ss : List Run) → IsMaximalRuns (r ∷ rs) → IsMaximalRuns (r ∷ ss) → ((q : ℕ × ℕ) → in_runs (r ∷ rs) q ≡ in_runs (r ∷ ss) q) → (q : ℕ × ℕ) → in_runs rs q ≡ in_runs ss q
+rest_same : (r : Run) (rs ss : List Run) → IsMaximalRuns (r ∷ rs) → IsMaximalRuns (r ∷ ss) → ((q : ℕ × ℕ) → in_runs (r ∷ rs) q ≡ in_runs (r ∷ ss) q)
+    → (q : ℕ × ℕ) → in_runs rs q ≡ in_runs ss q
 rest_same r rs ss h k same q = by_test (in_run r q) refl (same q)
   where
     by_test : (b : Bool) → in_run r q ≡ b → (in_run r q || in_runs rs q) ≡ (in_run r q || in_runs ss q) → in_runs rs q ≡ in_runs ss q
@@ -110,4 +112,5 @@ same_runs (r ∷ rs) (s ∷ ss) h k same =
     let start = start_same r s a b in
     let long = len_same r.len s.len (not_longer r s rs ss h row start same) (not_longer s r ss rs k (sym row) (sym start) (λ q. sym (same q))) in
     let first : r ≡ s = λ i. record { y = row i; x = start i; len = long i } in
-    λ i. first i ∷ same_runs rs ss h.2 k.2 (rest_same s rs ss (subst (λ (t : Run). IsMaximalRuns (t ∷ rs)) first h) k (λ q. subst (λ (t : Run). in_runs (t ∷ rs) q ≡ in_runs (s ∷ ss) q) first (same q))) i
+    λ i. first i ∷ same_runs rs ss h.2 k.2 (rest_same s rs ss (subst (λ (t : Run). IsMaximalRuns (t ∷ rs)) first h) k
+    (λ q. subst (λ (t : Run). in_runs (t ∷ rs) q ≡ in_runs (s ∷ ss) q) first (same q))) i

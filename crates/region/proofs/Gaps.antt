@@ -1,5 +1,6 @@
 -- What a run has apart from other runs.
-use Rattle.std.proofs.Common.{◌≡◌, ℕ, ◌+◌, ◌≤◌, inl, inr, Bool, true, false, not, ◌&&◌, ◌||◌, List, [], ◌∷◌, length, refl, sym, ap, ◌∙◌, arith, Option, Some, None, IfSome}
+use Rattle.std.proofs.Common.{◌≡◌, ℕ, ◌+◌, ◌≤◌, inl, inr, Bool, true, false, not, ◌&&◌, ◌||◌, List, [], ◌∷◌, length, refl, sym, ap, ◌∙◌, arith, Option, Some}
+use Rattle.std.proofs.Common.{None, IfSome}
 use Rattle.std.specs.Option.{option_to_list}
 use Rattle.region.specs.declared.runs.Run.{Run}
 use Rattle.region.specs.Cells.{IsFrom}
@@ -65,17 +66,20 @@ module _ (o : List Run) (new : List Run) (p : Option Run) (r t : Run) (ts : List
   -- or it has nothing there
   pub done_cells : (q : ℕ × ℕ) → false ≡ (in_run r q && is_after q t) → in_runs new q ≡ (in_runs o q || (in_run r q && not (in_runs (t ∷ ts) q)))
   done_cells q e =
-      rw (pushed q, before q, sides t q others.0) (done_tests (in_runs o q) (in_run r q) (is_before q t) (is_after q t) (in_runs ts q) (before_later t ts q others) (sym e))
+      rw (pushed q, before q, sides t q others.0) (done_tests (in_runs o q) (in_run r q) (is_before q t) (is_after q t) (in_runs ts q)
+      (before_later t ts q others) (sym e))
 
 -- t ends within the run that has s, which lies within it behind t
 pub ended_within : (t s r : Run) → LiesBehind s t → LiesWithin s r → is_after (r.x + r.len, r.y) t ≡ true
 ended_within t s r (inl h) i = row_before t t (r.x + r.len, r.y) (omega (arith, i.row))
 ended_within t s r (inr h) i = end_before t (r.x + r.len, r.y) (h.0 ∙ i.row) (omega (arith, h.1, i.end))
 
-pub gone_later : (t s r : Run) (ts : List Run) (b : Bool) (q : ℕ × ℕ) → LiesBehind s t → LiesWithin s r → IsFrom q (r.x + r.len, r.y) → in_runs (t ∷ ts) q ≡ b → in_runs ts q ≡ b
+pub gone_later : (t s r : Run) (ts : List Run) (b : Bool) (q : ℕ × ℕ) → LiesBehind s t → LiesWithin s r → IsFrom q (r.x + r.len, r.y) → in_runs (t ∷ ts) q ≡ b
+    → in_runs ts q ≡ b
 gone_later t s r ts b q h i f e = rw (ended_out t (r.x + r.len, r.y) q f (ended_within t s r h i)) at e
 
-pub left_order : (out new : List Run) (p : Option Run) (r s t : Run) → IsRun t → IfSome p (λ u. LiesWithin u r) → IfSome p (λ u. LiesBehind t u) → LiesWithin s r → LiesBehind s t
+pub left_order : (out new : List Run) (p : Option Run) (r s t : Run) → IsRun t → IfSome p (λ u. LiesWithin u r) → IfSome p (λ u. LiesBehind t u)
+    → LiesWithin s r → LiesBehind s t
     → HaveEnded (r.x, r.y) out → (HaveEnded (s.x, s.y) out → IfSome p (λ u. is_after (s.x, s.y) u ≡ true) → HaveEnded (s.x, s.y) new) → HaveEnded (s.x, s.y) new
 left_order out new p r s t i a b c d h k = k (HaveEnded-later out (r.x, r.y) (s.x, s.y) h (inr (sym c.row, c.start))) (ended p a b)
   where
@@ -101,8 +105,10 @@ module _ (out o1 runs rest cuts : List Run) (t : Run) (ts : List Run) (cuts-is :
       → (in_runs o1 q || (in_runs rest q && not (in_runs cuts q))) ≡ (in_runs out q || (in_runs runs q && not (in_runs cuts q)))
   prefix_cells q e f = rw cuts-is (by_test (in_runs ts q) refl)
     where
-      by_test : (b : Bool) → in_runs ts q ≡ b → (in_runs o1 q || (in_runs rest q && not (in_run t q || b))) ≡ (in_runs out q || (in_runs runs q && not (in_run t q || b)))
-      by_test true i = same_tests (in_runs o1 q) (in_runs out q) (in_runs rest q) (in_runs runs q) (in_run t q) (f (from_start q (after t ts q (rw cuts-is at cut_runs) i)))
+      by_test : (b : Bool) → in_runs ts q ≡ b → (in_runs o1 q || (in_runs rest q && not (in_run t q || b)))
+          ≡ (in_runs out q || (in_runs runs q && not (in_run t q || b)))
+      by_test true i = same_tests (in_runs o1 q) (in_runs out q) (in_runs rest q) (in_runs runs q) (in_run t q)
+          (f (from_start q (after t ts q (rw cuts-is at cut_runs) i)))
       by_test false i = split_tests (in_runs o1 q) (in_runs out q) (in_runs rest q) (in_runs runs q) (in_run t q) e
 
 -- and then what the first run that is left has apart from the cuts
@@ -111,7 +117,8 @@ module _ (o1 o2 left cuts rest : List Run) (r : Run) (others : List Run) (left-i
   from_end q (inl h) = inl h
   from_end q (inr h) = inr (h.0, omega (arith, h.1))
 
-  later_cells : (q : ℕ × ℕ) → (IsFrom q (r.x + r.len, r.y) → in_runs rest q ≡ in_runs cuts q) → (in_runs others q && not (in_runs rest q)) ≡ (in_runs others q && not (in_runs cuts q))
+  later_cells : (q : ℕ × ℕ) → (IsFrom q (r.x + r.len, r.y) → in_runs rest q ≡ in_runs cuts q)
+      → (in_runs others q && not (in_runs rest q)) ≡ (in_runs others q && not (in_runs cuts q))
   later_cells q f = by_test (in_runs others q) refl
     where
       by_test : (b : Bool) → in_runs others q ≡ b → (b && not (in_runs rest q)) ≡ (b && not (in_runs cuts q))
@@ -149,7 +156,8 @@ pub either_cells : (out o1 o2 first left second rest : List Run) (r t : Run) (rs
     → (in_runs o2 q || (in_runs rest q && not (in_run r q))) ≡ (in_runs o1 q || (in_runs second q && not (in_run r q)))
     → (in_runs o2 q || (in_runs left q || in_runs rest q)) ≡ (in_runs out q || (in_runs first q || in_runs second q))
 either_cells out o1 o2 first left second rest r t rs ts q e f h k =
-    rw (e, f) (either_tests (in_runs o1 q) (in_runs o2 q) (in_runs out q) (in_run r q) (in_runs rs q) (in_run t q) (in_runs ts q) (in_runs first q) (in_runs rest q)
+    rw (e, f) (either_tests (in_runs o1 q) (in_runs o2 q) (in_runs out q) (in_run r q) (in_runs rs q) (in_run t q) (in_runs ts q) (in_runs first q)
+    (in_runs rest q)
     (rw e at h) (rw f at k))
 
 last_tests : (n o y t ts : Bool) → (n || (false && not t)) ≡ (o || (y && not t)) → (n || (t || ts)) ≡ (o || (y || (t || ts)))

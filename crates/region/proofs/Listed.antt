@@ -1,5 +1,6 @@
 -- The list of runs that a set has.
-use Rattle.std.proofs.Common.{◌≡◌, ℕ, zero, suc, ◌+◌, ◌<◌, ◌≤◌, ◌⊎◌, inl, inr, Bool, true, false, ◌&&◌, nat_eq, List, [], ◌∷◌, ◌++◌, refl, sym, ap, subst, ◌∙◌, arith}
+use Rattle.std.proofs.Common.{◌≡◌, ℕ, zero, suc, ◌+◌, ◌<◌, ◌≤◌, ◌⊎◌, inl, inr, Bool, true, false, ◌&&◌, nat_eq, List, [], ◌∷◌, ◌++◌, refl, sym, ap, subst, ◌∙◌}
+use Rattle.std.proofs.Common.{arith}
 use Rattle.std.specs.FinSet as set
 use Rattle.std.specs.declared.cmp.Ordering.TheVariants.{Less}
 use Rattle.std.specs.Bool.{Decides}
@@ -43,8 +44,10 @@ before_from x y (q ∷ qs) (inr h) = comes_before (x, y) q (inr (h.0, omega (ari
 row_in_order : (y x n : ℕ) (qs : List (ℕ × ℕ)) → From y (x + n) qs → IsInRowOrder qs → IsInRowOrder (row_cells y x n ++ qs)
 row_in_order y x zero qs f h = h
 row_in_order y x (suc zero) qs f h = (before_from x y qs f, h)
-row_in_order y x (suc (suc n)) qs f h =
-    (comes_before (x, y) (suc x, y) (inr (refl, omega arith)), row_in_order y (suc x) (suc n) qs (later_column y (x + suc (suc n)) (suc x + suc n) qs (omega arith) f) h)
+row_in_order y x (suc (suc n)) qs f h = (
+  comes_before (x, y) (suc x, y) (inr (refl, omega arith)),
+  row_in_order y (suc x) (suc n) qs (later_column y (x + suc (suc n)) (suc x + suc n) qs (omega arith) f) h,
+)
 
 row_from : (y e v x n : ℕ) (qs : List (ℕ × ℕ)) → 1 ≤ n → (y < v) ⊎ ((y ≡ v) × (e ≤ x)) → From y e (row_cells v x n ++ qs)
 row_from y e v x zero qs l h = absurd (omega arith)

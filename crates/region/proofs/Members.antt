@@ -13,7 +13,8 @@ use Rattle.region.specs.Cells.{cell_cmp, row_cells, block_cells, cells_of, recta
 use Rattle.region.specs.Equality.{cell_cmp_total}
 use Rattle.region.specs.Runs.{in_run, in_runs}
 
-row_step : (q : ℕ × ℕ) (x y n : ℕ) → (eq_by_cmp cell_cmp q (x, y) || (nat_eq y q.1 && (nat_le (suc x) q.0 && nat_lt q.0 (suc x + n)))) ≡ (nat_eq y q.1 && (nat_le x q.0 && nat_lt q.0 (x + suc n)))
+row_step : (q : ℕ × ℕ) (x y n : ℕ) → (eq_by_cmp cell_cmp q (x, y) || (nat_eq y q.1 && (nat_le (suc x) q.0 && nat_lt q.0 (suc x + n))))
+    ≡ (nat_eq y q.1 && (nat_le x q.0 && nat_lt q.0 (x + suc n)))
 row_step q x y n = grind (arith, nat_tests)
 
 row_none : (q : ℕ × ℕ) (x y : ℕ) → false ≡ (nat_eq y q.1 && (nat_le x q.0 && nat_lt q.0 (x + 0)))

@@ -1,5 +1,6 @@
 -- Runs that are moved and cut.
-use Rattle.std.proofs.Common.{◌≡◌, ℕ, suc, ◌+◌, ◌-◌, ◌<◌, ◌≤◌, inl, inr, Bool, true, false, ◌&&◌, ◌||◌, nat_eq, nat_lt, List, [], ◌∷◌, ◌++◌, length, drop, get_or, drop-cons, Option, Some, None, IfSome, refl, sym, ap, subst, ◌∙◌, arith, ℤ, pos, negsuc, ◌+ℤ◌, ◌-ℤ◌, ◌≤ℤ◌, ◌<ℤ◌}
+use Rattle.std.proofs.Common.{◌≡◌, ℕ, suc, ◌+◌, ◌-◌, ◌<◌, ◌≤◌, inl, inr, Bool, true, false, ◌&&◌, ◌||◌, nat_eq, nat_lt, List, [], ◌∷◌, ◌++◌, length, drop}
+use Rattle.std.proofs.Common.{get_or, drop-cons, Option, Some, None, IfSome, refl, sym, ap, subst, ◌∙◌, arith, ℤ, pos, negsuc, ◌+ℤ◌, ◌-ℤ◌, ◌≤ℤ◌, ◌<ℤ◌}
 use Rattle.std.specs.Prelude.{nat_le}
 use Rattle.std.proofs.lemmas.Bool.Decides.{nat_tests}
 use Rattle.std.proofs.lemmas.Int.{ints, to_z-of_z}
@@ -129,7 +130,8 @@ module _ (dx dy : ℤ) (runs out new : List Run) (i : ℕ) (d : Run) (o : Option
   step_order None p f = rw (append_none out) order
   step_order (Some m) p f = rest_clear.0 m p f
 
-  step_clear : (o : Option Run) → IfSome o (λ m. LiesWithinMoved dx dy m (get_or runs i d)) → IfSome o IsRun → IsClear dx dy (out ++ option_to_list o) (drop (suc i) runs)
+  step_clear : (o : Option Run) → IfSome o (λ m. LiesWithinMoved dx dy m (get_or runs i d)) → IfSome o IsRun
+      → IsClear dx dy (out ++ option_to_list o) (drop (suc i) runs)
   step_clear None p f = rw (append_none out) rest_clear.1
   step_clear (Some m) p f = clear-push dx dy out (get_or runs i d) m (drop (suc i) runs) (rest_clear.0 m p f) p rest_runs.1 rest_runs.2
 

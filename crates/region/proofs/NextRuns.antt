@@ -1,5 +1,6 @@
 -- The next run of a row.
-use Rattle.std.proofs.Common.{◌≡◌, ℕ, ◌+◌, ◌-◌, ◌<◌, ◌≤◌, ◌⊎◌, inl, inr, max, min, Bool, true, false, ◌||◌, Option, Some, None, IfSome, IfNone, List, [], ◌∷◌, refl, ap, ◌∙◌, subst, arith}
+use Rattle.std.proofs.Common.{◌≡◌, ℕ, ◌+◌, ◌-◌, ◌<◌, ◌≤◌, ◌⊎◌, inl, inr, max, min, Bool, true, false, ◌||◌, Option, Some, None, IfSome, IfNone, List, [], ◌∷◌}
+use Rattle.std.proofs.Common.{refl, ap, ◌∙◌, subst, arith}
 use Rattle.std.proofs.lemmas.Bool.Decides.{nat_tests}
 use Rattle.region.specs.declared.runs.Run.{Run}
 use Rattle.region.specs.Runs.{HasNone, IsMaximalRuns, IsNextRun, in_run, in_runs}
@@ -63,7 +64,8 @@ module _ (runs prefix tail : List Run) (r : Run) (y from : ℕ) (maximal : IsMax
       let far = not_ended r x y from le split.lasts short.0 in
       none_at x le (left_out r x y short.0 (omega (arith, short.1)))
 
-  pub IsNextRun-cut : (end : ℕ) → r.y ≡ y → max r.x from < min (r.x + r.len) end → (run : Run) → run.y ≡ y → run.x ≡ max r.x from → run.len ≡ min (r.x + r.len) end - max r.x from
+  pub IsNextRun-cut : (end : ℕ) → r.y ≡ y → max r.x from < min (r.x + r.len) end → (run : Run) → run.y ≡ y → run.x ≡ max r.x from
+      → run.len ≡ min (r.x + r.len) end - max r.x from
       → IsNextRun (in_runs runs) y from end run
   IsNextRun-cut end row some run a b c = record {
     row = a;
@@ -74,7 +76,8 @@ module _ (runs prefix tail : List Run) (r : Run) (y from : ℕ) (maximal : IsMax
     cells = λ x le l. in_runs-at x (omega (arith, b)) ∙ ap (λ t. t || in_runs tail (x, y)) (inside r x y row (omega (arith, b)) (omega (arith, b, c)));
     whole = λ l.
         let at : run.x + run.len ≡ r.x + r.len = omega (arith, b, c) in
-        rw at (in_runs-at (r.x + r.len) (omega (arith, b, c)) ∙ ap (λ t. t || in_runs tail (r.x + r.len, y)) (end_out r (r.x + r.len) y (omega arith)) ∙ behind (in_runs tail (r.x + r.len, y)) refl row);
+        rw at (in_runs-at (r.x + r.len) (omega (arith, b, c)) ∙ ap (λ t. t || in_runs tail (r.x + r.len, y)) (end_out r (r.x + r.len) y (omega arith))
+        ∙ behind (in_runs tail (r.x + r.len, y)) refl row);
   }
 
 -- ---- tests that agree on each cell

@@ -1,5 +1,6 @@
 -- Runs with one more run at the end.
-use Rattle.std.proofs.Common.{◌≡◌, ℕ, zero, suc, length, get_or, ◌+◌, ◌<◌, ◌≤◌, max, ◌⊎◌, inl, inr, Bool, true, false, ◌||◌, List, [], ◌∷◌, ◌++◌, refl, sym, ap, ◌∙◌, arith}
+use Rattle.std.proofs.Common.{◌≡◌, ℕ, zero, suc, length, get_or, ◌+◌, ◌<◌, ◌≤◌, max, ◌⊎◌, inl, inr, Bool, true, false, ◌||◌, List, [], ◌∷◌, ◌++◌, refl, sym, ap}
+use Rattle.std.proofs.Common.{◌∙◌, arith}
 use Rattle.std.proofs.Math.Bool.{or-false}
 use Rattle.std.proofs.lemmas.Bool.Decides.{nat_tests}
 use Rattle.std.proofs.lemmas.List.Folds.{list_any-append}
@@ -43,7 +44,8 @@ or_assoc true b c = refl
 or_assoc false b c = refl
 
 -- two runs of a row that touch or overlap
-joined : (l r m : Run) (q : ℕ × ℕ) → l.y ≡ r.y → m.y ≡ l.y → m.x ≡ l.x → l.x ≤ r.x → r.x ≤ l.x + l.len → m.x + m.len ≡ max (l.x + l.len) (r.x + r.len) → in_run m q ≡ (in_run l q || in_run r q)
+joined : (l r m : Run) (q : ℕ × ℕ) → l.y ≡ r.y → m.y ≡ l.y → m.x ≡ l.x → l.x ≤ r.x → r.x ≤ l.x + l.len → m.x + m.len ≡ max (l.x + l.len) (r.x + r.len)
+    → in_run m q ≡ (in_run l q || in_run r q)
 joined l r m q a b c d e f = grind (arith, nat_tests)
 
 pub in_runs-join : (xs : List Run) (l r m : Run) (q : ℕ × ℕ) → l.y ≡ r.y → m.y ≡ l.y → m.x ≡ l.x → l.x ≤ r.x → r.x ≤ l.x + l.len
@@ -62,7 +64,8 @@ module _ (xs : List Run) (l r : Run) (runs : IsMaximalRuns (xs ++ l ∷ [])) (ru
   last_run = IsMaximalRuns-last xs l runs
 
   -- and they touch
-  module _ (m : Run) (row : m.y ≡ l.y) (start : m.x ≡ l.x) (end : m.x + m.len ≡ max (l.x + l.len) (r.x + r.len)) (touches : (l.y ≡ r.y) × (r.x ≤ l.x + l.len)) where
+  module _ (m : Run) (row : m.y ≡ l.y) (start : m.x ≡ l.x) (end : m.x + m.len ≡ max (l.x + l.len) (r.x + r.len))
+      (touches : (l.y ≡ r.y) × (r.x ≤ l.x + l.len)) where
     end_first : l.x + l.len ≤ r.x
     end_first = elim behind [ inl h ↦ absurd (omega (arith, touches.0)) | inr h ↦ h.1 ]
 

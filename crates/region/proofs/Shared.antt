@@ -1,5 +1,6 @@
 -- What runs share with another run.
-use Rattle.std.proofs.Common.{◌≡◌, ℕ, ◌+◌, ◌<◌, ◌≤◌, ◌⊎◌, inl, inr, Bool, true, false, not, ◌&&◌, ◌||◌, List, [], ◌∷◌, ◌++◌, refl, sym, ◌∙◌, arith, Option, Some, None, IfSome}
+use Rattle.std.proofs.Common.{◌≡◌, ℕ, ◌+◌, ◌<◌, ◌≤◌, ◌⊎◌, inl, inr, Bool, true, false, not, ◌&&◌, ◌||◌, List, [], ◌∷◌, ◌++◌, refl, sym, ◌∙◌, arith, Option}
+use Rattle.std.proofs.Common.{Some, None, IfSome}
 use Rattle.region.specs.declared.runs.Run.{Run}
 use Rattle.region.specs.Cells.{IsFrom}
 use Rattle.region.specs.Runs.{IsRun, IsMaximalRuns, EndsBefore, in_run, in_runs}
@@ -59,7 +60,8 @@ lasts_from r s t h e = by_cases (row_cases r.y t.y) e
     by_cases (inr a) e = in_row e (rows r.y t.y a)
 
 -- ---- the first run lasts to t, and all end by its end
-module _ (r : Run) (rs : List Run) (t : Run) (run : IsRun t) (runs : IsMaximalRuns (r ∷ rs)) (lasts : is_after (t.x, t.y) r ≡ false) (ended : HaveEnded (t.x + t.len, t.y) (r ∷ rs)) where
+module _ (r : Run) (rs : List Run) (t : Run) (run : IsRun t) (runs : IsMaximalRuns (r ∷ rs)) (lasts : is_after (t.x, t.y) r ≡ false)
+    (ended : HaveEnded (t.x + t.len, t.y) (r ∷ rs)) where
   within : (q : ℕ × ℕ) → in_runs rs q ≡ (in_runs rs q && in_run t q)
   within q = by_tests (in_runs rs q) (is_before q t) (is_after q t) refl refl refl
     where
@@ -75,12 +77,14 @@ module _ (r : Run) (rs : List Run) (t : Run) (run : IsRun t) (runs : IsMaximalRu
   all_tests : (o r rs t : Bool) → rs ≡ (rs && t) → ((o || (r && t)) || rs) ≡ (o || ((r || rs) && t))
   all_tests o r rs t h = grind arith
 
-  pub within_cells : (out o1 new : List Run) (p : Option Run) (q : ℕ × ℕ) → in_runs o1 q ≡ (in_runs out q || in_option p q) → in_runs new q ≡ (in_runs o1 q || in_runs rs q)
+  pub within_cells : (out o1 new : List Run) (p : Option Run) (q : ℕ × ℕ) → in_runs o1 q ≡ (in_runs out q || in_option p q)
+      → in_runs new q ≡ (in_runs o1 q || in_runs rs q)
       → in_option p q ≡ (in_run r q && in_run t q) → in_runs new q ≡ (in_runs out q || (in_runs (r ∷ rs) q && in_run t q))
   within_cells out o1 new p q e f g = rw (f, e, g) (all_tests (in_runs out q) (in_run r q) (in_runs rs q) (in_run t q) (within q))
 
   -- what is given of the first ends before the second
-  pub within_order : (out o1 : List Run) (p : Option Run) → IfSome p (λ u. LiesWithin u r) → ((q : ℕ × ℕ) → IsFrom q (t.x, t.y) → IsFrom q (r.x, r.y) → HaveEnded q out)
+  pub within_order : (out o1 : List Run) (p : Option Run) → IfSome p (λ u. LiesWithin u r)
+      → ((q : ℕ × ℕ) → IsFrom q (t.x, t.y) → IsFrom q (r.x, r.y) → HaveEnded q out)
       → ((q : ℕ × ℕ) → HaveEnded q out → IfSome p (λ u. is_after q u ≡ true) → HaveEnded q o1) → EndBeforeFirst o1 rs
   within_order out o1 p h f k = by_list rs runs
     where
@@ -126,7 +130,8 @@ module _ (out o1 runs prefix left others : List Run) (t : Run) (ts : List Run) (
       or-false : (b : Bool) → (b || false) ≡ b
       or-false b = grind arith
 
-      by_test : (b : Bool) → in_runs ts q ≡ b → (in_runs o1 q || (in_runs left q && (in_run t q || b))) ≡ (in_runs out q || (in_runs runs q && (in_run t q || b)))
+      by_test : (b : Bool) → in_runs ts q ≡ b → (in_runs o1 q || (in_runs left q && (in_run t q || b)))
+          ≡ (in_runs out q || (in_runs runs q && (in_run t q || b)))
       by_test true i =
           let behind = after t ts q (rw others-are at other_runs) i in
           rw (f (not_in q behind), in_runs-from q (t.x + t.len, t.y) runs prefix left split_is (behind_end q behind)) refl

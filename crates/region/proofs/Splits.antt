@@ -1,5 +1,6 @@
 -- Runs that are split at a cell.
-use Rattle.std.proofs.Common.{◌≡◌, ℕ, zero, suc, ◌+◌, ◌<◌, ◌≤◌, ◌⊎◌, inl, inr, true, false, ◌||◌, List, [], ◌∷◌, ◌++◌, length, get_or, take, drop, drop-cons, drop_of_length-le, append_assoc, refl, sym, ap, ◌∙◌, arith}
+use Rattle.std.proofs.Common.{◌≡◌, ℕ, zero, suc, ◌+◌, ◌<◌, ◌≤◌, ◌⊎◌, inl, inr, true, false, ◌||◌, List, [], ◌∷◌, ◌++◌, length, get_or, take, drop, drop-cons}
+use Rattle.std.proofs.Common.{drop_of_length-le, append_assoc, refl, sym, ap, ◌∙◌, arith}
 use Rattle.std.proofs.lemmas.Bool.{or_right}
 use Rattle.std.proofs.lemmas.List.{take-append-drop}
 use Rattle.std.proofs.Math.Seq.{take-append_seam, drop-append_seam}
@@ -28,7 +29,12 @@ lasts-drop q (r ∷ rs) (suc i) h = lasts-drop q rs i (next_splits q r rs i h)
 -- runs of which a prefix is split are split there too, if what stands behind that prefix does not end before the cell
 pub split_on : (q : ℕ × ℕ) (runs prefix rest : List Run) (w : ℕ) → AreSplitAt q (take w runs) prefix rest → LastsTo q (drop w runs)
     → AreSplitAt q runs (take (length prefix) runs) (drop (length prefix) runs)
-split_on q runs prefix rest w h k = rw (ap (take (length prefix)) split_is, ap (drop (length prefix)) split_is, take-append_seam prefix (rest ++ drop w runs), drop-append_seam prefix (rest ++ drop w runs))
+split_on q runs prefix rest w h k = rw (
+  ap (take (length prefix)) split_is,
+  ap (drop (length prefix)) split_is,
+  take-append_seam prefix (rest ++ drop w runs),
+  drop-append_seam prefix (rest ++ drop w runs),
+)
     (record { whole = split_is; ended = h.ended; lasts = lasts_on rest h.lasts })
   where
     split_is : runs ≡ prefix ++ (rest ++ drop w runs)

@@ -23,7 +23,8 @@ same_bounds (x ∷ xs) [] at h = absurd (omega (arith, h))
 same_bounds (x ∷ xs) (y ∷ ys) zero h = refl
 same_bounds (x ∷ xs) (y ∷ ys) (suc at) h = same_bounds xs ys at (omega (arith, h))
 
-texts_of : {C : Type 0} (f : C → Change) (d : DocumentParts) (es : List (Entry C)) (n : ℕ) → map (λ s. s.names.text) (steps_of (entry_change f) es n d) ≡ map (λ (y : Entry C). (entry_change f y).names.text) es
+texts_of : {C : Type 0} (f : C → Change) (d : DocumentParts) (es : List (Entry C)) (n : ℕ)
+    → map (λ s. s.names.text) (steps_of (entry_change f) es n d) ≡ map (λ (y : Entry C). (entry_change f y).names.text) es
 texts_of f d es n = map-steps (entry_change f) (λ s. s.names.text) (λ (y : Entry _). (entry_change f y).names.text) (λ y e. refl) es n d
 
 -- as many as there are entries

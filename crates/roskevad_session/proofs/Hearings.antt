@@ -1,5 +1,6 @@
 -- How the hearing of many lines goes on.
-use Rattle.std.proofs.Common.{◌≡◌, ℕ, ◌+◌, ◌-◌, ◌<◌, ◌≤◌, IsTrue, Bool, true, false, List, [], ◌∷◌, ◌++◌, length, take, drop, Option, Some, None, refl, sym, ap, subst, ◌∙◌, inl, inr, ◌⊎◌, append_assoc, arith}
+use Rattle.std.proofs.Common.{◌≡◌, ℕ, ◌+◌, ◌-◌, ◌<◌, ◌≤◌, IsTrue, Bool, true, false, List, [], ◌∷◌, ◌++◌, length, take, drop, Option, Some, None, refl, sym, ap}
+use Rattle.std.proofs.Common.{subst, ◌∙◌, inl, inr, ◌⊎◌, append_assoc, arith}
 use Rattle.std.specs.Prelude.{All, nat_le, is_some, option_to_list, if◌then◌else◌}
 use Rattle.std.proofs.lemmas.Bool.{false≢true, le-leb, lt-leb, leb-true, leb-false}
 use Rattle.std.proofs.lemmas.List.{append-nil, drop-drop, drop_all, drop_at, length-append, length-drop, take_all, take_at}
@@ -83,7 +84,8 @@ size_within-None : (values buffer : List ℕ) → None ≡ size_within values bu
 size_within-None values buffer e = leb-false (length values) (length buffer) (size_within-None_at (nat_le (length values) (length buffer)) (length values) e)
 
 -- ---- where no further line is heard
-pub none_heard : (stops : Bool) (bytes buffer : List ℕ) (start : SessionParts) (heard : Heard) (now : SessionParts) (after : List ℕ) → SoFar stops bytes buffer start heard now after
+pub none_heard : (stops : Bool) (bytes buffer : List ℕ) (start : SessionParts) (heard : Heard) (now : SessionParts) (after : List ℕ)
+    → SoFar stops bytes buffer start heard now after
     → bytes ≡ [] → (heard ≡ unheard) × (now ≡ start) × (after ≡ buffer)
 none_heard stops bytes buffer start heard now after (inl h) e = h
 none_heard stops bytes buffer start heard now after (inr h) e =
@@ -91,7 +93,8 @@ none_heard stops bytes buffer start heard now after (inr h) e =
     let none : [] ≡ h.before ++ rest = sym (ap lines_of e) ∙ h.cut in
     absurd (omega (arith, ap length none, length-append h.before rest))
 
-pub some_heard : (stops : Bool) (bytes buffer : List ℕ) (start : SessionParts) (heard : Heard) (now : SessionParts) (after : List ℕ) → SoFar stops bytes buffer start heard now after
+pub some_heard : (stops : Bool) (bytes buffer : List ℕ) (start : SessionParts) (heard : Heard) (now : SessionParts) (after : List ℕ)
+    → SoFar stops bytes buffer start heard now after
     → Ends stops bytes heard → 0 < length bytes → HearsUpTo stops bytes buffer start heard now after
 some_heard stops bytes buffer start heard now after (inr h) e lt = h
 some_heard stops bytes buffer start heard now after (inl h) (inl at) lt = let none = ap (λ (x : Heard). x.bytes) h.0 in absurd (omega (arith, at, none, lt))
@@ -102,7 +105,8 @@ some_heard stops bytes buffer start heard now after (inl h) (inr (inr r)) lt = a
 told-true : (b : Bool) (replies : List Reply) (reply : Option Reply) → b ≡ true → told b replies reply ≡ replies ++ option_to_list reply
 told-true b replies reply e = ap (λ (x : Bool). told x replies reply) e
 
-pub goes_on : (stops : Bool) (bytes buffer : List ℕ) (start : SessionParts) (heard : Heard) (now : SessionParts) (after : List ℕ) → SoFar stops bytes buffer start heard now after
+pub goes_on : (stops : Bool) (bytes buffer : List ℕ) (start : SessionParts) (heard : Heard) (now : SessionParts) (after : List ℕ)
+    → SoFar stops bytes buffer start heard now after
     → heard.has_room ≡ true → (IsTrue stops → heard.is_refused ≡ false) → GoesOn stops bytes buffer start heard now after
 goes_on stops bytes buffer start heard now after (inl h) room accepted = record {
   lines = [];
@@ -131,8 +135,10 @@ goes_on stops bytes buffer start heard now after (inr h) room accepted =
     }
 
 -- ---- behind a further line
-module _ (stops : Bool) (bytes buffer : List ℕ) (start : SessionParts) (heard : Heard) (now : SessionParts) (after : List ℕ) (g : GoesOn stops bytes buffer start heard now after)
-    (line : List ℕ) (taken : ℕ) (cut : lines_of (drop heard.bytes bytes) ≡ line ∷ lines_of (drop taken (drop heard.bytes bytes))) (within : heard.bytes + taken ≤ length bytes)
+module _ (stops : Bool) (bytes buffer : List ℕ) (start : SessionParts) (heard : Heard) (now : SessionParts) (after : List ℕ)
+    (g : GoesOn stops bytes buffer start heard now after)
+    (line : List ℕ) (taken : ℕ) (cut : lines_of (drop heard.bytes bytes) ≡ line ∷ lines_of (drop taken (drop heard.bytes bytes)))
+    (within : heard.bytes + taken ≤ length bytes)
     (new : SessionParts) (step : StepsTo line now new) (refused : Bool) (is_refused : refused ≡ is_refusal new.reply) where
   abbrev told_before : List ℕ
   told_before = output g.replies
@@ -142,10 +148,12 @@ module _ (stops : Bool) (bytes buffer : List ℕ) (start : SessionParts) (heard 
 
   -- what is left of the buffer
   left : drop heard.replies after ≡ drop (length told_before) buffer
-  left = ap (λ n. drop n after) g.size ∙ ap (λ (t : List ℕ). drop (length told_before) t) g.written ∙ drop_at told_before (drop (length told_before) buffer) (length told_before) refl
+  left = ap (λ n. drop n after) g.size ∙ ap (λ (t : List ℕ). drop (length told_before) t) g.written
+      ∙ drop_at told_before (drop (length told_before) buffer) (length told_before) refl
 
   front : take heard.replies after ≡ told_before
-  front = ap (λ n. take n after) g.size ∙ ap (λ (t : List ℕ). take (length told_before) t) g.written ∙ take_at told_before (drop (length told_before) buffer) (length told_before) refl
+  front = ap (λ n. take n after) g.size ∙ ap (λ (t : List ℕ). take (length told_before) t) g.written
+      ∙ take_at told_before (drop (length told_before) buffer) (length told_before) refl
 
   left_size : length (drop heard.replies after) ≡ length buffer - length told_before
   left_size = ap length left ∙ length-drop (length told_before) buffer
@@ -159,13 +167,15 @@ module _ (stops : Bool) (bytes buffer : List ℕ) (start : SessionParts) (heard 
   both_size : length (output (g.replies ++ option_to_list new.reply)) ≡ length told_before + length reply
   both_size = ap length both ∙ length-append told_before reply
 
-  pub heard_more : (put : Option ℕ) (end : List ℕ) → put ≡ size_within reply (drop heard.replies after) → end ≡ take heard.replies after ++ written reply (drop heard.replies after)
+  pub heard_more : (put : Option ℕ) (end : List ℕ) → put ≡ size_within reply (drop heard.replies after)
+      → end ≡ take heard.replies after ++ written reply (drop heard.replies after)
       → HearsUpTo stops bytes buffer start (with_line taken refused put heard) new end
   heard_more (Some n) end e is =
       let fits = size_within-Some reply (drop heard.replies after) n e in
       let room : length (output (g.replies ++ option_to_list new.reply)) ≤ length buffer = omega (arith, both_size, left_size, fits.0, g.fits) in
       let rest : drop (length reply) (drop heard.replies after) ≡ drop (length (told_before ++ reply)) buffer =
-      ap (λ (t : List ℕ). drop (length reply) t) left ∙ drop-drop (length reply) (length told_before) buffer ∙ ap (λ n. drop n buffer) (sym (length-append told_before reply)) in
+      ap (λ (t : List ℕ). drop (length reply) t) left ∙ drop-drop (length reply) (length told_before) buffer
+      ∙ ap (λ n. drop n buffer) (sym (length-append told_before reply)) in
       record {
         before = g.lines;
         line = line;
@@ -219,7 +229,8 @@ pub bytes-with_line : (bytes : ℕ) (refused : Bool) (put : Option ℕ) (heard :
 bytes-with_line bytes refused (Some n) heard = refl
 bytes-with_line bytes refused None heard = refl
 
-pub replies-with_line : (bytes : ℕ) (refused : Bool) (put : Option ℕ) (heard : Heard) (reply left : List ℕ) → put ≡ size_within reply left → (with_line bytes refused put heard).replies ≤ heard.replies + length left
+pub replies-with_line : (bytes : ℕ) (refused : Bool) (put : Option ℕ) (heard : Heard) (reply left : List ℕ) → put ≡ size_within reply left
+    → (with_line bytes refused put heard).replies ≤ heard.replies + length left
 replies-with_line bytes refused (Some n) heard reply left e = let fits = size_within-Some reply left n e in omega (arith, fits.0, fits.1)
 replies-with_line bytes refused None heard reply left e = omega arith
 

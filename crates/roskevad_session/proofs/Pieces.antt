@@ -16,6 +16,7 @@ pub three_pieces : (a b c rest buffer : List ℕ) → length (a ++ b ++ c) ≤ l
 three_pieces a b c rest buffer fits is =
     let size : length a + length b + length c ≡ length (a ++ b ++ c) = omega (arith, length-append (a ++ b) c, length-append a b) in
     let left : rest ≡ drop (length (a ++ b ++ c)) buffer =
-    is ∙ ap (λ (t : List ℕ). drop (length c) t) (drop-drop (length b) (length a) buffer) ∙ drop-drop (length c) (length a + length b) buffer ∙ ap (λ n. drop n buffer) size in
+    is ∙ ap (λ (t : List ℕ). drop (length c) t) (drop-drop (length b) (length a) buffer) ∙ drop-drop (length c) (length a + length b) buffer
+    ∙ ap (λ n. drop n buffer) size in
     ap (λ (t : List ℕ). a ++ (b ++ (c ++ t))) left ∙ sym (append_assoc a b (c ++ drop (length (a ++ b ++ c)) buffer))
     ∙ sym (append_assoc (a ++ b) c (drop (length (a ++ b ++ c)) buffer)) ∙ sym (written-fits (a ++ b ++ c) buffer fits)

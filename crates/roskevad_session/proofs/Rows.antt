@@ -13,7 +13,8 @@ use Rattle.roskevad_session.specs.Rectangles.{cells_in, lies_in, row_of, rows_of
 use Rattle.roskevad_session.specs.declared.rectangle.Rectangle.{Rectangle}
 
 -- the rows from one on are that row and those behind it
-pub rows_from : (f : ℕ → List ℕ) (row end : ℕ) → row < end → flat_map f (range_with_len row (end - row)) ≡ f row ++ flat_map f (range_with_len (row + 1) (end - (row + 1)))
+pub rows_from : (f : ℕ → List ℕ) (row end : ℕ) → row < end → flat_map f (range_with_len row (end - row)) ≡ f row
+    ++ flat_map f (range_with_len (row + 1) (end - (row + 1)))
 rows_from f row end h =
     let more : end - row ≡ suc (end - (row + 1)) = omega (arith, h) in
     rw more refl
@@ -45,22 +46,26 @@ lies_within r m e =
     (leb-true (r.x + r.width) m.width both.0, leb-true (r.y + r.height) m.height both.1)
 
 -- ---- how many cells they are
-pub length-row_of : (r : Rectangle) (columns rows : ℕ) (values : List ℕ) (row : ℕ) → r.x + r.width ≤ columns → row < rows → length values ≡ columns * rows → length (row_of columns r values row) ≡ r.width
+pub length-row_of : (r : Rectangle) (columns rows : ℕ) (values : List ℕ) (row : ℕ) → r.x + r.width ≤ columns → row < rows → length values ≡ columns * rows
+    → length (row_of columns r values row) ≡ r.width
 length-row_of r columns rows values row narrow low size =
     let end : row * columns + r.x + r.width ≤ length values = omega (arith, row_within row columns rows low, narrow, size) in
     omega (arith, length-range values (row * columns + r.x) (row * columns + r.x + r.width) end)
 
-length-rows_from : (f : ℕ → List ℕ) (width row count rows : ℕ) → row + count ≤ rows → ((k : ℕ) → k < rows → length (f k) ≡ width) → length (flat_map f (range_with_len row count)) ≡ count * width
+length-rows_from : (f : ℕ → List ℕ) (width row count rows : ℕ) → row + count ≤ rows → ((k : ℕ) → k < rows → length (f k) ≡ width)
+    → length (flat_map f (range_with_len row count)) ≡ count * width
 length-rows_from f width row zero rows fits h = omega arith
 length-rows_from f width row (suc count) rows fits h =
     let first = h row (omega (arith, fits)) in
     let rest = length-rows_from f width (row + 1) count rows (omega (arith, fits)) h in
     omega (arith, length-append (f row) (flat_map f (range_with_len (row + 1) count)), first, rest)
 
-pub length-rows_of : (r : Rectangle) (columns rows : ℕ) (values : List ℕ) → r.x + r.width ≤ columns → r.y + r.height ≤ rows → length values ≡ columns * rows → length (rows_of columns r values) ≡ r.height * r.width
+pub length-rows_of : (r : Rectangle) (columns rows : ℕ) (values : List ℕ) → r.x + r.width ≤ columns → r.y + r.height ≤ rows → length values ≡ columns * rows
+    → length (rows_of columns r values) ≡ r.height * r.width
 length-rows_of r columns rows values narrow low size =
     length-rows_from (row_of columns r values) r.width r.y r.height rows low (λ k h. length-row_of r columns rows values k narrow h size)
 
 -- ---- those in a tile layer
-pub cells_in-found : (layer : ℕ) (r : Rectangle) (m : MapParts) (values : List ℕ) → lies_in r m ≡ true → tiles_or_fault (layer_of m layer) ≡ Ok values → cells_in layer r m ≡ Some (rows_of m.width r values)
+pub cells_in-found : (layer : ℕ) (r : Rectangle) (m : MapParts) (values : List ℕ) → lies_in r m ≡ true → tiles_or_fault (layer_of m layer) ≡ Ok values
+    → cells_in layer r m ≡ Some (rows_of m.width r values)
 cells_in-found layer r m values lies found = rw (lies, found) refl

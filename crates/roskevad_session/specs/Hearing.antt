@@ -1,5 +1,6 @@
 -- Many lines in one call: which of them are done, and which replies then stand in a caller's buffer.
-use Rattle.std.specs.Prelude.{◌≡◌, ◌⊎◌, ℕ, ◌+◌, ◌<◌, ◌≤◌, nat_le, Bool, true, false, IsTrue, List, [], ◌∷◌, ◌++◌, All, drop, length, Option, None, Some, is_some, option_and_then, option_to_list}
+use Rattle.std.specs.Prelude.{◌≡◌, ◌⊎◌, ℕ, ◌+◌, ◌<◌, ◌≤◌, nat_le, Bool, true, false, IsTrue, List, [], ◌∷◌, ◌++◌, All, drop, length, Option, None, Some}
+use Rattle.std.specs.Prelude.{is_some, option_and_then, option_to_list}
 use Rattle.lines.specs.Lines.{lines_of}
 use Rattle.session.specs.Replies.{refusal_of}
 use Rattle.session.specs.declared.reply.Reply.{Reply}

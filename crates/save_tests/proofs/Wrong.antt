@@ -1,7 +1,9 @@
 -- Runs of calls that lose a map: the model tells them from a save.
-use Rattle.std.proofs.Common.{◌≡◌, ◌≢◌, inl, inr, ⊎_elim, ℕ, Bool, true, false, cond, ◌==◌, List, [], ◌∷◌, ◌++◌, length, Option, Some, None, option_map, refl, sym, ap, ◌∙◌, arith}
+use Rattle.std.proofs.Common.{◌≡◌, ◌≢◌, inl, inr, ⊎_elim, ℕ, Bool, true, false, cond, ◌==◌, List, [], ◌∷◌, ◌++◌, length, Option, Some, None, option_map, refl}
+use Rattle.std.proofs.Common.{sym, ap, ◌∙◌, arith}
 use Rattle.std.proofs.lemmas.Bool.{cond-true}
-use Rattle.atomic_save.specs.Crash.{Call, compared, removed, made, wrote, synced, renamed, folder_synced, Standing, first, file, nothing, Names, with_name, Found, Disk, held, Stand, MayStand, kept, IsDisk, MayBeFound}
+use Rattle.atomic_save.specs.Crash.{Call, compared, removed, made, wrote, synced, renamed, folder_synced, Standing, first, file, nothing, Names, with_name}
+use Rattle.atomic_save.specs.Crash.{Found, Disk, held, Stand, MayStand, kept, IsDisk, MayBeFound}
 use Rattle.atomic_save.specs.Saving.{LosesNothing, IsKept, Only}
 use Rattle.atomic_save.proofs.Calls.{with_same, with_other}
 
@@ -18,7 +20,8 @@ at_first : (start before : Found) → MayBeFound start [] before → (path : Lis
 at_first start before m path = m.each path ∙ ap (λ (f : Names). held start m.disk (f path)) m.stand
 
 -- what may be found where these names stand, and nothing is sure of any file
-torn_found : (start : Found) (bytes : List ℕ) (calls : List Call) (names : Names) → ((number : ℕ) → kept number calls ≡ None) → MayStand start (torn bytes) calls names
+torn_found : (start : Found) (bytes : List ℕ) (calls : List Call) (names : Names) → ((number : ℕ) → kept number calls ≡ None)
+    → MayStand start (torn bytes) calls names
     → MayBeFound start calls (λ path. held start (torn bytes) (names path))
 torn_found start bytes calls names unsure may = record {
   disk = torn bytes;
@@ -29,7 +32,8 @@ torn_found start bytes calls names unsure may = record {
 }
 
 -- under the path stands neither what stood there nor the new bytes
-loses_it : (beside path bytes : List ℕ) (calls : List Call) (start found : Found) → MayBeFound start calls found → (found path ≡ start path → ⊥) → (found path ≡ Some bytes → ⊥) → LosesNothing (Only beside) path bytes [] calls → ⊥
+loses_it : (beside path bytes : List ℕ) (calls : List Call) (start found : Found) → MayBeFound start calls found → (found path ≡ start path → ⊥)
+    → (found path ≡ Some bytes → ⊥) → LosesNothing (Only beside) path bytes [] calls → ⊥
 loses_it beside path bytes calls start found m not_old not_new loses =
     let r = loses.each [] calls refl (omega arith) start found m in
     ⊎_elim (λ (e : found path ≡ r.0 path). not_old (e ∙ at_first start r.0 r.1 path)) not_new r.2.whole
@@ -38,7 +42,8 @@ longer : (bytes : List ℕ) → Some (0 ∷ bytes) ≡ Some bytes → ⊥
 longer bytes e = let same : 0 ∷ bytes ≡ bytes = cc in omega (arith, ap length same)
 
 -- a torn file under the path, where there was none
-torn_there : (beside path bytes : List ℕ) (calls : List Call) (names : Names) → ((number : ℕ) → kept number calls ≡ None) → MayStand Empty (torn bytes) calls names → names path ≡ file 0 → LosesNothing (Only beside) path bytes [] calls → ⊥
+torn_there : (beside path bytes : List ℕ) (calls : List Call) (names : Names) → ((number : ℕ) → kept number calls ≡ None)
+    → MayStand Empty (torn bytes) calls names → names path ≡ file 0 → LosesNothing (Only beside) path bytes [] calls → ⊥
 torn_there beside path bytes calls names unsure may at =
     let found : Found = λ other. held Empty (torn bytes) (names other) in
     let is : found path ≡ Some (0 ∷ bytes) = ap (λ (s : Standing). held Empty (torn bytes) s) at in
@@ -55,7 +60,8 @@ either_none true = refl
 either_none false = refl
 
 -- each is what is sure of a file after the calls below, by whether the first call made it
-again_none : (bytes : List ℕ) (b : Bool) → cond b (cond b None (cond b (option_map (λ before. before ++ bytes) (cond b (Some []) None)) (cond b (Some []) None))) (cond b None (cond b None None)) ≡ None
+again_none : (bytes : List ℕ) (b : Bool) → cond b (cond b None
+    (cond b (option_map (λ before. before ++ bytes) (cond b (Some []) None)) (cond b (Some []) None))) (cond b None (cond b None None)) ≡ None
 again_none bytes true = refl
 again_none bytes false = refl
 
@@ -78,18 +84,23 @@ module _ (beside path bytes : List ℕ) (apart : beside ≢ path) where
   moved_names = with_name beside nothing (with_name path (made_names beside) made_names)
 
   moved_at : moved_names path ≡ file 0
-  moved_at = with_other beside nothing (with_name path (made_names beside) made_names) path (λ q. apart (sym q)) ∙ with_same path (made_names beside) made_names ∙ with_same beside (file 0) first
+  moved_at = with_other beside nothing (with_name path (made_names beside) made_names) path (λ q. apart (sym q)) ∙ with_same path (made_names beside) made_names
+      ∙ with_same beside (file 0) first
 
   pub renamed_too_soon : LosesNothing (Only beside) path bytes [] (renamed beside path true ∷ wrote bytes true ∷ made beside true ∷ []) → ⊥
-  renamed_too_soon = torn_there beside path bytes (renamed beside path true ∷ wrote bytes true ∷ made beside true ∷ []) moved_names (λ number. either_none (0 == number))
+  renamed_too_soon = torn_there beside path bytes (renamed beside path true ∷ wrote bytes true ∷ made beside true ∷ []) moved_names
+      (λ number. either_none (0 == number))
       (inl (made_names, (made_names, (first, refl, tt, inl refl), tt, inl refl), tt, inl refl)) moved_at
 
-  pub synced_again : LosesNothing (Only beside) path bytes [] (renamed beside path true ∷ synced true ∷ synced false ∷ wrote bytes true ∷ made beside true ∷ []) → ⊥
-  synced_again = torn_there beside path bytes (renamed beside path true ∷ synced true ∷ synced false ∷ wrote bytes true ∷ made beside true ∷ []) moved_names (λ number. again_none bytes (0 == number))
+  pub synced_again : LosesNothing (Only beside) path bytes [] (renamed beside path true ∷ synced true ∷ synced false ∷ wrote bytes true ∷ made beside true ∷ [])
+      → ⊥
+  synced_again = torn_there beside path bytes (renamed beside path true ∷ synced true ∷ synced false ∷ wrote bytes true ∷ made beside true ∷ []) moved_names
+      (λ number. again_none bytes (0 == number))
       (inl (made_names, (made_names, (made_names, (made_names, (first, refl, tt, inl refl), tt, inl refl), tt, inl refl), tt, inl refl), tt, inl refl)) moved_at
 
   pub written_in_place : LosesNothing (Only beside) path bytes [] (made path true ∷ []) → ⊥
-  written_in_place = torn_there beside path bytes (made path true ∷ []) (with_name path (file 0) first) (λ number. refl) (inl (first, refl, tt, inl refl)) (with_same path (file 0) first)
+  written_in_place = torn_there beside path bytes (made path true ∷ []) (with_name path (file 0) first) (λ number. refl) (inl (first, refl, tt, inl refl))
+      (with_same path (file 0) first)
 
   pub removed_first : LosesNothing (Only beside) path bytes [] (removed path true ∷ []) → ⊥
   removed_first =
@@ -97,7 +108,8 @@ module _ (beside path bytes : List ℕ) (apart : beside ≢ path) where
       let names : Names = with_name path nothing first in
       let found : Found = λ other. held start (torn bytes) (names other) in
       let is : found path ≡ None = ap (λ (s : Standing). held start (torn bytes) s) (with_same path nothing first) in
-      loses_it beside path bytes (removed path true ∷ []) start found (torn_found start bytes (removed path true ∷ []) names (λ number. refl) (inl (first, refl, tt, inl refl)))
+      loses_it beside path bytes (removed path true ∷ []) start found
+      (torn_found start bytes (removed path true ∷ []) names (λ number. refl) (inl (first, refl, tt, inl refl)))
       (λ e. let no : None ≡ Some [] = sym is ∙ e in absurd (cc))
       (λ e. let no : None ≡ Some bytes = sym is ∙ e in absurd (cc))
 
@@ -107,8 +119,10 @@ gone path bytes calls disk is may keeps =
     let m : MayBeFound Empty calls Empty = record { disk = disk; names = first; sure = is; stand = may; each = λ other. refl } in
     let no : None ≡ Some bytes = keeps Empty Empty m in absurd (cc)
 
-pub not_kept_by_a_rename : (beside path bytes : List ℕ) → IsKept path bytes (renamed beside path true ∷ synced true ∷ wrote bytes true ∷ made beside true ∷ []) → ⊥
-not_kept_by_a_rename beside path bytes = gone path bytes (renamed beside path true ∷ synced true ∷ wrote bytes true ∷ made beside true ∷ []) (λ number. bytes) (λ number sure e. sure_is bytes (0 == number) sure e)
+pub not_kept_by_a_rename : (beside path bytes : List ℕ) → IsKept path bytes (renamed beside path true ∷ synced true ∷ wrote bytes true ∷ made beside true ∷ [])
+    → ⊥
+not_kept_by_a_rename beside path bytes = gone path bytes (renamed beside path true ∷ synced true ∷ wrote bytes true ∷ made beside true ∷ []) (λ number. bytes)
+    (λ number sure e. sure_is bytes (0 == number) sure e)
     (inr (refl, inr (refl, inr (refl, inr (refl, refl)))))
 
 pub not_synced : (path bytes : List ℕ) → IsKept path bytes (folder_synced true ∷ compared path bytes true ∷ []) → ⊥
@@ -116,5 +130,6 @@ not_synced path bytes = gone path bytes (folder_synced true ∷ compared path by
     (inl (first, (first, refl, tt, inl refl), tt, inl refl))
 
 pub failed_before : (path bytes : List ℕ) → IsKept path bytes (folder_synced true ∷ synced true ∷ compared path bytes true ∷ synced false ∷ []) → ⊥
-failed_before path bytes = gone path bytes (folder_synced true ∷ synced true ∷ compared path bytes true ∷ synced false ∷ []) (torn bytes) (λ number sure e. let both : None ≡ Some sure = sym (refused_none (1 == number) (0 == number)) ∙ e in absurd (cc))
+failed_before path bytes = gone path bytes (folder_synced true ∷ synced true ∷ compared path bytes true ∷ synced false ∷ []) (torn bytes)
+    (λ number sure e. let both : None ≡ Some sure = sym (refused_none (1 == number) (0 == number)) ∙ e in absurd (cc))
     (inl (first, (first, (first, (first, refl, tt, inr (refl, refl)), tt, inl refl), (λ no. absurd (cc)), inl refl), tt, inl refl))

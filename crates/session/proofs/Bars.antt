@@ -1,5 +1,6 @@
 -- A text is cut at its first bars, and at no others.
-use Rattle.std.proofs.Common.{◌≡◌, ℕ, ◌≤◌, List, [], ◌∷◌, ◌++◌, length, take, drop, Option, None, Some, Bor, refl, sym, ap, ◌∙◌, subst, append_assoc, length-append, slice_index, inl, inr, arith}
+use Rattle.std.proofs.Common.{◌≡◌, ℕ, ◌≤◌, List, [], ◌∷◌, ◌++◌, length, take, drop, Option, None, Some, Bor, refl, sym, ap, ◌∙◌, subst, append_assoc}
+use Rattle.std.proofs.Common.{length-append, slice_index, inl, inr, arith}
 use Rattle.std.specs.Prelude.{codes}
 use Rattle.std.specs.Str.{bytes_eq}
 use Rattle.std.specs.Str.Pattern.{FindsText, SplitsAroundMatch}
@@ -61,12 +62,14 @@ no_bars_tail b text (Some action) h = (λ prefix back e. h.0 (b ∷ prefix) back
 
 -- the first byte of a text without bars does not begin bars
 not_in_text : (b : ℕ) (text : List ℕ) → IsNotIn bars (b ∷ text) → take (length bars) (b ∷ text) ≡ bars → ⊥
-not_in_text b text h e = h [] (drop (length bars) (b ∷ text)) (sym (take-append-drop (length bars) (b ∷ text)) ∙ ap (λ prefix. prefix ++ drop (length bars) (b ∷ text)) e)
+not_in_text b text h e = h [] (drop (length bars) (b ∷ text))
+    (sym (take-append-drop (length bars) (b ∷ text)) ∙ ap (λ prefix. prefix ++ drop (length bars) (b ∷ text)) e)
 
 no_space_is_bar : ◌≡◌ {A = ℕ} 32 124 → ⊥
 no_space_is_bar h = absurd (omega (arith, h))
 
-not_before_action : (b : ℕ) (text action : List ℕ) → IsNotIn bars (b ∷ text) → IsNotEndOf (codes " ||") (b ∷ text) → take (length bars) (b ∷ (text ++ (bars ++ action))) ≡ bars → ⊥
+not_before_action : (b : ℕ) (text action : List ℕ) → IsNotIn bars (b ∷ text) → IsNotEndOf (codes " ||") (b ∷ text)
+    → take (length bars) (b ∷ (text ++ (bars ++ action))) ≡ bars → ⊥
 not_before_action b [] action h end e = no_space_is_bar (ap (λ (bs : List ℕ). slice_index bs 1) e)
 not_before_action b (c ∷ []) action h end e = no_space_is_bar (ap (λ (bs : List ℕ). slice_index bs 2) e)
 not_before_action b (c ∷ d ∷ []) action h end e = end [] (ap (take 3) e)
@@ -89,7 +92,8 @@ cut_at_bars-joined (b ∷ text) action h =
     (λ _. ap (λ (x : List ℕ × Option (List ℕ)). (b ∷ x.0, x.1)) (cut_at_bars-joined text action (no_bars_tail b text action h)))
 
 -- where std finds the first bars
-pub cut_at_bars_found : (bytes : List ℕ) (prefix behind : Bor (List ℕ)) → SplitsAroundMatch (FindsText bars) bytes prefix.now behind.now → cut_at_bars bytes ≡ (prefix.now, Some behind.now)
+pub cut_at_bars_found : (bytes : List ℕ) (prefix behind : Bor (List ℕ)) → SplitsAroundMatch (FindsText bars) bytes prefix.now behind.now
+    → cut_at_bars bytes ≡ (prefix.now, Some behind.now)
 cut_at_bars_found bytes prefix behind h =
     let whole : joined_by_bars prefix.now (Some behind.now) ≡ bytes =
     (λ i. h.3 i ++ (bars ++ h.4 i)) ∙ ap (λ rest. take h.0 bytes ++ rest) (sym h.2.1.split) ∙ take-append-drop h.0 bytes in
@@ -107,4 +111,5 @@ cut_at_bars_found bytes prefix behind h =
     ]
 
 pub cut_at_bars_none : (bytes : List ℕ) → FindsText bars bytes None → cut_at_bars bytes ≡ (bytes, None)
-cut_at_bars_none bytes h = cut_at_bars-joined bytes None (λ prefix back e. h (length prefix) (omega (arith, ap length e, length-append prefix (bars ++ back))) back (ap (drop (length prefix)) e ∙ drop_at prefix (bars ++ back) (length prefix) refl))
+cut_at_bars_none bytes h = cut_at_bars-joined bytes None (λ prefix back e. h (length prefix) (omega (arith, ap length e, length-append prefix (bars ++ back)))
+    back (ap (drop (length prefix)) e ∙ drop_at prefix (bars ++ back) (length prefix) refl))

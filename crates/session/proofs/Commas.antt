@@ -14,7 +14,8 @@ use Rattle.session.proofs.Coordinates.{and_then_from, map_from}
 use Rattle.session.proofs.SpacedWords.{IsPlain, Plain, number_bytes, plain_number}
 
 no_comma : (n : ℕ) → n < 2 ^ 32 → All (λ b. eqb b 44 ≡ false) (decimal n)
-no_comma n h = λ k d l. let at = All-from_recursion (λ b. (44 < b) × (b < 128)) (decimal n) (number_bytes n h) k d l in ne_eqb (get_or (decimal n) k d) 44 (λ e. omega (arith, at.0, e))
+no_comma n h = λ k d l. let at = All-from_recursion (λ b. (44 < b) × (b < 128)) (decimal n) (number_bytes n h) k d l in
+    ne_eqb (get_or (decimal n) k d) 44 (λ e. omega (arith, at.0, e))
 
 -- the pieces between the commas
 pieces : (n : ℕ) (ns : List ℕ) → AllByRecursion IsNumber (n ∷ ns) → slice_split (λ b. eqb b 44) (commas (n ∷ ns)) ≡ map decimal (n ∷ ns)
@@ -40,7 +41,8 @@ decimals_from (w ∷ ws) ns e =
     let rest = map_from (λ ms. first.0 ∷ ms) (all_numbers ws) ns first.2 in
     let one = decimal_from w first.0 first.1 in
     let more = decimals_from ws rest.0 rest.1 in
-    subst (λ ms. (map decimal ms ≡ w ∷ ws) × AllByRecursion IsNumber ms) rest.2 (ap (λ v. v ∷ map decimal rest.0) one.0 ∙ ap (λ vs. w ∷ vs) more.0, (one.1, more.1))
+    subst (λ ms. (map decimal ms ≡ w ∷ ws) × AllByRecursion IsNumber ms) rest.2
+    (ap (λ v. v ∷ map decimal rest.0) one.0 ∙ ap (λ vs. w ∷ vs) more.0, (one.1, more.1))
 
 -- a word that is read as numbers is those numbers with commas between them
 pub record ReadAs (word ns : List ℕ) : Type 0 where

@@ -1,5 +1,6 @@
 -- A coordinate's signed decimal is the one word that is read as it.
-use Rattle.std.proofs.Common.{◌≡◌, ◌≢◌, ℕ, zero, suc, ◌≤◌, Bool, true, false, cond, eqb, leb, List, [], ◌∷◌, get_or, Option, Some, None, ℤ, pos, negsuc, refl, sym, ap, ◌∙◌, subst, arith}
+use Rattle.std.proofs.Common.{◌≡◌, ◌≢◌, ℕ, zero, suc, ◌≤◌, Bool, true, false, cond, eqb, leb, List, [], ◌∷◌, get_or, Option, Some, None, ℤ, pos, negsuc, refl}
+use Rattle.std.proofs.Common.{sym, ap, ◌∙◌, subst, arith}
 use Rattle.std.specs.Prelude.{option_and_then}
 use Rattle.std.specs.Option.{option_map}
 use Rattle.std.specs.Fmt.{decimal, signed_decimal}
@@ -41,7 +42,8 @@ distance_from word n e =
 
 no_minus : (n : ℕ) → n ≤ MAX_COORDINATE → (rest : List ℕ) → decimal n ≢ 45 ∷ rest
 no_minus n h rest e =
-    not_in_digits decimal_numerals (decimal n) 45 (digits_decimal decimal_numerals n (omega arith)) (λ r. omega (arith, r.0)) 0 (decimal_nonempty n (omega arith)) (ap (λ ds. get_or ds 0 0) e)
+    not_in_digits decimal_numerals (decimal n) 45 (digits_decimal decimal_numerals n (omega arith)) (λ r. omega (arith, r.0)) 0
+    (decimal_nonempty n (omega arith)) (ap (λ ds. get_or ds 0 0) e)
 
 pub coordinate_of-signed : (z : ℤ) → IsCoordinate z → coordinate_of (signed_decimal z) ≡ Some z
 coordinate_of-signed (pos n) h =
@@ -57,7 +59,8 @@ below_from (suc n) z e h =
     let same : negsuc n ≡ z = cc in
     (ap signed_decimal (sym same), subst IsCoordinate same (record { low = omega (arith, ints); high = omega (arith, ints) }))
 
-by_sign : (b : ℕ) (word : List ℕ) (z : ℤ) (t : Bool) → eqb b 45 ≡ t → cond t (option_and_then below_zero (distance_of word)) (option_map pos (distance_of (b ∷ word))) ≡ Some z → (signed_decimal z ≡ b ∷ word) × IsCoordinate z
+by_sign : (b : ℕ) (word : List ℕ) (z : ℤ) (t : Bool) → eqb b 45 ≡ t
+    → cond t (option_and_then below_zero (distance_of word)) (option_map pos (distance_of (b ∷ word))) ≡ Some z → (signed_decimal z ≡ b ∷ word) × IsCoordinate z
 by_sign b word z true is e =
     let inner = and_then_from below_zero (distance_of word) z e in
     let far = distance_from word inner.0 inner.1 in

@@ -1,5 +1,6 @@
 -- A number's decimal is the one word that is read as it.
-use Rattle.std.proofs.Common.{◌≡◌, ℕ, zero, suc, ◌^◌, ◌<◌, Bool, true, false, cond, eqb, ltb, not, ◌&&◌, ◌||◌, List, length, get_or, Some, None, refl, sym, ap, ◌∙◌, arith, inl, inr}
+use Rattle.std.proofs.Common.{◌≡◌, ℕ, zero, suc, ◌^◌, ◌<◌, Bool, true, false, cond, eqb, ltb, not, ◌&&◌, ◌||◌, List, length, get_or, Some, None, refl, sym, ap}
+use Rattle.std.proofs.Common.{◌∙◌, arith, inl, inr}
 use Rattle.std.specs.Fmt.{decimal}
 use Rattle.std.specs.Str.Parse.{digits_value}
 use Rattle.std.proofs.lemmas.Fmt.{decimal_digit, decimal_nonempty, first_decimal, digits_decimal, digits_value-decimal, decimal-digits_value}
@@ -22,7 +23,13 @@ prefix_decimal n h = rw (lt-ltb 0 (length (decimal n)) (decimal_nonempty n (omeg
 
 pub number_of-decimal : (n : ℕ) → n < 2 ^ 32 → number_of (decimal n) ≡ Some n
 unfolding number_of
-number_of-decimal n h = rw (prefix_decimal n h, digits_decimal decimal_numerals n (omega arith), digits_value-decimal decimal_numerals n (omega arith), lt-ltb n (2 ^ 32) h) refl
+number_of-decimal n h = rw (
+  prefix_decimal n h,
+  digits_decimal decimal_numerals n (omega arith),
+  digits_value-decimal decimal_numerals n (omega arith),
+  lt-ltb n
+      (2 ^ 32) h,
+) refl
 
 single : (word : List ℕ) → (eqb (length word) 1 || not (eqb (get_or word 0 0) 48)) ≡ true → get_or word 0 0 ≡ 48 → length word ≡ 1
 single word h e = elim (or_cases _ _ h) [
@@ -30,13 +37,16 @@ single word h e = elim (or_cases _ _ h) [
   | inr other ↦ absurd (both_ways _ (not-true _ other) (eq-eqb _ _ e))
 ]
 
-from_tests : (word : List ℕ) (n : ℕ) (a b : Bool) → is_numeral_prefix word ≡ a → (list_all is_ascii_digit word && ltb (digits_value 10 word) (2 ^ 32)) ≡ b → cond a (cond b (Some (digits_value 10 word)) None) None ≡ Some n → (decimal n ≡ word) × (n < 2 ^ 32)
+from_tests : (word : List ℕ) (n : ℕ) (a b : Bool) → is_numeral_prefix word ≡ a → (list_all is_ascii_digit word && ltb (digits_value 10 word) (2 ^ 32)) ≡ b
+    → cond a (cond b (Some (digits_value 10 word)) None) None ≡ Some n → (decimal n ≡ word) × (n < 2 ^ 32)
 from_tests word n true true is digits e =
     let value : digits_value 10 word ≡ n = cc in
     let prefix = and_parts _ _ is in
     let tests = and_parts _ _ digits in
-    let below = ltb-true _ _ tests.1 in
-    (ap decimal (sym value) ∙ decimal-digits_value decimal_numerals word tests.0 (ltb-true _ _ prefix.0) (single word prefix.1) (omega (arith, below)), omega (arith, below, value))
+    let below = ltb-true _ _ tests.1 in (
+      ap decimal (sym value) ∙ decimal-digits_value decimal_numerals word tests.0 (ltb-true _ _ prefix.0) (single word prefix.1) (omega (arith, below)),
+      omega (arith, below, value),
+    )
 from_tests word n true false is digits e = absurd cc
 from_tests word n false b is digits e = absurd cc
 

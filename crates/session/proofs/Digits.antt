@@ -20,7 +20,8 @@ decimal_numerals = numerals_by_value _ digits_test
 digit_is : (c : ℕ) → is_ascii_digit c ≡ true → digit_value c ≡ c - 48
 digit_is c h = grind (arith, nat_tests)
 
-pub digits_step : (bs : List ℕ) (i n : ℕ) → i < length bs → is_ascii_digit (get_or bs i 0) ≡ true → n ≡ digits_value 10 (take i bs) → n * 10 + (get_or bs i 0 - 48) ≡ digits_value 10 (take (i + 1) bs)
+pub digits_step : (bs : List ℕ) (i n : ℕ) → i < length bs → is_ascii_digit (get_or bs i 0) ≡ true → n ≡ digits_value 10 (take i bs)
+    → n * 10 + (get_or bs i 0 - 48) ≡ digits_value 10 (take (i + 1) bs)
 digits_step bs i n l h e = omega (arith, digits_value_more 10 bs i l, digit_is (get_or bs i 0) h, e)
 
 and_none : (a : Bool) (n : ℕ) → None ≡ cond (a && false) (Some n) None

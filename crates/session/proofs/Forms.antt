@@ -8,7 +8,8 @@ use Rattle.std.proofs.lemmas.Bool.{cond_both}
 use Rattle.std.proofs.lemmas.Slice.Eq.{bytes_eq-Decides}
 use Rattle.session.specs.declared.line.Line.{Line}
 use Rattle.session.specs.declared.line.LineFault.{LineFault}
-use Rattle.session.specs.Grammar.{FieldKind, Number, Coordinate, Block, Name, File, Choice, LayerSort, YesNo, Truth, Key, Color, OwnerName, FieldValue, LineForm, Ends, Text, Texts, Field, Word, Fails, choose, read, field_at, ends_at, last_text_at, last_texts_at, ◌>>=◌}
+use Rattle.session.specs.Grammar.{FieldKind, Number, Coordinate, Block, Name, File, Choice, LayerSort, YesNo, Truth, Key, Color, OwnerName, FieldValue}
+use Rattle.session.specs.Grammar.{LineForm, Ends, Text, Texts, Field, Word, Fails, choose, read, field_at, ends_at, last_text_at, last_texts_at, ◌>>=◌}
 use Rattle.session.specs.Spelling.{Token, Fixed, Given, Rest, RestTexts, tokens, token_words, field_words, IsToken}
 use Rattle.session.proofs.Coordinates.{and_then_from}
 use Rattle.session.proofs.SpelledFields.{field_at-words, last_text_at-words, last_texts_at-words}
@@ -55,11 +56,13 @@ given OwnerName (Given OwnerName owner) v e = ap (Given OwnerName) cc
 given kind token v e = absurd cc
 
 -- the words of tokens that a form follows are read by it
-pub followed_is_read : (form : LineForm) (ts : List Token) (line : Line) → follow form ts ≡ Some line → AllByRecursion IsToken ts → read form (flat_map token_words ts) ≡ Ok line
+pub followed_is_read : (form : LineForm) (ts : List Token) (line : Line) → follow form ts ≡ Some line → AllByRecursion IsToken ts
+    → read form (flat_map token_words ts) ≡ Ok line
 unfolding ends_at
 followed_is_read (Ends l) [] line e h = ap Ok cc
 followed_is_read (Text l) (Rest text ∷ []) line e h = ap (λ r. r >>= λ t. Ok (l t)) (ap last_text_at (append-nil _) ∙ last_text_at-words text h.0) ∙ ap Ok cc
-followed_is_read (Texts l) (RestTexts text action ∷ []) line e h = ap (λ r. r >>= λ t. Ok (l t.0 t.1)) (ap last_texts_at (append-nil _) ∙ last_texts_at-words text action h.0) ∙ ap Ok cc
+followed_is_read (Texts l) (RestTexts text action ∷ []) line e h =
+    ap (λ r. r >>= λ t. Ok (l t.0 t.1)) (ap last_texts_at (append-nil _) ∙ last_texts_at-words text action h.0) ∙ ap Ok cc
 followed_is_read (Field kind form) (token ∷ ts) line e h =
     let inner = and_then_from (λ value. follow (form value) ts) (value_of kind token) line e in
     let same = given kind token inner.0 inner.1 in
@@ -68,7 +71,8 @@ followed_is_read (Field kind form) (token ∷ ts) line e h =
     ∙ ap (λ r. r >>= λ x. read (form x.0) x.1) (field_at-words kind inner.0 (flat_map token_words ts) fits)
     ∙ followed_is_read (form inner.0) ts line inner.2 h.1
 followed_is_read (Word word form other) (Fixed w ∷ ts) line e h =
-    elim (bytes_eq w word) as (λ b. cond b (follow form ts) (follow other (Fixed w ∷ ts)) ≡ Some line → cond b (read form (flat_map token_words ts)) (read other (w ∷ flat_map token_words ts)) ≡ Ok line) [
+    elim (bytes_eq w word) as (λ b. cond b (follow form ts) (follow other (Fixed w ∷ ts)) ≡ Some line → cond b (read form (flat_map token_words ts))
+    (read other (w ∷ flat_map token_words ts)) ≡ Ok line) [
       | true ↦ λ e. followed_is_read form ts line e h.1
       | false ↦ λ e. followed_is_read other (Fixed w ∷ ts) line e h
     ] e
@@ -94,29 +98,43 @@ clean_rest : (us ws : List (List ℕ)) → AllByRecursion Clean (us ++ ws) → A
 clean_rest [] ws h = h
 clean_rest (u ∷ us) ws h = clean_rest us ws h.1
 
-pub read_is_spelled : (form : LineForm) (prefix : List Token → List Token) (ws : List (List ℕ)) → Agrees form prefix → AllByRecursion Clean ws → IfOk (read form ws) (Spells prefix ws)
-read_is_spelled (Ends line) prefix ws a h = if_bind (ends_at ws) _ (λ _. ws ≡ []) (Spells prefix ws) (end_is_read ws) (λ end e. record { ts = []; are = a; words = e; fit = tt })
-read_is_spelled (Text line) prefix ws a h = if_bind (last_text_at ws) _ (ReadText ws) (Spells prefix ws) (text_is_read ws h) (λ t s. record { ts = Rest t ∷ []; are = a t; words = s.words ∙ sym (append-nil _); fit = (s.fits, tt) })
-read_is_spelled (Texts line) prefix ws a h = if_bind (last_texts_at ws) _ (ReadTexts ws) (Spells prefix ws) (texts_are_read ws h) (λ t s. record { ts = RestTexts t.0 t.1 ∷ []; are = a t.0 t.1; words = s.words ∙ sym (append-nil _); fit = (s.fits, tt) })
+pub read_is_spelled : (form : LineForm) (prefix : List Token → List Token) (ws : List (List ℕ)) → Agrees form prefix → AllByRecursion Clean ws
+    → IfOk (read form ws) (Spells prefix ws)
+read_is_spelled (Ends line) prefix ws a h = if_bind (ends_at ws) _ (λ _. ws ≡ []) (Spells prefix ws) (end_is_read ws)
+    (λ end e. record { ts = []; are = a; words = e; fit = tt })
+read_is_spelled (Text line) prefix ws a h = if_bind (last_text_at ws) _ (ReadText ws) (Spells prefix ws) (text_is_read ws h)
+    (λ t s. record { ts = Rest t ∷ []; are = a t; words = s.words ∙ sym (append-nil _); fit = (s.fits, tt) })
+read_is_spelled (Texts line) prefix ws a h = if_bind (last_texts_at ws) _ (ReadTexts ws) (Spells prefix ws) (texts_are_read ws h)
+    (λ t s. record { ts = RestTexts t.0 t.1 ∷ []; are = a t.0 t.1; words = s.words ∙ sym (append-nil _); fit = (s.fits, tt) })
 read_is_spelled (Field kind form) prefix ws a h =
     if_bind (field_at kind ws) _ (ReadField kind ws) (Spells prefix ws) (field_is_read kind ws h) (λ x t.
     if_then (read (form x.0) x.1) (Spells (λ ts. prefix (Given kind x.0 ∷ ts)) x.1) (Spells prefix ws)
-    (read_is_spelled (form x.0) (λ ts. prefix (Given kind x.0 ∷ ts)) x.1 (a x.0) (clean_rest (field_words kind x.0) x.1 (subst (AllByRecursion Clean) t.words h)))
+    (read_is_spelled (form x.0) (λ ts. prefix (Given kind x.0 ∷ ts)) x.1 (a x.0)
+    (clean_rest (field_words kind x.0) x.1 (subst (AllByRecursion Clean) t.words h)))
     (λ line s. record { ts = Given kind x.0 ∷ s.ts; are = s.are; words = t.words ∙ ap (λ vs. field_words kind x.0 ++ vs) s.words; fit = (t.fits, s.fit) }))
 read_is_spelled (Word word form other) prefix [] a h = tt
 read_is_spelled (Word word form other) prefix (w ∷ ws) a h =
     cond_both (bytes_eq w word) (read form ws) (read other (w ∷ ws)) (λ r. IfOk r (Spells prefix (w ∷ ws)))
-    (λ is. if_then (read form ws) (Spells (λ ts. prefix (Fixed word ∷ ts)) ws) (Spells prefix (w ∷ ws)) (read_is_spelled form (λ ts. prefix (Fixed word ∷ ts)) ws a.0 h.1)
-    (λ line s. record { ts = Fixed word ∷ s.ts; are = s.are; words = ap (λ v. v ∷ ws) ((bytes_eq-Decides w word).0 is) ∙ ap (λ vs. word ∷ vs) s.words; fit = (tt, s.fit) }))
+    (λ is. if_then (read form ws) (Spells (λ ts. prefix (Fixed word ∷ ts)) ws) (Spells prefix (w ∷ ws))
+    (read_is_spelled form (λ ts. prefix (Fixed word ∷ ts)) ws a.0 h.1)
+    (λ line s. record {
+      ts = Fixed word ∷ s.ts;
+      are = s.are;
+      words = ap (λ v. v ∷ ws) ((bytes_eq-Decides w word).0 is)
+          ∙ ap (λ vs. word ∷ vs) s.words;
+      fit = (tt, s.fit);
+    }))
     (λ is. read_is_spelled other prefix (w ∷ ws) a.1 h)
 read_is_spelled (Fails fault) prefix ws a h = tt
 
 -- a word that is none of the pairs'
-pub choose_none : (pairs : List (List ℕ × LineForm)) (fault : LineFault) (w : List ℕ) (ws : List (List ℕ)) → AllByRecursion (λ pair. bytes_eq w pair.0 ≡ false) pairs → read (choose pairs fault) (w ∷ ws) ≡ Err fault
+pub choose_none : (pairs : List (List ℕ × LineForm)) (fault : LineFault) (w : List ℕ) (ws : List (List ℕ))
+    → AllByRecursion (λ pair. bytes_eq w pair.0 ≡ false) pairs → read (choose pairs fault) (w ∷ ws) ≡ Err fault
 choose_none [] fault w ws h = refl
 choose_none (pair ∷ pairs) fault w ws h = rw h.0 (choose_none pairs fault w ws h.1)
 
 -- a word that is none of the first pairs'
-pub choose-append : (first later : List (List ℕ × LineForm)) (fault : LineFault) (w : List ℕ) (ws : List (List ℕ)) → AllByRecursion (λ pair. bytes_eq w pair.0 ≡ false) first → read (choose (first ++ later) fault) (w ∷ ws) ≡ read (choose later fault) (w ∷ ws)
+pub choose-append : (first later : List (List ℕ × LineForm)) (fault : LineFault) (w : List ℕ) (ws : List (List ℕ))
+    → AllByRecursion (λ pair. bytes_eq w pair.0 ≡ false) first → read (choose (first ++ later) fault) (w ∷ ws) ≡ read (choose later fault) (w ∷ ws)
 choose-append [] later fault w ws h = refl
 choose-append (pair ∷ pairs) later fault w ws h = rw h.0 (choose-append pairs later fault w ws h.1)

@@ -27,7 +27,8 @@ pub decimal-three_last : (n : ℕ) → 1000 ≤ n → n < 2 ^ 64 → decimal n �
 decimal-three_last n more small =
     let prefix : n / 100 / 10 ≡ n / 1000 = omega arith in
     decimal-two_last n (omega arith) small
-    ∙ ap (λ ds. ds ++ (48 + n / 10 % 10) ∷ (48 + n % 10) ∷ []) (decimal-last (n / 100) (omega arith) (omega arith) ∙ ap (λ (m : ℕ). decimal m ++ (48 + n / 100 % 10) ∷ []) prefix)
+    ∙ ap (λ ds. ds ++ (48 + n / 10 % 10) ∷ (48 + n % 10) ∷ [])
+    (decimal-last (n / 100) (omega arith) (omega arith) ∙ ap (λ (m : ℕ). decimal m ++ (48 + n / 100 % 10) ∷ []) prefix)
     ∙ append_assoc (decimal (n / 1000)) ((48 + n / 100 % 10) ∷ []) ((48 + n / 10 % 10) ∷ (48 + n % 10) ∷ [])
 
 -- a number of three digits, of two, and of one

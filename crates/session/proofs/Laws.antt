@@ -1,5 +1,6 @@
 -- A spelled line is read as that line, and what is read is its spelling.
-use Rattle.std.proofs.Common.{rules, ◌≡◌, ℕ, ◌≤◌, cond, false, true, leb, not, ltb, eqb, ◌&&◌, ◌||◌, Bool, List, [], ◌∷◌, ◌++◌, length, Ok, Err, Result, Some, refl, sym, ap, ◌∙◌, subst, arith}
+use Rattle.std.proofs.Common.{rules, ◌≡◌, ℕ, ◌≤◌, cond, false, true, leb, not, ltb, eqb, ◌&&◌, ◌||◌, Bool, List, [], ◌∷◌, ◌++◌, length, Ok, Err, Result, Some}
+use Rattle.std.proofs.Common.{refl, sym, ap, ◌∙◌, subst, arith}
 use Rattle.std.specs.Prelude.{IfOk}
 use Rattle.std.specs.List.{AllByRecursion, flat_map, list_all}
 use Rattle.std.specs.Str.{is_utf8}
@@ -14,7 +15,8 @@ use Rattle.map_model.specs.declared.selection.SelectionMode.TheVariants.{Replace
 use Rattle.session.specs.declared.line.LineFault.{LineFault}
 use Rattle.session.specs.Words.{words}
 use Rattle.session.specs.Grammar.{Gives, read, line_form, is_quiet, line_of}
-use Rattle.session.specs.Spelling.{joined_by_bars, Token, Fixed, Given, Rest, RestTexts, tokens, has_block, token_words, spaced, spelling, IsToken, Says, CanBeSpelled, SpelledIsRead, ReadIsSpelled, QuietIsRead, LongIsNotRead}
+use Rattle.session.specs.Spelling.{joined_by_bars, Token, Fixed, Given, Rest, RestTexts, tokens, has_block, token_words, spaced, spelling, IsToken, Says}
+use Rattle.session.specs.Spelling.{CanBeSpelled, SpelledIsRead, ReadIsSpelled, QuietIsRead, LongIsNotRead}
 use Rattle.session.proofs.SpacedWords.{Clean, clean, clean_words, utf8-joined, plain_literal, words-spaced, utf8-spaced}
 use Rattle.session.proofs.SpelledFields.{clean_field}
 use Rattle.session.proofs.Lengths.{room, is_short}
@@ -37,7 +39,8 @@ clean_tokens [] e h = tt
 clean_tokens (Fixed word ∷ ts) e h = let both = and_parts _ _ e in (clean word (plain_literal word both.0), clean_tokens ts both.1 h.1)
 clean_tokens (Given kind value ∷ ts) e h = clean_append _ (flat_map token_words ts) (clean_field kind value h.0) (clean_tokens ts e h.1)
 clean_tokens (Rest text ∷ ts) e h = clean_append _ (flat_map token_words ts) (clean_words text h.0.utf8) (clean_tokens ts e h.1)
-clean_tokens (RestTexts text action ∷ ts) e h = clean_append _ (flat_map token_words ts) (clean_words (joined_by_bars text action) (utf8-joined text action h.0)) (clean_tokens ts e h.1)
+clean_tokens (RestTexts text action ∷ ts) e h = clean_append _ (flat_map token_words ts)
+    (clean_words (joined_by_bars text action) (utf8-joined text action h.0)) (clean_tokens ts e h.1)
 
 -- the tokens begin with a word that neither a blank line nor a comment begins with
 abbrev is_loud : List Token → Bool
@@ -84,7 +87,8 @@ line_is_read : (line : Line) → LineFacts line → CanBeSpelled line → line_o
 line_is_read line r h =
     let ws = flat_map token_words (tokens line) in
     let all = clean_tokens (tokens line) r.plain h.0 in
-    let back : words (spelling line) ≡ ws = ap (λ vs. words (spaced vs)) r.words ∙ words-spaced r.first r.more (subst (AllByRecursion Clean) r.words all) ∙ sym r.words in
+    let back : words (spelling line) ≡ ws = ap (λ vs. words (spaced vs)) r.words ∙ words-spaced r.first r.more (subst (AllByRecursion Clean) r.words all)
+    ∙ sym r.words in
     checked (spelling line) (is_short (tokens line) r.few h.0 h.1) (utf8-spaced ws all)
     ∙ ap (λ b. cond b (Ok Quiet) (read line_form (words (spelling line)))) (loud (tokens line) r.loud)
     ∙ ap (read line_form) back
@@ -101,7 +105,8 @@ says : (bytes : List ℕ) (line : Line) → bytes ≡ spelling line → Says byt
 says bytes Quiet e = ap is_quiet e
 says bytes line e = e
 
-settled : (bytes : List ℕ) (r : Result Line LineFault) → length bytes ≤ MAX_LINE → IfOk r (Spells (λ ts. ts) (words bytes)) → IfOk r (λ line. Says bytes line × CanBeSpelled line)
+settled : (bytes : List ℕ) (r : Result Line LineFault) → length bytes ≤ MAX_LINE → IfOk r (Spells (λ ts. ts) (words bytes))
+    → IfOk r (λ line. Says bytes line × CanBeSpelled line)
 settled bytes (Ok line) l h =
     let same : bytes ≡ spelling line = sym (join_with_byte-slice_split 32 bytes) ∙ ap spaced (h.words ∙ ap (flat_map token_words) (sym h.are)) in
     (says bytes line same, (subst (AllByRecursion IsToken) (sym h.are) h.fit, λ _. subst (λ bs. length bs ≤ MAX_LINE) same l))

@@ -1,5 +1,6 @@
 -- How long the tokens of a line are.
-use Rattle.std.proofs.Common.{◌≡◌, ℕ, suc, ◌+◌, ◌^◌, ◌<◌, ◌≤◌, Bool, true, false, leb, eqb, List, [], ◌∷◌, ◌++◌, length, None, Some, ℤ, pos, negsuc, ap, arith, inl, inr, IsTrue, ◌||◌, ◌&&◌, Option}
+use Rattle.std.proofs.Common.{◌≡◌, ℕ, suc, ◌+◌, ◌^◌, ◌<◌, ◌≤◌, Bool, true, false, leb, eqb, List, [], ◌∷◌, ◌++◌, length, None, Some, ℤ, pos, negsuc, ap, arith}
+use Rattle.std.proofs.Common.{inl, inr, IsTrue, ◌||◌, ◌&&◌, Option}
 use Rattle.std.specs.List.{AllByRecursion, flat_map, list_all}
 use Rattle.std.specs.Fmt.{decimal, signed_decimal}
 use Rattle.std.proofs.lemmas.Int.{ints}
@@ -14,7 +15,8 @@ use Rattle.map_model.specs.declared.owner.Owner.TheVariants as owners
 use Rattle.session.specs.declared.limits.TheConstants.{MAX_LINE, MAX_DOCUMENT_NAME, MAX_FILE_NAME, MAX_TEXT, MAX_KEY}
 use Rattle.session.specs.Words.{words, bars, is_color, is_color_digit}
 use Rattle.session.specs.Grammar.{FieldKind, Number, Coordinate, Block, Name, File, Choice, LayerSort, YesNo, Truth, Key, Color, OwnerName, FieldValue}
-use Rattle.session.specs.Spelling.{Token, Fixed, Given, Rest, RestTexts, token_words, field_words, has_block, layer_kind_word, yes_no_word, truth_word, owner_word, spaced, joined_by_bars, AreTexts, IsNumber, IsOwner, IsCoordinate, IsField, IsToken}
+use Rattle.session.specs.Spelling.{Token, Fixed, Given, Rest, RestTexts, token_words, field_words, has_block, layer_kind_word, yes_no_word, truth_word}
+use Rattle.session.specs.Spelling.{owner_word, spaced, joined_by_bars, AreTexts, IsNumber, IsOwner, IsCoordinate, IsField, IsToken}
 
 -- no fewer than the bytes of a field's words
 abbrev field_room : FieldKind → ℕ
@@ -64,7 +66,12 @@ total_some [] h = absurd (omega arith)
 total_some (w ∷ ws) h = omega (arith, length-spaced w ws)
 
 total-words : (text : List ℕ) → total (words text) ≡ length text + 1
-total-words text = omega (arith, total_some (words text) (omega (arith, length-slice_split (λ b. eqb b 32) text)), ap length (join_with_byte-slice_split 32 text))
+total-words text = omega (
+  arith,
+  total_some (words text) (omega (arith, length-slice_split (λ b. eqb b 32) text)),
+  ap length
+      (join_with_byte-slice_split 32 text),
+)
 
 number_within : (n : ℕ) → IsNumber n → length (decimal n) ≤ 10
 number_within n h = length-decimal-le 10 n (omega arith) (omega arith) (omega arith)
@@ -100,7 +107,8 @@ owner_within owners.Map h = omega arith
 owner_within (owners.Layer id) h = omega (arith, number_within id h)
 owner_within (owners.Object id) h = omega (arith, number_within id h)
 
-field_within : (kind : FieldKind) (value : FieldValue kind) → IsField kind value → field_room kind ≤ MAX_LINE → total (field_words kind value) ≤ field_room kind + 1
+field_within : (kind : FieldKind) (value : FieldValue kind) → IsField kind value → field_room kind ≤ MAX_LINE
+    → total (field_words kind value) ≤ field_room kind + 1
 unfolding total
 field_within Number n h r = omega (arith, number_within n h)
 field_within Coordinate z h r = omega (arith, coordinate_within z h)
@@ -124,12 +132,33 @@ tokens_within : (ts : List Token) → AllByRecursion IsToken ts → room ts ≤ 
 unfolding total
 tokens_within [] h r = omega arith
 tokens_within (Fixed word ∷ ts) h r = omega (arith, tokens_within ts h.1 (omega (arith, r)))
-tokens_within (Given kind value ∷ ts) h r = omega (arith, total-append (field_words kind value) (flat_map token_words ts), field_within kind value h.0 (omega (arith, r)), tokens_within ts h.1 (omega (arith, r)))
-tokens_within (Rest text ∷ ts) h r = omega (arith, total-append (words text) (flat_map token_words ts), total-words text, h.0.short, tokens_within ts h.1 (omega (arith, r)))
-tokens_within (RestTexts text action ∷ ts) h r = omega (arith, total-append (words (joined_by_bars text action)) (flat_map token_words ts), total-words (joined_by_bars text action), joined_within text action h.0, tokens_within ts h.1 (omega (arith, r)))
+tokens_within (Given kind value ∷ ts) h r = omega (
+  arith,
+  total-append (field_words kind value) (flat_map token_words ts),
+  field_within kind value h.0
+      (omega (arith, r)),
+  tokens_within ts h.1 (omega (arith, r)),
+)
+tokens_within (Rest text ∷ ts) h r = omega (
+  arith,
+  total-append (words text) (flat_map token_words ts),
+  total-words text,
+  h.0.short,
+  tokens_within ts h.1
+      (omega (arith, r)),
+)
+tokens_within (RestTexts text action ∷ ts) h r = omega (
+  arith,
+  total-append (words (joined_by_bars text action)) (flat_map token_words ts),
+  total-words
+      (joined_by_bars text action),
+  joined_within text action h.0,
+  tokens_within ts h.1 (omega (arith, r)),
+)
 
 -- tokens without a block are short, and with one they have to be
-pub is_short : (ts : List Token) → (has_block ts || leb (room ts) MAX_LINE) ≡ true → AllByRecursion IsToken ts → (IsTrue (has_block ts) → length (spaced (flat_map token_words ts)) ≤ MAX_LINE) → length (spaced (flat_map token_words ts)) ≤ MAX_LINE
+pub is_short : (ts : List Token) → (has_block ts || leb (room ts) MAX_LINE) ≡ true → AllByRecursion IsToken ts
+    → (IsTrue (has_block ts) → length (spaced (flat_map token_words ts)) ≤ MAX_LINE) → length (spaced (flat_map token_words ts)) ≤ MAX_LINE
 is_short ts few h short = elim (or_cases _ _ few) [
   | inl block ↦ short block
   | inr small ↦ let r = leb-true _ _ small in omega (arith, r, spaced_within (flat_map token_words ts), tokens_within ts h r)

@@ -1,5 +1,6 @@
 -- A field that is read from words is spelled by those words.
-use Rattle.std.proofs.Common.{◌≡◌, ◌≢◌, ℕ, Bool, true, false, cond, eqb, not, List, [], ◌∷◌, ◌++◌, length, Ok, Err, Result, Option, Some, None, refl, sym, ap, ◌∙◌, subst}
+use Rattle.std.proofs.Common.{◌≡◌, ◌≢◌, ℕ, Bool, true, false, cond, eqb, not, List, [], ◌∷◌, ◌++◌, length, Ok, Err, Result, Option, Some, None, refl, sym, ap}
+use Rattle.std.proofs.Common.{◌∙◌, subst}
 use Rattle.std.specs.Prelude.{codes, IfOk}
 use Rattle.std.specs.Fmt.{decimal}
 use Rattle.std.specs.Str.{IsUtf8, bytes_eq}
@@ -10,9 +11,12 @@ use Rattle.map_model.specs.declared.parts.LayerKind.TheVariants as kinds
 use Rattle.session.specs.declared.limits.TheConstants.{MAX_DOCUMENT_NAME, MAX_FILE_NAME}
 use Rattle.session.specs.declared.line.LineFault.{LineFault}
 use Rattle.session.specs.declared.line.LineFault.TheVariants.{BadWord}
-use Rattle.session.specs.Words.{words, number_of, coordinate_of, numbers_of, is_name, is_name_byte, is_text, is_text_byte, cut_at_bars, are_texts, are_rows, layer_kind_of, yes_no_of, truth_of, is_key, is_key_byte, is_color, owner_of, choice_of}
-use Rattle.session.specs.Grammar.{FieldKind, Number, Coordinate, Block, Name, File, Choice, LayerSort, YesNo, Truth, Key, Color, OwnerName, FieldValue, field_at, word_at, passing, rows_at, block_at, last_text_at, last_texts_at, ends_at, ◌>>=◌, word_is}
-use Rattle.session.specs.Spelling.{joined_by_bars, HasNoBars, AreTexts, spaced, commas, layer_kind_word, yes_no_word, truth_word, field_words, IsField, IsName, IsChoice, IsText, IsKey, AreRows, choice_word}
+use Rattle.session.specs.Words.{words, number_of, coordinate_of, numbers_of, is_name, is_name_byte, is_text, is_text_byte, cut_at_bars, are_texts, are_rows}
+use Rattle.session.specs.Words.{layer_kind_of, yes_no_of, truth_of, is_key, is_key_byte, is_color, owner_of, choice_of}
+use Rattle.session.specs.Grammar.{FieldKind, Number, Coordinate, Block, Name, File, Choice, LayerSort, YesNo, Truth, Key, Color, OwnerName, FieldValue}
+use Rattle.session.specs.Grammar.{field_at, word_at, passing, rows_at, block_at, last_text_at, last_texts_at, ends_at, ◌>>=◌, word_is}
+use Rattle.session.specs.Spelling.{joined_by_bars, HasNoBars, AreTexts, spaced, commas, layer_kind_word, yes_no_word, truth_word, field_words, IsField, IsName}
+use Rattle.session.specs.Spelling.{IsChoice, IsText, IsKey, AreRows, choice_word}
 use Rattle.session.proofs.Decimals.{decimal_from}
 use Rattle.session.proofs.Coordinates.{signed_from}
 use Rattle.session.proofs.Commas.{commas_from}
@@ -21,7 +25,8 @@ use Rattle.session.proofs.SpacedWords.{Clean, words-spaced, utf8-spaced, utf8_be
 use Rattle.session.proofs.Bars.{joined-cut_at_bars, no_bars_cut}
 use Rattle.std.specs.List.{AllByRecursion}
 
-pub if_bind : {A B : Type 0} (r : Result A LineFault) (f : A → Result B LineFault) (P : A → Type 0) (Q : B → Type 0) → IfOk r P → ((a : A) → P a → IfOk (f a) Q) → IfOk (r >>= f) Q
+pub if_bind : {A B : Type 0} (r : Result A LineFault) (f : A → Result B LineFault) (P : A → Type 0) (Q : B → Type 0) → IfOk r P → ((a : A) → P a → IfOk (f a) Q)
+    → IfOk (r >>= f) Q
 if_bind (Ok a) f P Q h k = k a h
 if_bind (Err e) f P Q h k = tt
 
@@ -64,7 +69,8 @@ record ReadRows (width : ℕ) (ws : List (List ℕ)) (x : (ℕ × List ℕ) × L
 rows_is_read : (width : ℕ) (ws : List (List ℕ)) → IfOk (rows_at width ws) (ReadRows width ws)
 unfolding rows_at
 rows_is_read width [] = tt
-rows_is_read width (w ∷ ws) = if_word (numbers_of w) (λ values. cond (are_rows width (length values)) (Ok ((width, values), ws)) (Err BadWord)) (ReadRows width (w ∷ ws)) (λ values e.
+rows_is_read width (w ∷ ws) = if_word (numbers_of w) (λ values. cond (are_rows width (length values)) (Ok ((width, values), ws)) (Err BadWord))
+    (ReadRows width (w ∷ ws)) (λ values e.
     let at = commas_from w values e in
     cond_both (are_rows width (length values)) (Ok ((width, values), ws)) (Err BadWord) (λ r. IfOk r (ReadRows width (w ∷ ws))) (λ is.
     let halves = and_parts _ _ is in
@@ -116,11 +122,13 @@ choice_from w x =
     (λ is e. let same : Some w ≡ x = cc in subst (λ v. IsChoice v × (choice_word v ≡ w)) same (is_name_from MAX_DOCUMENT_NAME w is, refl)) (λ _ e. absurd cc))
 
 -- a choice between two words
-by_two : {A : Type 0} (word a b : List ℕ) (x y : A) (spelled : A → List ℕ) → spelled x ≡ a → spelled y ≡ b → (z : A) → cond (bytes_eq word a) (Some x) (cond (bytes_eq word b) (Some y) None) ≡ Some z → spelled z ≡ word
+by_two : {A : Type 0} (word a b : List ℕ) (x y : A) (spelled : A → List ℕ) → spelled x ≡ a → spelled y ≡ b → (z : A)
+    → cond (bytes_eq word a) (Some x) (cond (bytes_eq word b) (Some y) None) ≡ Some z → spelled z ≡ word
 by_two {A} word a b x y spelled ea eb z =
     let Q : Option A → Type 0 = λ o. o ≡ Some z → spelled z ≡ word in
     cond_both (bytes_eq word a) (Some x) _ Q (λ is. λ e. let same : x ≡ z = cc in ap spelled (sym same) ∙ ea ∙ sym ((bytes_eq-Decides word a).0 is)) (λ _.
-    cond_both (bytes_eq word b) (Some y) None Q (λ is. λ e. let same : y ≡ z = cc in ap spelled (sym same) ∙ eb ∙ sym ((bytes_eq-Decides word b).0 is)) (λ _. λ e. absurd cc))
+    cond_both (bytes_eq word b) (Some y) None Q (λ is. λ e. let same : y ≡ z = cc in ap spelled (sym same) ∙ eb ∙ sym ((bytes_eq-Decides word b).0 is))
+    (λ _. λ e. absurd cc))
 
 is_key_from : (bytes : List ℕ) → is_key bytes ≡ true → IsUtf8 bytes → IsKey bytes
 is_key_from bytes h u =
@@ -172,9 +180,11 @@ pub record ReadText (ws : List (List ℕ)) (text : List ℕ) : Type 0 where
 pub text_is_read : (ws : List (List ℕ)) → AllByRecursion Clean ws → IfOk (last_text_at ws) (ReadText ws)
 unfolding last_text_at
 text_is_read [] h = tt
-text_is_read (w ∷ ws) h = cond_both (is_text (spaced (w ∷ ws))) (Ok (spaced (w ∷ ws))) (Err BadWord) (λ r. IfOk r (ReadText (w ∷ ws))) (λ is. record { fits = is_text_from (spaced (w ∷ ws)) is (utf8-spaced (w ∷ ws) h); words = sym (words-spaced w ws h) }) (λ is. tt)
+text_is_read (w ∷ ws) h = cond_both (is_text (spaced (w ∷ ws))) (Ok (spaced (w ∷ ws))) (Err BadWord) (λ r. IfOk r (ReadText (w ∷ ws)))
+    (λ is. record { fits = is_text_from (spaced (w ∷ ws)) is (utf8-spaced (w ∷ ws) h); words = sym (words-spaced w ws h) }) (λ is. tt)
 
-texts_from : (text : List ℕ) (action : Option (List ℕ)) → are_texts text action ≡ true → HasNoBars text action → IsUtf8 (joined_by_bars text action) → AreTexts text action
+texts_from : (text : List ℕ) (action : Option (List ℕ)) → are_texts text action ≡ true → HasNoBars text action → IsUtf8 (joined_by_bars text action)
+    → AreTexts text action
 texts_from text None is h u = record { first = is_text_from text is u; second = tt; no_bars = h }
 texts_from text (Some action) is h u =
     let both = and_parts _ _ is in

@@ -1,5 +1,6 @@
 -- A coordinate by its sign.
-use Rattle.std.proofs.Common.{◌≡◌, ◌≢◌, ◌≤◌, ◌<◌, get_or, length, ℕ, zero, suc, negsuc, subst, arith, FitsSigned, w32, cond, eqb, List, [], ◌∷◌, Option, Some, None, Bor, ℤ, pos, refl, sym, ap, ◌∙◌}
+use Rattle.std.proofs.Common.{◌≡◌, ◌≢◌, ◌≤◌, ◌<◌, get_or, length, ℕ, zero, suc, negsuc, subst, arith, FitsSigned, w32, cond, eqb, List, [], ◌∷◌, Option, Some}
+use Rattle.std.proofs.Common.{None, Bor, ℤ, pos, refl, sym, ap, ◌∙◌}
 use Rattle.std.specs.Prelude.{option_and_then}
 use Rattle.std.specs.Option.{option_map}
 use Rattle.std.specs.List.{onto_first}
@@ -17,7 +18,8 @@ pub without_minus : (word : List ℕ) → ((rest : List ℕ) → word ≢ 45 ∷
 unfolding coordinate_of distance_of number_of
 without_minus [] h = refl
 without_minus (b ∷ word) h =
-    ap (λ t. cond t (option_and_then below_zero (distance_of word)) (option_map pos (distance_of (b ∷ word)))) (ne_eqb b 45 (λ e. h word (ap (λ x. x ∷ word) e)))
+    ap (λ t. cond t (option_and_then below_zero (distance_of word)) (option_map pos (distance_of (b ∷ word))))
+    (ne_eqb b 45 (λ e. h word (ap (λ x. x ∷ word) e)))
 
 -- ---- the coordinate at the front of a text
 pub minus_none : (ps : List (List ℕ)) → IsFirst distance_of ps 32 None → IsFirst coordinate_of (onto_first 45 ps) 32 None
@@ -25,14 +27,16 @@ unfolding coordinate_of
 minus_none [] h = absurd h
 minus_none (w ∷ ws) h = ap (option_and_then below_zero) h
 
-pub minus_found : (ps : List (List ℕ)) (n : ℕ) (rest : Option (Bor (List ℕ))) (z : Option ℤ) → IsFirst distance_of ps 32 (Some (n, rest)) → z ≡ below_zero n → IsFirst coordinate_of (onto_first 45 ps) 32 (option_map (λ y. (y, rest)) z)
+pub minus_found : (ps : List (List ℕ)) (n : ℕ) (rest : Option (Bor (List ℕ))) (z : Option ℤ) → IsFirst distance_of ps 32 (Some (n, rest)) → z ≡ below_zero n
+    → IsFirst coordinate_of (onto_first 45 ps) 32 (option_map (λ y. (y, rest)) z)
 unfolding coordinate_of
 minus_found [] n rest z h e = absurd h
 minus_found (w ∷ ws) n rest None h e = ap (option_and_then below_zero) h.0 ∙ sym e
 minus_found (w ∷ ws) n rest (Some y) h e = (ap (option_and_then below_zero) h.0 ∙ sym e, h.1)
 
 -- the first word of a text that does not begin with a `-` does not either
-no_minus_word : (text : List ℕ) → ((rest : List ℕ) → text ≢ 45 ∷ rest) → (w : List ℕ) (ws : List (List ℕ)) → words text ≡ w ∷ ws → (rest : List ℕ) → w ≢ 45 ∷ rest
+no_minus_word : (text : List ℕ) → ((rest : List ℕ) → text ≢ 45 ∷ rest) → (w : List ℕ) (ws : List (List ℕ)) → words text ≡ w ∷ ws → (rest : List ℕ)
+    → w ≢ 45 ∷ rest
 no_minus_word [] h w ws e rest k = absurd cc
 no_minus_word (b ∷ text) h w ws e rest k =
     let P : List (List ℕ) → Type 0 = λ ps. ps ≡ w ∷ ws → ⊥ in
@@ -45,12 +49,14 @@ no_minus_word (b ∷ text) h w ws e rest k =
     h text (ap (λ c. c ∷ text) first))
     e
 
-plain_by : (ps : List (List ℕ)) → ((w : List ℕ) (ws : List (List ℕ)) → ps ≡ w ∷ ws → coordinate_of w ≡ option_map pos (distance_of w)) → (found : Option (ℕ × Option (Bor (List ℕ)))) → IsFirst distance_of ps 32 found → IsFirst coordinate_of ps 32 (option_map (λ x. (pos x.0, x.1)) found)
+plain_by : (ps : List (List ℕ)) → ((w : List ℕ) (ws : List (List ℕ)) → ps ≡ w ∷ ws → coordinate_of w ≡ option_map pos (distance_of w))
+    → (found : Option (ℕ × Option (Bor (List ℕ)))) → IsFirst distance_of ps 32 found → IsFirst coordinate_of ps 32 (option_map (λ x. (pos x.0, x.1)) found)
 plain_by [] k found h = absurd (elim found as (λ o. IsFirst distance_of [] 32 o → ⊥) [ None ↦ λ n. n | Some x ↦ λ n. n ] h)
 plain_by (w ∷ ws) k None h = k w ws refl ∙ ap (option_map pos) h
 plain_by (w ∷ ws) k (Some x) h = (k w ws refl ∙ ap (option_map pos) h.0, h.1)
 
-pub plain_found : (text : List ℕ) → ((rest : List ℕ) → text ≢ 45 ∷ rest) → (found : Option (ℕ × Option (Bor (List ℕ)))) → IsFirst distance_of (words text) 32 found → IsFirst coordinate_of (words text) 32 (option_map (λ x. (pos x.0, x.1)) found)
+pub plain_found : (text : List ℕ) → ((rest : List ℕ) → text ≢ 45 ∷ rest) → (found : Option (ℕ × Option (Bor (List ℕ))))
+    → IsFirst distance_of (words text) 32 found → IsFirst coordinate_of (words text) 32 (option_map (λ x. (pos x.0, x.1)) found)
 plain_found text h found f = plain_by (words text) (λ w ws e. without_minus w (no_minus_word text h w ws e)) found f
 
 -- a number below 0 that is a distance is an `i32`

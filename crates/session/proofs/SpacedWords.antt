@@ -1,11 +1,13 @@
 -- Words without a space, and the words of what is spelled with them.
-use Rattle.std.proofs.Common.{◌≡◌, ℕ, suc, ◌+◌, ◌^◌, ◌<◌, true, false, eqb, ltb, ◌&&◌, List, [], ◌∷◌, ◌++◌, length, get_or, Option, None, Some, ℤ, pos, negsuc, refl, sym, ap, ◌∙◌, subst, arith, lit<}
+use Rattle.std.proofs.Common.{◌≡◌, ℕ, suc, ◌+◌, ◌^◌, ◌<◌, true, false, eqb, ltb, ◌&&◌, List, [], ◌∷◌, ◌++◌, length, get_or, Option, None, Some, ℤ, pos, negsuc}
+use Rattle.std.proofs.Common.{refl, sym, ap, ◌∙◌, subst, arith, lit<}
 use Rattle.std.specs.Prelude.{codes}
 use Rattle.std.specs.List.{AllByRecursion, list_all, onto_first}
 use Rattle.std.specs.Fmt.{decimal, signed_decimal}
 use Rattle.std.specs.Char.{is_ascii_digit}
 use Rattle.std.specs.Str.{IsUtf8}
-use Rattle.std.proofs.lemmas.Str.{IsUtf8-nil, IsUtf8-append, IsUtf8-take, IsUtf8-drop, IsUtf8-from_ascii, IsCharBoundary-before_ascii, IsCharBoundary-after_ascii}
+use Rattle.std.proofs.lemmas.Str.{IsUtf8-nil, IsUtf8-append, IsUtf8-take, IsUtf8-drop, IsUtf8-from_ascii, IsCharBoundary-before_ascii}
+use Rattle.std.proofs.lemmas.Str.{IsCharBoundary-after_ascii}
 use Rattle.std.proofs.lemmas.Str.Ascii.{IsAscii-from_all}
 use Rattle.std.proofs.lemmas.Int.{ints}
 use Rattle.std.proofs.lemmas.Fmt.{digits_decimal}
@@ -68,7 +70,11 @@ no_space [] h = tt
 no_space (b ∷ word) h = (ne_eqb b 32 (λ e. omega (arith, h.0.0, e)), no_space word h.1)
 
 pub clean : (word : List ℕ) → Plain word → Clean word
-clean word h = record { no_space = no_space word h.bytes; utf8 = IsUtf8-from_ascii word (IsAscii-from_all word (λ k d l. (All-from_recursion IsPlain word h.bytes k d l).1)) }
+clean word h = record {
+  no_space = no_space word h.bytes;
+  utf8 = IsUtf8-from_ascii word
+      (IsAscii-from_all word (λ k d l. (All-from_recursion IsPlain word h.bytes k d l).1));
+}
 
 space : IsUtf8 (32 ∷ [])
 space = IsUtf8-from_ascii (32 ∷ []) (IsAscii-from_all (32 ∷ []) (All-from_recursion (λ b. b < 128) (32 ∷ []) (lit< tt, tt)))
@@ -87,15 +93,18 @@ plain_literal word h = record { bytes = plain_tested word h }
 -- words with spaces between them are the words of that text
 pub words-spaced : (word : List ℕ) (more : List (List ℕ)) → AllByRecursion Clean (word ∷ more) → words (spaced (word ∷ more)) ≡ word ∷ more
 words-spaced word [] h = slice_split_none (λ b. eqb b 32) word (All-from_recursion _ word h.0.no_space)
-words-spaced word (next ∷ more) h = slice_split_at (λ b. eqb b 32) word 32 (spaced (next ∷ more)) (All-from_recursion _ word h.0.no_space) refl ∙ ap (λ ws. word ∷ ws) (words-spaced next more h.1)
+words-spaced word (next ∷ more) h = slice_split_at (λ b. eqb b 32) word 32 (spaced (next ∷ more)) (All-from_recursion _ word h.0.no_space) refl
+    ∙ ap (λ ws. word ∷ ws) (words-spaced next more h.1)
 
 pub utf8-spaced : (ws : List (List ℕ)) → AllByRecursion Clean ws → IsUtf8 (spaced ws)
 utf8-spaced [] h = IsUtf8-nil
 utf8-spaced (word ∷ []) h = h.0.utf8
-utf8-spaced (word ∷ next ∷ more) h = IsUtf8-append word (32 ∷ spaced (next ∷ more)) h.0.utf8 (IsUtf8-append (32 ∷ []) (spaced (next ∷ more)) space (utf8-spaced (next ∷ more) h.1))
+utf8-spaced (word ∷ next ∷ more) h = IsUtf8-append word (32 ∷ spaced (next ∷ more)) h.0.utf8
+    (IsUtf8-append (32 ∷ []) (spaced (next ∷ more)) space (utf8-spaced (next ∷ more) h.1))
 
 barred : IsUtf8 (codes " || ")
-barred = IsUtf8-from_ascii (codes " || ") (IsAscii-from_all (codes " || ") (All-from_recursion (λ b. b < 128) (codes " || ") (lit< tt, (lit< tt, (lit< tt, (lit< tt, tt))))))
+barred = IsUtf8-from_ascii (codes " || ") (IsAscii-from_all (codes " || ")
+    (All-from_recursion (λ b. b < 128) (codes " || ") (lit< tt, (lit< tt, (lit< tt, (lit< tt, tt))))))
 
 pub utf8-joined : (text : List ℕ) (action : Option (List ℕ)) → AreTexts text action → IsUtf8 (joined_by_bars text action)
 utf8-joined text None h = h.first.utf8
@@ -116,13 +125,15 @@ utf8_after word rest u =
     let ascii : get_or bs (length word) 0 < 128 = omega (arith, get_or-append_seam word 32 rest 0) in
     subst IsUtf8 (drop-append-add word (32 ∷ rest) 1) (IsUtf8-drop bs (length word + 1) u (IsCharBoundary-after_ascii bs (length word) u inside ascii))
 
-onto_no_space : (b : ℕ) (ws : List (List ℕ)) → eqb b 32 ≡ false → AllByRecursion (AllByRecursion (λ b. eqb b 32 ≡ false)) ws → AllByRecursion (AllByRecursion (λ b. eqb b 32 ≡ false)) (onto_first b ws)
+onto_no_space : (b : ℕ) (ws : List (List ℕ)) → eqb b 32 ≡ false → AllByRecursion (AllByRecursion (λ b. eqb b 32 ≡ false)) ws
+    → AllByRecursion (AllByRecursion (λ b. eqb b 32 ≡ false)) (onto_first b ws)
 onto_no_space b [] e h = ((e, tt), tt)
 onto_no_space b (w ∷ ws) e h = ((e, h.0), h.1)
 
 words_no_space : (bytes : List ℕ) → AllByRecursion (AllByRecursion (λ b. eqb b 32 ≡ false)) (words bytes)
 words_no_space [] = (tt, tt)
-words_no_space (b ∷ bytes) = cond_both (eqb b 32) ([] ∷ words bytes) (onto_first b (words bytes)) (AllByRecursion (AllByRecursion (λ b. eqb b 32 ≡ false))) (λ is. (tt, words_no_space bytes)) (λ is. onto_no_space b (words bytes) is (words_no_space bytes))
+words_no_space (b ∷ bytes) = cond_both (eqb b 32) ([] ∷ words bytes) (onto_first b (words bytes)) (AllByRecursion (AllByRecursion (λ b. eqb b 32 ≡ false)))
+    (λ is. (tt, words_no_space bytes)) (λ is. onto_no_space b (words bytes) is (words_no_space bytes))
 
 clean_from : (ws : List (List ℕ)) → AllByRecursion (AllByRecursion (λ b. eqb b 32 ≡ false)) ws → IsUtf8 (spaced ws) → AllByRecursion Clean ws
 clean_from [] h u = tt

@@ -13,9 +13,12 @@ use Rattle.map_model.specs.declared.parts.LayerKind.{LayerKind}
 use Rattle.map_model.specs.declared.parts.LayerKind.TheVariants as kinds
 use Rattle.session.specs.declared.limits.TheConstants.{MAX_DOCUMENT_NAME, MAX_FILE_NAME, MAX_TEXT, MAX_KEY}
 use Rattle.map_model.specs.declared.limits.TheConstants.{MAX_SIDE}
-use Rattle.session.specs.Words.{words, number_of, coordinate_of, owner_of, choice_of, is_name, is_name_byte, is_text, is_text_byte, are_texts, are_rows, layer_kind_of, yes_no_of, truth_of, is_key, is_key_byte, is_color, is_color_digit}
-use Rattle.session.specs.Grammar.{word_at, passing, rows_at, block_at, last_text_at, last_texts_at, field_at, FieldKind, Number, Coordinate, Block, Name, File, Choice, LayerSort, YesNo, Truth, Key, Color, OwnerName, FieldValue}
-use Rattle.session.specs.Spelling.{joined_by_bars, AreTexts, commas, choice_word, layer_kind_word, yes_no_word, truth_word, owner_word, field_words, IsField, IsName, IsChoice, IsText, IsKey, AreRows}
+use Rattle.session.specs.Words.{words, number_of, coordinate_of, owner_of, choice_of, is_name, is_name_byte, is_text, is_text_byte, are_texts, are_rows}
+use Rattle.session.specs.Words.{layer_kind_of, yes_no_of, truth_of, is_key, is_key_byte, is_color, is_color_digit}
+use Rattle.session.specs.Grammar.{word_at, passing, rows_at, block_at, last_text_at, last_texts_at, field_at, FieldKind, Number, Coordinate, Block, Name, File}
+use Rattle.session.specs.Grammar.{Choice, LayerSort, YesNo, Truth, Key, Color, OwnerName, FieldValue}
+use Rattle.session.specs.Spelling.{joined_by_bars, AreTexts, commas, choice_word, layer_kind_word, yes_no_word, truth_word, owner_word, field_words, IsField}
+use Rattle.session.specs.Spelling.{IsName, IsChoice, IsText, IsKey, AreRows}
 use Rattle.session.proofs.Decimals.{number_of-decimal}
 use Rattle.session.proofs.Coordinates.{coordinate_of-signed}
 use Rattle.session.proofs.Commas.{numbers_of-commas, plain_commas}
@@ -25,7 +28,8 @@ use Rattle.session.proofs.Bars.{cut_at_bars-joined}
 use Rattle.session.proofs.Owners.{owner_of-word, plain_owner}
 
 -- the word of a value is read as that value
-word_at-word : {A : Type 0} (value_of : List ℕ → Option A) (w : List ℕ) (x : A) (ws : List (List ℕ)) → value_of w ≡ Some x → word_at value_of (w ∷ ws) ≡ Ok (x, ws)
+word_at-word : {A : Type 0} (value_of : List ℕ → Option A) (w : List ℕ) (x : A) (ws : List (List ℕ)) → value_of w ≡ Some x
+    → word_at value_of (w ∷ ws) ≡ Ok (x, ws)
 unfolding word_at
 word_at-word value_of w x ws e = rw e refl
 
@@ -40,14 +44,17 @@ rows_at-commas : (width : ℕ) (values : List ℕ) (ws : List (List ℕ)) → Ar
 unfolding rows_at
 rows_at-commas width values ws h = rw (numbers_of-commas values h.filled h.numbers, block width values h) refl
 
-pub block_at-words : (width : ℕ) (values : List ℕ) (ws : List (List ℕ)) → AreRows width values → block_at (decimal width ∷ commas values ∷ ws) ≡ Ok ((width, values), ws)
+pub block_at-words : (width : ℕ) (values : List ℕ) (ws : List (List ℕ)) → AreRows width values
+    → block_at (decimal width ∷ commas values ∷ ws) ≡ Ok ((width, values), ws)
 unfolding block_at
 block_at-words width values ws h =
-    rw (word_at-word number_of (decimal width) width (commas values ∷ ws) (number_of-decimal width (omega (arith, h.narrow)))) (rows_at-commas width values ws h)
+    rw (word_at-word number_of (decimal width) width (commas values ∷ ws) (number_of-decimal width (omega (arith, h.narrow))))
+    (rows_at-commas width values ws h)
 
 name : (limit : ℕ) (bytes : List ℕ) → IsName limit bytes → is_name limit bytes ≡ true
 name limit bytes h =
-    and_from _ _ (and_from _ _ (and_from _ _ (and_from _ _ (le-leb 1 (length bytes) h.some) (le-leb (length bytes) limit h.short)) (ap not (ne_eqb _ 46 h.no_dot))) (ap not (ne_eqb _ 45 h.no_dash)))
+    and_from _ _ (and_from _ _ (and_from _ _ (and_from _ _ (le-leb 1 (length bytes) h.some) (le-leb (length bytes) limit h.short))
+    (ap not (ne_eqb _ 46 h.no_dot))) (ap not (ne_eqb _ 45 h.no_dash)))
     (list_all-from_AllPass is_name_byte bytes h.bytes)
 
 -- a name does not begin with a dash
@@ -71,7 +78,8 @@ texts : (first : List ℕ) (action : Option (List ℕ)) → AreTexts first actio
 texts first None h = text first h.first
 texts first (Some action) h = and_from _ _ (text first h.first) (text action h.second)
 
-pub last_texts_at-words : (first : List ℕ) (action : Option (List ℕ)) → AreTexts first action → last_texts_at (words (joined_by_bars first action)) ≡ Ok (first, action)
+pub last_texts_at-words : (first : List ℕ) (action : Option (List ℕ)) → AreTexts first action
+    → last_texts_at (words (joined_by_bars first action)) ≡ Ok (first, action)
 last_texts_at-words first action h = rw (texts_of_words (joined_by_bars first action), cut_at_bars-joined first action h.no_bars, texts first action h) refl
 
 layer_kind_of-word : (kind : LayerKind) → layer_kind_of (layer_kind_word kind) ≡ Some kind
@@ -126,7 +134,8 @@ plain_choice None h = plain_literal (codes "-") refl
 plain_choice (Some bytes) h = plain_name MAX_DOCUMENT_NAME bytes h
 
 -- a field is read from its words
-pub field_at-words : (kind : FieldKind) (value : FieldValue kind) (ws : List (List ℕ)) → IsField kind value → field_at kind (field_words kind value ++ ws) ≡ Ok (value, ws)
+pub field_at-words : (kind : FieldKind) (value : FieldValue kind) (ws : List (List ℕ)) → IsField kind value
+    → field_at kind (field_words kind value ++ ws) ≡ Ok (value, ws)
 field_at-words Number n ws h = word_at-word number_of (decimal n) n ws (number_of-decimal n h)
 field_at-words Coordinate z ws h = word_at-word coordinate_of (signed_decimal z) z ws (coordinate_of-signed z h)
 field_at-words Block block ws h = block_at-words block.0 block.1 ws h

@@ -1,10 +1,14 @@
 -- Which texts are which lines.
-use Rattle.std.specs.Prelude.{◌≡◌, ℕ, ℤ, Bool, true, false, not, ◌||◌, ◌==◌, nat_lt, List, [], ◌∷◌, ◌++◌, length, Option, None, Some, Result, Ok, Err, codes, if◌then◌else◌}
+use Rattle.std.specs.Prelude.{◌≡◌, ℕ, ℤ, Bool, true, false, not, ◌||◌, ◌==◌, nat_lt, List, [], ◌∷◌, ◌++◌, length, Option, None, Some, Result, Ok, Err, codes}
+use Rattle.std.specs.Prelude.{if◌then◌else◌}
 use Rattle.std.specs.List.{join_with_byte, list_all}
 use Rattle.std.specs.Str.{bytes_eq, is_utf8}
 use Rattle.session.specs.declared.limits.TheConstants.{MAX_LINE, MAX_DOCUMENT_NAME, MAX_FILE_NAME}
 use Rattle.session.specs.declared.line.Line.{Line}
-use Rattle.session.specs.declared.line.Line.TheVariants.{Quiet, New, Open, Save, Close, Discard, Use, Documents, Stamp, Erase, Fill, Select, SelectNone, Tile, AddLayer, RemoveLayer, RenameLayer, ShowLayer, MoveLayer, Resize, AddObject, MoveObject, ResizeObject, RemoveObject, SetProperty, RemoveProperty, AddTileset, RemoveTileset, Undo, Redo, Goto, Clean, Dirty, Clear, Begin, End, Limit, Show, Status, UndoText, RedoText, StepText}
+use Rattle.session.specs.declared.line.Line.TheVariants.{Quiet, New, Open, Save, Close, Discard, Use, Documents, Stamp, Erase, Fill, Select, SelectNone, Tile}
+use Rattle.session.specs.declared.line.Line.TheVariants.{AddLayer, RemoveLayer, RenameLayer, ShowLayer, MoveLayer, Resize, AddObject, MoveObject, ResizeObject}
+use Rattle.session.specs.declared.line.Line.TheVariants.{RemoveObject, SetProperty, RemoveProperty, AddTileset, RemoveTileset, Undo, Redo, Goto, Clean, Dirty}
+use Rattle.session.specs.declared.line.Line.TheVariants.{Clear, Begin, End, Limit, Show, Status, UndoText, RedoText, StepText}
 use Rattle.session.specs.declared.line.LineFault.{LineFault}
 use Rattle.session.specs.declared.line.LineFault.TheVariants.{TooLong, NotUtf8, UnknownCommand, BadWord}
 use Rattle.map_model.specs.declared.parts.LayerKind.{LayerKind}
@@ -13,7 +17,8 @@ use Rattle.map_model.specs.declared.selection.SelectionMode.TheVariants.{Replace
 use Rattle.map_model.specs.declared.owner.Owner.{Owner}
 use Rattle.session.specs.declared.typed_value.TypedValue.{TypedValue}
 use Rattle.session.specs.declared.typed_value.TypedValue.TheVariants as typed
-use Rattle.session.specs.Words.{words, number_of, coordinate_of, numbers_of, choice_of, are_rows, is_name, is_text, cut_at_bars, are_texts, layer_kind_of, yes_no_of, truth_of, is_key, is_color, owner_of}
+use Rattle.session.specs.Words.{words, number_of, coordinate_of, numbers_of, choice_of, are_rows, is_name, is_text, cut_at_bars, are_texts, layer_kind_of}
+use Rattle.session.specs.Words.{yes_no_of, truth_of, is_key, is_color, owner_of}
 
 infixl 10 ◌>>=◌
 abbrev pub ◌>>=◌ : {A B : Type 0} → Result A LineFault → (A → Result B LineFault) → Result B LineFault
@@ -154,7 +159,8 @@ move_layer_form = Field Number λ layer. Field Number λ place. Ends (MoveLayer 
 
 abbrev pub new_form : LineForm
 new_form =
-    Field Name λ name. Field Number λ width. Field Number λ height. Field Number λ tile_width. Field Number λ tile_height. Text (New name width height tile_width tile_height)
+    Field Name λ name. Field Number λ width. Field Number λ height. Field Number λ tile_width. Field Number λ tile_height.
+    Text (New name width height tile_width tile_height)
 
 abbrev pub open_form : LineForm
 open_form = Field Name λ name. Field File λ file. Ends (Open name file)

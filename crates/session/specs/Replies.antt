@@ -2,7 +2,11 @@
 use Rattle.std.specs.Prelude.{ℕ, ◌==◌, List, [], ◌∷◌, ◌++◌, Option, None, Some, bit_and, codes, if◌then◌else◌, decimal}
 use Rattle.session.specs.declared.line.LineFault.TheVariants.{TooLong, NotUtf8, UnknownCommand, BadWord}
 use Rattle.session.specs.declared.reply.Refusal.{Refusal}
-use Rattle.session.specs.declared.reply.Refusal.TheVariants.{Line, NoActiveDocument, NameTaken, NoSuchDocument, UnsavedChanges, MacroOpen, NothingToUndo, NothingToRedo, NoMacroOpen, TooDeep, StackNotEmpty, NoSuchLayer, LayerOfAnotherKind, OutsideTheMap, UnknownTile, NoSuchObject, NoSuchProperty, NoSuchTileset, TilesetInUse, FirstIdNotAbove, OutOfRange, TooMany, NoSuchFile, StoreFailed, NotJson, Fraction, MemberMissing, MemberOfAnotherKind, Infinite, Compressed, BadData, IdUsedTwice, OverLimit, NotAMap, NoMemory}
+use Rattle.session.specs.declared.reply.Refusal.TheVariants.{Line, NoActiveDocument, NameTaken, NoSuchDocument, UnsavedChanges, MacroOpen, NothingToUndo}
+use Rattle.session.specs.declared.reply.Refusal.TheVariants.{NothingToRedo, NoMacroOpen, TooDeep, StackNotEmpty, NoSuchLayer, LayerOfAnotherKind, OutsideTheMap}
+use Rattle.session.specs.declared.reply.Refusal.TheVariants.{UnknownTile, NoSuchObject, NoSuchProperty, NoSuchTileset, TilesetInUse, FirstIdNotAbove}
+use Rattle.session.specs.declared.reply.Refusal.TheVariants.{OutOfRange, TooMany, NoSuchFile, StoreFailed, NotJson, Fraction, MemberMissing}
+use Rattle.session.specs.declared.reply.Refusal.TheVariants.{MemberOfAnotherKind, Infinite, Compressed, BadData, IdUsedTwice, OverLimit, NotAMap, NoMemory}
 use Rattle.session.specs.declared.reply.LocalTile.{LocalTile}
 use Rattle.session.specs.declared.reply.Reply.{Reply}
 use Rattle.session.specs.declared.reply.Reply.TheVariants.{State, NoDocument, Documents, Saved, Text, Map, EmptyTile, Tile, Refused}

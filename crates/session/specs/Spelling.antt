@@ -1,12 +1,16 @@
 -- How a line is spelled, and that this spelling is read.
-use Rattle.std.specs.Prelude.{◌≡◌, ◌≢◌, ℕ, ◌^◌, ◌%◌, ◌<◌, ◌≤◌, ℤ, pos, neg_ℤ, ◌≤ℤ◌, Bool, true, false, List, [], ◌∷◌, ◌++◌, length, map, All, slice_index, IsTrue, Option, None, Some, IfSome, Ok, Err, codes, decimal, ⊤, ◌||◌}
+use Rattle.std.specs.Prelude.{◌≡◌, ◌≢◌, ℕ, ◌^◌, ◌%◌, ◌<◌, ◌≤◌, ℤ, pos, neg_ℤ, ◌≤ℤ◌, Bool, true, false, List, [], ◌∷◌, ◌++◌, length, map, All, slice_index}
+use Rattle.std.specs.Prelude.{IsTrue, Option, None, Some, IfSome, Ok, Err, codes, decimal, ⊤, ◌||◌}
 use Rattle.std.specs.List.{join_with_byte, flat_map, AllByRecursion}
 use Rattle.std.specs.Fmt.{signed_decimal}
 use Rattle.std.specs.Str.{IsUtf8}
 use Rattle.session.specs.declared.limits.TheConstants.{MAX_LINE, MAX_DOCUMENT_NAME, MAX_FILE_NAME, MAX_TEXT, MAX_KEY, MAX_COORDINATE}
 use Rattle.map_model.specs.declared.limits.TheConstants.{MAX_SIDE}
 use Rattle.session.specs.declared.line.Line.{Line}
-use Rattle.session.specs.declared.line.Line.TheVariants.{Quiet, New, Open, Save, Close, Discard, Use, Documents, Stamp, Erase, Fill, Select, SelectNone, Tile, AddLayer, RemoveLayer, RenameLayer, ShowLayer, MoveLayer, Resize, AddObject, MoveObject, ResizeObject, RemoveObject, SetProperty, RemoveProperty, AddTileset, RemoveTileset, Undo, Redo, Goto, Clean, Dirty, Clear, Begin, End, Limit, Show, Status, UndoText, RedoText, StepText}
+use Rattle.session.specs.declared.line.Line.TheVariants.{Quiet, New, Open, Save, Close, Discard, Use, Documents, Stamp, Erase, Fill, Select, SelectNone, Tile}
+use Rattle.session.specs.declared.line.Line.TheVariants.{AddLayer, RemoveLayer, RenameLayer, ShowLayer, MoveLayer, Resize, AddObject, MoveObject, ResizeObject}
+use Rattle.session.specs.declared.line.Line.TheVariants.{RemoveObject, SetProperty, RemoveProperty, AddTileset, RemoveTileset, Undo, Redo, Goto, Clean, Dirty}
+use Rattle.session.specs.declared.line.Line.TheVariants.{Clear, Begin, End, Limit, Show, Status, UndoText, RedoText, StepText}
 use Rattle.session.specs.declared.line.LineFault.TheVariants.{TooLong}
 use Rattle.map_model.specs.declared.parts.LayerKind.{LayerKind}
 use Rattle.map_model.specs.declared.parts.LayerKind.TheVariants as kinds
@@ -17,7 +21,8 @@ use Rattle.map_model.specs.declared.owner.Owner.TheVariants as owners
 use Rattle.session.specs.declared.typed_value.TypedValue.{TypedValue}
 use Rattle.session.specs.declared.typed_value.TypedValue.TheVariants as typed
 use Rattle.session.specs.Words.{words, bars, is_name_byte, is_color}
-use Rattle.session.specs.Grammar.{FieldKind, Number, Coordinate, Block, Name, File, Choice, LayerSort, YesNo, Truth, Key, Color, OwnerName, FieldValue, is_quiet, line_of}
+use Rattle.session.specs.Grammar.{FieldKind, Number, Coordinate, Block, Name, File, Choice, LayerSort, YesNo, Truth, Key, Color, OwnerName, FieldValue}
+use Rattle.session.specs.Grammar.{is_quiet, line_of}
 
 -- words with one space between each two
 abbrev pub spaced : List (List ℕ) → List ℕ

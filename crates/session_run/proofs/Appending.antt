@@ -17,9 +17,14 @@ appends_more (Some old) (Some bs) None xs ys h k = k
 appends_more (Some old) (Some bs) (Some cs) xs ys h k = k ∙ ap (λ zs. zs ++ ys) h ∙ append_assoc old xs ys
 
 -- the next write takes n of the bytes that are left
-pub takes_more : (a b c : Option (List ℕ)) (whole beginning rest : List ℕ) (n : ℕ) → whole ≡ beginning ++ rest → Appends a b beginning → Appends b c (take n rest) → (more : List ℕ) × (whole ≡ more ++ drop n rest) × Appends a c more
-takes_more a b c whole beginning rest n e h k =
-    (beginning ++ take n rest, e ∙ ap (λ zs. beginning ++ zs) (sym (take-append-drop n rest)) ∙ sym (append_assoc beginning (take n rest) (drop n rest)), appends_more a b c beginning (take n rest) h k)
+pub takes_more : (a b c : Option (List ℕ)) (whole beginning rest : List ℕ) (n : ℕ) → whole ≡ beginning ++ rest → Appends a b beginning
+    → Appends b c (take n rest) → (more : List ℕ) × (whole ≡ more ++ drop n rest) × Appends a c more
+takes_more a b c whole beginning rest n e h k = (
+  beginning ++ take n rest,
+  e ∙ ap (λ zs. beginning ++ zs) (sym (take-append-drop n rest))
+      ∙ sym (append_assoc beginning (take n rest) (drop n rest)),
+  appends_more a b c beginning (take n rest) h k,
+)
 
 -- a beginning of the first bytes is one of all
 pub beginning_of_first : (a b : Option (List ℕ)) (xs ys : List ℕ) → TakesBeginning xs a b → TakesBeginning (xs ++ ys) a b

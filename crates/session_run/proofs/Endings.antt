@@ -1,5 +1,6 @@
 -- Documents that are not clean at the end of a run.
-use Rattle.std.proofs.Common.{◌≡◌, ◌∙◌, ◌<◌, ℕ, suc, zero, Bool, true, false, IsTrue, List, [], ◌∷◌, ◌++◌, map, length, slice_index_or, Some, None, refl, sym, ap, subst, append_assoc, arith}
+use Rattle.std.proofs.Common.{◌≡◌, ◌∙◌, ◌<◌, ℕ, suc, zero, Bool, true, false, IsTrue, List, [], ◌∷◌, ◌++◌, map, length, slice_index_or, Some, None, refl, sym}
+use Rattle.std.proofs.Common.{ap, subst, append_assoc, arith}
 use Rattle.std.specs.Prelude.{All, IfSome, MatchBool, Option, option_to_list, slice_get}
 use Rattle.std.specs.List.{flat_map}
 use Rattle.std.specs.Option.{option_map}
@@ -26,7 +27,8 @@ slice_get_at (x ∷ xs) (suc k) d lt = slice_get_at xs k d (omega (arith, lt))
 named_each : (ds : List OpenDocument) → AreDistinct ds → All (λ d. history_named d.name ds ≡ Some d.history) ds
 named_each ds distinct k d lt = history_named-at ds k (slice_index_or ds k d) distinct (slice_get_at ds k d lt)
 
-clean_each : (ds es : List OpenDocument) → All (IsCleanNamed ds) (map (λ (d : OpenDocument). d.name) es) → All (λ d. history_named d.name ds ≡ Some d.history) es → AreClean es
+clean_each : (ds es : List OpenDocument) → All (IsCleanNamed ds) (map (λ (d : OpenDocument). d.name) es)
+    → All (λ d. history_named d.name ds ≡ Some d.history) es → AreClean es
 clean_each ds [] clean named = All-nil (λ d. IsTrue (is_clean d.history))
 clean_each ds (e ∷ es) clean named =
     let P : OpenDocument → Type 0 = λ d. history_named d.name ds ≡ Some d.history in
@@ -56,12 +58,14 @@ abbrev pub told_named : List OpenDocument → List ℕ → List Told
 told_named ds name = told_history name (history_named name ds)
 
 -- what is told of the documents by their names is what is told of them
-told_each : (ds es : List OpenDocument) → All (λ d. history_named d.name ds ≡ Some d.history) es → flat_map (told_named ds) (map (λ (d : OpenDocument). d.name) es) ≡ unsaved_told es
+told_each : (ds es : List OpenDocument) → All (λ d. history_named d.name ds ≡ Some d.history) es
+    → flat_map (told_named ds) (map (λ (d : OpenDocument). d.name) es) ≡ unsaved_told es
 told_each ds [] named = refl
 told_each ds (e ∷ es) named =
     let P : OpenDocument → Type 0 = λ d. history_named d.name ds ≡ Some d.history in
     let first : told_named ds e.name ≡ told_history e.name (Some e.history) = ap (told_history e.name) (All-head P e es named) in
-    ap (λ xs. xs ++ flat_map (told_named ds) (map (λ (d : OpenDocument). d.name) es)) first ∙ ap (λ ys. told_history e.name (Some e.history) ++ ys) (told_each ds es (All-tail P e es named))
+    ap (λ xs. xs ++ flat_map (told_named ds) (map (λ (d : OpenDocument). d.name) es)) first
+    ∙ ap (λ ys. told_history e.name (Some e.history) ++ ys) (told_each ds es (All-tail P e es named))
 
 pub clean_unsaved : (h : History) → None ≡ unsaved_of h → is_clean h ≡ true
 clean_unsaved h e = go (is_clean h) refl
@@ -95,29 +99,35 @@ pub record IsReported (ds : List OpenDocument) (unsaved : Bool) (left : List (Li
   pub found : unsaved ≡ true → AreClean ds → ⊥
   pub told : Tells old new (flat_map (told_named ds) done)
 
-pub none-IsReported : (ds : List OpenDocument) (left : List (List ℕ)) (told : Option (List Told)) → left ≡ map (λ (d : OpenDocument). d.name) ds → IsReported ds false left told told
+pub none-IsReported : (ds : List OpenDocument) (left : List (List ℕ)) (told : Option (List Told)) → left ≡ map (λ (d : OpenDocument). d.name) ds
+    → IsReported ds false left told told
 none-IsReported ds left told e =
     record { done = []; split = sym e; clean = λ _. All-nil (IsCleanNamed ds); found = λ bad. absurd cc; told = tells_nothing told }
 
-one_more : (ds : List OpenDocument) (done left left' : List (List ℕ)) (name : List ℕ) → map (λ (d : OpenDocument). d.name) ds ≡ done ++ left → left ≡ name ∷ left'
+one_more : (ds : List OpenDocument) (done left left' : List (List ℕ)) (name : List ℕ) → map (λ (d : OpenDocument). d.name) ds ≡ done ++ left
+    → left ≡ name ∷ left'
     → map (λ (d : OpenDocument). d.name) ds ≡ (done ++ name ∷ []) ++ left'
 one_more ds done left left' name split e = split ∙ ap (λ rest. done ++ rest) e ∙ sym (append_assoc done (name ∷ []) left')
 
 -- what is told of one name more
-tells_one : (ds : List OpenDocument) (done : List (List ℕ)) (name : List ℕ) (more : List Told) (old mid new : Option (List Told)) → Tells old mid (flat_map (told_named ds) done)
+tells_one : (ds : List OpenDocument) (done : List (List ℕ)) (name : List ℕ) (more : List Told) (old mid new : Option (List Told))
+    → Tells old mid (flat_map (told_named ds) done)
     → Tells mid new more → told_named ds name ≡ more → Tells old new (flat_map (told_named ds) (done ++ name ∷ []))
 tells_one ds done name more old mid new h k e =
     let P : List Told → Type 0 = λ xs. Tells old new xs in
     let last : more ≡ flat_map (told_named ds) (name ∷ []) = sym e ∙ sym (append-nil (told_named ds name)) in
-    subst P (ap (λ xs. flat_map (told_named ds) done ++ xs) last ∙ sym (flat_map-append (told_named ds) done (name ∷ []))) (tells_more old mid new (flat_map (told_named ds) done) more h k)
+    subst P (ap (λ xs. flat_map (told_named ds) done ++ xs) last ∙ sym (flat_map-append (told_named ds) done (name ∷ [])))
+    (tells_more old mid new (flat_map (told_named ds) done) more h k)
 
 -- nothing is told of a name whose document is clean, or of a name of none
-untold : (ds : List OpenDocument) (name : List ℕ) (h : Option History) → h ≡ history_named name ds → IfSome h (λ own. None ≡ unsaved_of own) → told_named ds name ≡ []
+untold : (ds : List OpenDocument) (name : List ℕ) (h : Option History) → h ≡ history_named name ds → IfSome h (λ own. None ≡ unsaved_of own)
+    → told_named ds name ≡ []
 untold ds name None e c = ap (told_history name) (sym e)
 untold ds name (Some h) e c = ap (told_history name) (sym e) ∙ ap (λ why. option_to_list (option_map (UnsavedDocument name) why)) (sym c)
 
 -- the document of the next name is clean, or there is none
-pub clean-IsReported : (ds : List OpenDocument) (unsaved : Bool) (left left' : List (List ℕ)) (name : List ℕ) (h : Option History) (old new : Option (List Told)) → IsReported ds unsaved left old new
+pub clean-IsReported : (ds : List OpenDocument) (unsaved : Bool) (left left' : List (List ℕ)) (name : List ℕ) (h : Option History)
+    (old new : Option (List Told)) → IsReported ds unsaved left old new
     → left ≡ name ∷ left' → h ≡ history_named name ds → IfSome h (λ own. None ≡ unsaved_of own) → IsReported ds unsaved left' old new
 clean-IsReported ds unsaved left left' name h old new r e at c = record {
   done = r.done ++ name ∷ [];
@@ -134,8 +144,10 @@ clean-IsReported ds unsaved left left' name h old new r e at c = record {
         subst (λ (x : History). IsTrue (is_clean x)) same (clean_unsaved own c)
 
 -- the document of the next name is not clean, and that was told
-pub unsaved-IsReported : (ds : List OpenDocument) (unsaved : Bool) (left left' : List (List ℕ)) (name : List ℕ) (h : History) (why : Unsaved) (old mid new : Option (List Told))
-    → IsReported ds unsaved left old mid → left ≡ name ∷ left' → Some h ≡ history_named name ds → Some why ≡ unsaved_of h → Tells mid new (UnsavedDocument name why ∷ []) → IsReported ds true left' old new
+pub unsaved-IsReported : (ds : List OpenDocument) (unsaved : Bool) (left left' : List (List ℕ)) (name : List ℕ) (h : History) (why : Unsaved)
+    (old mid new : Option (List Told))
+    → IsReported ds unsaved left old mid → left ≡ name ∷ left' → Some h ≡ history_named name ds → Some why ≡ unsaved_of h
+    → Tells mid new (UnsavedDocument name why ∷ []) → IsReported ds true left' old new
 unsaved-IsReported ds unsaved left left' name h why old mid new r e at c t = record {
   done = r.done ++ name ∷ [];
   split = one_more ds r.done left left' name r.split e;
@@ -145,16 +157,20 @@ unsaved-IsReported ds unsaved left left' name h why old mid new r e at c t = rec
       (ap (told_history name) (sym at) ∙ ap (λ (own : Option Unsaved). option_to_list (option_map (UnsavedDocument name) own)) (sym c));
 }
 
-all_done : (ds : List OpenDocument) (left done : List (List ℕ)) → map (λ (d : OpenDocument). d.name) ds ≡ done ++ left → left ≡ [] → done ≡ map (λ (d : OpenDocument). d.name) ds
+all_done : (ds : List OpenDocument) (left done : List (List ℕ)) → map (λ (d : OpenDocument). d.name) ds ≡ done ++ left → left ≡ []
+    → done ≡ map (λ (d : OpenDocument). d.name) ds
 all_done ds left done split e = sym (append-nil done) ∙ ap (λ rest. done ++ rest) (sym e) ∙ sym split
 
 -- all names were looked at
-pub all-IsReported : (ds : List OpenDocument) (unsaved : Bool) (left : List (List ℕ)) (old new : Option (List Told)) → AreDistinct ds → IsReported ds unsaved left old new → left ≡ []
+pub all-IsReported : (ds : List OpenDocument) (unsaved : Bool) (left : List (List ℕ)) (old new : Option (List Told)) → AreDistinct ds
+    → IsReported ds unsaved left old new → left ≡ []
     → MatchBool unsaved (AreClean ds → ⊥) (AreClean ds)
 all-IsReported ds true left old new distinct r e = r.found refl
-all-IsReported ds false left old new distinct r e = clean_each ds ds (subst (All (IsCleanNamed ds)) (all_done ds left r.done r.split e) (r.clean refl)) (named_each ds distinct)
+all-IsReported ds false left old new distinct r e = clean_each ds ds (subst (All (IsCleanNamed ds)) (all_done ds left r.done r.split e) (r.clean refl))
+    (named_each ds distinct)
 
-pub all-told : (ds : List OpenDocument) (unsaved : Bool) (left : List (List ℕ)) (old new : Option (List Told)) → AreDistinct ds → IsReported ds unsaved left old new → left ≡ [] → Tells old new (unsaved_told ds)
+pub all-told : (ds : List OpenDocument) (unsaved : Bool) (left : List (List ℕ)) (old new : Option (List Told)) → AreDistinct ds
+    → IsReported ds unsaved left old new → left ≡ [] → Tells old new (unsaved_told ds)
 all-told ds unsaved left old new distinct r e =
     let P : List Told → Type 0 = λ xs. Tells old new xs in
     subst P (ap (flat_map (told_named ds)) (all_done ds left r.done r.split e) ∙ told_each ds ds (named_each ds distinct)) r.told

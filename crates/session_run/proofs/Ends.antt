@@ -8,7 +8,8 @@ use Rattle.session.specs.declared.reply.Reply.TheVariants.{Refused}
 use Rattle.map_store.specs.Files.{StoreParts}
 use Rattle.editor.specs.Machine.{Machine, Workspace, workspace}
 use Rattle.session_run.specs.Runs.{RunsAll, RunsToUnread, RunsToWrite, reply_line}
-use Rattle.session_run.specs.StrictRuns.{RefusedLine, RunsClean, RunsStrictlyToUnread, RunsStrictlyToWrite, RunsToRefused, Tells, TellsRefused, TellsUnsaved, Told, refused_text}
+use Rattle.session_run.specs.StrictRuns.{RefusedLine, RunsClean, RunsStrictlyToUnread, RunsStrictlyToWrite, RunsToRefused, Tells, TellsRefused, TellsUnsaved}
+use Rattle.session_run.specs.StrictRuns.{Told, refused_text}
 use Rattle.session_run.specs.WithinRuns.{EndsAll, EndsAs, EndsInWrite, EndsOver, Going, StopsInWrite, StopsRefused, StopsUnread}
 use Rattle.session_run.specs.declared.strict.End.{End}
 use Rattle.session_run.specs.declared.strict.End.TheVariants as end
@@ -16,7 +17,8 @@ use Rattle.session_run.proofs.Progress.{keeps_appends}
 
 -- ---- of lines
 -- the reply to a refused line is shown
-abbrev pub shown_refused : (start : Workspace) (input : List ℕ) (before mid after : Option (List ℕ)) (stored : StoreParts) → RunsToRefused start input before mid stored → Keeps mid after
+abbrev pub shown_refused : (start : Workspace) (input : List ℕ) (before mid after : Option (List ℕ)) (stored : StoreParts)
+    → RunsToRefused start input before mid stored → Keeps mid after
     → RunsToRefused start input before after stored
 shown_refused start input before mid after stored r k = record {
   mid = r.mid;
@@ -33,8 +35,10 @@ shown_refused start input before mid after stored r k = record {
   reply = keeps_appends r.written mid after (reply_line (Refused r.refusal)) r.reply k;
 }
 
-ends_all : (strict : Bool) (start : Workspace) (input : List ℕ) (end : End) (now : Workspace) (before after : Option (List ℕ)) (n k : ℕ) (old new : Option (List Told))
-    → Going strict start input [] now before after n k → EndsOver end strict now.machine.group.documents old new → EndsAs end strict start input before after now.stored n k old new
+ends_all : (strict : Bool) (start : Workspace) (input : List ℕ) (end : End) (now : Workspace) (before after : Option (List ℕ)) (n k : ℕ)
+    (old new : Option (List Told))
+    → Going strict start input [] now before after n k → EndsOver end strict now.machine.group.documents old new
+    → EndsAs end strict start input before after now.stored n k old new
 ends_all strict start input end.Input now before after n k old new g e =
     record { runs = record { now = now.machine; progress = g.progress }; accepted = g.accepted; clean = e.0 }
 ends_all strict start input end.Refused now before after n k old new g e = absurd e
@@ -46,8 +50,10 @@ ends_all strict start input end.Unsaved now before after n k old new g e = (
   },
 )
 
-ends_refused : (start : Workspace) (input : List ℕ) (refusal : Refusal) (stored : StoreParts) (line : List ℕ) (before mid after : Option (List ℕ)) (n : ℕ) (old new : Option (List Told))
-    → StopsRefused start input refusal stored line before mid n → Keeps mid after → Tells old new (RefusedLine n (refused_text line refusal) refusal ∷ []) → TellsRefused start input before after stored old new
+ends_refused : (start : Workspace) (input : List ℕ) (refusal : Refusal) (stored : StoreParts) (line : List ℕ) (before mid after : Option (List ℕ)) (n : ℕ)
+    (old new : Option (List Told))
+    → StopsRefused start input refusal stored line before mid n → Keeps mid after → Tells old new (RefusedLine n (refused_text line refusal) refusal ∷ [])
+    → TellsRefused start input before after stored old new
 ends_refused start input refusal stored line before mid after n old new s k t = record {
   runs = shown_refused start input before mid after stored s.runs k;
   told = rw (s.refused, s.text, ← s.counted) t;
@@ -65,21 +71,24 @@ same_error error other e =
 module _ (strict : Bool) (known : Option (List ℕ)) (first started : Machine) (files : StoreParts) (is : first ≡ started) where
   -- all lines were handled
   pub known_all : (end : End) (now : Workspace) (group : GroupParts) (before after : Option (List ℕ)) (n k : ℕ) (old new : Option (List Told))
-      → IfSome known (λ input. Going strict (workspace first files) input [] now before after n k) → group ≡ now.machine.group → EndsOver end strict group.documents old new
+      → IfSome known (λ input. Going strict (workspace first files) input [] now before after n k) → group ≡ now.machine.group
+      → EndsOver end strict group.documents old new
       → IfSome known (λ input. EndsAs end strict (workspace started files) input before after now.stored n k old new)
   known_all end now group before after n k old new s same e =
       let P : Machine → Type 0 = λ m. IfSome known (λ input. Going strict (workspace m files) input [] now before after n k) in
       let Q : GroupParts → Type 0 = λ g. EndsOver end strict g.documents old new in
       go known (subst P is s) (subst Q same e)
     where
-      go : (known : Option (List ℕ)) → IfSome known (λ input. Going strict (workspace started files) input [] now before after n k) → EndsOver end strict now.machine.group.documents old new
+      go : (known : Option (List ℕ)) → IfSome known (λ input. Going strict (workspace started files) input [] now before after n k)
+          → EndsOver end strict now.machine.group.documents old new
           → IfSome known (λ input. EndsAs end strict (workspace started files) input before after now.stored n k old new)
       go None s e = tt
       go (Some input) s e = ends_all strict (workspace started files) input end now before after n k old new s e
 
   -- a refused line was told
   pub known_refused : (refusal : Refusal) (stored : StoreParts) (line : List ℕ) (before mid after : Option (List ℕ)) (n : ℕ) (old new : Option (List Told))
-      → IfSome known (λ input. IsTrue strict × StopsRefused (workspace first files) input refusal stored line before mid n) → Keeps mid after → Tells old new (RefusedLine n (refused_text line refusal) refusal ∷ [])
+      → IfSome known (λ input. IsTrue strict × StopsRefused (workspace first files) input refusal stored line before mid n) → Keeps mid after
+      → Tells old new (RefusedLine n (refused_text line refusal) refusal ∷ [])
       → IfSome known (λ input. IsTrue strict × TellsRefused (workspace started files) input before after stored old new)
   known_refused refusal stored line before mid after n old new s keeps t =
       let P : Machine → Type 0 = λ m. IfSome known (λ input. IsTrue strict × StopsRefused (workspace m files) input refusal stored line before mid n) in
@@ -103,13 +112,15 @@ module _ (strict : Bool) (known : Option (List ℕ)) (first started : Machine) (
       go None s = tt
       go (Some input) s = inr (s.0, shown_refused (workspace started files) input before mid after stored s.1.runs keeps)
 
-  pub known_unread : (reader before after : Option (List ℕ)) (stored : StoreParts) → IfSome known (λ input. StopsUnread strict (workspace first files) input reader before after stored)
+  pub known_unread : (reader before after : Option (List ℕ)) (stored : StoreParts)
+      → IfSome known (λ input. StopsUnread strict (workspace first files) input reader before after stored)
       → IfSome known (λ input. StopsUnread strict (workspace started files) input reader before after stored)
   known_unread reader before after stored s =
       let P : Machine → Type 0 = λ m. IfSome known (λ input. StopsUnread strict (workspace m files) input reader before after stored) in
       subst P is s
 
-  pub known_unwritten : (reader before after : Option (List ℕ)) (stored : StoreParts) → IfSome known (λ input. StopsInWrite strict (workspace first files) input reader before after stored)
+  pub known_unwritten : (reader before after : Option (List ℕ)) (stored : StoreParts)
+      → IfSome known (λ input. StopsInWrite strict (workspace first files) input reader before after stored)
       → IfSome known (λ input. EndsInWrite strict (workspace started files) input reader before after stored)
   known_unwritten reader before after stored s =
       let P : Machine → Type 0 = λ m. IfSome known (λ input. StopsInWrite strict (workspace m files) input reader before after stored) in
@@ -127,13 +138,16 @@ module _ (start : Workspace) where
   strict_all None before after stored n k e = tt
   strict_all (Some input) before after stored n k e = record { runs = e.runs; accepted = e.accepted refl; clean = e.clean refl }
 
-  pub strict_unread : (known reader before after : Option (List ℕ)) (stored : StoreParts) → IfSome known (λ input. StopsUnread true start input reader before after stored)
+  pub strict_unread : (known reader before after : Option (List ℕ)) (stored : StoreParts)
+      → IfSome known (λ input. StopsUnread true start input reader before after stored)
       → IfSome known (λ input. RunsStrictlyToUnread start input reader before after stored)
   strict_unread None reader before after stored s = tt
   strict_unread (Some input) reader before after stored s = (s.0, s.1 refl)
 
-  pub strict_unwritten : (known reader before after : Option (List ℕ)) (stored : StoreParts) → IfSome known (λ input. EndsInWrite true start input reader before after stored)
-      → IfSome known (λ input. RunsStrictlyToUnread start input reader before after stored ⊎ RunsToRefused start input before after stored ⊎ RunsStrictlyToWrite start input before after stored)
+  pub strict_unwritten : (known reader before after : Option (List ℕ)) (stored : StoreParts)
+      → IfSome known (λ input. EndsInWrite true start input reader before after stored)
+      → IfSome known (λ input. RunsStrictlyToUnread start input reader before after stored ⊎ RunsToRefused start input before after stored
+      ⊎ RunsStrictlyToWrite start input before after stored)
   strict_unwritten None reader before after stored s = tt
   strict_unwritten (Some input) reader before after stored (inl (inl s)) = inl (s.0, s.1 refl)
   strict_unwritten (Some input) reader before after stored (inl (inr s)) = inr (inr (s.0, s.1 refl))

@@ -30,7 +30,8 @@ same-IsSame v w e = record {
 }
 
 -- the edit was committed, in a command that does the same
-pub push_step : (line : Line) (old mid : Workspace) (new : Machine) (edit : Edit) (w : Change) (reply : Reply) → Plans line old (planned.Push edit) mid → IsSame (edit_change edit) w
+pub push_step : (line : Line) (old mid : Workspace) (new : Machine) (edit : Edit) (w : Change) (reply : Reply) → Plans line old (planned.Push edit) mid
+    → IsSame (edit_change edit) w
     → Commits (active_of mid.machine) w reply mid.machine new → Step line old (Some reply) (workspace new mid.stored)
 push_step line old mid new edit w reply p same c =
     let P : Workspace → Type 0 = λ m. Commits (active_of m.machine) w reply m.machine new in

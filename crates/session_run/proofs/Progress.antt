@@ -1,5 +1,6 @@
 -- How a run goes on.
-use Rattle.std.proofs.Common.{◌≡◌, ◌≢◌, ℕ, ◌+◌, ◌^◌, ◌≤◌, IsTrue, List, [], ◌∷◌, ◌++◌, length, Option, Some, None, Err, refl, sym, ap, subst, ◌∙◌, inl, inr, ◌⊎◌, append_assoc, arith}
+use Rattle.std.proofs.Common.{◌≡◌, ◌≢◌, ℕ, ◌+◌, ◌^◌, ◌≤◌, IsTrue, List, [], ◌∷◌, ◌++◌, length, Option, Some, None, Err, refl, sym, ap, subst, ◌∙◌, inl, inr}
+use Rattle.std.proofs.Common.{◌⊎◌, append_assoc, arith}
 use Rattle.std.specs.Prelude.{option_to_list, All, Bool, Contains, IfSome, false, not, true, ◌↔◌}
 use Rattle.std.specs.Io.KnownBytes.{Appends, Keeps, prepend_known}
 use Rattle.std.proofs.lemmas.Bool.{lt-ltb}
@@ -29,7 +30,8 @@ pub too_long : (long : List ℕ) → 2 ^ 16 ≤ length long → line_of long ≡
 unfolding line_of
 too_long long h = rw (lt-ltb MAX_LINE (length long) (omega (arith, h))) refl
 
-run_more : (handled : List (List ℕ)) (line : List ℕ) (from now mid : Workspace) (replies : List Reply) (reply : Option Reply) → Run from handled replies now → StepIn line now reply mid
+run_more : (handled : List (List ℕ)) (line : List ℕ) (from now mid : Workspace) (replies : List Reply) (reply : Option Reply) → Run from handled replies now
+    → StepIn line now reply mid
     → Run from (handled ++ line ∷ []) (replies ++ option_to_list reply) mid
 run_more [] line from now mid replies reply r s =
     let P : Workspace → Type 0 = λ m. StepIn line m reply mid in
@@ -71,7 +73,8 @@ stops_before None = tt
 stops_before (Some xs) = ([], All-nil (λ b. b ≢ 10), refl)
 
 -- a long line is refused as such
-too_long_refused : (long : List ℕ) (old new : Workspace) (refusal : Refusal) → 2 ^ 16 ≤ length long → StepIn long old (Some (Refused refusal)) new → refusal ≡ LineRefusal TooLong
+too_long_refused : (long : List ℕ) (old new : Workspace) (refusal : Refusal) → 2 ^ 16 ≤ length long → StepIn long old (Some (Refused refusal)) new
+    → refusal ≡ LineRefusal TooLong
 too_long_refused long old new refusal size s =
     let step = rw (too_long long size) at s in
     let same : Some (Refused refusal) ≡ Some (Refused (LineRefusal TooLong)) = step.0 in
@@ -83,7 +86,8 @@ module _ (strict : Bool) (start : Workspace) where
       → Going strict start input (line ∷ left) now before after n k → StepIn line now reply mid → Appends after after' (output (option_to_list reply))
       → (IsTrue strict → All IsAccepted (option_to_list reply)) → Going strict start input left mid before after' (n + 1) (k + length (option_to_list reply))
   going_more input line left now mid reply before after after' n k g s w a =
-      let joined : output (g.progress.replies ++ option_to_list reply) ≡ output g.progress.replies ++ output (option_to_list reply) = flat_map-append reply_line g.progress.replies (option_to_list reply) in
+      let joined : output (g.progress.replies ++ option_to_list reply) ≡ output g.progress.replies ++ output (option_to_list reply) =
+      flat_map-append reply_line g.progress.replies (option_to_list reply) in
       let P : List ℕ → Type 0 = λ bytes. Appends before after' bytes in
       record {
         progress = record {
@@ -98,23 +102,36 @@ module _ (strict : Bool) (start : Workspace) where
         accepted = λ h. All-append IsAccepted g.progress.replies (option_to_list reply) (g.accepted h) (a h);
       }
 
-  going_with_left : (input : List ℕ) (left left' : List (List ℕ)) (now : Workspace) (before after : Option (List ℕ)) (n k : ℕ) → left ≡ left' → Going strict start input left now before after n k
+  going_with_left : (input : List ℕ) (left left' : List (List ℕ)) (now : Workspace) (before after : Option (List ℕ)) (n k : ℕ) → left ≡ left'
+      → Going strict start input left now before after n k
       → Going strict start input left' now before after n k
-  going_with_left input left left' now before after n k e t = let P : List (List ℕ) → Type 0 = λ ls. Going strict start input ls now before after n k in subst P e t
+  going_with_left input left left' now before after n k e t = let P : List (List ℕ) → Type 0 = λ ls. Going strict start input ls now before after n k in
+      subst P e t
 
   -- nothing was read yet
-  pub goes_none : (known : Option (List ℕ)) (lines : Reading) (before : Option (List ℕ)) → lines ≡ fresh → Goes strict start known (input_left lines known) start before before 0 0
+  pub goes_none : (known : Option (List ℕ)) (lines : Reading) (before : Option (List ℕ)) → lines ≡ fresh
+      → Goes strict start known (input_left lines known) start before before 0 0
   goes_none None lines before e = tt
   goes_none (Some input) lines before e =
       let P : Reading → Type 0 = λ r. Goes strict start (Some input) (input_left r (Some input)) start before before 0 0 in
       let at : P fresh = record {
-        progress = record { handled = []; replies = []; split = refl; run = (refl, refl); written = appends_nothing before; lines_counted = refl; replies_counted = refl };
+        progress = record {
+          handled = [];
+          replies = [];
+          split = refl;
+          run = (refl, refl);
+          written = appends_nothing before;
+          lines_counted = refl;
+          replies_counted = refl;
+        };
         accepted = λ h. All-nil IsAccepted;
       } in
       subst P (sym e) at
 
-  goes_more : (known left left' : Option (List ℕ)) (f : Found) (line : List ℕ) (now mid : Workspace) (reply : Option Reply) (before after after' : Option (List ℕ)) (n k : ℕ)
-      → Goes strict start known left now before after n k → FindsLine left left' (Some f) line → StepFound f line now reply mid → Appends after after' (output (option_to_list reply)) → (IsTrue strict → All IsAccepted (option_to_list reply))
+  goes_more : (known left left' : Option (List ℕ)) (f : Found) (line : List ℕ) (now mid : Workspace) (reply : Option Reply)
+      (before after after' : Option (List ℕ)) (n k : ℕ)
+      → Goes strict start known left now before after n k → FindsLine left left' (Some f) line → StepFound f line now reply mid
+      → Appends after after' (output (option_to_list reply)) → (IsTrue strict → All IsAccepted (option_to_list reply))
       → Goes strict start known left' mid before after' (n + 1) (k + length (option_to_list reply))
   goes_more None left left' f line now mid reply before after after' n k g l s w a = tt
   goes_more (Some input) None left' f line now mid reply before after after' n k g l s w a = absurd g
@@ -125,15 +142,18 @@ module _ (strict : Bool) (start : Workspace) where
       going_more input l.0 (lines_of ys) now mid reply before after after' n k (going_with_left input _ _ now before after n k l.1 g) (s l.0 l.2) w a
 
   pub goes_quiet : (known left left' : Option (List ℕ)) (f : Found) (line : List ℕ) (now mid : Workspace) (before after : Option (List ℕ)) (n k : ℕ)
-      → Goes strict start known left now before after n k → FindsLine left left' (Some f) line → StepFound f line now None mid → Goes strict start known left' mid before after (n + 1) k
+      → Goes strict start known left now before after n k → FindsLine left left' (Some f) line → StepFound f line now None mid
+      → Goes strict start known left' mid before after (n + 1) k
   goes_quiet known left left' f line now mid before after n k g l s =
       let P : ℕ → Type 0 = λ m. Goes strict start known left' mid before after (n + 1) m in
       let same : k + 0 ≡ k = omega arith in
       subst P same (goes_more known left left' f line now mid None before after after n k g l s (appends_nothing after) (λ h. All-nil IsAccepted))
 
   -- a reply was written
-  pub goes_replied : (known left left' : Option (List ℕ)) (f : Found) (line : List ℕ) (now mid : Workspace) (reply : Reply) (before after after' : Option (List ℕ)) (n k : ℕ)
-      → Goes strict start known left now before after n k → FindsLine left left' (Some f) line → StepFound f line now (Some reply) mid → Appends after after' (reply_line reply) → (IsTrue strict → IsAccepted reply)
+  pub goes_replied : (known left left' : Option (List ℕ)) (f : Found) (line : List ℕ) (now mid : Workspace) (reply : Reply)
+      (before after after' : Option (List ℕ)) (n k : ℕ)
+      → Goes strict start known left now before after n k → FindsLine left left' (Some f) line → StepFound f line now (Some reply) mid
+      → Appends after after' (reply_line reply) → (IsTrue strict → IsAccepted reply)
       → Goes strict start known left' mid before after' (n + 1) (k + 1)
   goes_replied known left left' f line now mid reply before after after' n k g l s w a =
       let P : List ℕ → Type 0 = λ bytes. Appends after after' bytes in
@@ -141,7 +161,8 @@ module _ (strict : Bool) (start : Workspace) where
       (λ h. All-cons IsAccepted reply [] (a h) (All-nil IsAccepted))
 
   -- all lines were handled
-  pub goes_all : (known left left' : Option (List ℕ)) (line : List ℕ) (now : Workspace) (before after : Option (List ℕ)) (n k : ℕ) → Goes strict start known left now before after n k
+  pub goes_all : (known left left' : Option (List ℕ)) (line : List ℕ) (now : Workspace) (before after : Option (List ℕ)) (n k : ℕ)
+      → Goes strict start known left now before after n k
       → FindsLine left left' None line → IfSome known (λ input. Going strict start input [] now before after n k)
   goes_all None left left' line now before after n k g l = tt
   goes_all (Some input) None left' line now before after n k g l = absurd g
@@ -149,8 +170,10 @@ module _ (strict : Bool) (start : Workspace) where
   goes_all (Some input) (Some xs) (Some ys) line now before after n k g l = going_with_left input _ _ now before after n k l.0 g
 
   -- the beginning of a line had come, and the reader has the rest
-  pub goes_unread : (known left left' reader : Option (List ℕ)) (pending : List ℕ) (now : Workspace) (before after : Option (List ℕ)) (n k : ℕ) → Goes strict start known left now before after n k
-      → StopsInLine left left' → left' ≡ prepend_known pending reader → HasNoNewline pending → IfSome known (λ input. StopsUnread strict start input reader before after now.stored)
+  pub goes_unread : (known left left' reader : Option (List ℕ)) (pending : List ℕ) (now : Workspace) (before after : Option (List ℕ)) (n k : ℕ)
+      → Goes strict start known left now before after n k
+      → StopsInLine left left' → left' ≡ prepend_known pending reader → HasNoNewline pending
+      → IfSome known (λ input. StopsUnread strict start input reader before after now.stored)
   goes_unread None left left' reader pending now before after n k g l e h = tt
   goes_unread (Some input) None left' reader pending now before after n k g l e h = absurd g
   goes_unread (Some input) (Some xs) None reader pending now before after n k g l e h = absurd l
@@ -158,7 +181,8 @@ module _ (strict : Bool) (start : Workspace) where
   goes_unread (Some input) (Some xs) (Some ys) (Some rest) pending now before after n k g l e h =
       let same : ys ≡ pending ++ rest = cc in
       let whole : xs ≡ (l.0 ++ pending) ++ rest = l.2 ∙ ap (λ zs. l.0 ++ zs) same ∙ sym (append_assoc l.0 pending rest) in
-      let went : Going strict start input (lines_of ((l.0 ++ pending) ++ rest)) now before after n k = going_with_left input _ _ now before after n k (ap lines_of whole) g in (
+      let went : Going strict start input (lines_of ((l.0 ++ pending) ++ rest)) now before after n k =
+      going_with_left input _ _ now before after n k (ap lines_of whole) g in (
         record {
           beginning = l.0 ++ pending;
           rest = rest;
@@ -173,7 +197,8 @@ module _ (strict : Bool) (start : Workspace) where
       )
 
   going_unwritten : (input line : List ℕ) (left : List (List ℕ)) (mid now : Workspace) (reply : Reply) (before after after' : Option (List ℕ)) (n k : ℕ)
-      → Going strict start input (line ∷ left) mid before after n k → StepIn line mid (Some reply) now → TakesBeginning (reply_line reply) after after' → StopsUnwritten strict start input before after' now.stored
+      → Going strict start input (line ∷ left) mid before after n k → StepIn line mid (Some reply) now → TakesBeginning (reply_line reply) after after'
+      → StopsUnwritten strict start input before after' now.stored
   going_unwritten input line left mid now reply before after after' n k g s w = (
     record {
       mid = mid;
@@ -191,8 +216,10 @@ module _ (strict : Bool) (start : Workspace) where
     g.accepted,
   )
 
-  goes_write : (known left left' : Option (List ℕ)) (f : Found) (line : List ℕ) (mid now : Workspace) (reply : Reply) (before after after' : Option (List ℕ)) (n k : ℕ)
-      → Goes strict start known left mid before after n k → FindsLine left left' (Some f) line → StepFound f line mid (Some reply) now → TakesBeginning (reply_line reply) after after'
+  goes_write : (known left left' : Option (List ℕ)) (f : Found) (line : List ℕ) (mid now : Workspace) (reply : Reply) (before after after' : Option (List ℕ))
+      (n k : ℕ)
+      → Goes strict start known left mid before after n k → FindsLine left left' (Some f) line → StepFound f line mid (Some reply) now
+      → TakesBeginning (reply_line reply) after after'
       → IfSome known (λ input. StopsUnwritten strict start input before after' now.stored)
   goes_write None left left' f line mid now reply before after after' n k g l s w = tt
   goes_write (Some input) None left' f line mid now reply before after after' n k g l s w = absurd g
@@ -211,20 +238,24 @@ module _ (strict : Bool) (start : Workspace) where
   or_second P Q (Some input) h = inr h
 
   -- the replies could not be flushed before a read
-  pub goes_unflushed : (known left reader : Option (List ℕ)) (pending : List ℕ) (now : Workspace) (before after : Option (List ℕ)) (n k : ℕ) → Goes strict start known left now before after n k
+  pub goes_unflushed : (known left reader : Option (List ℕ)) (pending : List ℕ) (now : Workspace) (before after : Option (List ℕ)) (n k : ℕ)
+      → Goes strict start known left now before after n k
       → left ≡ prepend_known pending reader → HasNoNewline pending → IfSome known (λ input. StopsInWrite strict start input reader before after now.stored)
   goes_unflushed known left reader pending now before after n k g e h =
       or_first _ _ known (goes_unread known left left reader pending now before after n k g (stops_before left) e h)
 
   -- the reply to a line could not be written
-  pub goes_unwritten : (known left left' reader : Option (List ℕ)) (f : Found) (line : List ℕ) (mid now : Workspace) (reply : Reply) (before after after' : Option (List ℕ)) (n k : ℕ)
-      → Goes strict start known left mid before after n k → FindsLine left left' (Some f) line → StepFound f line mid (Some reply) now → TakesBeginning (reply_line reply) after after'
+  pub goes_unwritten : (known left left' reader : Option (List ℕ)) (f : Found) (line : List ℕ) (mid now : Workspace) (reply : Reply)
+      (before after after' : Option (List ℕ)) (n k : ℕ)
+      → Goes strict start known left mid before after n k → FindsLine left left' (Some f) line → StepFound f line mid (Some reply) now
+      → TakesBeginning (reply_line reply) after after'
       → IfSome known (λ input. StopsInWrite strict start input reader before after' now.stored)
   goes_unwritten known left left' reader f line mid now reply before after after' n k g l s w =
       or_second _ _ known (goes_write known left left' f line mid now reply before after after' n k g l s w)
 
   -- a flush shows what was written
-  pub goes_keeps : (known left : Option (List ℕ)) (now : Workspace) (before after after' : Option (List ℕ)) (n k : ℕ) → Goes strict start known left now before after n k → Keeps after after'
+  pub goes_keeps : (known left : Option (List ℕ)) (now : Workspace) (before after after' : Option (List ℕ)) (n k : ℕ)
+      → Goes strict start known left now before after n k → Keeps after after'
       → Goes strict start known left now before after' n k
   goes_keeps None left now before after after' n k g h = tt
   goes_keeps (Some input) None now before after after' n k g h = g
@@ -242,7 +273,8 @@ module _ (strict : Bool) (start : Workspace) where
   }
 
   going_refused : (input line shown : List ℕ) (left : List (List ℕ)) (mid now : Workspace) (refusal : Refusal) (before after after' : Option (List ℕ)) (n k : ℕ)
-      → Going strict start input (line ∷ left) mid before after n k → StepIn line mid (Some (Refused refusal)) now → Appends after after' (reply_line (Refused refusal)) → IsTrue strict
+      → Going strict start input (line ∷ left) mid before after n k → StepIn line mid (Some (Refused refusal)) now
+      → Appends after after' (reply_line (Refused refusal)) → IsTrue strict
       → refused_text line refusal ≡ refused_text shown refusal → StopsRefused start input refusal now.stored shown before after' (n + 1)
   going_refused input line shown left mid now refusal before after after' n k g s w h e = record {
     runs = record {
@@ -265,14 +297,19 @@ module _ (strict : Bool) (start : Workspace) where
   }
 
   -- a strict run stops at a refused line, whose reply is written whole
-  pub goes_refused : (known left left' : Option (List ℕ)) (f : Found) (line : List ℕ) (mid now : Workspace) (refusal : Refusal) (before after after' : Option (List ℕ)) (n k : ℕ)
+  pub goes_refused : (known left left' : Option (List ℕ)) (f : Found) (line : List ℕ) (mid now : Workspace) (refusal : Refusal)
+      (before after after' : Option (List ℕ)) (n k : ℕ)
       → Goes strict start known left mid before after n k → FindsLine left left' (Some f) line → StepFound f line mid (Some (Refused refusal)) now
-      → Appends after after' (reply_line (Refused refusal)) → IsTrue strict → IfSome known (λ input. IsTrue strict × StopsRefused start input refusal now.stored line before after' (n + 1))
+      → Appends after after' (reply_line (Refused refusal)) → IsTrue strict
+      → IfSome known (λ input. IsTrue strict × StopsRefused start input refusal now.stored line before after' (n + 1))
   goes_refused None left left' f line mid now refusal before after after' n k g l s w h = tt
   goes_refused (Some input) None left' f line mid now refusal before after after' n k g l s w h = absurd g
   goes_refused (Some input) (Some xs) None f line mid now refusal before after after' n k g l s w h = absurd l
   goes_refused (Some input) (Some xs) (Some ys) found.Line line mid now refusal before after after' n k g l s w h =
       (h, going_refused input line line (lines_of ys) mid now refusal before after after' n k (going_with_left input _ _ mid before after n k l.0 g) s w h refl)
   goes_refused (Some input) (Some xs) (Some ys) found.TooLong line mid now refusal before after after' n k g l s w h =
-      let same : refusal ≡ LineRefusal TooLong = too_long_refused l.0 mid now refusal l.2 (s l.0 l.2) in
-      (h, going_refused input l.0 line (lines_of ys) mid now refusal before after after' n k (going_with_left input _ _ mid before after n k l.1 g) (s l.0 l.2) w h (rw same refl))
+      let same : refusal ≡ LineRefusal TooLong = too_long_refused l.0 mid now refusal l.2 (s l.0 l.2) in (
+        h,
+        going_refused input l.0 line (lines_of ys) mid now refusal before after after' n k (going_with_left input _ _ mid before after n k l.1 g)
+            (s l.0 l.2) w h (rw same refl),
+      )

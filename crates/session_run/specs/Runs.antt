@@ -33,7 +33,8 @@ TakesBeginning bytes before after =
 
 -- Some lines of the input were handled, and these are left. The run began at `start` and stands at `now`, and the writer, whose
 -- contents went from `before` to `after`, has the replies to the lines that were handled.
-pub record Progress (start : Workspace) (input : List ℕ) (left : List (List ℕ)) (now : Workspace) (before after : Option (List ℕ)) (lines replied : ℕ) : Type 0 where
+pub record Progress (start : Workspace) (input : List ℕ) (left : List (List ℕ)) (now : Workspace) (before after : Option (List ℕ))
+    (lines replied : ℕ) : Type 0 where
   pub handled : List (List ℕ)
   pub replies : List Reply
   pub split : lines_of input ≡ handled ++ left

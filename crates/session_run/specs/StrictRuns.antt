@@ -93,12 +93,14 @@ abbrev pub unsaved_told : List OpenDocument → List Told
 unsaved_told documents = flat_map (λ d. option_to_list (option_map (UnsavedDocument d.name) (unsaved_of d.history))) documents
 
 -- the refused line is told, by its number from 1 on
-pub record TellsRefused (start : Workspace) (input : List ℕ) (before after : Option (List ℕ)) (stored : StoreParts) (old new : Option (List Told)) : Type 0 where
+pub record TellsRefused (start : Workspace) (input : List ℕ) (before after : Option (List ℕ)) (stored : StoreParts)
+    (old new : Option (List Told)) : Type 0 where
   pub runs : RunsToRefused start input before after stored
   pub told : Tells old new (RefusedLine (runs.lines + 1) (refused_text runs.line runs.refusal) runs.refusal ∷ [])
 
 -- exactly the documents that are not clean are told
-pub record TellsUnsaved (start : Workspace) (input : List ℕ) (before after : Option (List ℕ)) (stored : StoreParts) (old new : Option (List Told)) : Type 0 where
+pub record TellsUnsaved (start : Workspace) (input : List ℕ) (before after : Option (List ℕ)) (stored : StoreParts)
+    (old new : Option (List Told)) : Type 0 where
   pub runs : RunsToUnsaved start input before after stored
   pub told : Tells old new (unsaved_told runs.runs.now.group.documents)
 

@@ -14,13 +14,15 @@ use Rattle.editor.specs.Machine.{Workspace}
 use Rattle.editor.specs.Planning.{edit_change}
 use Rattle.editor.specs.Steps.{StepIn}
 use Rattle.session_run.specs.Runs.{Progress, RunsAll, RunsToUnread, RunsToWrite}
-use Rattle.session_run.specs.StrictRuns.{AreAccepted, AreClean, RunsToRefused, Tells, TellsDocuments, TellsOneLine, TellsRefused, TellsUnsaved, Told, refused_text, unsaved_told}
+use Rattle.session_run.specs.StrictRuns.{AreAccepted, AreClean, RunsToRefused, Tells, TellsDocuments, TellsOneLine, TellsRefused, TellsUnsaved, Told}
+use Rattle.session_run.specs.StrictRuns.{refused_text, unsaved_told}
 use Rattle.session_run.specs.declared.strict.End.{End}
 use Rattle.session_run.specs.declared.strict.End.TheVariants as end
 
 -- ---- lines
 -- some lines were handled; in a strict run none was refused
-pub record Going (strict : Bool) (start : Workspace) (input : List ℕ) (left : List (List ℕ)) (now : Workspace) (before after : Option (List ℕ)) (lines replied : ℕ) : Type 0 where
+pub record Going (strict : Bool) (start : Workspace) (input : List ℕ) (left : List (List ℕ)) (now : Workspace) (before after : Option (List ℕ))
+    (lines replied : ℕ) : Type 0 where
   pub progress : Progress start input left now before after lines replied
   pub accepted : IsTrue strict → AreAccepted progress.replies
 
@@ -45,7 +47,8 @@ StepFound found line old reply new = OfFound found line (λ bytes. StepIn bytes 
 
 -- ---- how lines end
 -- a strict run stops at a refused line, whose text is that of the line at hand
-pub record StopsRefused (start : Workspace) (input : List ℕ) (refusal : Refusal) (stored : StoreParts) (line : List ℕ) (before after : Option (List ℕ)) (lines : ℕ) : Type 0 where
+pub record StopsRefused (start : Workspace) (input : List ℕ) (refusal : Refusal) (stored : StoreParts) (line : List ℕ) (before after : Option (List ℕ))
+    (lines : ℕ) : Type 0 where
   pub runs : RunsToRefused start input before after stored
   pub counted : lines ≡ runs.lines + 1
   pub refused : runs.refusal ≡ refusal
@@ -54,15 +57,18 @@ pub record StopsRefused (start : Workspace) (input : List ℕ) (refusal : Refusa
 -- all lines were handled, or those up to a refused one
 abbrev pub Stops : Bool → Workspace → List ℕ → Option Refusal → Workspace → List ℕ → Option (List ℕ) → Option (List ℕ) → ℕ → ℕ → Type 0
 Stops strict start input None now line before after lines replied = Going strict start input [] now before after lines replied
-Stops strict start input (Some refusal) now line before after lines replied = IsTrue strict × StopsRefused start input refusal now.stored line before after lines
+Stops strict start input (Some refusal) now line before after lines replied =
+    IsTrue strict × StopsRefused start input refusal now.stored line before after lines
 
 -- no more could be read
 abbrev pub StopsUnread : Bool → Workspace → List ℕ → Option (List ℕ) → Option (List ℕ) → Option (List ℕ) → StoreParts → Type 0
-StopsUnread strict start input reader before after stored = (runs : RunsToUnread start input reader before after stored) × (IsTrue strict → AreAccepted runs.progress.replies)
+StopsUnread strict start input reader before after stored = (runs : RunsToUnread start input reader before after stored)
+    × (IsTrue strict → AreAccepted runs.progress.replies)
 
 -- a reply could not be written
 abbrev pub StopsUnwritten : Bool → Workspace → List ℕ → Option (List ℕ) → Option (List ℕ) → StoreParts → Type 0
-StopsUnwritten strict start input before after stored = (runs : RunsToWrite start input before after stored) × (IsTrue strict → AreAccepted runs.progress.replies)
+StopsUnwritten strict start input before after stored = (runs : RunsToWrite start input before after stored)
+    × (IsTrue strict → AreAccepted runs.progress.replies)
 
 -- a reply could not be written, or not be shown
 abbrev pub StopsInWrite : Bool → Workspace → List ℕ → Option (List ℕ) → Option (List ℕ) → Option (List ℕ) → StoreParts → Type 0
@@ -77,7 +83,8 @@ EndsOver end.Refused strict documents old new = ⊥
 EndsOver end.Unsaved strict documents old new = IsTrue strict × (AreClean documents → ⊥) × Tells old new (unsaved_told documents)
 
 -- all lines were handled; in a strict run none was refused, and each document is clean
-pub record EndsAll (strict : Bool) (start : Workspace) (input : List ℕ) (before after : Option (List ℕ)) (stored : StoreParts) (lines replied : ℕ) : Type 0 where
+pub record EndsAll (strict : Bool) (start : Workspace) (input : List ℕ) (before after : Option (List ℕ)) (stored : StoreParts)
+    (lines replied : ℕ) : Type 0 where
   pub runs : RunsAll start input before after stored lines replied
   pub accepted : IsTrue strict → AreAccepted runs.progress.replies
   pub clean : IsTrue strict → AreClean runs.now.group.documents

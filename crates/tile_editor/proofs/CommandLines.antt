@@ -1,5 +1,6 @@
 -- What a parse gives of an option that may be left out.
-use Rattle.std.proofs.Common.{◌≡◌, ◌∙◌, ◌++◌, ◌||◌, ◌<◌, ℕ, suc, zero, Bool, true, false, List, [], ◌∷◌, length, Option, Some, None, refl, sym, ap, subst, inl, inr, arith}
+use Rattle.std.proofs.Common.{◌≡◌, ◌∙◌, ◌++◌, ◌||◌, ◌<◌, ℕ, suc, zero, Bool, true, false, List, [], ◌∷◌, length, Option, Some, None, refl, sym, ap, subst, inl}
+use Rattle.std.proofs.Common.{inr, arith}
 use Rattle.std.specs.List.{All, slice_index_or}
 use Rattle.std.specs.Str.{bytes_eq}
 use Rattle.std.specs.Prelude.{codes, option_map, slice_get, unwrap_or, Result, Ok, Err, IfOk}
@@ -85,7 +86,8 @@ value_passes c f id t Q no_groups named values reads given = go (matched_of f id
 -- a value that was given to an option of a command passed the option's parser
 listed_option_passes : (cmd : Command) (k : ℕ) (a x : Arg) (m : ArgMatches) → IsPlain cmd → (out-Command cmd).has_globals ≡ false
     → k < length (args_of cmd) → slice_index_or (args_of cmd) k a ≡ x → SameRules a x
-    → ((j : ℕ) (e : Arg) → j < length (args_of cmd) → bytes_eq (slice_index_or (args_of cmd) j e).id.now (slice_index_or (args_of cmd) k a).id.now ≡ true → j ≡ k)
+    → ((j : ℕ) (e : Arg) → j < length (args_of cmd) → bytes_eq (slice_index_or (args_of cmd) j e).id.now (slice_index_or (args_of cmd) k a).id.now ≡ true
+    → j ≡ k)
     → (a.id.now ≡ [] → ⊥) → (IsAuto a → ⊥) → (q : ValueParser) → a.value_parser ≡ Some q → IsParsedFrom cmd m
     → (t : List ℕ) → first_value (found_of m) a.id.now ≡ Some t → Accepts a.ignore_case q t
 listed_option_passes cmd k a x m plain no-globals lt elem rules only named own q parser p t given =
@@ -170,8 +172,10 @@ two_options_pass start mid more last cmd a b d e q r one two three four args gro
     let only-b = subst (λ l. (j : ℕ) (x : Arg) → j < length l → bytes_eq (slice_index_or l j x).id.now (slice_index_or l 1 b).id.now ≡ true → j ≡ 1) (sym list)
     (second_of_four one.arg two.arg three.arg four.arg b apart-a-b apart-b-d apart-b-e) in
     let four-long : length (args_of cmd) ≡ 4 = ap length list in (
-      listed_option_passes cmd 0 a one.arg m plain no-globals (omega (arith, four-long)) (ap (λ l. slice_index_or l 0 a) list) one.rules only-a is-a.named is-a.own q is-a.parser p t,
-      listed_option_passes cmd 1 b two.arg m plain no-globals (omega (arith, four-long)) (ap (λ l. slice_index_or l 1 b) list) two.rules only-b is-b.named is-b.own r is-b.parser p t,
+      listed_option_passes cmd 0 a one.arg m plain no-globals (omega (arith, four-long))
+          (ap (λ l. slice_index_or l 0 a) list) one.rules only-a is-a.named is-a.own q is-a.parser p t,
+      listed_option_passes cmd 1 b two.arg m plain no-globals (omega (arith, four-long))
+          (ap (λ l. slice_index_or l 1 b) list) two.rules only-b is-b.named is-b.own r is-b.parser p t,
     )
 
 -- what holds of each value of an `Ok`
@@ -200,6 +204,7 @@ texts_added new version about after v a h is_version is_about is_after =
     (is_about ∙ ap (λ (f : Command-F Command). record f { about = Some a }) is_version)
 
 -- what `get_flag` reads is what the text says
-pub read_IsFlag : (o : Option (List ℕ)) (given : Bool) → (o ≡ None → given ≡ false) → (o ≡ Some (codes "true") → given ≡ true) → (o ≡ Some (codes "false") → given ≡ false) → IsFlag o given
+pub read_IsFlag : (o : Option (List ℕ)) (given : Bool) → (o ≡ None → given ≡ false) → (o ≡ Some (codes "true") → given ≡ true)
+    → (o ≡ Some (codes "false") → given ≡ false) → IsFlag o given
 read_IsFlag None given none when_true when_false = none refl
 read_IsFlag (Some text) given none when_true when_false = (λ e. when_true (ap Some e), λ e. when_false (ap Some e))

@@ -1,5 +1,6 @@
 -- The facts about an answer, from what was seen of its tree.
-use Rattle.std.proofs.Common.{◌≡◌, inr, ℕ, ◌≤◌, ◌<◌, nat_le, leb-false, List, Bool, true, false, not, ◌||◌, true≢false, Option, Some, None, is_some, Vec, Global, Err, refl, sym, ap, ◌∙◌, arith}
+use Rattle.std.proofs.Common.{◌≡◌, inr, ℕ, ◌≤◌, ◌<◌, nat_le, leb-false, List, Bool, true, false, not, ◌||◌, true≢false, Option, Some, None, is_some, Vec}
+use Rattle.std.proofs.Common.{Global, Err, refl, sym, ap, ◌∙◌, arith}
 use Rattle.std.proofs.lemmas.Bool.{or_right}
 use Rattle.std.specs.Prelude.{unwrap_or}
 use Rattle.serde_json.specs.Data.{Data, depth}
@@ -44,7 +45,8 @@ IsSetAside-plain bytes text d tree free plain text_tree some = record {
 pub SetsAside-none : (bytes : List ℕ) (d : Data) → IsTreeOf bytes d → has_name reserved_name d ≡ false → has_fraction Map d ≡ false
     → is_infinite (set_aside_of d) ≡ false → IsSetAside bytes None d (set_aside_of d)
 SetsAside-none bytes d tree free none plain =
-    IsSetAside-plain bytes None d tree free (sym (is_infinite-set_aside_of d) ∙ plain) (tree.0, tree.1 ∙ ap (λ t. Some t) (sym (aside-unchanged Map d none))) (sym none)
+    IsSetAside-plain bytes None d tree free (sym (is_infinite-set_aside_of d) ∙ plain) (tree.0, tree.1 ∙ ap (λ t. Some t) (sym (aside-unchanged Map d none)))
+    (sym none)
 
 -- a map with a fraction
 pub SetsAside-whole : (bytes : List ℕ) (text : Vec ℕ Global) (d : Data) → IsTreeOf bytes d → has_name reserved_name d ≡ false
@@ -72,7 +74,8 @@ SetsAside-finite bytes text d t tree free infinite finite text_tree =
 infinite_fault : (bytes : List ℕ) (d a : Data) → IsTreeOf bytes d → a ≡ set_aside_of d → is_infinite a ≡ true → IsInfinite bytes
 infinite_fault bytes d a tree is h = (d, tree, sym (is_infinite-set_aside_of d) ∙ ap is_infinite (sym is) ∙ h)
 
-pub finite_fault : (bytes : List ℕ) (d a : Data) (fault : Fault) → IsTreeOf bytes d → a ≡ set_aside_of d → MakesFinite a (Err fault) → SetsAside bytes (Err fault)
+pub finite_fault : (bytes : List ℕ) (d a : Data) (fault : Fault) → IsTreeOf bytes d → a ≡ set_aside_of d → MakesFinite a (Err fault)
+    → SetsAside bytes (Err fault)
 finite_fault bytes d a Memory tree is h = tt
 finite_fault bytes d a NotJson tree is h = absurd h
 finite_fault bytes d a NameTaken tree is h = absurd h

@@ -1,5 +1,7 @@
 -- What was set aside and put back is as it was.
-use Rattle.std.proofs.Common.{◌≡◌, ℕ, ◌+◌, ◌*◌, ◌/◌, ◌%◌, ◌^◌, ◌<◌, List, codes, ℤ, pos, negsuc, Option, Some, None, option_map, option_and_then, Ordering, Less, Equal, Greater, nat_cmp, cond, Bool, true, false, ◌||◌, bytes_eq, true≢false, Float, T, to_bits, from_bits, refl, sym, ap, ◌∙◌, subst, arith, lt-ltb}
+use Rattle.std.proofs.Common.{◌≡◌, ℕ, ◌+◌, ◌*◌, ◌/◌, ◌%◌, ◌^◌, ◌<◌, List, codes, ℤ, pos, negsuc, Option, Some, None, option_map, option_and_then, Ordering}
+use Rattle.std.proofs.Common.{Less, Equal, Greater, nat_cmp, cond, Bool, true, false, ◌||◌, bytes_eq, true≢false, Float, T, to_bits, from_bits, refl, sym, ap}
+use Rattle.std.proofs.Common.{◌∙◌, subst, arith, lt-ltb}
 use Rattle.std.specs.Prelude.{unwrap_or}
 use Rattle.std.specs.Float.{binary64, float_is_finite}
 use Rattle.std.specs.Cmp.Lexicographic.{slice_cmp}
@@ -9,7 +11,8 @@ use Rattle.std.proofs.lemmas.Slice.Eq.{bytes_eq-Decides}
 use Rattle.std.specs.Cmp.{signed_Decides}
 use lib.Ieee as Ieee
 use lib.Ieee.Bits.{of_bits-to_bits, to_bits-lt}
-use Rattle.serde_json.specs.Data.{Num, unsigned, negative, float, Data, null, boolean, number, string, array, object, Items, no_items, item, Members, no_members, member, put}
+use Rattle.serde_json.specs.Data.{Num, unsigned, negative, float, Data, null, boolean, number, string, array, object, Items, no_items, item, Members}
+use Rattle.serde_json.specs.Data.{no_members, member, put}
 use Rattle.serde_json.specs.Find.{get_member, as_integer, as_object, of_integer, of_float, to_float}
 use Rattle.serde_json.proofs.Views.{get_member-put, get_member-put_other}
 use Rattle.tiled_maps.specs.declared.place.Place.{Place}

@@ -1,5 +1,7 @@
 -- One lexeme of a text after another, as the look passes them.
-use Rattle.std.proofs.Common.{IfSome, ◌≡◌, ℕ, suc, ◌+◌, ◌-◌, ◌*◌, ◌^◌, ◌<◌, ◌≤◌, ◌⊎◌, inl, inr, Bool, true, false, cond, ◌||◌, ◌==◌, List, [], ◌∷◌, ◌++◌, length, take, drop, get_or, Option, Some, None, option_and_then, refl, sym, ap, ap₂, ◌∙◌, subst, arith, append-nil, take-append-drop, length-take, append_assoc, drop-drop, get_or-drop, zero-lt-suc}
+use Rattle.std.proofs.Common.{IfSome, ◌≡◌, ℕ, suc, ◌+◌, ◌-◌, ◌*◌, ◌^◌, ◌<◌, ◌≤◌, ◌⊎◌, inl, inr, Bool, true, false, cond, ◌||◌, ◌==◌, List, [], ◌∷◌, ◌++◌}
+use Rattle.std.proofs.Common.{length, take, drop, get_or, Option, Some, None, option_and_then, refl, sym, ap, ap₂, ◌∙◌, subst, arith, append-nil}
+use Rattle.std.proofs.Common.{take-append-drop, length-take, append_assoc, drop-drop, get_or-drop, zero-lt-suc}
 use native.Mathlib.Nat.{pow-le-pow_right}
 use Rattle.std.specs.Fmt.{sign_text}
 use Rattle.std.proofs.lemmas.Bool.{cases_eq, true≢false, false≢true, eqb-true, ne_eqb, leb-true, and_parts, and_from, lt-ltb, le-leb}
@@ -73,7 +75,8 @@ unfolding lex
 letter_byte x xs l h = ap (λ c. lex_byte in_word c x xs (λ m. lex m xs)) (class_letter x l h)
 
 -- a word goes on over a letter
-pub letter_passed : (text : List ℕ) (at : ℕ) → at < length text → 97 ≤ get_or text at 0 → get_or text at 0 ≤ 122 → lex in_word (drop (at + 1) text) ≡ lex in_word (drop at text)
+pub letter_passed : (text : List ℕ) (at : ℕ) → at < length text → 97 ≤ get_or text at 0 → get_or text at 0 ≤ 122
+    → lex in_word (drop (at + 1) text) ≡ lex in_word (drop at text)
 letter_passed text at h l u = sym (ap (lex in_word) (drop_more text at 0 h) ∙ letter_byte _ _ l u)
 
 literal_or : (b : Bool) (t : Token) (ls : List Lexeme) → First t ls (ArePlain ls) → First (cond b t bad) ls (ArePlain ls)
@@ -97,7 +100,8 @@ literal_byte x xs (inl (inl e)) h = subst (λ y. ArePlain (lex between (y ∷ xs
 literal_byte x xs (inl (inr e)) h = subst (λ y. ArePlain (lex between (y ∷ xs))) (sym e) (of_false xs h)
 literal_byte x xs (inr e) h = subst (λ y. ArePlain (lex between (y ∷ xs))) (sym e) (of_null xs h)
 
-pub literal_plain : (text : List ℕ) (at end : ℕ) → at < length text → BeginsLiteral (get_or text at 0) → lex in_word (drop end text) ≡ lex in_word (drop (at + 1) text)
+pub literal_plain : (text : List ℕ) (at end : ℕ) → at < length text → BeginsLiteral (get_or text at 0)
+    → lex in_word (drop end text) ≡ lex in_word (drop (at + 1) text)
     → ends_word (drop end text) ≡ true → ArePlain (lex between (drop end text)) → ArePlain (lex between (drop at text))
 literal_plain text at end h is skips ended rest =
     subst (λ t. ArePlain (lex between t)) (sym (drop_more text at 0 h))
@@ -142,7 +146,14 @@ parts ds = record { whole = ds; point = false; fraction = []; exponent_negative 
 
 scanned : (ds : List ℕ) → AllDigits 10 ds → scan ds ≡ parts ds
 scanned ds h =
-    let formed : IsWellFormed (parts ds) = record { whole_digits = h; fraction_digits = tt; exponent_digits = tt; no_point = λ _. refl; no_exponent = λ _. refl; len_is = refl } in
+    let formed : IsWellFormed (parts ds) = record {
+      whole_digits = h;
+      fraction_digits = tt;
+      exponent_digits = tt;
+      no_point = λ _. refl;
+      no_exponent = λ _. refl;
+      len_is = refl;
+    } in
     ap scan (sym (append-nil ds)) ∙ scan_numeral-text_of (parts ds) formed
 
 -- digits, at most 18, of which the first is not 0
@@ -201,7 +212,8 @@ whole_digits : (s : List ℕ) → IsDigits s → (after_whole s ≡ Some []) × 
 whole_digits [] d = absurd (omega (arith, d.first))
 whole_digits (x ∷ xs) d =
     let first : 48 < x = d.first in (
-      rw (ne_eqb x 48 (λ e. omega arith), full (x ∷ xs) d.digits, ne_eqb (suc (length xs)) 0 (λ e. omega arith)) (ap Some (drop_all (length xs) xs (omega arith))),
+      rw (ne_eqb x 48 (λ e. omega arith), full (x ∷ xs) d.digits, ne_eqb (suc (length xs)) 0 (λ e. omega arith))
+          (ap Some (drop_all (length xs) xs (omega arith))),
       ne_eqb x 45 (λ e. omega arith),
     )
 
@@ -215,7 +227,8 @@ IsNumber-digits false s d =
 number_plain : (s r : List ℕ) → IsNumber s → IsWhole s → ends_word r ≡ true → ArePlain (lex between r) → ArePlain (lex between (s ++ r))
 number_plain s r n w ended rest = subst ArePlain (sym (lex-number s r n ended)) (w, rest)
 
-digits_plain : (sign : Bool) (t : List ℕ) (n : ℕ) → n ≡ prefix_len is_ascii_digit t → n ≤ 18 → 48 < get_or t 0 0 → get_or t 0 0 ≤ 57 → ends_word (drop n t) ≡ true
+digits_plain : (sign : Bool) (t : List ℕ) (n : ℕ) → n ≡ prefix_len is_ascii_digit t → n ≤ 18 → 48 < get_or t 0 0 → get_or t 0 0 ≤ 57
+    → ends_word (drop n t) ≡ true
     → ArePlain (lex between (drop n t)) → ArePlain (lex between (sign_text sign ++ t))
 digits_plain sign [] n is few low high ended rest = absurd (omega arith)
 digits_plain sign (x ∷ xs) n is few low high ended rest =
@@ -239,7 +252,8 @@ ended_at text from end n e = ap (λ k. drop k text) e ∙ sym (drop-drop n from 
 first_at : (text : List ℕ) (from : ℕ) → get_or (drop from text) 0 0 ≡ get_or text from 0
 first_at text from = get_or-drop from text 0 0 ∙ ap (λ k. get_or text k 0) (let e : from + 0 ≡ from = omega arith in e)
 
-module _ (text : List ℕ) (from end : ℕ) (is : end ≡ from + prefix_len is_ascii_digit (drop from text)) (few : end - from ≤ 18) (low : 48 < get_or text from 0) (high : get_or text from 0 ≤ 57)
+module _ (text : List ℕ) (from end : ℕ) (is : end ≡ from + prefix_len is_ascii_digit (drop from text)) (few : end - from ≤ 18) (low : 48 < get_or text from 0)
+    (high : get_or text from 0 ≤ 57)
     (ended : ends_word (drop end text) ≡ true) (rest : ArePlain (lex between (drop end text))) where
   signed_plain : (sign : Bool) → ArePlain (lex between (sign_text sign ++ drop from text))
   signed_plain sign =
@@ -298,7 +312,8 @@ comma_ends text end h is =
     }
 
 -- the word from `at` up to `end`, and what the look passes with it
-pub ends_leads : (text : List ℕ) (at end : ℕ) (o : Option ℕ) → at < end → (ends_word (drop end text) ≡ true → ArePlain (lex between (drop end text)) → ArePlain (lex between (drop at text)))
+pub ends_leads : (text : List ℕ) (at end : ℕ) (o : Option ℕ) → at < end
+    → (ends_word (drop end text) ≡ true → ArePlain (lex between (drop end text)) → ArePlain (lex between (drop at text)))
     → IfSome o (Ends text end) → IfSome o (Leads text at)
 ends_leads text at end None l f h = tt
 ends_leads text at end (Some next) l f h =
@@ -354,7 +369,8 @@ pub run_begins : (text : List ℕ) (at : ℕ) → 0 < prefix_len is_ascii_digit 
 run_begins text at h = digit_range (get_or text at 0) (subst (λ x. is_ascii_digit x ≡ true) (first_at text at) (first_of_run (drop at text) h))
 
 -- a cell: a number from `at` up to the comma at `end`
-pub cell_plain : (text : List ℕ) (at end : ℕ) → at < length text → end < length text → end ≡ at + prefix_len is_ascii_digit (drop at text) → at < end → end - at ≤ 18
+pub cell_plain : (text : List ℕ) (at end : ℕ) → at < length text → end < length text → end ≡ at + prefix_len is_ascii_digit (drop at text) → at < end
+    → end - at ≤ 18
     → (get_or text at 0 ≡ 48 → end - at ≤ 1) → get_or text end 0 ≡ 44 → ArePlain (lex between (drop (end + 1) text)) → ArePlain (lex between (drop at text))
 cell_plain text at end h inside is some few zeros behind rest =
     let ends = comma_ends text end inside behind in
@@ -362,7 +378,8 @@ cell_plain text at end h inside is some few zeros behind rest =
     let low : 48 ≤ get_or text at 0 = digit.0 in
     of (cases_eq (get_or text at 0) 48) ends.ended (ends.plain rest) digit.1 low
   where
-    of : (get_or text at 0 ≡ 48) ⊎ (get_or text at 0 ≡ 48 → ⊥) → ends_word (drop end text) ≡ true → ArePlain (lex between (drop end text)) → get_or text at 0 ≤ 57
+    of : (get_or text at 0 ≡ 48) ⊎ (get_or text at 0 ≡ 48 → ⊥) → ends_word (drop end text) ≡ true → ArePlain (lex between (drop end text))
+        → get_or text at 0 ≤ 57
         → 48 ≤ get_or text at 0 → ArePlain (lex between (drop at text))
     of (inl e) ended there high low =
         let one : end - at ≤ 1 = zeros e in
@@ -384,5 +401,6 @@ short_cell_plain text at well h digit behind rest =
     one_digit (drop at text) (subst (λ x. is_ascii_digit x ≡ true) (sym (first_at text at)) digit) (get_or-drop at text 1 0 ∙ behind) in
     cell_plain text at (at + 1) h (digit_follows text at well h digit) (omega (arith, one)) (omega arith) (omega arith) (λ _. omega arith) behind rest
 
-pub space_plain : (text : List ℕ) (at : ℕ) → at < length text → get_or text at 0 ≡ 32 → ArePlain (lex between (drop (at + 1) text)) → ArePlain (lex between (drop at text))
+pub space_plain : (text : List ℕ) (at : ℕ) → at < length text → get_or text at 0 ≡ 32 → ArePlain (lex between (drop (at + 1) text))
+    → ArePlain (lex between (drop at text))
 space_plain text at h is rest = delimiter_plain text at h (ap (λ x. is_operator x || is_space x) is) rest

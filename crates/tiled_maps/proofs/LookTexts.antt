@@ -1,5 +1,7 @@
 -- The texts in quotes, as the look passes them.
-use Rattle.std.proofs.Common.{IfSome, take_all, length-drop, get_or-drop, ◌≡◌, ℕ, zero, suc, ◌+◌, ◌-◌, ◌*◌, ◌/◌, ◌<◌, ◌≤◌, ◌⊎◌, inl, inr, Bool, true, false, cond, ◌&&◌, ◌||◌, ◌==◌, nat_lt, leb, List, [], ◌∷◌, ◌++◌, length, take, drop, get_or, Option, Some, None, option_and_then, refl, sym, ap, ap₂, ◌∙◌, subst, arith, append-nil, encode_utf8}
+use Rattle.std.proofs.Common.{IfSome, take_all, length-drop, get_or-drop, ◌≡◌, ℕ, zero, suc, ◌+◌, ◌-◌, ◌*◌, ◌/◌, ◌<◌, ◌≤◌, ◌⊎◌, inl, inr, Bool, true, false}
+use Rattle.std.proofs.Common.{cond, ◌&&◌, ◌||◌, ◌==◌, nat_lt, leb, List, [], ◌∷◌, ◌++◌, length, take, drop, get_or, Option, Some, None, option_and_then, refl}
+use Rattle.std.proofs.Common.{sym, ap, ap₂, ◌∙◌, subst, arith, append-nil, encode_utf8}
 use Rattle.std.proofs.lemmas.Bool.{eqb-true, ne_eqb, le-ltb, leb-true, ltb-true, and_parts, or_cases}
 use Rattle.std.proofs.lemmas.List.{drop_more}
 use Rattle.std.specs.Char.{digit_value}
@@ -87,23 +89,28 @@ closes xs n h none is =
       lexed = r.lexed ∙ ap (lex in_string) front ∙ quote_lexed _;
     }
 
-text_token : (o : Option (List ℕ)) (s : List ℕ) (ls ms : List Lexeme) → (o ≡ None) ⊎ (o ≡ Some s) → ls ≡ ms → IsPlainText s ms → ArePlain ms → ArePlain (token (string_token o) ∷ ls)
+text_token : (o : Option (List ℕ)) (s : List ℕ) (ls ms : List Lexeme) → (o ≡ None) ⊎ (o ≡ Some s) → ls ≡ ms → IsPlainText s ms → ArePlain ms
+    → ArePlain (token (string_token o) ∷ ls)
 text_token o s ls ms (inl e) same p rest = subst (λ u. ArePlain (token (string_token u) ∷ ls)) (sym e) tt
-text_token o s ls ms (inr e) same p rest = subst (λ u. ArePlain (token (string_token u) ∷ ls)) (sym e) (subst (λ l. IsPlainText s l × ArePlain l) (sym same) (p, rest))
+text_token o s ls ms (inr e) same p rest = subst (λ u. ArePlain (token (string_token u) ∷ ls)) (sym e)
+    (subst (λ l. IsPlainText s l × ArePlain l) (sym same) (p, rest))
 
-text_byte : (xs : List ℕ) (n : ℕ) → Closes xs n → IsPlainText (take n xs) (lex between (drop (suc n) xs)) → ArePlain (lex between (drop (suc n) xs)) → ArePlain (lex between (34 ∷ xs))
+text_byte : (xs : List ℕ) (n : ℕ) → Closes xs n → IsPlainText (take n xs) (lex between (drop (suc n) xs)) → ArePlain (lex between (drop (suc n) xs))
+    → ArePlain (lex between (34 ∷ xs))
 unfolding lex
 text_byte xs n c p rest = text_token (content plain xs) (take n xs) (lex in_string xs) (lex between (drop (suc n) xs)) c.read c.lexed p rest
 
 pub text_plain : (text : List ℕ) (at n : ℕ) (xs : List ℕ) → xs ≡ drop (at + 1) text → at < length text → get_or text at 0 ≡ 34 → n < length xs
     → NoneBefore xs n → get_or xs n 0 ≡ 34
-    → (end : ℕ) → end ≡ at + 1 + n + 1 → IsPlainText (take n xs) (lex between (drop end text)) → ArePlain (lex between (drop end text)) → ArePlain (lex between (drop at text))
+    → (end : ℕ) → end ≡ at + 1 + n + 1 → IsPlainText (take n xs) (lex between (drop end text)) → ArePlain (lex between (drop end text))
+    → ArePlain (lex between (drop at text))
 text_plain text at n xs is h opening l none closing end e p rest =
     let front : drop at text ≡ 34 ∷ xs = drop_more text at 0 h ∙ ap₂ (λ x t. x ∷ t) opening (sym is) in
     let later : end ≡ (at + 1) + suc n = omega arith in
     let there : drop end text ≡ drop (suc n) xs = ended_at text (at + 1) end (suc n) later ∙ ap (drop (suc n)) (sym is) in
     subst (λ t. ArePlain (lex between t)) (sym front)
-    (text_byte xs n (closes xs n l none closing) (subst (λ t. IsPlainText (take n xs) (lex between t)) there p) (subst (λ t. ArePlain (lex between t)) there rest))
+    (text_byte xs n (closes xs n l none closing) (subst (λ t. IsPlainText (take n xs) (lex between t)) there p)
+    (subst (λ t. ArePlain (lex between t)) there rest))
 
 -- ---- a text with an escape: the first one stands for no letter of a name
 abbrev AllLetters : List ℕ → Type 0
@@ -152,16 +159,19 @@ escaped_token : (o : Option (List ℕ)) (s : List ℕ) (r : Option (List ℕ)) (
 escaped_token o s r ls (inl e) h rest = subst (λ u. ArePlain (token (string_token u) ∷ ls)) (sym e) tt
 escaped_token o s r ls (inr e) h rest = subst (λ u. ArePlain (token (string_token u) ∷ ls)) (sym e) (escaped_read s r ls h rest)
 
-escaped_byte : (xs : List ℕ) (n : ℕ) → Runs xs n → BeginsOther (content plain (drop n xs)) → ArePlain (lex in_string (drop n xs)) → ArePlain (lex between (34 ∷ xs))
+escaped_byte : (xs : List ℕ) (n : ℕ) → Runs xs n → BeginsOther (content plain (drop n xs)) → ArePlain (lex in_string (drop n xs))
+    → ArePlain (lex between (34 ∷ xs))
 unfolding lex
-escaped_byte xs n r h rest = escaped_token (content plain xs) (take n xs) (content plain (drop n xs)) (lex in_string xs) r.read h (subst ArePlain (sym r.lexed) rest)
+escaped_byte xs n r h rest = escaped_token (content plain xs) (take n xs) (content plain (drop n xs)) (lex in_string xs) r.read h
+    (subst ArePlain (sym r.lexed) rest)
 
 two_at : (text : List ℕ) (at : ℕ) → at + 1 < length text → get_or text at 0 ≡ 92 → drop at text ≡ 92 ∷ get_or text (at + 1) 0 ∷ drop (at + 2) text
 two_at text at h is =
     let next : at + 1 + 1 ≡ at + 2 = omega arith in
     drop_more text at 0 (omega arith) ∙ ap₂ (λ x t. x ∷ t) is (drop_more text (at + 1) 0 h ∙ ap (λ k. get_or text (at + 1) 0 ∷ drop k text) next)
 
-pub escaped_plain : (text : List ℕ) (at n : ℕ) (xs : List ℕ) → xs ≡ drop (at + 1) text → at < length text → get_or text at 0 ≡ 34 → n ≤ length xs → NoneBefore xs n
+pub escaped_plain : (text : List ℕ) (at n : ℕ) (xs : List ℕ) → xs ≡ drop (at + 1) text → at < length text → get_or text at 0 ≡ 34 → n ≤ length xs
+    → NoneBefore xs n
     → (escape : ℕ) → escape ≡ at + 1 + n → escape + 1 < length text → get_or text escape 0 ≡ 92 → BeginsOther (content plain (drop escape text))
     → (end : ℕ) → LeavesText text (escape + 2) end → ArePlain (lex between (drop end text)) → ArePlain (lex between (drop at text))
 escaped_plain text at n xs is h opening l none escape e inside backslash begins end gone rest =
@@ -173,7 +183,8 @@ escaped_plain text at n xs is h opening l none escape e inside backslash begins 
     (escaped_byte xs n (runs xs n l none) (subst (λ t. BeginsOther (content plain t)) there begins)
     (subst (λ t. ArePlain (lex in_string t)) there (subst ArePlain (sym passed) rest)))
 
-pub escaped_leads : (text : List ℕ) (at n : ℕ) (xs : List ℕ) → xs ≡ drop (at + 1) text → at < length text → get_or text at 0 ≡ 34 → n ≤ length xs → NoneBefore xs n
+pub escaped_leads : (text : List ℕ) (at n : ℕ) (xs : List ℕ) → xs ≡ drop (at + 1) text → at < length text → get_or text at 0 ≡ 34 → n ≤ length xs
+    → NoneBefore xs n
     → (escape : ℕ) → escape ≡ at + 1 + n → get_or text escape 0 ≡ 92 → (o : Option ℕ) → IfSome o (LeavesEscaped text escape) → IfSome o (Leads text at)
 escaped_leads text at n xs is h opening l none escape e backslash None gone = tt
 escaped_leads text at n xs is h opening l none escape e backslash (Some end) gone =
@@ -184,9 +195,11 @@ escaped_leads text at n xs is h opening l none escape e backslash (Some end) gon
     )
 
 -- a stop that is no quote
-pub backslash_at : (text : List ℕ) (from n at : ℕ) (xs : List ℕ) → xs ≡ drop from text → at ≡ from + n → is_byte2 34 92 (get_or xs n 0) ≡ true → (get_or xs n 0 ≡ 34 → ⊥)
+pub backslash_at : (text : List ℕ) (from n at : ℕ) (xs : List ℕ) → xs ≡ drop from text → at ≡ from + n → is_byte2 34 92 (get_or xs n 0) ≡ true
+    → (get_or xs n 0 ≡ 34 → ⊥)
     → get_or text at 0 ≡ 92
-backslash_at text from n at xs is e stops ne = ap (λ k. get_or text k 0) e ∙ sym (get_or-drop from text n 0) ∙ ap (λ t. get_or t n 0) (sym is) ∙ stop (or_cases _ _ stops)
+backslash_at text from n at xs is e stops ne = ap (λ k. get_or text k 0) e ∙ sym (get_or-drop from text n 0) ∙ ap (λ t. get_or t n 0) (sym is)
+    ∙ stop (or_cases _ _ stops)
   where
     stop : ((get_or xs n 0 == 34) ≡ true) ⊎ ((get_or xs n 0 == 92) ≡ true) → get_or xs n 0 ≡ 92
     stop (inl q) = absurd (ne (eqb-true _ 34 q))
@@ -197,7 +210,8 @@ pub none_before : (xs : List ℕ) (n : ℕ) → Nowhere (Passes (is_byte2 34 92)
 none_before xs n none k l = (λ e. none k (omega arith) l (ap (is_byte2 34 92) e), λ e. none k (omega arith) l (ap (is_byte2 34 92) e))
 
 -- ---- to the end of a text
-pub goes_on : (text : List ℕ) (at n : ℕ) (xs : List ℕ) → xs ≡ drop at text → n ≤ length xs → NoneBefore xs n → (escape : ℕ) → escape ≡ at + n → escape + 1 < length text
+pub goes_on : (text : List ℕ) (at n : ℕ) (xs : List ℕ) → xs ≡ drop at text → n ≤ length xs → NoneBefore xs n → (escape : ℕ) → escape ≡ at + n
+    → escape + 1 < length text
     → get_or text escape 0 ≡ 92 → lex in_string (drop at text) ≡ lex in_string (drop (escape + 2) text)
 goes_on text at n xs is l none escape e inside backslash =
     ap (lex in_string) (sym is) ∙ (runs xs n l none).lexed
@@ -236,7 +250,8 @@ short_other : (x : ℕ) → IfOther (short_escape x)
 unfolding short_escape
 short_other x =
     pick _ (Some x) _ (itself x) (pick (x == 98) (Some 8) _ (λ e. small 8 refl) (pick (x == 102) (Some 12) _ (λ e. small 12 refl)
-    (pick (x == 110) (Some 10) _ (λ e. small 10 refl) (pick (x == 114) (Some 13) _ (λ e. small 13 refl) (pick (x == 116) (Some 9) None (λ e. small 9 refl) tt)))))
+    (pick (x == 110) (Some 10) _ (λ e. small 10 refl) (pick (x == 114) (Some 13) _ (λ e. small 13 refl)
+    (pick (x == 116) (Some 9) None (λ e. small 9 refl) tt)))))
 
 one_byte : (o : Option ℕ) (q : Option (List ℕ)) → IfOther o → BeginsOther (option_and_then (λ c. prepend (c ∷ []) q) o)
 one_byte None q h = tt
@@ -247,7 +262,8 @@ short_byte : (x : ℕ) (xs : List ℕ) → (x ≡ 117 → ⊥) → BeginsOther (
 unfolding content
 short_byte x xs ne = rw (ne_eqb x 117 ne) (one_byte (short_escape x) (content plain xs) (short_other x))
 
-pub short_plain : (text : List ℕ) (at : ℕ) → at + 1 < length text → get_or text at 0 ≡ 92 → (get_or text (at + 1) 0 ≡ 117 → ⊥) → BeginsOther (content plain (drop at text))
+pub short_plain : (text : List ℕ) (at : ℕ) → at + 1 < length text → get_or text at 0 ≡ 92 → (get_or text (at + 1) 0 ≡ 117 → ⊥)
+    → BeginsOther (content plain (drop at text))
 short_plain text at h is ne = subst (λ t. BeginsOther (content plain t)) (sym (two_at text at h is)) (short_byte _ _ ne)
 
 -- a character past ASCII
@@ -267,7 +283,8 @@ unfolding encode
 encode_large u h =
     let longest = (240 + u / 262144) ∷ next (u / 4096) ∷ next (u / 64) ∷ next u ∷ [] in
     let longer = next (u / 64) ∷ next u ∷ [] in
-    rw (le-ltb u 128 h) (pick_large (nat_lt u 2048) (192 + u / 64) (next u ∷ []) (cond (nat_lt u 65536) ((224 + u / 4096) ∷ longer) longest) (past (192 + u / 64) (omega arith))
+    rw (le-ltb u 128 h) (pick_large (nat_lt u 2048) (192 + u / 64) (next u ∷ []) (cond (nat_lt u 65536) ((224 + u / 4096) ∷ longer) longest)
+    (past (192 + u / 64) (omega arith))
     (pick_large (nat_lt u 65536) (224 + u / 4096) longer longest (past (224 + u / 4096) (omega arith)) (past (240 + u / 262144) (omega arith))))
 
 large_before : (xs : List ℕ) (q : Option (List ℕ)) → BeginsLarge xs → BeginsOther (prepend xs q)
@@ -279,7 +296,8 @@ pick_other : (b : Bool) (x y : Option (List ℕ)) → BeginsOther x → BeginsOt
 pick_other true x y h k = h
 pick_other false x y h k = k
 
-pair_other : (o : Option ℕ) (h : ℕ) (q : Option (List ℕ)) → BeginsOther (option_and_then (λ l. cond (is_low_surrogate l) (prepend (encode_utf8 (surrogate_pair h l)) q) None) o)
+pair_other : (o : Option ℕ) (h : ℕ) (q : Option (List ℕ)) → BeginsOther
+    (option_and_then (λ l. cond (is_low_surrogate l) (prepend (encode_utf8 (surrogate_pair h l)) q) None) o)
 pair_other None h q = tt
 pair_other (Some l) h q = pick_other (is_low_surrogate l) _ None (large_before _ q (encode_large (surrogate_pair h l) (omega arith))) tt
 
@@ -296,7 +314,8 @@ high_other h (s ∷ u ∷ a ∷ b ∷ c ∷ d ∷ xs) = pick_other _ _ None (pai
 unit_other : (o : Option ℕ) (xs : List ℕ) (q : Option (List ℕ)) → IfSome o (λ u. 128 ≤ u)
     → BeginsOther (option_and_then (λ u. cond (is_high_surrogate u) (content (after_high u) xs) (cond (is_low_surrogate u) None (prepend (encode_utf8 u) q))) o)
 unit_other None xs q h = tt
-unit_other (Some u) xs q h = pick_other (is_high_surrogate u) _ _ (high_other u xs) (pick_other (is_low_surrogate u) None _ tt (large_before _ q (encode_large u h)))
+unit_other (Some u) xs q h = pick_other (is_high_surrogate u) _ _ (high_other u xs)
+    (pick_other (is_low_surrogate u) None _ tt (large_before _ q (encode_large u h)))
 
 -- the hex digits of a code unit that is not below 128
 abbrev IsLarge : ℕ → ℕ → ℕ → Type 0

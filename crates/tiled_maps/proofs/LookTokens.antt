@@ -1,8 +1,10 @@
 -- Lexemes from which JSON is read that needs nothing set aside.
 use Rattle.std.proofs.Common.{◌≡◌, ℕ, zero, suc, Bool, true, false, List, [], ◌∷◌, length, Option, Some, None, option_and_then, refl, subst}
 use Rattle.json.specs.Token.{Token, begin_object, end_object, begin_array, end_array, key, string, number, boolean, null, bad}
-use Rattle.json.specs.Lex.{Lexeme, token, comma, colon, Place, fresh, after_value, after_comma, after_key, begins_colon, may_begin, may_close, if_allowed, place_token, punctuate, lex, between, tokens}
-use Rattle.json.specs.Json.{Json, array, object, Items, item, Members, member, Parse, parse_map, after_end_array, read_key, items_step, members_step, items, members, value_with, value, if_last}
+use Rattle.json.specs.Lex.{Lexeme, token, comma, colon, Place, fresh, after_value, after_comma, after_key, begins_colon, may_begin, may_close, if_allowed}
+use Rattle.json.specs.Lex.{place_token, punctuate, lex, between, tokens}
+use Rattle.json.specs.Json.{Json, array, object, Items, item, Members, member, Parse, parse_map, after_end_array, read_key, items_step, members_step, items}
+use Rattle.json.specs.Json.{members, value_with, value, if_last}
 use Rattle.serde_json.specs.Data.{Data}
 use Rattle.serde_json.specs.Read.{of_json, max_depth}
 use Rattle.tiled_maps.specs.Aside.{reserved_name}
@@ -115,7 +117,8 @@ Values (Some p) = IsNotTrue p.0
 abbrev GivesNotTrue : Parse Json → Type 0
 GivesNotTrue p = (ts : List Token) → BeginNotTrue ts → Values (p ts)
 
-mapped : {A B : Type 0} (P : A → Type 0) (Q : B → Type 0) (f : A → B) → ((a : A) → P a → Q (f a)) → (o : Option (A × List Token)) → Gives P o → Gives Q (parse_map f o)
+mapped : {A B : Type 0} (P : A → Type 0) (Q : B → Type 0) (f : A → B) → ((a : A) → P a → Q (f a)) → (o : Option (A × List Token)) → Gives P o
+    → Gives Q (parse_map f o)
 mapped P Q f g None h = tt
 mapped P Q f g (Some p) h = (g p.0 h.0, h.1)
 
@@ -127,11 +130,13 @@ object_not_true : (o : Option (Members × List Token)) → Values (parse_map obj
 object_not_true None = tt
 object_not_true (Some p) = tt
 
-item_more : (more : Parse Items) → Keeps ArePlainItems more → (o : Option (Json × List Token)) → Gives IsPlain o → Gives ArePlainItems (option_and_then (λ q. parse_map (item q.0) (more q.1)) o)
+item_more : (more : Parse Items) → Keeps ArePlainItems more → (o : Option (Json × List Token)) → Gives IsPlain o
+    → Gives ArePlainItems (option_and_then (λ q. parse_map (item q.0) (more q.1)) o)
 item_more more keeps None h = tt
 item_more more keeps (Some q) h = mapped ArePlainItems ArePlainItems (item q.0) (λ js x. (h.0, x)) (more q.1) (keeps q.1 h.1)
 
-member_more : (k : List ℕ) → (k ≡ reserved_name → ⊥) → (more : Parse Members) → Keeps ArePlainMembers more → (o : Option (Json × List Token)) → (k ≡ infinite → Values o) → Gives IsPlain o
+member_more : (k : List ℕ) → (k ≡ reserved_name → ⊥) → (more : Parse Members) → Keeps ArePlainMembers more → (o : Option (Json × List Token))
+    → (k ≡ infinite → Values o) → Gives IsPlain o
     → Gives ArePlainMembers (option_and_then (λ q. parse_map (member k q.0) (more q.1)) o)
 member_more k n more keeps None t h = tt
 member_more k n more keeps (Some q) t h = mapped ArePlainMembers ArePlainMembers (member k q.0) (λ ms x. ((n, t), h.0, x)) (more q.1) (keeps q.1 h.1)
@@ -172,7 +177,8 @@ naming (null ∷ ts) h = tt
 naming (bad ∷ ts) h = tt
 
 module _ (p : Parse Json) (keeps : Keeps IsPlain p) (not_true : GivesNotTrue p) where
-  item_turn : (more : Parse Items) → Keeps ArePlainItems more → (ts : List Token) → Tokens ts → (o : Option (List Token)) → Rest o → Gives ArePlainItems (items_step p more ts o)
+  item_turn : (more : Parse Items) → Keeps ArePlainItems more → (ts : List Token) → Tokens ts → (o : Option (List Token)) → Rest o
+      → Gives ArePlainItems (items_step p more ts o)
   item_turn more again ts h (Some r) q = (tt, q)
   item_turn more again ts h None q = item_more more again (p ts) (keeps ts h)
 

@@ -1,5 +1,6 @@
 -- JSON of which the tree needs nothing set aside.
-use Rattle.std.proofs.Common.{◌≡◌, ℕ, Bool, true, false, List, bytes_eq, Option, Some, None, option_map, Ordering, Less, Equal, Greater, nat_cmp, refl, sym, subst, option_and_then}
+use Rattle.std.proofs.Common.{◌≡◌, ℕ, Bool, true, false, List, bytes_eq, Option, Some, None, option_map, Ordering, Less, Equal, Greater, nat_cmp, refl, sym}
+use Rattle.std.proofs.Common.{subst, option_and_then}
 use Rattle.std.proofs.lemmas.Bool.{or_from}
 use Rattle.std.proofs.lemmas.Slice.Eq.{bytes_eq-Decides}
 use Rattle.std.specs.Cmp.Lexicographic.{slice_cmp}
@@ -127,7 +128,8 @@ joined None h p k = tt
 joined (Some d) h None k = tt
 joined (Some d) h (Some ds) k = (h, k)
 
-member_in : (o : Option Data) (k : List ℕ) (ms : json.Members) (found : Members) → (k ≡ reserved_name → ⊥) → (k ≡ infinite → If NotTrue o) → If IsFree o → AreFreeMembers found
+member_in : (o : Option Data) (k : List ℕ) (ms : json.Members) (found : Members) → (k ≡ reserved_name → ⊥) → (k ≡ infinite → If NotTrue o) → If IsFree o
+    → AreFreeMembers found
     → ((f : Members) → AreFreeMembers f → If AreFreeMembers (of_members ms f)) → If AreFreeMembers (option_and_then (λ d. of_members ms (put k d found)) o)
 member_in None k ms found n t h all later = tt
 member_in (Some d) k ms found n t h all later = later (put k d found) (AreFreeMembers-put k d found (n, t) h all)
@@ -195,7 +197,8 @@ mutual
   members_no_name : (ms : Members) → AreFreeMembers ms → members_have_name reserved_name ms ≡ false
   members_no_name no_members h = refl
   members_no_name (member k d ms) h =
-      or_from _ _ (or_from _ _ (other_name (bytes_eq reserved_name k) k (λ e. sym ((bytes_eq-Decides reserved_name k).0 e)) h.0.0) (no_name d h.1)) (members_no_name ms h.2)
+      or_from _ _ (or_from _ _ (other_name (bytes_eq reserved_name k) k (λ e. sym ((bytes_eq-Decides reserved_name k).0 e)) h.0.0) (no_name d h.1))
+      (members_no_name ms h.2)
 
 not_is_true : (d : Data) → NotTrue d → is_true (as_bool d) ≡ false
 not_is_true null h = refl

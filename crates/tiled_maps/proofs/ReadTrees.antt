@@ -1,5 +1,6 @@
 -- A tree that was read: its floats are those of the format and finite, and the names of each object ascend.
-use Rattle.std.proofs.Common.{◌≡◌, ℕ, ◌^◌, List, Option, Some, None, option_map, Ordering, Less, Equal, Greater, nat_cmp, cond, Bool, true, false, ◌&&◌, ltb, leb, eqb, refl, ap, ◌∙◌, subst, drop, T}
+use Rattle.std.proofs.Common.{◌≡◌, ℕ, ◌^◌, List, Option, Some, None, option_map, Ordering, Less, Equal, Greater, nat_cmp, cond, Bool, true, false, ◌&&◌, ltb}
+use Rattle.std.proofs.Common.{leb, eqb, refl, ap, ◌∙◌, subst, drop, T}
 use Rattle.std.specs.Prelude.{option_and_then, slice_index, Float}
 use Rattle.std.specs.Float.{binary64, float_is_finite}
 use Rattle.std.specs.Cmp.Lexicographic.{slice_cmp}
@@ -9,7 +10,8 @@ use lib.Ieee as Ieee
 use lib.Ieee.Fits.{round-fits}
 use Rattle.fast_float.specs.Text.{minus, Parts, scan, digits_of, nearest, with_sign}
 use Rattle.json.specs.Json as json
-use Rattle.serde_json.specs.Data.{Num, unsigned, negative, float, Data, null, boolean, number, string, array, object, Items, no_items, item, Members, no_members, member, put}
+use Rattle.serde_json.specs.Data.{Num, unsigned, negative, float, Data, null, boolean, number, string, array, object, Items, no_items, item, Members}
+use Rattle.serde_json.specs.Data.{no_members, member, put}
 use Rattle.serde_json.specs.Read.{is_integer, float_of, number_from, number_of, of_json, of_items, of_members, read, max_depth}
 use Rattle.json.specs.Lex.{tokens}
 

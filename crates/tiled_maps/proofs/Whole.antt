@@ -1,9 +1,11 @@
 -- What setting aside leaves: no fraction, and a tree without one as it is; and what putting back leaves.
-use Rattle.std.proofs.Common.{◌≡◌, ℕ, suc, ◌≤◌, max, List, codes, ℤ, pos, negsuc, Option, Some, None, option_map, option_and_then, Ordering, Less, Equal, Greater, nat_cmp, cond, Bool, true, false, ◌||◌, true≢false, Float, refl, sym, ap, ◌∙◌, arith}
+use Rattle.std.proofs.Common.{◌≡◌, ℕ, suc, ◌≤◌, max, List, codes, ℤ, pos, negsuc, Option, Some, None, option_map, option_and_then, Ordering, Less, Equal}
+use Rattle.std.proofs.Common.{Greater, nat_cmp, cond, Bool, true, false, ◌||◌, true≢false, Float, refl, sym, ap, ◌∙◌, arith}
 use Rattle.std.specs.Prelude.{unwrap_or}
 use Rattle.std.specs.Cmp.Lexicographic.{slice_cmp}
 use Rattle.std.specs.Ordering.{match_ordering}
-use Rattle.serde_json.specs.Data.{Num, unsigned, negative, float, Data, null, boolean, number, string, array, object, Items, no_items, item, Members, no_members, member, put, depth, items_depth, members_depth}
+use Rattle.serde_json.specs.Data.{Num, unsigned, negative, float, Data, null, boolean, number, string, array, object, Items, no_items, item, Members}
+use Rattle.serde_json.specs.Data.{no_members, member, put, depth, items_depth, members_depth}
 use Rattle.serde_json.specs.Find.{get_member, is_float, of_integer, to_float}
 use Rattle.tiled_maps.specs.declared.place.Place.{Place}
 use Rattle.tiled_maps.specs.declared.place.Place.TheVariants.{Map, Layer, Object, Coordinate, Version, Elsewhere}

@@ -1,5 +1,6 @@
 -- A tree in which what was set aside is put back.
-use Rattle.std.specs.Prelude.{ℕ, ◌+◌, ◌*◌, ◌^◌, ℤ, Bool, true, false, ◌&&◌, nat_lt, Float, Option, Some, None, option_map, option_and_then, unwrap_or, if◌then◌else◌, from_bits}
+use Rattle.std.specs.Prelude.{ℕ, ◌+◌, ◌*◌, ◌^◌, ℤ, Bool, true, false, ◌&&◌, nat_lt, Float, Option, Some, None, option_map, option_and_then, unwrap_or}
+use Rattle.std.specs.Prelude.{if◌then◌else◌, from_bits}
 use Rattle.std.specs.Float.{binary64}
 use Rattle.std.specs.Ordering.{int_eq}
 use Rattle.serde_json.specs.Data.{Num, Data, null, boolean, number, string, array, object, Items, no_items, item, Members, no_members, member}

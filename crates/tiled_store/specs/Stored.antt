@@ -19,7 +19,8 @@ IsShort (Some text) = length text.items ≤ LONGEST
 -- What is given for a file: its text as it is set aside, or the file itself if it is no JSON. If nothing was ever set aside, it is
 -- the file itself.
 pub record GivesFor (file text : List ℕ) (has_set_aside : Bool) : Type 0 where
-  pub given : ((own : Option (Vec ℕ Global)) × (text ≡ text_or file own) × SetsAside file (Ok own) × IsShort own) ⊎ ((text ≡ file) × SetsAside file (Err fault.NotJson))
+  pub given : ((own : Option (Vec ℕ Global)) × (text ≡ text_or file own) × SetsAside file (Ok own) × IsShort own)
+      ⊎ ((text ≡ file) × SetsAside file (Err fault.NotJson))
   pub as_it_is : has_set_aside ≡ false → text ≡ file
 
 -- what is given for a file that has such a text of its own, or none
@@ -40,7 +41,8 @@ refuses fault.Unlike = true
 
 -- the file is not set aside for such a fault, or its text would be too long
 abbrev pub IsRefused : List ℕ → Type 0
-IsRefused file = ((why : Fault) × (refuses why ≡ true) × SetsAside file (Err why)) ⊎ ((text : Vec ℕ Global) × SetsAside file (Ok (Some text)) × (LONGEST < length text.items))
+IsRefused file = ((why : Fault) × (refuses why ≡ true) × SetsAside file (Err why))
+    ⊎ ((text : Vec ℕ Global) × SetsAside file (Ok (Some text)) × (LONGEST < length text.items))
 
 -- loading: what is given for the file, or there is none of that name, or the store below has failed or the file is refused; the
 -- files stay
@@ -68,7 +70,8 @@ IsNotPut true bytes = PutsBack bytes (Err fault.TooDeep) ⊎ ((text : Vec ℕ Gl
 abbrev pub StoresTo : Bool → List ℕ → List ℕ → StoreParts → Result (Unit {0}) StoreFault → StoreParts → Type 0
 StoresTo has_set_aside name bytes old (Ok done) new = (file : List ℕ) × PutsFor has_set_aside bytes file × (new.files ≡ insert old.files name file)
 StoresTo has_set_aside name bytes old (Err Missing) new = ⊥
-StoresTo has_set_aside name bytes old (Err Device) new = (HasFailed old new × SameOthers name old.files new.files) ⊎ (IsNotPut has_set_aside bytes × (new.files ≡ old.files))
+StoresTo has_set_aside name bytes old (Err Device) new = (HasFailed old new × SameOthers name old.files new.files)
+    ⊎ (IsNotPut has_set_aside bytes × (new.files ≡ old.files))
 StoresTo has_set_aside name bytes old (Err Memory) new = new.files ≡ old.files
 
 -- the store below was asked once to store the file of this name, or not at all

@@ -6,7 +6,8 @@ use Rattle.std.proofs.lemmas.Option.{gets}
 use Rattle.std.proofs.lemmas.Slice.Eq.{bytes_eq-Decides}
 use Rattle.std.specs.Option.{option_map}
 use Rattle.undo_stack.specs.History.{History}
-use Rattle.undo_group.specs.Groups.{OpenDocument, GroupParts, IsGroup, IsNew, AreDistinct, history_named, active_history, removed, without, with_history, with_active}
+use Rattle.undo_group.specs.Groups.{OpenDocument, GroupParts, IsGroup, IsNew, AreDistinct, history_named, active_history, removed, without, with_history}
+use Rattle.undo_group.specs.Groups.{with_active}
 use Rattle.undo_group.specs.Stacks.{group_at, number_without}
 
 -- where no document has the name, nothing changes and nothing goes
@@ -19,7 +20,8 @@ without-new name [] new = refl
 without-new name (d ∷ ds) new = grind (arith, without-new name ds)
 
 -- a document that is put last under a new name is found by it
-pub history_named-added : (name : List ℕ) (h : History) (ds : List OpenDocument) → IsNew name ds → history_named name (ds ++ record { name = name; history = h } ∷ []) ≡ Some h
+pub history_named-added : (name : List ℕ) (h : History) (ds : List OpenDocument) → IsNew name ds
+    → history_named name (ds ++ record { name = name; history = h } ∷ []) ≡ Some h
 history_named-added name h [] new = grind (arith, bytes_eq-Decides)
 history_named-added name h (d ∷ ds) new = grind (arith, history_named-added name h ds)
 
@@ -38,7 +40,8 @@ history_named-at (e ∷ ds) zero d distinct at = grind (arith, bytes_eq-Decides)
 history_named-at (e ∷ ds) (suc i) d distinct at = grind (arith, history_named-at ds i d distinct.1, bytes_eq-Decides)
 
 -- and no other number has the name
-same_number : (ds : List OpenDocument) (i j : ℕ) (d e : OpenDocument) → AreDistinct ds → slice_get ds i ≡ Some d → slice_get ds j ≡ Some e → d.name ≡ e.name → i ≡ j
+same_number : (ds : List OpenDocument) (i j : ℕ) (d e : OpenDocument) → AreDistinct ds → slice_get ds i ≡ Some d → slice_get ds j ≡ Some e → d.name ≡ e.name
+    → i ≡ j
 same_number [] i j d e distinct at there same = absurd cc
 same_number (x ∷ ds) zero zero d e distinct at there same = refl
 same_number (x ∷ ds) zero (suc j) d e distinct at there same = absurd (grind (arith, history_named-at ds j e distinct.1))

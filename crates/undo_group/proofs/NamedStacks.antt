@@ -1,5 +1,6 @@
 -- The stacks of a group by name, as documents: what a look-up, a number and each change of them say of the group.
-use Rattle.std.proofs.Common.{◌≡◌, ℕ, zero, suc, ◌++◌, List, [], ◌∷◌, map, take, drop, remove, slice_get, position, Bool, false, Option, Some, None, is_some, All, refl, ◌∙◌, ap, arith, ◌<◌, ◌-◌, length}
+use Rattle.std.proofs.Common.{◌≡◌, ℕ, zero, suc, ◌++◌, List, [], ◌∷◌, map, take, drop, remove, slice_get, position, Bool, false, Option, Some, None, is_some}
+use Rattle.std.proofs.Common.{All, refl, ◌∙◌, ap, arith, ◌<◌, ◌-◌, length}
 use Rattle.std.proofs.lemmas.Bool.Decides.{nat_tests}
 use Rattle.std.proofs.lemmas.Grind.{common_steps, elements}
 use Rattle.std.proofs.lemmas.List.{length-map, map-append}
@@ -23,7 +24,8 @@ use Rattle.undo_stack.specs.Stacks.{history, Holds}
 use Rattle.undo_stack.specs.declared.stack.Stack.{Stack}
 use Rattle.undo_stack.specs.History.{History}
 use Rattle.undo_group.specs.Groups.{IsNew, AreDistinct, history_named, with_history, removed, GroupParts, added, chosen}
-use Rattle.undo_group.specs.Stacks.{document_of, documents_of, name_at, group_at, named, number_without, group_of, stack_at, stack_named, stacks_of, AreHeld, IsReplacedAt, IsTakenOut, NamedStack}
+use Rattle.undo_group.specs.Stacks.{document_of, documents_of, name_at, group_at, named, number_without, group_of, stack_at, stack_named, stacks_of, AreHeld}
+use Rattle.undo_group.specs.Stacks.{IsReplacedAt, IsTakenOut, NamedStack}
 use Rattle.undo_group.specs.declared.group.Group.{Group}
 use Rattle.undo_group.specs.Lending.{IsLeft}
 use Rattle.undo_group.proofs.Documents.{history_named-at, with_history-new, group_at-remove}
@@ -34,12 +36,14 @@ is_name name k = bytes_eq name (string_bytes k)
 
 module _ {C : Type 0} (f : C → Change) {Y : Type 0} where
   -- a look-up of a document is one of its stack
-  pub history_named-documents_of : (name : List ℕ) (es : List (String Y × Stack C)) → history_named name (documents_of f es) ≡ option_map (history f) (lookup (is_name name) es)
+  pub history_named-documents_of : (name : List ℕ) (es : List (String Y × Stack C))
+      → history_named name (documents_of f es) ≡ option_map (history f) (lookup (is_name name) es)
   history_named-documents_of name [] = refl
   history_named-documents_of name (e ∷ es) = grind (arith, history_named-documents_of name es)
 
   -- distinct keys are distinct names
-  IsNew-documents_of : (k : String Y) (es : List (String Y × Stack C)) → AllByRecursion (λ y. string_eq k y ≡ false) (keys_of es) → IsNew (string_bytes k) (documents_of f es)
+  IsNew-documents_of : (k : String Y) (es : List (String Y × Stack C)) → AllByRecursion (λ y. string_eq k y ≡ false) (keys_of es)
+      → IsNew (string_bytes k) (documents_of f es)
   IsNew-documents_of k [] apart = refl
   IsNew-documents_of k (e ∷ es) apart = grind (arith, IsNew-documents_of k es apart.1)
 
@@ -73,7 +77,13 @@ module _ {C : Type 0} (f : C → Change) {Y : Type 0} where
   stack_named-at [] i e distinct at = absurd cc
   stack_named-at (x ∷ es) zero e distinct at = grind (arith, bytes_eq-Decides)
   stack_named-at (x ∷ es) (suc i) e distinct at =
-      grind (arith, bytes_eq-Decides, stack_named-at es i e distinct.1, history_named-at (documents_of f es) i (document_of f e) distinct.1, slice_get-map (document_of f) es)
+      grind (
+        arith,
+        bytes_eq-Decides,
+        stack_named-at es i e distinct.1,
+        history_named-at (documents_of f es) i (document_of f e) distinct.1,
+        slice_get-map (document_of f) es,
+      )
 
   pub stack_at-number : (es : List (String Y × Stack C)) (i : ℕ) → AreDistinct (documents_of f es)
       → stack_at (name_at (documents_of f es) (Some i)) (map (λ e. named (string_bytes e.0) e.1) es) ≡ option_map (λ e. e.1) (slice_get es i)
@@ -89,23 +99,33 @@ module _ {C : Type 0} (f : C → Change) {Y : Type 0} where
           rw (name, at) (stack_named-at es i e distinct at)
 
   -- a number that was found by a name has it
-  pub name_at-found : (name : List ℕ) (es : List (String Y × Stack C)) (i : ℕ) → position (is_name name) (keys_of es) ≡ Some i → name_at (documents_of f es) (Some i) ≡ Some name
+  pub name_at-found : (name : List ℕ) (es : List (String Y × Stack C)) (i : ℕ) → position (is_name name) (keys_of es) ≡ Some i
+      → name_at (documents_of f es) (Some i) ≡ Some name
   name_at-found name [] i at = absurd cc
   name_at-found name (e ∷ es) i at = grind (arith, gets, slice_get-map, bytes_eq-Decides, position-Some (is_name name) (keys_of (e ∷ es)) i e.0 at)
 
   -- a stack that is written at a number is the history of the document there, and the stacks hold where it does
-  documents_of-set_value_at : (es : List (String Y × Stack C)) (i : ℕ) (e : String Y × Stack C) (w : Stack C) → AreDistinct (documents_of f es) → slice_get es i ≡ Some e
+  documents_of-set_value_at : (es : List (String Y × Stack C)) (i : ℕ) (e : String Y × Stack C) (w : Stack C) → AreDistinct (documents_of f es)
+      → slice_get es i ≡ Some e
       → documents_of f (set_value_at es i w) ≡ with_history (string_bytes e.0) (history f w) (documents_of f es)
   documents_of-set_value_at [] i e w distinct at = refl
   documents_of-set_value_at (x ∷ es) zero e w distinct at = grind (arith, bytes_eq-Decides, with_history-new)
   documents_of-set_value_at (x ∷ es) (suc i) e w distinct at =
-      grind (arith, bytes_eq-Decides, documents_of-set_value_at es i e w distinct.1, history_named-at (documents_of f es) i (document_of f e) distinct.1, slice_get-map (document_of f) es i)
+      grind (
+        arith,
+        bytes_eq-Decides,
+        documents_of-set_value_at es i e w distinct.1,
+        history_named-at (documents_of f es) i (document_of f e) distinct.1,
+        slice_get-map (document_of f) es i,
+      )
 
-  All-set_value_at : (es : List (String Y × Stack C)) (i : ℕ) (w : Stack C) → Holds f w → All (λ e. Holds f e.1) es → All (λ e. Holds f e.1) (set_value_at es i w)
+  All-set_value_at : (es : List (String Y × Stack C)) (i : ℕ) (w : Stack C) → Holds f w → All (λ e. Holds f e.1) es
+      → All (λ e. Holds f e.1) (set_value_at es i w)
   All-set_value_at [] i w here all = all
   All-set_value_at (e ∷ es) zero w here all = All-cons (λ x. Holds f x.1) (e.0, w) es here (All-tail (λ x. Holds f x.1) e es all)
   All-set_value_at (e ∷ es) (suc i) w here all =
-      All-cons (λ x. Holds f x.1) e (set_value_at es i w) (All-head (λ x. Holds f x.1) e es all) (All-set_value_at es i w here (All-tail (λ x. Holds f x.1) e es all))
+      All-cons (λ x. Holds f x.1) e (set_value_at es i w) (All-head (λ x. Holds f x.1) e es all)
+      (All-set_value_at es i w here (All-tail (λ x. Holds f x.1) e es all))
 
   -- the stack that was found by a name goes
   pub removed-found : (name : List ℕ) (es : List (String Y × Stack C)) (i : ℕ) (e : String Y × Stack C) (number : Option ℕ)
@@ -113,7 +133,13 @@ module _ {C : Type 0} (f : C → Change) {Y : Type 0} where
       → group_at (documents_of f (remove es i)) (number_without i number) ≡ removed name (group_at (documents_of f es) number)
   removed-found name es i e number found at unique =
       let distinct = AreDistinct-documents_of es unique in
-      grind (arith, map-remove (document_of f) es i, group_at-remove (documents_of f es) i (document_of f e) number distinct, slice_get-map (document_of f) es i, name_at-found name es i found)
+      grind (
+        arith,
+        map-remove (document_of f) es i,
+        group_at-remove (documents_of f es) i (document_of f e) number distinct,
+        slice_get-map (document_of f) es i,
+        name_at-found name es i found,
+      )
 
 -- ---- the stacks themselves
 module _ {C : Type 0} {Y : Type 0} where
@@ -147,7 +173,8 @@ module _ {C : Type 0} {Y : Type 0} where
       record {
         first = map named_of (take i es);
         rest = map named_of (drop (suc i) es);
-        was = ap (map named_of) (between es i e at) ∙ map-append named_of (take i es) (e ∷ drop (suc i) es) ∙ ap (λ n. map named_of (take i es) ++ named n e.1 ∷ map named_of (drop (suc i) es)) same;
+        was = ap (map named_of) (between es i e at) ∙ map-append named_of (take i es) (e ∷ drop (suc i) es)
+            ∙ ap (λ n. map named_of (take i es) ++ named n e.1 ∷ map named_of (drop (suc i) es)) same;
         left = map-append named_of (take i es) (drop (suc i) es);
       }
 
@@ -205,7 +232,8 @@ module _ {C : Type 0} (f : C → Change) (g : Group C) where
     group_of-added = grind (arith, common_steps, gets, stacks-added, map-append (document_of f) g.stacks.entries, length-map, held.within)
 
   -- the stack at a number goes
-  pub AreHeld-removed : (i : ℕ) (new : Group C) → i < length g.stacks.entries → new.stacks.entries ≡ remove g.stacks.entries i → new.active ≡ number_without i g.active
+  pub AreHeld-removed : (i : ℕ) (new : Group C) → i < length g.stacks.entries → new.stacks.entries ≡ remove g.stacks.entries i
+      → new.active ≡ number_without i g.active
       → AreHeld f g → AreHeld f new
   AreHeld-removed i new within inserted active held =
       let es = g.stacks.entries in

@@ -1,5 +1,6 @@
 -- Entries that stay without a command that is obsolete.
-use Rattle.std.proofs.Common.{◌≡◌, ℕ, ◌+◌, ◌-◌, ◌<◌, List, [], ◌∷◌, ◌++◌, Bool, true, false, not, ◌&&◌, take, drop, length, map, set, get_or, suc, refl, sym, ◌∙◌, ap, subst, arith}
+use Rattle.std.proofs.Common.{◌≡◌, ℕ, ◌+◌, ◌-◌, ◌<◌, List, [], ◌∷◌, ◌++◌, Bool, true, false, not, ◌&&◌, take, drop, length, map, set, get_or, suc, refl, sym}
+use Rattle.std.proofs.Common.{◌∙◌, ap, subst, arith}
 use Rattle.std.specs.List.{All, remove}
 use Rattle.std.proofs.lemmas.List.{take-set, take-append-drop}
 use Rattle.std.proofs.lemmas.List.Elements.{All-nil, All-cons, All-head, All-tail, All-same, All-get_or, All-append, All-push, All-take, All-drop, All-map}
@@ -59,7 +60,8 @@ module _ {C : Type 0} (f : C → Change) where
   at_number P es v j inside is all = subst P (sym is) (All-get_or P es j v inside all)
 
   -- entries that are not free, and none of which became stale
-  pub live_moved : (es ts : List (Entry C)) → AreLive f es → map (λ e. is_stale (entry_change f e)) ts ≡ map (λ e. is_stale (entry_change f e)) es → NoneFree f ts → AreLive f ts
+  pub live_moved : (es ts : List (Entry C)) → AreLive f es → map (λ e. is_stale (entry_change f e)) ts ≡ map (λ e. is_stale (entry_change f e)) es
+      → NoneFree f ts → AreLive f ts
   live_moved es ts live same bound =
       let stale : Entry C → Bool = λ e. is_stale (entry_change f e) in
       let IsFalse : Bool → Type 0 = λ b. b ≡ false in
@@ -71,7 +73,8 @@ module _ {C : Type 0} (f : C → Change) where
       All-both [] fresh none = All-nil Live
       All-both (x ∷ xs) fresh none =
           let P : Entry C → Type 0 = λ e. is_stale (entry_change f e) ≡ false in
-          All-cons Live x xs (live_bound (entry_change f x) (All-head Bound x xs none) (All-head P x xs fresh)) (All-both xs (All-tail P x xs fresh) (All-tail Bound x xs none))
+          All-cons Live x xs (live_bound (entry_change f x) (All-head Bound x xs none) (All-head P x xs fresh))
+          (All-both xs (All-tail P x xs fresh) (All-tail Bound x xs none))
 
   -- the entry v at a number stays, where all the others are live
   pub live_again : (es : List (Entry C)) (v : Entry C) (j : ℕ) → j < length es → v ≡ get_or es j v → IsLive (entry_change f v) → AreLive f (remove es j)

@@ -14,7 +14,8 @@ use Rattle.undo_stack.specs.Sequence.{FitsDown, IsMoved, is_stale}
 use Rattle.undo_stack.specs.Calm.{is_gone, IsLive, NoneFree}
 use Rattle.undo_stack.specs.Moving.{positioned}
 use Rattle.undo_stack.specs.Entries.{entry_change, depth, greatest}
-use Rattle.undo_stack.specs.Held.{Becomes, IsCut, history_at, nestings_at, shape_at, target_in, IsSoundAt, IsHeld, IsHeldToLast, IsHeldButAt, IsSetAt, IsUnchangedAt, IsTakenInto}
+use Rattle.undo_stack.specs.Held.{Becomes, IsCut, history_at, nestings_at, shape_at, target_in, IsSoundAt, IsHeld, IsHeldToLast, IsHeldButAt, IsSetAt}
+use Rattle.undo_stack.specs.Held.{IsUnchangedAt, IsTakenInto}
 use Rattle.undo_stack.specs.Held.{MergesInto, MergesNestings, entry_nestings, IsSettledAt, IsDroppedAt}
 use Rattle.undo_stack.specs.Merging.{MergesChange, MergesSequence, HasTarget, left_of}
 use Rattle.undo_stack.specs.Nestings.{Nestings, nesting, nestings_cut, nestings_next_of}
@@ -23,7 +24,8 @@ use Rattle.undo_stack.specs.Sound.{IsAtMost, IsTurnable, sequence_depth}
 use Rattle.undo_stack.specs.declared.entry.Entry.{Entry}
 use Rattle.undo_stack.specs.declared.limits.TheConstants.{MAX_DEPTH, MAX_LIMIT}
 use Rattle.undo_stack.specs.declared.sequence.Sequence.{Sequence}
-use Rattle.undo_stack.proofs.Calm.{Bound, Live, live_as, bound_as, bound_moved, at_number, live_again, live_around, live_gone, live_either, live_moved, live_stays}
+use Rattle.undo_stack.proofs.Calm.{Bound, Live, live_as, bound_as, bound_moved, at_number, live_again, live_around, live_gone, live_either, live_moved}
+use Rattle.undo_stack.proofs.Calm.{live_stays}
 use Rattle.undo_stack.proofs.Joins.{take_below-set, merges_below, altered_moved, drop_below-set, settles_gone, settles_stays}
 use Rattle.undo_stack.proofs.Levels.{without_last-append}
 use Rattle.undo_stack.proofs.Nestings.{nestings-without_last}
@@ -164,7 +166,8 @@ module _ {C : Type 0} (f : C → Change) where
         let b = (f c).undone d in
         let t = h.sound.turnable in
         let altered = merges_changed {E = Unit {0}} c d (Err tt) t.down same in
-        let stale = map-set_same (λ x. is_stale (entry_change f x)) es v w (n - 1) is (stale_as (entry_change f v) (entry_change f w) same.names (λ _. same.obsolete)) in
+        let stale = map-set_same (λ x. is_stale (entry_change f x)) es v w (n - 1) is
+        (stale_as (entry_change f v) (entry_change f w) same.names (λ _. same.obsolete)) in
         let m = altered_moved (entry_change f) es changed n b altered (drop_below-set es w n some) len t.up stale in
         let live = live_as (entry_change f v) (entry_change f w) same (at_number f (Live f) es v (n - 1) inside is h.live) in
         record {
@@ -356,7 +359,8 @@ module _ {C : Type 0} (f : C → Change) where
       (names : (entry_change f w).names ≡ (entry_change f v).names)
       (same : is_free (entry_change f v).names.vanishing ≡ false → (entry_change f w).obsolete ≡ (entry_change f v).obsolete) where
     -- the entry is as obsolete as it was, where it is not free
-    turned_stays : IsHeld f d q → (x : Entry C) → x ≡ get_or p.entries.items j x → is_free (entry_change f x).names.vanishing ≡ false → IsLive (entry_change f x)
+    turned_stays : IsHeld f d q → (x : Entry C) → x ≡ get_or p.entries.items j x → is_free (entry_change f x).names.vanishing ≡ false
+        → IsLive (entry_change f x)
     turned_stays h x at bound =
         let put : x ≡ w = at ∙ rw k.entries (get_or-set_same q.entries.items j w x inside) in
         let was : is_free (entry_change f v).names.vanishing ≡ false =
@@ -399,7 +403,8 @@ module _ {C : Type 0} (f : C → Change) where
 
   -- the entry at a number stays, where it is live
   pub kept_at : (d : DocumentParts) (at : ℕ) (q : Sequence C) (v : Entry C) → at < length q.entries.items → v ≡ get_or q.entries.items at v
-      → false ≡ is_gone (entry_change f v) → (is_free (entry_change f v).names.vanishing ≡ true → IsLive (entry_change f v)) → IsHeldButAt f d at q → IsDroppedAt f d at q q
+      → false ≡ is_gone (entry_change f v) → (is_free (entry_change f v).names.vanishing ≡ true → IsLive (entry_change f v)) → IsHeldButAt f d at q
+      → IsDroppedAt f d at q q
   kept_at d at q v inside is stays live h = record {
     held = record {
       sound = h.sound;

@@ -21,7 +21,8 @@ use Rattle.undo_stack.specs.Held.{IsHeld, history_at, nestings_at, shape_at, tar
 use Rattle.undo_stack.specs.Nestings.{Nestings, Shape, nestings_cut, nestings_next_of}
 use Rattle.undo_stack.specs.Reporting.{IsReportedAt, reports}
 use Rattle.undo_stack.specs.Sound.{Inner, IsAtMost, start_of, sequence_depth, level_depth}
-use Rattle.undo_stack.specs.Stacks.{inner_of, inners, history, nestings, shape, AreHeld, AreReady, Holds, IsClosed, IsDone, IsReady, IsReported, target_entry, IsCalm}
+use Rattle.undo_stack.specs.Stacks.{inner_of, inners, history, nestings, shape, AreHeld, AreReady, Holds, IsClosed, IsDone, IsReady, IsReported, target_entry}
+use Rattle.undo_stack.specs.Stacks.{IsCalm}
 use Rattle.undo_stack.specs.Stacks.{LevelsAreLive}
 use Rattle.undo_stack.specs.declared.entry.Entry.{Entry}
 use Rattle.undo_stack.specs.declared.level.Level.{Level}
@@ -496,8 +497,10 @@ module _ {C : Type 0} {f : C → Change} {s : Stack C} (h : Holds f s) {v : Leve
             → ps ≡ nestings_next_of merged gone outer.limit (nestings_cut outer.position os) =
             λ merged gone is. next merged gone (rw (position, limit) is) in
             subst (λ (k : History). IsReportedAt f x s.document (target_entry s) (shape_with k os) d (shape f t)) (sym old_view)
-            (subst (λ (k : History). IsReportedAt f x s.document (target_entry s) (shape_with (outer_with inner) os) d (shape_with k ps)) (sym (landed_view n.steps lands))
-            (subst (λ (y : Sequence C). IsReportedAt f x s.document (target_in y) (shape_with (outer_with inner) os) d (shape_with new ps)) (sym level_innermost)
+            (subst (λ (k : History). IsReportedAt f x s.document (target_entry s) (shape_with (outer_with inner) os) d (shape_with k ps))
+            (sym (landed_view n.steps lands))
+            (subst (λ (y : Sequence C). IsReportedAt f x s.document (target_in y) (shape_with (outer_with inner) os) d (shape_with new ps))
+            (sym level_innermost)
             (reported_whole outer outer.levels inner f x s.document d e n xs ys os ps up part)))
 
     -- an entry of this step was added to the sequence, and so to the stack
@@ -594,7 +597,8 @@ module _ {C : Type 0} {f : C → Change} {s : Stack C} (h : Holds f s) where
           closed_shape f (λ k n. IsReportedAt f x s.document (target_entry s) k d n) s d q none (rw none onto))
           (λ v at last next.
           let is = level_innermost h last in
-          let t : Stack C = record s { document = d; sequences = record s.sequences { levels = with_item s.sequences.levels at (record v { sequence = q }) } } in
+          let t : Stack C = record s { document = d; sequences = record s.sequences { levels = with_item s.sequences.levels at (record v { sequence = q }) } }
+          in
           let onto = subst (λ (y : Sequence C). NextLent f s y q t) is next in
           reported_inside h last d q held (rw is at less) x (part_onto v.sequence is) onto (subst ReportedOn is r))
           next

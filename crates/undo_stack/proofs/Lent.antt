@@ -6,7 +6,8 @@ use Rattle.map_model.specs.Document.{DocumentParts}
 use Rattle.command_api.specs.Law.{Change}
 use Rattle.undo_stack.specs.Held.{entry_nestings, nestings_at}
 use Rattle.undo_stack.specs.Lending.{innermost}
-use Rattle.undo_stack.specs.Nestings.{Nesting, Nestings, within_limit, nesting, nestings_begun, nestings_cut, nestings_ended, nestings_next_of, nestings_with_added}
+use Rattle.undo_stack.specs.Nestings.{Nesting, Nestings, within_limit, nesting, nestings_begun, nestings_cut, nestings_ended, nestings_next_of}
+use Rattle.undo_stack.specs.Nestings.{nestings_with_added}
 use Rattle.undo_stack.specs.Stacks.{Holds, nestings}
 use Rattle.undo_stack.specs.declared.entry.Entry.{Entry}
 use Rattle.undo_stack.specs.declared.level.Level.{Level}

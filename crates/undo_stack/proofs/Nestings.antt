@@ -1,11 +1,13 @@
 -- Lists of nestings, as code changes them.
-use Rattle.std.proofs.Common.{◌≡◌, ℕ, ◌+◌, ◌-◌, ◌<◌, List, [], ◌∷◌, ◌++◌, Bool, true, false, Some, slice_get, take, drop, length, map, get_or, zero, suc, refl, sym, ◌∙◌, ap, arith}
+use Rattle.std.proofs.Common.{◌≡◌, ℕ, ◌+◌, ◌-◌, ◌<◌, List, [], ◌∷◌, ◌++◌, Bool, true, false, Some, slice_get, take, drop, length, map, get_or, zero, suc, refl}
+use Rattle.std.proofs.Common.{sym, ◌∙◌, ap, arith}
 use Rattle.std.proofs.lemmas.List.{drop-map, length-append, length-map, map-append, take-map, take_all}
 use Rattle.std.specs.List.{remove}
 use Rattle.undo_stack.specs.Entries.{is_macro}
 use Rattle.undo_stack.specs.History.{History}
 use Rattle.undo_stack.specs.Merging.{left_of}
-use Rattle.undo_stack.specs.Nestings.{Nesting, Nestings, Shape, Single, entered_nestings, innermost_nestings, is_nested, macros_in, nested, within_limit, nesting, nestings_cut, nestings_ended}
+use Rattle.undo_stack.specs.Nestings.{Nesting, Nestings, Shape, Single, entered_nestings, innermost_nestings, is_nested, macros_in, nested, within_limit}
+use Rattle.undo_stack.specs.Nestings.{nesting, nestings_cut, nestings_ended}
 use Rattle.undo_stack.specs.Nestings.{nestings_next_of, nestings_with_added, with_last}
 use Rattle.undo_stack.specs.Pushing.{without_last}
 use Rattle.undo_stack.specs.declared.entry.Entry.{Entry}

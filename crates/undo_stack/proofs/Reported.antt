@@ -1,5 +1,6 @@
 -- What turns make of a history, as the commands that are turned report it.
-use Rattle.std.proofs.Common.{◌≡◌, ℕ, ◌+◌, ◌-◌, ◌<◌, ◌≤◌, List, [], ◌∷◌, ◌++◌, Bool, true, false, ◌&&◌, take, drop, reverse, length, map, set, get_or, refl, sym}
+use Rattle.std.proofs.Common.{◌≡◌, ℕ, ◌+◌, ◌-◌, ◌<◌, ◌≤◌, List, [], ◌∷◌, ◌++◌, Bool, true, false, ◌&&◌, take, drop, reverse, length, map, set, get_or, refl}
+use Rattle.std.proofs.Common.{sym}
 use Rattle.std.proofs.Common.{◌∙◌, ap, subst, arith, length-set, min, zero, suc}
 use Rattle.std.proofs.lemmas.List.{drop_all, drop-append-le, get_or-set_same, length-drop, length-reverse, length-take, length-take-le, reverse-append}
 use Rattle.std.proofs.lemmas.List.{take-set}

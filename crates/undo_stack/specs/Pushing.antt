@@ -8,7 +8,8 @@
 -- 2. Else, if the edit vanishes when equal and d equals the current document, no step is added.
 -- 3. Else a step with d is added: to the innermost level, or to the list with the position one higher and then the limit.
 -- Where the two documents of 1 or 2 are equal, a free t or edit may go too: it does where its command says so (Reporting).
-use Rattle.std.specs.Prelude.{◌≡◌, ℕ, ◌+◌, ◌-◌, List, [], ◌∷◌, ◌++◌, Option, Some, None, take, drop, length, Bool, true, false, leb, if◌then◌else◌, ◌↔◌, zero, suc}
+use Rattle.std.specs.Prelude.{◌≡◌, ℕ, ◌+◌, ◌-◌, List, [], ◌∷◌, ◌++◌, Option, Some, None, take, drop, length, Bool, true, false, leb, if◌then◌else◌, ◌↔◌, zero}
+use Rattle.std.specs.Prelude.{suc}
 use Rattle.map_model.specs.Document.{DocumentParts}
 use Rattle.command_api.specs.Law.{Change}
 use Rattle.command_api.specs.Names.{Vanishing, Never, IsSettled}

@@ -8,4 +8,5 @@ pub returns-clause-found : goal.returns-clause-found
 returns-clause-found c = ap (option_map view) c.remove.ensures.value ∙ view-lookup c.args.name.now c.args.members.now.entries
 
 pub returns-clause-left : goal.returns-clause-left
-returns-clause-left c = members_view-removed c.args.name.now c.args.members.now.entries c.remove.new.self.entries c.remove.ensures.entries c.remove.ensures.updates.1
+returns-clause-left c = members_view-removed c.args.name.now c.args.members.now.entries c.remove.new.self.entries c.remove.ensures.entries
+    c.remove.ensures.updates.1

@@ -19,4 +19,5 @@ pub returns : goal.returns
 returns g c = λ path bytes apart.
     let old = g.F.SaveFolder.log c.args.folder.now in
     subst (λ (l : List Call). LosesNothing (IsBeside c.args.front.now) path bytes old l) (sym (also c.seize.ensures c.remove.ensures))
-    (cleared_exit c.args.front.now path bytes apart c.as_str-beside.result.now c.seize.result (is_ok c.remove.result) old (subst (IsBeside c.args.front.now) (sym c.as_str-beside.ensures.value) c.in-Ok.ensures))
+    (cleared_exit c.args.front.now path bytes apart c.as_str-beside.result.now c.seize.result (is_ok c.remove.result) old
+    (subst (IsBeside c.args.front.now) (sym c.as_str-beside.ensures.value) c.in-Ok.ensures))

@@ -22,19 +22,22 @@ returns-in_err-claim-clause-safe g c =
 pub returns-in_err-set_access-clause-safe : goal.returns-in_err-set_access-clause-safe
 returns-in_err-set_access-clause-safe g c =
     let old = g.F.SaveFolder.log c.args.folder.now in
-    subst (λ (l : List Call). LosesNothing (Only c.args.beside.now) c.args.path.now c.args.bytes.now old l) (sym (also c.in_ok-claim.ensures c.in_err-set_access.ensures))
+    subst (λ (l : List Call). LosesNothing (Only c.args.beside.now) c.args.path.now c.args.bytes.now old l)
+    (sym (also c.in_ok-claim.ensures c.in_err-set_access.ensures))
     (not_given c.args.beside.now c.args.path.now c.args.bytes.now c.requires.apart old)
 
 pub returns-in_err-write-clause-safe : goal.returns-in_err-write-clause-safe
 returns-in_err-write-clause-safe g c =
     let old = g.F.SaveFolder.log c.args.folder.now in
-    subst (λ (l : List Call). LosesNothing (Only c.args.beside.now) c.args.path.now c.args.bytes.now old l) (sym (also (also c.in_ok-claim.ensures c.in_ok-set_access.ensures) c.in_err-write.ensures))
+    subst (λ (l : List Call). LosesNothing (Only c.args.beside.now) c.args.path.now c.args.bytes.now old l)
+    (sym (also (also c.in_ok-claim.ensures c.in_ok-set_access.ensures) c.in_err-write.ensures))
     (not_written c.args.beside.now c.args.path.now c.args.bytes.now c.requires.apart old c.requires.made)
 
 pub returns-in_err-sync-clause-safe : goal.returns-in_err-sync-clause-safe
 returns-in_err-sync-clause-safe g c =
     let old = g.F.SaveFolder.log c.args.folder.now in
-    subst (λ (l : List Call). LosesNothing (Only c.args.beside.now) c.args.path.now c.args.bytes.now old l) (sym (also (also (also c.in_ok-claim.ensures c.in_ok-set_access.ensures) c.in_ok-write.ensures) c.in_err-sync.ensures))
+    subst (λ (l : List Call). LosesNothing (Only c.args.beside.now) c.args.path.now c.args.bytes.now old l)
+    (sym (also (also (also c.in_ok-claim.ensures c.in_ok-set_access.ensures) c.in_ok-write.ensures) c.in_err-sync.ensures))
     (not_synced c.args.beside.now c.args.path.now c.args.bytes.now c.requires.apart old c.requires.made)
 
 pub returns-clause-safe : goal.returns-clause-safe

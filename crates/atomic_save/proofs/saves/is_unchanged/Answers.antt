@@ -13,7 +13,8 @@ also {call = call} e f = f ∙ ap (λ (l : List Call). call ∷ l) e
 pub returns-then-not-compare-clause-safe : goal.returns-then-not-compare-clause-safe
 returns-then-not-compare-clause-safe g c =
     let old = g.F.SaveFolder.log c.args.folder.now in
-    subst (λ (l : List Call). LosesNothing NoPath c.args.path.now c.args.bytes.now old l) (sym c.compare.ensures.noted) (compared_exit c.args.path.now c.args.bytes.now c.compare.result old)
+    subst (λ (l : List Call). LosesNothing NoPath c.args.path.now c.args.bytes.now old l) (sym c.compare.ensures.noted)
+    (compared_exit c.args.path.now c.args.bytes.now c.compare.result old)
 
 pub returns-then-is_err-clause-safe : goal.returns-then-is_err-clause-safe
 returns-then-is_err-clause-safe g c =
@@ -24,7 +25,8 @@ returns-then-is_err-clause-safe g c =
 pub returns-clause-safe : goal.returns-clause-safe
 returns-clause-safe g c =
     let old = g.F.SaveFolder.log c.args.folder.now in
-    subst (λ (l : List Call). LosesNothing NoPath c.args.path.now c.args.bytes.now old l) (sym (also (also c.compare.ensures.noted c.sync.ensures) c.sync_folder.ensures))
+    subst (λ (l : List Call). LosesNothing NoPath c.args.path.now c.args.bytes.now old l)
+    (sym (also (also c.compare.ensures.noted c.sync.ensures) c.sync_folder.ensures))
     (compared_kept_exit c.args.path.now c.args.bytes.now c.compare.result (is_ok c.sync.result) (is_ok c.sync_folder.result) old)
 
 pub returns-then-is_none-clause-safe : goal.returns-then-is_none-clause-safe

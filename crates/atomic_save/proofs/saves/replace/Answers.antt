@@ -9,18 +9,21 @@ returns-in-Ok-clause-safe g c =
     let log = g.F.SaveFolder.log in let front = c.args.front.now in let path = c.args.path.now in let bytes = c.args.bytes.now in
     let beside = subst (IsBeside front) (sym c.as_str.ensures.value) c.in_ok-beside.ensures in
     both (IsBeside front) path bytes (log c.args.folder.now) (log c.loop-number.folder) (log c.save_beside.new.folder) c.loop-number.invariant
-    (weaken (Only c.as_str.result.now) (IsBeside front) path bytes (log c.loop-number.folder) (log c.save_beside.new.folder) (λ other q. subst (IsBeside front) (sym q) beside) c.save_beside.ensures.safe)
+    (weaken (Only c.as_str.result.now) (IsBeside front) path bytes (log c.loop-number.folder) (log c.save_beside.new.folder)
+    (λ other q. subst (IsBeside front) (sym q) beside) c.save_beside.ensures.safe)
 
 pub returns-in-Err-2-clause-safe : goal.returns-in-Err-2-clause-safe
 returns-in-Err-2-clause-safe g c =
     let log = g.F.SaveFolder.log in let front = c.args.front.now in let path = c.args.path.now in let bytes = c.args.bytes.now in
     let beside = subst (IsBeside front) (sym c.as_str.ensures.value) c.in_ok-beside.ensures in
     both (IsBeside front) path bytes (log c.args.folder.now) (log c.loop-number.folder) (log c.save_beside.new.folder) c.loop-number.invariant
-    (weaken (Only c.as_str.result.now) (IsBeside front) path bytes (log c.loop-number.folder) (log c.save_beside.new.folder) (λ other q. subst (IsBeside front) (sym q) beside) c.save_beside.ensures.safe)
+    (weaken (Only c.as_str.result.now) (IsBeside front) path bytes (log c.loop-number.folder) (log c.save_beside.new.folder)
+    (λ other q. subst (IsBeside front) (sym q) beside) c.save_beside.ensures.safe)
 
 pub loop-number-preserved : goal.loop-number-preserved
 loop-number-preserved g c =
     let log = g.F.SaveFolder.log in let front = c.args.front.now in let path = c.args.path.now in let bytes = c.args.bytes.now in
     let beside = subst (IsBeside front) (sym c.as_str.ensures.value) c.in_ok-beside.ensures in
     both (IsBeside front) path bytes (log c.args.folder.now) (log c.loop-number.folder) (log c.save_beside.new.folder) c.loop-number.invariant
-    (weaken (Only c.as_str.result.now) (IsBeside front) path bytes (log c.loop-number.folder) (log c.save_beside.new.folder) (λ other q. subst (IsBeside front) (sym q) beside) c.save_beside.ensures.safe)
+    (weaken (Only c.as_str.result.now) (IsBeside front) path bytes (log c.loop-number.folder) (log c.save_beside.new.folder)
+    (λ other q. subst (IsBeside front) (sym q) beside) c.save_beside.ensures.safe)

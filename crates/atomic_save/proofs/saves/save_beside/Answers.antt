@@ -21,8 +21,10 @@ returns-in-Err-clause-safe g c =
     let log = g.F.SaveFolder.log in let old = log c.args.folder.now in
     let beside = c.args.beside.now in let path = c.args.path.now in let bytes = c.args.bytes.now in
     let created : LosesNothing (Only beside) path bytes old (log c.create.new.self) =
-    subst (λ (l : List Call). LosesNothing (Only beside) path bytes old l) (sym c.create.ensures) (made_exit beside path bytes c.requires (is_ok c.create.result) old) in
-    both (Only beside) path bytes old (log c.fill.new.folder) (log c.take_back.new.folder) (both (Only beside) path bytes old (log c.create.new.self) (log c.fill.new.folder) created c.fill.ensures.safe)
+    subst (λ (l : List Call). LosesNothing (Only beside) path bytes old l) (sym c.create.ensures)
+    (made_exit beside path bytes c.requires (is_ok c.create.result) old) in
+    both (Only beside) path bytes old (log c.fill.new.folder) (log c.take_back.new.folder)
+    (both (Only beside) path bytes old (log c.create.new.self) (log c.fill.new.folder) created c.fill.ensures.safe)
     (c.take_back.ensures path bytes c.requires)
 
 pub returns-clause-safe : goal.returns-clause-safe
@@ -30,9 +32,11 @@ returns-clause-safe g c =
     let log = g.F.SaveFolder.log in let old = log c.args.folder.now in
     let beside = c.args.beside.now in let path = c.args.path.now in let bytes = c.args.bytes.now in
     let created : LosesNothing (Only beside) path bytes old (log c.create.new.self) =
-    subst (λ (l : List Call). LosesNothing (Only beside) path bytes old l) (sym c.create.ensures) (made_exit beside path bytes c.requires (is_ok c.create.result) old) in
+    subst (λ (l : List Call). LosesNothing (Only beside) path bytes old l) (sym c.create.ensures)
+    (made_exit beside path bytes c.requires (is_ok c.create.result) old) in
     subst (λ (l : List Call). LosesNothing (Only beside) path bytes old l) (sym c.sync_folder.ensures)
-    (folder_exit beside path bytes c.requires (is_ok c.sync_folder.result) old (log c.fill.new.folder) (both (Only beside) path bytes old (log c.create.new.self) (log c.fill.new.folder) created c.fill.ensures.safe))
+    (folder_exit beside path bytes c.requires (is_ok c.sync_folder.result) old (log c.fill.new.folder)
+    (both (Only beside) path bytes old (log c.create.new.self) (log c.fill.new.folder) created c.fill.ensures.safe))
 
 pub returns-clause-kept : goal.returns-clause-kept
 returns-clause-kept g c =

@@ -19,7 +19,8 @@ returns-in_err-access-clause-safe g c =
 pub returns-in_err-open_folder-clause-safe : goal.returns-in_err-open_folder-clause-safe
 returns-in_err-open_folder-clause-safe g c =
     let old = g.F.SaveFolder.log c.args.folder.now in
-    subst (λ (l : List Call). LosesNothing (IsBeside c.args.front.now) c.args.path.now c.args.bytes.now old l) (sym (also c.access.ensures c.open_folder.ensures))
+    subst (λ (l : List Call). LosesNothing (IsBeside c.args.front.now) c.args.path.now c.args.bytes.now old l)
+    (sym (also c.access.ensures c.open_folder.ensures))
     (opened_exit c.args.front.now c.args.path.now c.args.bytes.now c.requires c.args.path.now (is_ok c.access.result) (is_ok c.open_folder.result) old)
 
 pub returns-then-is_unchanged-clause-safe : goal.returns-then-is_unchanged-clause-safe

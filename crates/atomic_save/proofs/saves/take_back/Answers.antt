@@ -12,7 +12,8 @@ also {call = call} e f = f ∙ ap (λ (l : List Call). call ∷ l) e
 pub returns-then-is_err : goal.returns-then-is_err
 returns-then-is_err g c = λ path bytes apart.
     let old = g.F.SaveFolder.log c.args.folder.now in
-    subst (λ (l : List Call). LosesNothing (Only c.args.beside.now) path bytes old l) (sym c.claim.ensures) (claimed_exit c.args.beside.now path bytes apart (is_ok c.claim.result) old)
+    subst (λ (l : List Call). LosesNothing (Only c.args.beside.now) path bytes old l) (sym c.claim.ensures)
+    (claimed_exit c.args.beside.now path bytes apart (is_ok c.claim.result) old)
 
 pub returns : goal.returns
 returns g c = λ path bytes apart.

@@ -15,7 +15,8 @@ pub fill_cells-requires : goal.fill_cells-requires
 fill_cells-requires c =
     let m = c.parts.result.now in
     let value = c.parts.ensures.value in
-    let layer : IsTheLayer m c.args.layer c.in_ok-tiles.tiles.now = IsTheLayer-found m c.args.layer c.in_ok-tiles.tiles.now (rw value c.parts.ensures.well_formed) (rw value c.in_ok-tiles.ensures) in
+    let layer : IsTheLayer m c.args.layer c.in_ok-tiles.tiles.now =
+    IsTheLayer-found m c.args.layer c.in_ok-tiles.tiles.now (rw value c.parts.ensures.well_formed) (rw value c.in_ok-tiles.ensures) in
     let start : ℕ × ℕ = (c.in-Some.start.0, c.in-Some.start.1) in
     let found : Some start ≡ map_cell c.map-map.result.now c.args.x c.args.y = search rules in
     let within = map_cell-within m c.args.x c.args.y start (rw value found) in
@@ -42,5 +43,6 @@ returns-in-Ok-clause-change c =
     let known : is_known d.map c.args.value ≡ true = sym (rw map at c.if-not-is_known_value.ensures) in
     let layer = IsTheLayer-found d.map c.args.layer tiles (rw map at c.parts.ensures.well_formed) there in
     let width = ap (λ (m : MapParts). m.width) (c.parts.ensures.value ∙ map) in
-    fill-IsPainted d c.args.layer c.args.x c.args.y c.args.value start tiles c.parts.result.now.width c.selection.result.now (record { layer = c.args.layer; cells = c.alike.result }) (rw map at found) there known layer width
+    fill-IsPainted d c.args.layer c.args.x c.args.y c.args.value start tiles c.parts.result.now.width c.selection.result.now
+    (record { layer = c.args.layer; cells = c.alike.result }) (rw map at found) there known layer width
     c.selection.ensures.selection refl (c.alike.ensures ∙ c.in-Ok.ensures.cells)

@@ -25,8 +25,10 @@ returns-clause-cells c =
     let size = length g.tiles.now in
     c.loop-word.invariant ∙ ap (λ n. changes_below g s c.args.value (64 * n)) all
     ∙ elim (cases_lt (64 * s.end) size) [
-      | inl l ↦ sym (changes-unmarked g s c.args.value (64 * s.end) size some (omega arith) (λ k a b. false_from_ne_true (taken_at s k) (λ t. omega (arith, a, c.requires.sound.to k t))))
-      | inr l ↦ changes-unmarked g s c.args.value size (64 * s.end) some l (λ k a b. false_from_ne_true (taken_at s k) (λ t. omega (arith, a, marked-within g s c.args.value c.requires.free some k t)))
+      | inl l ↦ sym (changes-unmarked g s c.args.value (64 * s.end) size some (omega arith)
+          (λ k a b. false_from_ne_true (taken_at s k) (λ t. omega (arith, a, c.requires.sound.to k t))))
+      | inr l ↦ changes-unmarked g s c.args.value size (64 * s.end) some l
+          (λ k a b. false_from_ne_true (taken_at s k) (λ t. omega (arith, a, marked-within g s c.args.value c.requires.free some k t)))
     ]
 
 pub returns-clause-alike : goal.returns-clause-alike

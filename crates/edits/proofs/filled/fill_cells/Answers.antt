@@ -17,12 +17,14 @@ returns-then-eq-clause-cells c =
 
 pub changes_of-requires-clause-free : goal.changes_of-requires-clause-free
 changes_of-requires-clause-free c =
-    taken-free c.args.width c.args.tiles.now c.args.selection.now c.args.start.0 c.args.start.1 c.new-ground.result c.new-ground.ensures (is_taken c.new-ground.result c.in_ok-spread.spread) c.in_ok-spread.ensures.cells
+    taken-free c.args.width c.args.tiles.now c.args.selection.now c.args.start.0 c.args.start.1 c.new-ground.result c.new-ground.ensures
+    (is_taken c.new-ground.result c.in_ok-spread.spread) c.in_ok-spread.ensures.cells
 
 pub returns-clause-cells : goal.returns-clause-cells
 returns-clause-cells c =
     c.in_ok-cells.ensures.cells
-    ∙ difference-taken c.args.width c.args.tiles.now c.args.selection.now c.args.start.0 c.args.start.1 c.new-ground.result c.new-ground.ensures (is_taken c.new-ground.result c.in_ok-spread.spread) c.in_ok-spread.ensures.cells c.args.value
+    ∙ difference-taken c.args.width c.args.tiles.now c.args.selection.now c.args.start.0 c.args.start.1 c.new-ground.result c.new-ground.ensures
+    (is_taken c.new-ground.result c.in_ok-spread.spread) c.in_ok-spread.ensures.cells c.args.value
 
 pub returns-then-not-has_free_neighbour-clause-cells : goal.returns-then-not-has_free_neighbour-clause-cells
 returns-then-not-has_free_neighbour-clause-cells c =
@@ -30,7 +32,8 @@ returns-then-not-has_free_neighbour-clause-cells c =
     let ground = c.new-ground.ensures.sound in
     c.in_ok-change.ensures
     ∙ sym (difference-start g ground c.args.value (λ e. false≢true (c.if-eq.ensures ∙ eq-eqb g.value c.args.value e)))
-    ∙ difference-taken c.args.width c.args.tiles.now c.args.selection.now c.args.start.0 c.args.start.1 g c.new-ground.ensures (is_start g) (start-joined g (sym c.if-not-has_free_neighbour.ensures)) c.args.value
+    ∙ difference-taken c.args.width c.args.tiles.now c.args.selection.now c.args.start.0 c.args.start.1 g c.new-ground.ensures (is_start g)
+    (start-joined g (sym c.if-not-has_free_neighbour.ensures)) c.args.value
 
 pub returns-then-eq-clause-alike : goal.returns-then-eq-clause-alike
 returns-then-eq-clause-alike c = subst AreAlike (sym c.new.ensures.items) tt

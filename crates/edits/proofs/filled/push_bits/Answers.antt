@@ -15,10 +15,12 @@ loop-left-init c = (
 )
 
 pub row_of-row-requires-clause-from : goal.row_of-row-requires-clause-from
-row_of-row-requires-clause-from c = let from = bit-from c.args.ground.now c.args.spread.now c.args.word c.loop-left.invariant.0 c.loop-left.left c.requires.ground c.requires.free c.loop-left.invariant.1 (omega arith) (omega arith) in omega (arith, from, c.loop-left.invariant.4)
+row_of-row-requires-clause-from c = let from = bit-from c.args.ground.now c.args.spread.now c.args.word c.loop-left.invariant.0 c.loop-left.left
+    c.requires.ground c.requires.free c.loop-left.invariant.1 (omega arith) (omega arith) in omega (arith, from, c.loop-left.invariant.4)
 
 pub row_of-row-requires-clause-within : goal.row_of-row-requires-clause-within
-row_of-row-requires-clause-within c = bit-within c.args.ground.now c.args.spread.now c.args.word c.loop-left.invariant.0 c.loop-left.left c.requires.ground c.requires.free c.loop-left.invariant.1 (omega arith) (omega arith)
+row_of-row-requires-clause-within c = bit-within c.args.ground.now c.args.spread.now c.args.word c.loop-left.invariant.0 c.loop-left.left c.requires.ground
+    c.requires.free c.loop-left.invariant.1 (omega arith) (omega arith)
 
 pub overflow_cast-row : goal.overflow_cast-row
 overflow_cast-row c =
@@ -27,11 +29,14 @@ overflow_cast-row c =
     let own = c.row_of-row.ensures in
     let number = 64 * c.args.word + trailing_zeros w64 c.loop-left.left in
     let at : row.y * g.width + (number - row.number) ≡ number = omega (arith, own.row, own.from) in
-    let below = row-below g c.requires.ground (number - row.number) row.y number own.to at (bit-within c.args.ground.now c.args.spread.now c.args.word c.loop-left.invariant.0 c.loop-left.left c.requires.ground c.requires.free c.loop-left.invariant.1 (omega arith) (omega arith)) in
+    let below = row-below g c.requires.ground (number - row.number) row.y number own.to at
+    (bit-within c.args.ground.now c.args.spread.now c.args.word c.loop-left.invariant.0 c.loop-left.left c.requires.ground c.requires.free
+    c.loop-left.invariant.1 (omega arith) (omega arith)) in
     omega (arith, below, c.requires.ground.low)
 
 pub loop-left-smaller : goal.loop-left-smaller
-loop-left-smaller c = bits-fewer c.args.ground.now c.args.spread.now c.args.word c.loop-left.invariant.0 c.loop-left.left c.requires.ground c.requires.free c.loop-left.invariant.1 (omega arith) (omega arith)
+loop-left-smaller c = bits-fewer c.args.ground.now c.args.spread.now c.args.word c.loop-left.invariant.0 c.loop-left.left c.requires.ground c.requires.free
+    c.loop-left.invariant.1 (omega arith) (omega arith)
 
 pub loop-left-preserved : goal.loop-left-preserved
 loop-left-preserved c =
@@ -42,9 +47,11 @@ loop-left-preserved c =
     let x = 64 * c.args.word + bit - row.number in
     let at : row.y * g.width + x ≡ 64 * c.args.word + bit = omega (arith, own.row, own.from) in (
       bit + 1,
-      IsLeft-next c.args.ground.now c.args.spread.now c.args.word c.loop-left.invariant.0 c.loop-left.left c.requires.ground c.requires.free c.loop-left.invariant.1 (omega arith) (omega arith),
+      IsLeft-next c.args.ground.now c.args.spread.now c.args.word c.loop-left.invariant.0 c.loop-left.left c.requires.ground c.requires.free
+          c.loop-left.invariant.1 (omega arith) (omega arith),
       c.in_ok-push.ensures.items ∙ ap (λ es. es ++ (record { x = x; y = row.y; before = g.value; after = c.args.value } ∷ [])) c.loop-left.invariant.2
-          ∙ bit-changes c.args.ground.now c.args.spread.now c.args.word c.loop-left.invariant.0 c.loop-left.left c.requires.ground c.requires.free c.loop-left.invariant.1 (omega arith) (omega arith) c.args.value x row.y c.requires.other own.to at,
+          ∙ bit-changes c.args.ground.now c.args.spread.now c.args.word c.loop-left.invariant.0 c.loop-left.left c.requires.ground c.requires.free
+          c.loop-left.invariant.1 (omega arith) (omega arith) c.args.value x row.y c.requires.other own.to at,
       own.row,
       omega (arith, own.from),
     )
@@ -54,5 +61,6 @@ returns c =
     let n = c.loop-left.invariant.0 in
     let left = subst (IsLeft c.args.spread.now c.args.word n) c.loop-left-test.false c.loop-left.invariant.1 in
     c.loop-left.invariant.2
-    ∙ sym (changes-unmarked c.args.ground.now c.args.spread.now c.args.value (64 * c.args.word + n) (64 * c.args.word + 64) (omega (arith, c.requires.ground.column)) (omega (arith, left.within))
+    ∙ sym (changes-unmarked c.args.ground.now c.args.spread.now c.args.value (64 * c.args.word + n) (64 * c.args.word + 64)
+    (omega (arith, c.requires.ground.column)) (omega (arith, left.within))
     (none-left c.args.spread.now c.args.word n left))

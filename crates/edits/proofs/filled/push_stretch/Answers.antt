@@ -11,8 +11,10 @@ loop-x-preserved c =
     record {
       cells = c.push_reserved.ensures.items
           ∙ ap (λ es. es ++ (record { x = c.loop-x.x; y = st.y; before = c.args.before; after = c.args.after } ∷ [])) c.loop-x.invariant.cells
-          ∙ append_assoc c.args.cells.now.items (stretch_edits st.y st.first c.args.before c.args.after n) (record { x = c.loop-x.x; y = st.y; before = c.args.before; after = c.args.after } ∷ [])
-          ∙ ap (λ k. c.args.cells.now.items ++ (stretch_edits st.y st.first c.args.before c.args.after n ++ (record { x = k; y = st.y; before = c.args.before; after = c.args.after } ∷ []))) at
+          ∙ append_assoc c.args.cells.now.items (stretch_edits st.y st.first c.args.before c.args.after n)
+          (record { x = c.loop-x.x; y = st.y; before = c.args.before; after = c.args.after } ∷ [])
+          ∙ ap (λ k. c.args.cells.now.items ++ (stretch_edits st.y st.first c.args.before c.args.after n ++
+          (record { x = k; y = st.y; before = c.args.before; after = c.args.after } ∷ []))) at
           ∙ ap (λ k. c.args.cells.now.items ++ stretch_edits st.y st.first c.args.before c.args.after k) next;
       room = omega (arith, c.push_reserved.ensures.len, c.push_reserved.ensures.capacity, c.loop-x.invariant.room);
     }

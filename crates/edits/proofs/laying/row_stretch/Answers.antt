@@ -15,7 +15,8 @@ pub slice_bounds-result-end : goal.slice_bounds-result-end
 slice_bounds-result-end c =
     let right : offset c.args.block.now.x c.args.columns.first ≡ Some c.in-Some.right = search rules in
     let down : offset c.args.block.now.y c.args.y ≡ Some c.in-Some-offset.down = search rules in
-    let fits = stretch-within (block_of c.args.block.now) c.args.width c.args.y c.args.columns c.requires.columns c.in-Some.right c.in-Some-offset.down c.args.rows (omega arith)
+    let fits = stretch-within (block_of c.args.block.now) c.args.width c.args.y c.args.columns c.requires.columns c.in-Some.right c.in-Some-offset.down
+    c.args.rows (omega arith)
     right down (omega arith) c.requires.whole in
     search rules
 
@@ -26,5 +27,6 @@ returns c =
     let from = c.in-Some-offset.down * c.args.block.now.width + c.in-Some.right in
     let count = c.args.columns.end - c.args.columns.first in
     let same : from + count - from ≡ count = omega arith in
-    rw same (some_row (block_of c.args.block.now) c.args.width c.args.y c.args.columns c.requires.columns c.in-Some.right c.in-Some-offset.down c.args.rows (omega arith)
+    rw same (some_row (block_of c.args.block.now) c.args.width c.args.y c.args.columns c.requires.columns c.in-Some.right c.in-Some-offset.down c.args.rows
+    (omega arith)
     right down (omega arith) c.requires.whole)

@@ -6,7 +6,10 @@ use Rattle.map_model.specs.CellEdits.{AreInRowOrder, cell}
 use Rattle.edits.specs.Merging.{joined, joined_cell}
 use Rattle.edits.proofs.Merged.{HasNoneBefore, first-HasNoneBefore, drop-HasNoneBefore, joined-none, joined-prefix, joined-met, joined-unmet, done_more}
 use Rattle.edits.proofs.merging.joined_cells.Goals as goal
-use Rattle.edits.proofs.merging.joined_cells.Goals.{then-not-is_empty+then-comes_before+in_ok-push_stretch, else-not-is_empty, else-not-is_empty-via-then-not-is_empty+else-comes_before, else-not-is_empty-via-else-not-is_empty, then-not-is_empty-2+then-is_same_cell, else-not-is_empty-2, else-not-is_empty-2-via-then-not-is_empty-2+else-is_same_cell, else-not-is_empty-2-via-else-not-is_empty-2}
+use Rattle.edits.proofs.merging.joined_cells.Goals.{then-not-is_empty+then-comes_before+in_ok-push_stretch, else-not-is_empty}
+use Rattle.edits.proofs.merging.joined_cells.Goals.{else-not-is_empty-via-then-not-is_empty+else-comes_before, else-not-is_empty-via-else-not-is_empty}
+use Rattle.edits.proofs.merging.joined_cells.Goals.{then-not-is_empty-2+then-is_same_cell, else-not-is_empty-2}
+use Rattle.edits.proofs.merging.joined_cells.Goals.{else-not-is_empty-2-via-then-not-is_empty-2+else-is_same_cell, else-not-is_empty-2-via-else-not-is_empty-2}
 use Rattle.map_model.proofs.SideBySide.{in_row_order-drop}
 
 pub loop-cell-preserved : goal.loop-cell-preserved
@@ -32,17 +35,20 @@ loop-cell-preserved c =
           )
       | else-not-is_empty w ↦
           let none_before : HasNoneBefore es n = elim w.else-not-is_empty.branch [
-            | else-not-is_empty-via-then-not-is_empty+else-comes_before v ↦ first-HasNoneBefore es n v.index-rest-0.result v.index-rest-0.is (sym v.comes_before.ensures ∙ v.if-comes_before.false)
+            | else-not-is_empty-via-then-not-is_empty+else-comes_before v ↦ first-HasNoneBefore es n v.index-rest-0.result v.index-rest-0.is
+                (sym v.comes_before.ensures ∙ v.if-comes_before.false)
             | else-not-is_empty-via-else-not-is_empty v ↦ λ l. absurd (search rules)
           ] in
           rw (w.cells-is, w.rest-is) (before, c.loop-cell.invariant.ordered, none_before)
     ] in
-    let behind : (c.if-not-is_empty-2.cells.items ++ joined c.if-not-is_empty-2.rest.now ns ≡ whole) × AreInRowOrder c.if-not-is_empty-2.rest.now = elim c.if-not-is_empty-2.branch [
+    let behind : (c.if-not-is_empty-2.cells.items ++ joined c.if-not-is_empty-2.rest.now ns ≡ whole) × AreInRowOrder c.if-not-is_empty-2.rest.now =
+    elim c.if-not-is_empty-2.branch [
       | then-not-is_empty-2+then-is_same_cell w ↦
           let e = w.index-rest-0-then-is_same_cell.result in
           rw (w.cells-is, w.rest-is, take_rest fs 1) (
             done_more b (joined_cell e n) (joined (drop 1 fs) ns) (joined fs (n ∷ ns)) whole w.push_joined.new.cells.items w.push_joined.ensures.items prefix.0
-                (joined-met n ns fs e w.index-rest-0-then-not-is_empty-2.result (search rules) w.index-rest-0-then-is_same_cell.is w.index-rest-0-then-not-is_empty-2.is
+                (joined-met n ns fs e w.index-rest-0-then-not-is_empty-2.result
+                (search rules) w.index-rest-0-then-is_same_cell.is w.index-rest-0-then-not-is_empty-2.is
                 (sym w.is_same_cell.ensures ∙ w.if-is_same_cell.true)),
             in_row_order-drop 1 fs prefix.1,
           )
@@ -53,7 +59,8 @@ loop-cell-preserved c =
             | else-not-is_empty-2-via-else-not-is_empty-2 v ↦ λ l. absurd (search rules)
           ] in
           rw (w.cells-is, w.rest-is) (
-            done_more b (n ∷ []) (joined fs ns) (joined fs (n ∷ ns)) whole w.push_reserved.new.self.items w.push_reserved.ensures.items prefix.0 (joined-unmet n ns fs prefix.2 other),
+            done_more b (n ∷ []) (joined fs ns) (joined fs (n ∷ ns)) whole w.push_reserved.new.self.items w.push_reserved.ensures.items prefix.0
+                (joined-unmet n ns fs prefix.2 other),
             prefix.1,
           )
     ] in

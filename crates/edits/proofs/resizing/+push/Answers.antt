@@ -19,7 +19,8 @@ push_layer-returns-then-room-eq0 t c = rw (under-no_room c.args.room c.args.laye
 pub push_layer-push_layers-requires : goal.push_layer-push_layers-requires
 push_layer-push_layers-requires t c =
     let group = sym c.layers.ensures ∙ ap option_copied c.in-Some.is in
-    let cells = group-each (AreCells (c.args.parts.now.width * c.args.parts.now.height)) c.args.room c.args.layer.now c.in-Some.inside.now c.if-room-eq0.false group c.requires.cells in
+    let cells = group-each (AreCells (c.args.parts.now.width * c.args.parts.now.height)) c.args.room c.args.layer.now c.in-Some.inside.now c.if-room-eq0.false
+    group c.requires.cells in
     (omega (arith, c.decreases, c.if-room-eq0.false), (cells, (c.requires.width, c.requires.height)))
 
 pub push_layer-returns-in-Some : goal.push_layer-returns-in-Some
@@ -29,8 +30,10 @@ push_layer-returns-in-Some t c =
     let to = c.args.to in
     let group = sym c.layers.ensures ∙ ap option_copied c.in-Some.is in
     on_then c.push_layers.result c.push_layers.ensures (λ e.
-    pushed-two (resized_values c.args.parts.now to.width to.height to.dx to.dy) c.args.lists.now.items c.push_cells.new.lists.items c.push_layers.new.lists.items
-    (lists_in l.body) (flat_map lists_of (drawn (c.args.room - 1) layer_level ks)) (lists_under c.args.room l) c.in_ok-push_cells.ensures e (under-group c.args.room l ks c.if-room-eq0.false group))
+    pushed-two (resized_values c.args.parts.now to.width to.height to.dx to.dy) c.args.lists.now.items c.push_cells.new.lists.items
+    c.push_layers.new.lists.items
+    (lists_in l.body) (flat_map lists_of (drawn (c.args.room - 1) layer_level ks)) (lists_under c.args.room l) c.in_ok-push_cells.ensures e
+    (under-group c.args.room l ks c.if-room-eq0.false group))
 
 pub push_layer-returns-in-None : goal.push_layer-returns-in-None
 push_layer-returns-in-None t c =
@@ -39,15 +42,18 @@ push_layer-returns-in-None t c =
 
 pub push_layers-push_layer-requires : goal.push_layers-push_layer-requires
 push_layers-push_layer-requires t c =
-    let cells = list-each (AreCells (c.args.parts.now.width * c.args.parts.now.height)) c.args.room c.in-Some.layer.now _ (rw c.in-Some.ensures.steps at c.loop-layer.invariant.cells) in
+    let cells = list-each (AreCells (c.args.parts.now.width * c.args.parts.now.height)) c.args.room c.in-Some.layer.now _
+    (rw c.in-Some.ensures.steps at c.loop-layer.invariant.cells) in
     (omega (arith, c.decreases), (cells.0, (c.requires.width, c.requires.height)))
 
 pub push_layers-loop-layer-preserved : goal.push_layers-loop-layer-preserved
 push_layers-loop-layer-preserved t c =
     let to = c.args.to in
-    let cells = list-each (AreCells (c.args.parts.now.width * c.args.parts.now.height)) c.args.room c.in-Some.layer.now _ (rw c.in-Some.ensures.steps at c.loop-layer.invariant.cells) in
+    let cells = list-each (AreCells (c.args.parts.now.width * c.args.parts.now.height)) c.args.room c.in-Some.layer.now _
+    (rw c.in-Some.ensures.steps at c.loop-layer.invariant.cells) in
     record {
-      lists = pushed-first (resized_values c.args.parts.now to.width to.height to.dx to.dy) c.loop-layer.lists.items c.push_layer.new.lists.items _ (lists_under c.args.room c.in-Some.layer.now) _ _
+      lists = pushed-first (resized_values c.args.parts.now to.width to.height to.dx to.dy) c.loop-layer.lists.items c.push_layer.new.lists.items _
+          (lists_under c.args.room c.in-Some.layer.now) _ _
           c.in_ok-push_layer.ensures (rw c.in-Some.ensures.steps at c.loop-layer.invariant.lists) (lists_under-list c.args.room c.in-Some.layer.now _);
       cells = cells.1;
     }

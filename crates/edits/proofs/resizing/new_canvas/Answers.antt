@@ -19,7 +19,8 @@ returns-clause-document c =
     let laid : c.in_ok-layers.layers ≡ map (resized_values d.map to.width to.height to.dx to.dy) (tile_layers d.map) =
     c.in_ok-layers.ensures ∙ ap (λ (m : MapParts). map (resized_values m to.width to.height to.dx to.dy) (tile_layers m)) is in
     let cells = λ (q : ℕ × ℕ).
-    let one : set.contains c.in_ok-selection.selection q ≡ in_moved_cut d.selection to.dx to.dy to.width to.height q = search (rules, c.in_ok-selection.ensures q) in
+    let one : set.contains c.in_ok-selection.selection q ≡ in_moved_cut d.selection to.dx to.dy to.width to.height q =
+    search (rules, c.in_ok-selection.ensures q) in
     one in
     canvas-resized d to.width to.height to.dx to.dy c.in_ok-layers.layers c.in_ok-selection.selection _ _ laid cells (search rules) (search rules)
 
@@ -31,7 +32,9 @@ returns-clause-fits c =
     let laid : c.in_ok-layers.layers ≡ map (resized_values d.map to.width to.height to.dx to.dy) (tile_layers d.map) =
     c.in_ok-layers.ensures ∙ ap (λ (m : MapParts). map (resized_values m to.width to.height to.dx to.dy) (tile_layers m)) is in
     let cells = λ (q : ℕ × ℕ).
-    let one : set.contains c.in_ok-selection.selection q ≡ in_moved_cut d.selection to.dx to.dy to.width to.height q = search (rules, c.in_ok-selection.ensures q) in
+    let one : set.contains c.in_ok-selection.selection q ≡ in_moved_cut d.selection to.dx to.dy to.width to.height q =
+    search (rules, c.in_ok-selection.ensures q) in
     one in
-    canvas-fits d to.width to.height to.dx to.dy c.in_ok-layers.layers c.in_ok-selection.selection _ _ laid cells (search rules) (search rules) c.selection-selection.ensures.well_formed
+    canvas-fits d to.width to.height to.dx to.dy c.in_ok-layers.layers c.in_ok-selection.selection _ _ laid cells (search rules)
+    (search rules) c.selection-selection.ensures.well_formed
     c.requires.size (search rules) (search rules) (search rules)

@@ -7,5 +7,6 @@ returns-in_default-clause-within c = empty-LiesIn c.args.document.now.map.width 
 
 pub returns-clause-within : goal.returns-clause-within
 returns-clause-within c =
-    combined-selected c.args.document.now c.map.result.now c.in-Rectangle.mode c.in-Rectangle.area c.selection-selection.result.now c.in_ok-cells.cells c.combined.result
+    combined-selected c.args.document.now c.map.result.now c.in-Rectangle.mode c.in-Rectangle.area c.selection-selection.result.now c.in_ok-cells.cells
+    c.combined.result
     c.selection-selection.ensures.well_formed c.selection-selection.ensures.selection c.map.ensures c.in_ok-cells.ensures c.combined.ensures

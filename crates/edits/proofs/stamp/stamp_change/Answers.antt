@@ -14,8 +14,10 @@ pub change-requires : goal.change-requires
 change-requires c =
     let m = c.parts-parts.result.now in
     let value = c.parts-parts.ensures.value in
-    let layer : IsTheLayer m c.args.layer c.in_ok-tiles.tiles.now = IsTheLayer-found m c.args.layer c.in_ok-tiles.tiles.now (rw value c.parts-parts.ensures.well_formed) (rw value c.in_ok-tiles.ensures) in
-    IsExtent-stamp m c.args.layer c.in_ok-tiles.tiles c.selection.result c.new.result c.new-2.result (block_of c.args.block.now) layer c.requires (search rules) (search rules)
+    let layer : IsTheLayer m c.args.layer c.in_ok-tiles.tiles.now =
+    IsTheLayer-found m c.args.layer c.in_ok-tiles.tiles.now (rw value c.parts-parts.ensures.well_formed) (rw value c.in_ok-tiles.ensures) in
+    IsExtent-stamp m c.args.layer c.in_ok-tiles.tiles c.selection.result c.new.result c.new-2.result (block_of c.args.block.now) layer c.requires (search rules)
+    (search rules)
 
 pub returns-clause-change : goal.returns-clause-change
 returns-clause-change c =
@@ -28,5 +30,6 @@ returns-clause-change c =
     let accepted : after_stamp d c.args.layer block ≡ Ok (with_map (covered_map c.args.layer over) d) = rw (there, known) refl in
     let layer = IsTheLayer-found d.map c.args.layer c.in_ok-tiles.tiles.now (rw map at c.parts-parts.ensures.well_formed) there in
     let width = ap (λ (m : MapParts). m.width) (c.parts-parts.ensures.value ∙ map) in
-    IsPainted-result d c.args.layer over (after_stamp d c.args.layer block) c.in_ok-tiles.tiles.now c.parts-parts.result.now.width (where_selected c.selection.result.now (stamp_over block)) c.change.result
+    IsPainted-result d c.args.layer over (after_stamp d c.args.layer block) c.in_ok-tiles.tiles.now c.parts-parts.result.now.width
+    (where_selected c.selection.result.now (stamp_over block)) c.change.result
     accepted layer width (ap (λ s. where_selected s (stamp_over block)) c.selection.ensures.selection) c.change.ensures.layer c.change.ensures.cells

@@ -24,7 +24,8 @@ members_spread-loop-key-preserved t c =
     = c.in_ok-value.ensures ∙ ap (λ q. spread p q (view c.in-Some.member.now)) (c.below.ensures ∙ ap (below part) c.as_str.ensures.value) in (
       done ++ e ∷ [],
       all ∙ sym (append_assoc done (e ∷ []) left),
-      c.in_ok-put.ensures.ok ∙ rw (c.as_str-in-loop-key.ensures.value, same, l.invariant.2) (sym (members_spread-put p part (string_bytes e.0) (view e.1) (members_view done)) ∙ ap (members_spread p part) last),
+      c.in_ok-put.ensures.ok ∙ rw (c.as_str-in-loop-key.ensures.value, same, l.invariant.2)
+          (sym (members_spread-put p part (string_bytes e.0) (view e.1) (members_view done)) ∙ ap (members_spread p part) last),
     )
 
 pub items_spread-loop-item-preserved : goal.items_spread-loop-item-preserved

@@ -9,7 +9,9 @@ pub returns-in-None-clause-offset : goal.returns-in-None-clause-offset
 returns-in-None-clause-offset c = first_is_none c.args.bytes.now c.in-None.ensures
 
 pub returns-then-bits-ne0-clause-offset : goal.returns-then-bits-ne0-clause-offset
-returns-then-bits-ne0-clause-offset c = (first_near c.args.bytes.now 32 c.newline_bits-bits.result c.newline_bits-bits.ensures.mask (omega (arith, c.if-bits-ne0.true)) c.newline_bits-bits.ensures.small).0
+returns-then-bits-ne0-clause-offset c = (first_near c.args.bytes.now 32 c.newline_bits-bits.result c.newline_bits-bits.ensures.mask
+    (omega (arith, c.if-bits-ne0.true)) c.newline_bits-bits.ensures.small).0
 
 pub returns-then-bits-ne0-clause-within : goal.returns-then-bits-ne0-clause-within
-returns-then-bits-ne0-clause-within c = (first_near c.args.bytes.now 32 c.newline_bits-bits.result c.newline_bits-bits.ensures.mask (omega (arith, c.if-bits-ne0.true)) c.newline_bits-bits.ensures.small).1
+returns-then-bits-ne0-clause-within c = (first_near c.args.bytes.now 32 c.newline_bits-bits.result c.newline_bits-bits.ensures.mask
+    (omega (arith, c.if-bits-ne0.true)) c.newline_bits-bits.ensures.small).1

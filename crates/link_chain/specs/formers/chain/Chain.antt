@@ -60,7 +60,8 @@ module _ (R S : RattleType) (h : R.Denot → S.Denot) where
   below_back xs ys e = omega (arith, length-map xs h, length-map ys h)
 
   pub the_places : Alike R S h → Alike (C.the_row R) (C.the_row S) ((the_former this).map R.Denot S.Denot h)
-  the_places a = view_places fields (list this) view (λ X Y k u. map-append X Y k u.before u.after) (λ X u. held-append X u.before u.after) R.Denot S.Denot h (C.the_row R).coded (C.the_row S).coded
+  the_places a = view_places fields (list this) view (λ X Y k u. map-append X Y k u.before u.after) (λ X u. held-append X u.before u.after) R.Denot S.Denot h
+      (C.the_row R).coded (C.the_row S).coded
       (invariant R.Denot) (invariant S.Denot) (λ u p q. le_prop p q) (λ u p q. le_prop p q)
       (λ u e. below u.before u.after e) (λ u e. below_back u.before u.after e)
       (over (I.the_row R)) (over (I.the_row S))

@@ -7,7 +7,8 @@ use Rattle.link_tree.proofs.tree.+failing.Goals as goal
 
 pub Link::failing-returns-then-found-here : goal.Link::failing-returns-then-found-here
 Link::failing-returns-then-found-here g t c =
-    precede-left g.F.Fn c.args.test.now (items c.args.self.now.left) _ c.args.passed c.failing-found.result c.failing-found.ensures (grind (arith, common_steps))
+    precede-left g.F.Fn c.args.test.now (items c.args.self.now.left) _ c.args.passed c.failing-found.result c.failing-found.ensures
+    (grind (arith, common_steps))
 
 pub Link::failing-returns-then-passes : goal.Link::failing-returns-then-passes
 Link::failing-returns-then-passes g t c =

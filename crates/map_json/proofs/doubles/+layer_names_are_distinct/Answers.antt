@@ -6,7 +6,8 @@ use Rattle.map_model.specs.Lists.{or_empty}
 use Rattle.map_json.specs.Distinctness.{are_named_apart, lists_of_drawn, lists_of_layer}
 use Rattle.map_json.proofs.Gathered.{failed-own, failed-inside, passed-inside, passed-empty, passed-alone}
 use Rattle.map_json.proofs.Named.{lists_of_bare}
-use Rattle.map_json.proofs.doubles.+layer_names_are_distinct.Goals.{then-room-gt0+in-Some-layers+in_ok-layer_names_are_distinct+else-not-branch-2, then-room-gt0+in_default, else-room-gt0}
+use Rattle.map_json.proofs.doubles.+layer_names_are_distinct.Goals.{then-room-gt0+in-Some-layers+in_ok-layer_names_are_distinct+else-not-branch-2}
+use Rattle.map_json.proofs.doubles.+layer_names_are_distinct.Goals.{then-room-gt0+in_default, else-room-gt0}
 use Rattle.map_json.proofs.doubles.+layer_names_are_distinct.Goals as goal
 
 pub returns-then-not-branch : goal.returns-then-not-branch
@@ -26,7 +27,8 @@ returns-then-not-branch-2 g t c =
     let group : group_in l.body ≡ Some ks = search rules in
     let passed : list_all are_named_apart (lists_of_layer l) ≡ true = search rules in
     let failed : list_all are_named_apart (flat_map lists_of_drawn (drawn less layer_level ks)) ≡ false = search rules in
-    sym (sym c.loop-at.invariant.same ∙ (here ∙ failed-inside lists_of_layer lists_of_bare are_named_apart c.args.room less l c.next.new.self ks more (ap or_empty group) passed failed))
+    sym (sym c.loop-at.invariant.same ∙ (here ∙ failed-inside lists_of_layer lists_of_bare are_named_apart c.args.room less l c.next.new.self ks more
+    (ap or_empty group) passed failed))
 
 pub loop-at-preserved : goal.loop-at-preserved
 loop-at-preserved g t c =
@@ -46,13 +48,16 @@ loop-at-preserved g t c =
                 let more : c.args.room ≡ suc less = omega (arith, w.if-room-gt0) in
                 let group : group_in l.body ≡ Some ks = search rules in
                 let within : list_all are_named_apart (flat_map lists_of_drawn (drawn less layer_level ks)) ≡ true = search rules in
-                sym (passed-inside lists_of_layer lists_of_bare are_named_apart c.args.room less l c.next.new.self ks more (ap or_empty group) passed within) ∙ (sym here ∙ c.loop-at.invariant.same)
+                sym (passed-inside lists_of_layer lists_of_bare are_named_apart c.args.room less l c.next.new.self ks more (ap or_empty group) passed within)
+                ∙ (sym here ∙ c.loop-at.invariant.same)
             | then-room-gt0+in_default w ↦
                 let more : c.args.room ≡ suc less = omega (arith, w.if-room-gt0) in
                 let group : group_in l.body ≡ None = search rules in
-                sym (passed-empty lists_of_layer lists_of_bare are_named_apart c.args.room less l c.next.new.self more (ap or_empty group) passed) ∙ (sym here ∙ c.loop-at.invariant.same)
+                sym (passed-empty lists_of_layer lists_of_bare are_named_apart c.args.room less l c.next.new.self more (ap or_empty group) passed)
+                ∙ (sym here ∙ c.loop-at.invariant.same)
             | else-room-gt0 w ↦
                 let none : c.args.room ≡ 0 = omega (arith, w.if-room-gt0) in
-                sym (passed-alone lists_of_layer lists_of_bare are_named_apart c.args.room l c.next.new.self none passed) ∙ (sym here ∙ c.loop-at.invariant.same)
+                sym (passed-alone lists_of_layer lists_of_bare are_named_apart c.args.room l c.next.new.self none passed)
+                ∙ (sym here ∙ c.loop-at.invariant.same)
           ];
     }

@@ -14,5 +14,6 @@ invariant-loop-at g l = record {
   next : (goal.iterator-loop-at g).can_next l.layer-iterator;
   finite : (goal.iterator-loop-at g).is_finite l.layer-iterator;
   fits : l.at + (goal.iterator-loop-at g).remaining l.layer-iterator < 2 ^ 64;
-  same : list_all are_named_apart (flat_map lists_of_drawn (drawn l.room layer_level l.layer-iterator)) ≡ list_all are_named_apart (flat_map lists_of_drawn (drawn l.room layer_level l.fn.layers));
+  same : list_all are_named_apart (flat_map lists_of_drawn (drawn l.room layer_level l.layer-iterator))
+      ≡ list_all are_named_apart (flat_map lists_of_drawn (drawn l.room layer_level l.fn.layers));
 }

@@ -30,12 +30,18 @@ loop-layer-preserved-in-Continue-branch-2 t c =
     let are : inside l ≡ ks = ap or_empty group in
     let ids = ap (λ ls. c.loop-layer.ids.layers.items ++ flat_map ids_of (drawn c.args.room layer_level ls)) (sym c.in-Some.ensures.steps) in
     let objects = ap (λ ls. c.loop-layer.ids.objects.items ++ flat_map object_ids_of (drawn c.args.room layer_level ls)) (sym c.in-Some.ensures.steps) in (
-      ap (λ xs. xs ++ flat_map ids_of (drawn c.args.room layer_level rest)) (c.in_ok-push_layers.ensures.layers ∙ ap (λ xs. xs ++ flat_map ids_of (drawn less layer_level ks)) c.in_ok-push_layer.ensures.layers)
-          ∙ put_twice c.loop-layer.ids.layers.items (id_list l) (flat_map ids_of (drawn less layer_level ks)) (flat_map ids_of (drawn c.args.room layer_level rest))
-          ∙ ap (λ xs. c.loop-layer.ids.layers.items ++ xs) (sym (gathered-inside id_list (λ k. refl) c.args.room less l rest ks more are)) ∙ ids ∙ c.loop-layer.invariant.0,
-      ap (λ xs. xs ++ flat_map object_ids_of (drawn c.args.room layer_level rest)) (c.in_ok-push_layers.ensures.objects ∙ ap (λ xs. xs ++ flat_map object_ids_of (drawn less layer_level ks)) c.in_ok-push_layer.ensures.objects)
-          ∙ put_twice c.loop-layer.ids.objects.items (object_list l) (flat_map object_ids_of (drawn less layer_level ks)) (flat_map object_ids_of (drawn c.args.room layer_level rest))
-          ∙ ap (λ xs. c.loop-layer.ids.objects.items ++ xs) (sym (gathered-inside object_list (λ k. object_ids-with (λ ls. []) k.body) c.args.room less l rest ks more are)) ∙ objects ∙ c.loop-layer.invariant.1,
+      ap (λ xs. xs ++ flat_map ids_of (drawn c.args.room layer_level rest))
+          (c.in_ok-push_layers.ensures.layers ∙ ap (λ xs. xs ++ flat_map ids_of (drawn less layer_level ks)) c.in_ok-push_layer.ensures.layers)
+          ∙ put_twice c.loop-layer.ids.layers.items (id_list l) (flat_map ids_of (drawn less layer_level ks))
+          (flat_map ids_of (drawn c.args.room layer_level rest))
+          ∙ ap (λ xs. c.loop-layer.ids.layers.items ++ xs) (sym (gathered-inside id_list (λ k. refl) c.args.room less l rest ks more are)) ∙ ids
+          ∙ c.loop-layer.invariant.0,
+      ap (λ xs. xs ++ flat_map object_ids_of (drawn c.args.room layer_level rest))
+          (c.in_ok-push_layers.ensures.objects ∙ ap (λ xs. xs ++ flat_map object_ids_of (drawn less layer_level ks)) c.in_ok-push_layer.ensures.objects)
+          ∙ put_twice c.loop-layer.ids.objects.items (object_list l) (flat_map object_ids_of (drawn less layer_level ks))
+          (flat_map object_ids_of (drawn c.args.room layer_level rest))
+          ∙ ap (λ xs. c.loop-layer.ids.objects.items ++ xs) (sym
+          (gathered-inside object_list (λ k. object_ids-with (λ ls. []) k.body) c.args.room less l rest ks more are)) ∙ objects ∙ c.loop-layer.invariant.1,
     )
 
 pub loop-layer-preserved-in_default : goal.loop-layer-preserved-in_default
@@ -50,10 +56,12 @@ loop-layer-preserved-in_default t c =
     let objects = ap (λ ls. c.loop-layer.ids.objects.items ++ flat_map object_ids_of (drawn c.args.room layer_level ls)) (sym c.in-Some.ensures.steps) in (
       ap (λ xs. xs ++ flat_map ids_of (drawn c.args.room layer_level rest)) c.in_ok-push_layer.ensures.layers
           ∙ append_assoc c.loop-layer.ids.layers.items (id_list l) (flat_map ids_of (drawn c.args.room layer_level rest))
-          ∙ ap (λ xs. c.loop-layer.ids.layers.items ++ xs) (sym (gathered-empty id_list (λ k. refl) c.args.room less l rest more are)) ∙ ids ∙ c.loop-layer.invariant.0,
+          ∙ ap (λ xs. c.loop-layer.ids.layers.items ++ xs) (sym (gathered-empty id_list (λ k. refl) c.args.room less l rest more are)) ∙ ids
+          ∙ c.loop-layer.invariant.0,
       ap (λ xs. xs ++ flat_map object_ids_of (drawn c.args.room layer_level rest)) c.in_ok-push_layer.ensures.objects
           ∙ append_assoc c.loop-layer.ids.objects.items (object_list l) (flat_map object_ids_of (drawn c.args.room layer_level rest))
-          ∙ ap (λ xs. c.loop-layer.ids.objects.items ++ xs) (sym (gathered-empty object_list (λ k. object_ids-with (λ ls. []) k.body) c.args.room less l rest more are)) ∙ objects ∙ c.loop-layer.invariant.1,
+          ∙ ap (λ xs. c.loop-layer.ids.objects.items ++ xs) (sym
+          (gathered-empty object_list (λ k. object_ids-with (λ ls. []) k.body) c.args.room less l rest more are)) ∙ objects ∙ c.loop-layer.invariant.1,
     )
 
 pub loop-layer-preserved : goal.loop-layer-preserved
@@ -68,5 +76,6 @@ loop-layer-preserved t c =
           ∙ ap (λ xs. c.loop-layer.ids.layers.items ++ xs) (sym (gathered-alone id_list (λ k. refl) c.args.room l rest none)) ∙ ids ∙ c.loop-layer.invariant.0,
       ap (λ xs. xs ++ flat_map object_ids_of (drawn c.args.room layer_level rest)) c.in_ok-push_layer.ensures.objects
           ∙ append_assoc c.loop-layer.ids.objects.items (object_list l) (flat_map object_ids_of (drawn c.args.room layer_level rest))
-          ∙ ap (λ xs. c.loop-layer.ids.objects.items ++ xs) (sym (gathered-alone object_list (λ k. object_ids-with (λ ls. []) k.body) c.args.room l rest none)) ∙ objects ∙ c.loop-layer.invariant.1,
+          ∙ ap (λ xs. c.loop-layer.ids.objects.items ++ xs) (sym (gathered-alone object_list (λ k. object_ids-with (λ ls. []) k.body) c.args.room l rest none))
+          ∙ objects ∙ c.loop-layer.invariant.1,
     )

@@ -7,5 +7,7 @@ use Rattle.map_json.proofs.doubles.+push_layers.Given as goal
 
 abbrev pub invariant-loop-layer : goal.invariant-loop-layer
 invariant-loop-layer l =
-    (l.ids.layers.items ++ flat_map ids_of (drawn l.room layer_level l.layer-iterator) ≡ l.initial.ids.layers.items ++ flat_map ids_of (drawn l.room layer_level l.layers))
-    × (l.ids.objects.items ++ flat_map object_ids_of (drawn l.room layer_level l.layer-iterator) ≡ l.initial.ids.objects.items ++ flat_map object_ids_of (drawn l.room layer_level l.layers))
+    (l.ids.layers.items ++ flat_map ids_of (drawn l.room layer_level l.layer-iterator) ≡ l.initial.ids.layers.items
+    ++ flat_map ids_of (drawn l.room layer_level l.layers))
+    × (l.ids.objects.items ++ flat_map object_ids_of (drawn l.room layer_level l.layer-iterator) ≡ l.initial.ids.objects.items
+    ++ flat_map object_ids_of (drawn l.room layer_level l.layers))

@@ -9,5 +9,6 @@ returns g c =
     let map = c.args.parts.now in
     let layers : list_all (λ id. nat_lt id map.next_layer_id) (layer_ids map.layers) ≡ true = search rules in
     let objects : c.is_none_at_fault-2.result ≡ list_all (λ id. nat_lt id map.next_object_id) (object_ids map.layers)
-    = c.is_none_at_fault-2.ensures ∙ (c.late_place-object.ensures ∙ ap (list_all (λ id. nat_lt id map.next_object_id)) (c.deref-2.ensures.value ∙ c.requires.objects)) in
+    = c.is_none_at_fault-2.ensures ∙ (c.late_place-object.ensures ∙ ap (list_all (λ id. nat_lt id map.next_object_id))
+    (c.deref-2.ensures.value ∙ c.requires.objects)) in
     rw layers objects

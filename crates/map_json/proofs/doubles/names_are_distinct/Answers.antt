@@ -11,13 +11,17 @@ use Rattle.map_json.proofs.doubles.names_are_distinct.Goals as goal
 pub returns-in-Some-2 : goal.returns-in-Some-2
 returns-in-Some-2 g c =
     let names = c.loop-property.names.items in
-    let all = sym (append-nil (texts_of names)) ∙ (sym (ap (λ ps. texts_of names ++ flat_map names_of_property ps) c.in-None.ensures.steps.0) ∙ c.loop-property.invariant) in
-    let whole = ap (are_distinct (λ (a b : Bor (List ℕ)). is_eq (slice_cmp nat_cmp a.now b.now))) c.deref.ensures.value ∙ (are_distinct-texts names ∙ ap (are_distinct bytes_eq) all) in
+    let all = sym (append-nil (texts_of names)) ∙ (sym (ap (λ ps. texts_of names ++ flat_map names_of_property ps) c.in-None.ensures.steps.0)
+    ∙ c.loop-property.invariant) in
+    let whole = ap (are_distinct (λ (a b : Bor (List ℕ)). is_eq (slice_cmp nat_cmp a.now b.now))) c.deref.ensures.value
+    ∙ (are_distinct-texts names ∙ ap (are_distinct bytes_eq) all) in
     sym (ap is_none c.in-Some-2.is) ∙ (c.in_ok-at.ensures ∙ whole)
 
 pub returns : goal.returns
 returns g c =
     let names = c.loop-property.names.items in
-    let all = sym (append-nil (texts_of names)) ∙ (sym (ap (λ ps. texts_of names ++ flat_map names_of_property ps) c.in-None.ensures.steps.0) ∙ c.loop-property.invariant) in
-    let whole = ap (are_distinct (λ (a b : Bor (List ℕ)). is_eq (slice_cmp nat_cmp a.now b.now))) c.deref.ensures.value ∙ (are_distinct-texts names ∙ ap (are_distinct bytes_eq) all) in
+    let all = sym (append-nil (texts_of names)) ∙ (sym (ap (λ ps. texts_of names ++ flat_map names_of_property ps) c.in-None.ensures.steps.0)
+    ∙ c.loop-property.invariant) in
+    let whole = ap (are_distinct (λ (a b : Bor (List ℕ)). is_eq (slice_cmp nat_cmp a.now b.now))) c.deref.ensures.value
+    ∙ (are_distinct-texts names ∙ ap (are_distinct bytes_eq) all) in
     sym (ap is_none c.in-None-2.is) ∙ (c.in_ok-at.ensures ∙ whole)

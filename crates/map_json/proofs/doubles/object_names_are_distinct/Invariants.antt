@@ -10,5 +10,6 @@ invariant-loop-at g l = record {
   next : (goal.iterator-loop-at g).can_next l.object-iterator;
   finite : (goal.iterator-loop-at g).is_finite l.object-iterator;
   fits : l.at + (goal.iterator-loop-at g).remaining l.object-iterator < 2 ^ 64;
-  same : list_all are_named_apart (map (λ (o : Object). o.properties) l.object-iterator) ≡ list_all are_named_apart (map (λ (o : Object). o.properties) l.fn.objects);
+  same : list_all are_named_apart (map (λ (o : Object). o.properties) l.object-iterator)
+      ≡ list_all are_named_apart (map (λ (o : Object). o.properties) l.fn.objects);
 }

@@ -13,5 +13,6 @@ loop-at-preserved g c =
     let cmp = g.K.Ord.cmp in
     let key = c.index-keys-at.result in
     let new = not-true (contains cmp c.loop-at.met key) (sym c.in_ok-insert.ensures.added ∙ c.if-not-branch.false) in
-    sym (go_on-place (λ a b. is_eq (cmp a b)) (contains cmp c.loop-at.met) (contains cmp c.insert.new.self) c.args.keys.now c.loop-at.at key c.loop-at-test.true c.index-keys-at.is c.in_ok-insert.ensures.updates.0 new)
+    sym (go_on-place (λ a b. is_eq (cmp a b)) (contains cmp c.loop-at.met)
+    (contains cmp c.insert.new.self) c.args.keys.now c.loop-at.at key c.loop-at-test.true c.index-keys-at.is c.in_ok-insert.ensures.updates.0 new)
     ∙ c.loop-at.invariant

@@ -6,4 +6,5 @@ use Rattle.json_members.specs.Members.{without}
 use Rattle.map_json.proofs.fractions.others_have_fraction.Given as goal
 
 abbrev pub invariant-loop-name : goal.invariant-loop-name
-invariant-loop-name g l = members_have_float (without VERSION.now (members_view l.name-iterator)) ≡ members_have_float (without VERSION.now (members_view l.members.entries))
+invariant-loop-name g l = members_have_float (without VERSION.now (members_view l.name-iterator))
+    ≡ members_have_float (without VERSION.now (members_view l.members.entries))

@@ -27,9 +27,11 @@ layers_in-returns-then-room-eq0-clause-value g t c =
     let values = items_view c.in_ok-values.values.items in
     let found : as_array (data_of c.args.value) ≡ Some values = search rules in
     elim c.then-room-eq0.branch [
-      | layers_in-then-room-eq0-via-then-room-eq0 w ↦ layers_at-no_room c.args.size.width c.args.size.height c.args.count.now (data_of c.args.value) c.args.room values found (omega (arith, w.if-room-eq0))
+      | layers_in-then-room-eq0-via-then-room-eq0 w ↦ layers_at-no_room c.args.size.width c.args.size.height c.args.count.now
+          (data_of c.args.value) c.args.room values found (omega (arith, w.if-room-eq0))
       | layers_in-then-room-eq0-via-else-room-eq0+then-len-count w ↦
-          layers_at-many c.args.size.width c.args.size.height c.args.count.now (data_of c.args.value) c.args.room values found (omega (arith, w.if-len-count, w.len.ensures, items_len-items_view c.in_ok-values.values.items, c.requires.few))
+          layers_at-many c.args.size.width c.args.size.height c.args.count.now (data_of c.args.value) c.args.room values found
+          (omega (arith, w.if-len-count, w.len.ensures, items_len-items_view c.in_ok-values.values.items, c.requires.few))
     ]
 
 pub layers_in-returns-clause-value : goal.layers_in-returns-clause-value
@@ -37,8 +39,10 @@ layers_in-returns-clause-value g t c =
     let values = items_view c.in_ok-values.values.items in
     let found : as_array (data_of c.args.value) ≡ Some values = search rules in
     let long : items_len values ≡ c.len-2.result = omega (arith, c.len-2.ensures, items_len-items_view c.in_ok-values.values.items) in
-    let fits : c.args.count.now + items_len values ≤ MAX_LAYERS = omega (arith, c.if-len-count.false, c.len.ensures, items_len-items_view c.in_ok-values.values.items, c.requires.few) in
-    let is = layers_at-each c.args.size.width c.args.size.height c.args.count.now (data_of c.args.value) c.args.room (c.args.room - 1) values (omega (arith, c.if-room-eq0.false)) found fits in
+    let fits : c.args.count.now + items_len values ≤ MAX_LAYERS =
+    omega (arith, c.if-len-count.false, c.len.ensures, items_len-items_view c.in_ok-values.values.items, c.requires.few) in
+    let is = layers_at-each c.args.size.width c.args.size.height c.args.count.now (data_of c.args.value) c.args.room (c.args.room - 1) values
+    (omega (arith, c.if-room-eq0.false)) found fits in
     rw (is, long) c.each_layer.ensures.value
 
 pub layer-returns-in_err-members-clause-value : goal.layer-returns-in_err-members-clause-value

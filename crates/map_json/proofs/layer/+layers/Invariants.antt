@@ -24,5 +24,6 @@ invariant-each_layer-loop-value g l =
     let read = layer_by (layers_at l.room l.size.width l.size.height) l.size.width l.size.height in
     (goal.iterator-each_layer-loop-value g).can_next l.value-iterator × (goal.iterator-each_layer-loop-value g).is_finite l.value-iterator
     × (length l.found + length (into_iter_items l.value-iterator) ≡ length l.fn.values.items)
-    × (counted_prefix l.found (each_counted read l.count (items_view (into_iter_items l.value-iterator))) ≡ each_counted read l.initial.count (items_view l.fn.values.items))
+    × (counted_prefix l.found (each_counted read l.count (items_view (into_iter_items l.value-iterator)))
+    ≡ each_counted read l.initial.count (items_view l.fn.values.items))
     × (l.count ≤ MAX_LAYERS)

@@ -1,4 +1,5 @@
-use Rattle.std.proofs.Common.{◌≡◌, ◌*◌, ◌-◌, ◌≤◌, suc, None, Some, OnOk, List, [], ◌∷◌, ◌++◌, string_bytes, false, true, sym, ap, ◌∙◌, subst, arith, rules, append_assoc}
+use Rattle.std.proofs.Common.{◌≡◌, ◌*◌, ◌-◌, ◌≤◌, suc, None, Some, OnOk, List, [], ◌∷◌, ◌++◌, string_bytes, false, true, sym, ap, ◌∙◌, subst, arith, rules}
+use Rattle.std.proofs.Common.{append_assoc}
 use Rattle.std.specs.List.Sorted.{IsStrictlySortedBy}
 use Rattle.std.specs.Map.{keys_of}
 use Rattle.std.specs.String.{string_cmp}
@@ -26,7 +27,8 @@ pub push_framed-loop-name-init : goal.push_framed-loop-name-init
 push_framed-loop-name-init t c =
     let d = layers_in c.args.writing.detail c.args.room c.args.writing.size.width c.args.writing.size.height c.args.layers.now in
     let held : c.into_iter-name-iterator.result ≡ c.members.result.now.entries = search rules in
-    ArePut-none LAYERS.now d c.args.frame.now c.push.new.self.items c.into_iter-name-iterator.result (ap members_view held ∙ c.members.ensures) c.requires.whole c.requires.shallow
+    ArePut-none LAYERS.now d c.args.frame.now c.push.new.self.items c.into_iter-name-iterator.result
+    (ap members_view held ∙ c.members.ensures) c.requires.whole c.requires.shallow
 
 pub push_framed-loop-name-preserved : goal.push_framed-loop-name-preserved
 push_framed-loop-name-preserved t c =
@@ -35,11 +37,15 @@ push_framed-loop-name-preserved t c =
     let e : Entry = (c.in-Some.name.now, c.in-Some.value.now) in
     let k = string_bytes c.in-Some.name.now in
     let held : c.into_iter-name-iterator.result ≡ c.members.result.now.entries = search rules in
-    let put = subst (λ es. ArePut LAYERS.now d c.args.frame.now c.push.new.self.items c.into_iter-name-iterator.result es l.later l.text.items) c.in-Some.ensures.steps l.invariant in
+    let put = subst (λ es. ArePut LAYERS.now d c.args.frame.now c.push.new.self.items c.into_iter-name-iterator.result es l.later l.text.items)
+    c.in-Some.ensures.steps l.invariant in
     let ordered = subst (λ es. IsStrictlySortedBy string_cmp (keys_of es)) (sym held) c.iter-name-items.ensures.ordered in
-    let named = subst (λ n. c.push_name.new.text.items ≡ l.text.items ++ (comma_if l.later ++ (quoted n ++ 58 ∷ []))) c.as_str.ensures.value c.in_ok-push_name.ensures in
-    let shows = subst (λ n. Appends (instead LAYERS.now d n (view c.in-Some.value.now)) c.push_name.new.text.items c.push_member.new.text.items) c.as_str-in-loop-name.ensures.value c.in_ok-push_member.ensures in
-    ArePut-more LAYERS.now d c.args.frame.now c.push.new.self.items c.into_iter-name-iterator.result c.next.new.self l.later l.text.items c.push_name.new.text.items c.push_member.new.text.items e put ordered named shows
+    let named = subst (λ n. c.push_name.new.text.items ≡ l.text.items ++ (comma_if l.later ++ (quoted n ++ 58 ∷ []))) c.as_str.ensures.value
+    c.in_ok-push_name.ensures in
+    let shows = subst (λ n. Appends (instead LAYERS.now d n (view c.in-Some.value.now)) c.push_name.new.text.items c.push_member.new.text.items)
+    c.as_str-in-loop-name.ensures.value c.in_ok-push_member.ensures in
+    ArePut-more LAYERS.now d c.args.frame.now c.push.new.self.items c.into_iter-name-iterator.result c.next.new.self l.later l.text.items
+    c.push_name.new.text.items c.push_member.new.text.items e put ordered named shows
 
 pub push_framed-returns : goal.push_framed-returns
 push_framed-returns t c =
@@ -47,8 +53,10 @@ push_framed-returns t c =
     let d = layers_in c.args.writing.detail c.args.room c.args.writing.size.width c.args.writing.size.height c.args.layers.now in
     let none : l.name-iterator ≡ [] = search rules in
     let held : c.into_iter-name-iterator.result ≡ c.members.result.now.entries = search rules in
-    let put = subst (λ es. ArePut LAYERS.now d c.args.frame.now c.push.new.self.items c.into_iter-name-iterator.result es l.later l.text.items) none l.invariant in
-    ArePut-all LAYERS.now d c.args.frame.now c.push.new.self.items c.into_iter-name-iterator.result l.later c.args.text.now.items l.text.items c.push-2.new.self.items put (ap members_view held ∙ c.members.ensures)
+    let put = subst (λ es. ArePut LAYERS.now d c.args.frame.now c.push.new.self.items c.into_iter-name-iterator.result es l.later l.text.items) none l.invariant
+    in
+    ArePut-all LAYERS.now d c.args.frame.now c.push.new.self.items c.into_iter-name-iterator.result l.later c.args.text.now.items l.text.items
+    c.push-2.new.self.items put (ap members_view held ∙ c.members.ensures)
     c.in_ok-push.ensures.items c.in_ok-push-2.ensures.items
 
 pub push_layer-push_framed-requires : goal.push_layer-push_framed-requires
@@ -74,15 +82,18 @@ push_layer-returns-in-Some t c =
     let less = c.args.room - 1 in
     let more : c.args.room ≡ suc less = omega (arith, c.if-room-gt0.true) in
     let is : c.in_ok-frame.frame ≡ frame_in c.args.writing.detail c.args.writing.size.width c.args.writing.size.height l = c.in_ok-frame.ensures in
-    let whole = ap (λ ms. object (replaced LAYERS.now (layers_in c.args.writing.detail less c.args.writing.size.width c.args.writing.size.height c.in-Some.inside.now) ms)) is
-    ∙ layer_in-group c.args.writing.detail c.args.room less c.args.writing.size.width c.args.writing.size.height l c.in-Some.inside.now more group (AreWritten-lacks c.args.room (c.args.writing.size.width * c.args.writing.size.height) l c.requires) in
+    let whole = ap (λ ms. object (replaced LAYERS.now
+    (layers_in c.args.writing.detail less c.args.writing.size.width c.args.writing.size.height c.in-Some.inside.now) ms)) is
+    ∙ layer_in-group c.args.writing.detail c.args.room less c.args.writing.size.width c.args.writing.size.height l c.in-Some.inside.now more group
+    (AreWritten-lacks c.args.room (c.args.writing.size.width * c.args.writing.size.height) l c.requires) in
     subst (λ d. OnOk c.push_framed.result (Appends d c.args.text.now.items c.push_framed.new.text.items)) whole c.push_framed.ensures
 
 pub push_layer-push_numbered-requires-clause-numbers : goal.push_layer-push_numbered-requires-clause-numbers
 push_layer-push_numbered-requires-clause-numbers t c =
     let l = c.args.layer.now in
     let some : numbers_in c.args.writing.detail l.body ≡ Some c.in-Some-numbers_in.numbers.now = search rules in
-    AreWritten-values c.args.writing.detail c.args.room (c.args.writing.size.width * c.args.writing.size.height) l c.in-Some-numbers_in.numbers.now some c.requires
+    AreWritten-values c.args.writing.detail c.args.room (c.args.writing.size.width * c.args.writing.size.height) l c.in-Some-numbers_in.numbers.now some
+    c.requires
 
 pub push_layer-push_numbered-requires-clause-whole : goal.push_layer-push_numbered-requires-clause-whole
 push_layer-push_numbered-requires-clause-whole t c =
@@ -101,7 +112,8 @@ push_layer-returns-in-Some-numbers_in t c =
     let numbers = c.in-Some-numbers_in.numbers.now in
     let some : numbers_in c.args.writing.detail l.body ≡ Some numbers = search rules in
     let whole = ap (λ ms. object (replaced DATA.now (array_by whole_tree numbers) ms)) c.in_ok-frame.ensures
-    ∙ layer_in-numbers c.args.writing.detail c.args.room c.args.writing.size.width c.args.writing.size.height l numbers some (AreWritten-lacks c.args.room (c.args.writing.size.width * c.args.writing.size.height) l c.requires) in
+    ∙ layer_in-numbers c.args.writing.detail c.args.room c.args.writing.size.width c.args.writing.size.height l numbers some
+    (AreWritten-lacks c.args.room (c.args.writing.size.width * c.args.writing.size.height) l c.requires) in
     subst (λ d. OnOk c.push_numbered.result (Appends d c.args.text.now.items c.push_numbered.new.text.items)) whole c.push_numbered.ensures
 
 pub push_layer-push_value-requires-clause-whole : goal.push_layer-push_value-requires-clause-whole
@@ -118,14 +130,17 @@ pub push_layer-returns : goal.push_layer-returns
 push_layer-returns t c =
     let l = c.args.layer.now in
     let plain : numbers_in c.args.writing.detail l.body ≡ None = search rules in
-    let whole : object (frame_in c.args.writing.detail c.args.writing.size.width c.args.writing.size.height l) ≡ layer_in c.args.writing.detail c.args.room c.args.writing.size.width c.args.writing.size.height l =
+    let whole : object (frame_in c.args.writing.detail c.args.writing.size.width c.args.writing.size.height l)
+    ≡ layer_in c.args.writing.detail c.args.room c.args.writing.size.width c.args.writing.size.height l =
     elim c.if-room-gt0.branch [
       | push_layer-then-room-gt0+in_default w ↦
           let none : group_in l.body ≡ None = search rules in
           layer_in-frame c.args.writing.detail c.args.room c.args.writing.size.width c.args.writing.size.height l plain none
-      | push_layer-else-room-gt0 w ↦ layer_in-room c.args.writing.detail c.args.room c.args.writing.size.width c.args.writing.size.height l plain (omega (arith, w.if-room-gt0))
+      | push_layer-else-room-gt0 w ↦ layer_in-room c.args.writing.detail c.args.room c.args.writing.size.width c.args.writing.size.height l plain
+          (omega (arith, w.if-room-gt0))
     ] in
-    subst (λ d. OnOk c.push_value.result (Appends d c.args.text.now.items c.push_value.new.text.items)) (c.into_value.ensures ∙ (ap object c.in_ok-frame.ensures ∙ whole)) c.push_value.ensures
+    subst (λ d. OnOk c.push_value.result (Appends d c.args.text.now.items c.push_value.new.text.items))
+    (c.into_value.ensures ∙ (ap object c.in_ok-frame.ensures ∙ whole)) c.push_value.ensures
 
 pub push_layers-push_layer-requires : goal.push_layers-push_layer-requires
 push_layers-push_layer-requires t c = (
@@ -144,7 +159,8 @@ push_layers-loop-layer-preserved t c =
     let before = c.push_comma.new.text.items in
     let shows : Appends d before c.push_layer.new.text.items = c.in_ok-push_layer.ensures in (
       ap (λ t. t ++ items_text true left) (shows.0 ∙ ap (λ t. t ++ compact_text d) c.in_ok-push_comma.ensures)
-          ∙ (regroup_item l.text.items (comma_if l.later) (compact_text d) (items_text true left) ∙ (ap (λ ds. l.text.items ++ items_text l.later ds) (sym step) ∙ l.invariant.0)),
+          ∙ (regroup_item l.text.items (comma_if l.later) (compact_text d) (items_text true left)
+          ∙ (ap (λ ds. l.text.items ++ items_text l.later ds) (sym step) ∙ l.invariant.0)),
       λ h. l.invariant.1 (subst ItemsReturn (sym step) (ItemsReturn-item d left shows.1 h)),
       AreWritten-rest c.args.room (c.args.writing.size.width * c.args.writing.size.height) c.in-Some.layer.now c.next.new.self
           (subst (AreWritten c.args.room (c.args.writing.size.width * c.args.writing.size.height)) c.in-Some.ensures.steps l.invariant.2),
@@ -158,6 +174,7 @@ push_layers-returns t c =
     let none : l.layer-iterator ≡ [] = search rules in (
       c.in_ok-push-2.ensures.items
           ∙ (ap (λ (ls : List Layer). l.text.items ++ items_text l.later (items_by tree ls)) (sym none)
-          ∙ (l.invariant.0 ∙ (ap (λ t. t ++ items_text false all) c.in_ok-push.ensures.items ∙ append_assoc c.args.text.now.items (91 ∷ []) (items_text false all)))),
+          ∙ (l.invariant.0 ∙ (ap (λ t. t ++ items_text false all) c.in_ok-push.ensures.items
+          ∙ append_assoc c.args.text.now.items (91 ∷ []) (items_text false all)))),
       Returns-array all (l.invariant.1 (subst (λ ls. ItemsReturn (items_by tree ls)) (sym none) ItemsReturn-none)),
     )

@@ -31,4 +31,5 @@ invariant-push_layers-loop-layer l =
 
 abbrev pub invariant-push_framed-loop-name : goal.invariant-push_framed-loop-name
 invariant-push_framed-loop-name l =
-    ArePut LAYERS.now (layers_in l.writing.detail l.room l.writing.size.width l.writing.size.height l.layers) l.frame l.initial.text.items l.initial.name-iterator l.name-iterator l.later l.text.items
+    ArePut LAYERS.now (layers_in l.writing.detail l.room l.writing.size.width l.writing.size.height l.layers) l.frame l.initial.text.items
+    l.initial.name-iterator l.name-iterator l.later l.text.items

@@ -15,7 +15,8 @@ use Rattle.map_json.proofs.map_text.push_numbered.Goals as goal
 pub loop-name-init : goal.loop-name-init
 loop-name-init c =
     let held : c.into_iter-name-iterator.result ≡ c.members.result.now.entries = search rules in
-    ArePut-none DATA.now (array_by whole_tree c.args.numbers.now) c.args.frame.now c.push.new.self.items c.into_iter-name-iterator.result (ap members_view held ∙ c.members.ensures) c.requires.whole c.requires.shallow
+    ArePut-none DATA.now (array_by whole_tree c.args.numbers.now) c.args.frame.now c.push.new.self.items c.into_iter-name-iterator.result
+    (ap members_view held ∙ c.members.ensures) c.requires.whole c.requires.shallow
 
 pub loop-name-preserved : goal.loop-name-preserved
 loop-name-preserved c =
@@ -23,11 +24,15 @@ loop-name-preserved c =
     let d = array_by whole_tree c.args.numbers.now in
     let e : Entry = (c.in-Some.name.now, c.in-Some.value.now) in
     let held : c.into_iter-name-iterator.result ≡ c.members.result.now.entries = search rules in
-    let put = subst (λ es. ArePut DATA.now d c.args.frame.now c.push.new.self.items c.into_iter-name-iterator.result es l.later l.text.items) c.in-Some.ensures.steps l.invariant in
+    let put = subst (λ es. ArePut DATA.now d c.args.frame.now c.push.new.self.items c.into_iter-name-iterator.result es l.later l.text.items)
+    c.in-Some.ensures.steps l.invariant in
     let ordered = subst (λ es. IsStrictlySortedBy string_cmp (keys_of es)) (sym held) c.iter-name-items.ensures.ordered in
-    let named = subst (λ n. c.push_name.new.text.items ≡ l.text.items ++ (comma_if l.later ++ (quoted n ++ 58 ∷ []))) c.as_str.ensures.value c.in_ok-push_name.ensures in
-    let shows = subst (λ n. Appends (instead DATA.now d n (view c.in-Some.value.now)) c.push_name.new.text.items c.push_numbered_member.new.text.items) c.as_str-in-loop-name.ensures.value c.in_ok-push_numbered_member.ensures in
-    ArePut-more DATA.now d c.args.frame.now c.push.new.self.items c.into_iter-name-iterator.result c.next.new.self l.later l.text.items c.push_name.new.text.items c.push_numbered_member.new.text.items e put ordered named shows
+    let named = subst (λ n. c.push_name.new.text.items ≡ l.text.items ++ (comma_if l.later ++ (quoted n ++ 58 ∷ []))) c.as_str.ensures.value
+    c.in_ok-push_name.ensures in
+    let shows = subst (λ n. Appends (instead DATA.now d n (view c.in-Some.value.now)) c.push_name.new.text.items c.push_numbered_member.new.text.items)
+    c.as_str-in-loop-name.ensures.value c.in_ok-push_numbered_member.ensures in
+    ArePut-more DATA.now d c.args.frame.now c.push.new.self.items c.into_iter-name-iterator.result c.next.new.self l.later l.text.items
+    c.push_name.new.text.items c.push_numbered_member.new.text.items e put ordered named shows
 
 pub returns : goal.returns
 returns c =
@@ -35,6 +40,8 @@ returns c =
     let d = array_by whole_tree c.args.numbers.now in
     let none : l.name-iterator ≡ [] = search rules in
     let held : c.into_iter-name-iterator.result ≡ c.members.result.now.entries = search rules in
-    let put = subst (λ es. ArePut DATA.now d c.args.frame.now c.push.new.self.items c.into_iter-name-iterator.result es l.later l.text.items) none l.invariant in
-    ArePut-all DATA.now d c.args.frame.now c.push.new.self.items c.into_iter-name-iterator.result l.later c.args.text.now.items l.text.items c.push-2.new.self.items put (ap members_view held ∙ c.members.ensures)
+    let put = subst (λ es. ArePut DATA.now d c.args.frame.now c.push.new.self.items c.into_iter-name-iterator.result es l.later l.text.items) none l.invariant
+    in
+    ArePut-all DATA.now d c.args.frame.now c.push.new.self.items c.into_iter-name-iterator.result l.later c.args.text.now.items l.text.items
+    c.push-2.new.self.items put (ap members_view held ∙ c.members.ensures)
     c.in_ok-push.ensures.items c.in_ok-push-2.ensures.items

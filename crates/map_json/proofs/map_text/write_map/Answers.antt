@@ -14,7 +14,8 @@ pub returns-clause-read_back : goal.returns-clause-read_back
 returns-clause-read_back c =
     let m = c.args.map.now in
     let plain = tree_plain m c.write_in.ensures.well_formed in
-    IfOk-weaker c.write_in.result _ _ (λ x h. (subst IsUtf8 (sym h.0) h.1.utf8, ap read h.0 ∙ read-compact_text (tree_of m) h.1 plain.1)) c.write_in.ensures.text
+    IfOk-weaker c.write_in.result _ _ (λ x h. (subst IsUtf8 (sym h.0) h.1.utf8, ap read h.0 ∙ read-compact_text (tree_of m) h.1 plain.1))
+    c.write_in.ensures.text
 
 pub returns-clause-read_again : goal.returns-clause-read_again
 returns-clause-read_again c = map_again c.args.map.now c.write_in.ensures.well_formed

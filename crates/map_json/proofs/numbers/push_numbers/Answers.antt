@@ -21,7 +21,8 @@ loop-rest-preserved c =
     let end = take_all (2816 - c.if-later.from) (drop c.if-later.from w.new.buffer) (simp length-drop (omega arith)) in
     record {
       text = ap (λ t. t ++ items_text true (items_by whole_tree s.result.1.now)) (c.in_ok-extend_from_slice.ensures.items ∙ ap (λ t. l.text.items ++ t) end)
-          ∙ one_more_round l.text.items _ l.later l.rest.now s.result.0.now s.result.1.now w.new.buffer w.result c.if-later.from split several w.ensures.text from l.invariant.text;
+          ∙ one_more_round l.text.items _ l.later l.rest.now s.result.0.now s.result.1.now w.new.buffer w.result c.if-later.from split several w.ensures.text
+          from l.invariant.text;
       values = Each-right IsTileValue s.result.0.now s.result.1.now (subst (Each IsTileValue) split l.invariant.values);
     }
 

@@ -20,4 +20,5 @@ returns g c =
     let f = g.T.Tree.tree c.args.size in
     let so_far = c.loop-element.values.items in
     c.from.ensures
-    ∙ ap array (sym (joined-none (items_view so_far)) ∙ (sym (ap (λ es. joined (items_view so_far) (items_by f es)) c.in-None.ensures.steps.0) ∙ c.loop-element.invariant))
+    ∙ ap array (sym (joined-none (items_view so_far)) ∙ (sym (ap (λ es. joined (items_view so_far) (items_by f es)) c.in-None.ensures.steps.0)
+    ∙ c.loop-element.invariant))

@@ -18,4 +18,5 @@ pub returns : goal.returns
 returns c =
     let so_far = c.loop-object.values.items in
     c.from.ensures
-    ∙ ap array (sym (joined-none (items_view so_far)) ∙ (sym (ap (λ es. joined (items_view so_far) (items_by object_tree es)) c.in-None.ensures.steps.0) ∙ c.loop-object.invariant))
+    ∙ ap array (sym (joined-none (items_view so_far)) ∙ (sym (ap (λ es. joined (items_view so_far) (items_by object_tree es)) c.in-None.ensures.steps.0)
+    ∙ c.loop-object.invariant))

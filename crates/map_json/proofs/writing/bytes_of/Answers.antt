@@ -6,4 +6,5 @@ pub loop-cell-preserved : goal.loop-cell-preserved
 loop-cell-preserved c =
     let i = c.loop-cell.cell-index in
     c.in_ok-extend_from_slice.ensures.items
-    ∙ (rw (c.loop-cell.invariant, c.to_le_bytes.ensures, c.cell.view_is) (sym (one_more_bytes c.args.cells.now i c.cell-item.result c.cell-item.result c.loop-cell-test.true c.cell-item.is)))
+    ∙ (rw (c.loop-cell.invariant, c.to_le_bytes.ensures, c.cell.view_is)
+    (sym (one_more_bytes c.args.cells.now i c.cell-item.result c.cell-item.result c.loop-cell-test.true c.cell-item.is)))

@@ -16,14 +16,17 @@ returns-in-Tiles c =
 pub returns-in-Objects : goal.returns-in-Objects
 returns-in-Objects c =
     let size = c.args.size in
-    IfOk-weaker c.layer_frame.result _ _ (λ x h. h ∙ outline_frame-other size.width size.height c.args.layer.now (subst IsTiles c.in-Objects.is)) c.layer_frame.ensures
+    IfOk-weaker c.layer_frame.result _ _ (λ x h. h ∙ outline_frame-other size.width size.height c.args.layer.now (subst IsTiles c.in-Objects.is))
+    c.layer_frame.ensures
 
 pub returns-in-Other : goal.returns-in-Other
 returns-in-Other c =
     let size = c.args.size in
-    IfOk-weaker c.layer_frame-in-Other.result _ _ (λ x h. h ∙ outline_frame-other size.width size.height c.args.layer.now (subst IsTiles c.in-Other.is)) c.layer_frame-in-Other.ensures
+    IfOk-weaker c.layer_frame-in-Other.result _ _ (λ x h. h ∙ outline_frame-other size.width size.height c.args.layer.now (subst IsTiles c.in-Other.is))
+    c.layer_frame-in-Other.ensures
 
 pub returns-in-Group : goal.returns-in-Group
 returns-in-Group c =
     let size = c.args.size in
-    IfOk-weaker c.layer_frame-in-Group.result _ _ (λ x h. h ∙ outline_frame-other size.width size.height c.args.layer.now (subst IsTiles c.in-Group.is)) c.layer_frame-in-Group.ensures
+    IfOk-weaker c.layer_frame-in-Group.result _ _ (λ x h. h ∙ outline_frame-other size.width size.height c.args.layer.now (subst IsTiles c.in-Group.is))
+    c.layer_frame-in-Group.ensures

@@ -10,4 +10,5 @@ pub returns-then-to-from : goal.returns-then-to-from
 returns-then-to-from c t =
     let from = c.index-edits-0.result in
     let to = c.index-edits-last.result in
-    row_to c.args.edits.now c.args.last from to c.requires.ordered c.requires.within c.index-edits-0.is c.index-edits-last.is c.if-to-from.true (columns to.x (from.x + c.args.last) t)
+    row_to c.args.edits.now c.args.last from to c.requires.ordered c.requires.within c.index-edits-0.is c.index-edits-last.is c.if-to-from.true
+    (columns to.x (from.x + c.args.last) t)

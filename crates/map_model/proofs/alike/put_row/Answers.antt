@@ -5,7 +5,8 @@ use Rattle.map_model.proofs.alike.put_row.Goals as goal
 
 pub bounds-values-at : goal.bounds-values-at
 bounds-values-at c =
-    let fits = row-below c.args.width (length c.args.values.now) c.first-item.result c.args.row.now c.requires.row c.requires.inside c.in-len1-up.len_at_least c.first-item.is in
+    let fits = row-below c.args.width (length c.args.values.now) c.first-item.result c.args.row.now c.requires.row c.requires.inside c.in-len1-up.len_at_least
+    c.first-item.is in
     omega (arith, fits)
 
 pub loop-at-preserved : goal.loop-at-preserved

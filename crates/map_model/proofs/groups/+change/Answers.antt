@@ -32,7 +32,8 @@ change_along-returns-then-layer-id g t c =
       left = c.changed.new.layer;
       found = own-found c.args.id c.args.room c.args.layers.now c.unwrap.result.0.now l way.0 c.get_mut-layer.ensures.value c.if-layer-id.true;
       call = c.changed.ensures;
-      is = own-changed c.args.id c.args.room c.args.layers.now c.unwrap.result.0.now l way.0 c.get_mut-layer.ensures.value c.if-layer-id.true c.changed.new.layer;
+      is = own-changed c.args.id c.args.room c.args.layers.now c.unwrap.result.0.now l way.0 c.get_mut-layer.ensures.value c.if-layer-id.true
+          c.changed.new.layer;
     }
 
 pub change_along-overflow_sub-room : goal.change_along-overflow_sub-room
@@ -48,8 +49,19 @@ change_along-change_inside-requires g t c κs within =
     let l = c.get_mut-layer.result.now in
     let leads = rw c.get_mut-layer.ensures.value at way.1 in
     let room = other-room c.args.id c.args.room c.args.layers.now c.unwrap.result.0.now l way.0 c.get_mut-layer.ensures.value c.if-layer-id.false in
-    let found = other-found c.args.id c.args.room c.args.layers.now c.unwrap.result.0.now l way.0 c.get_mut-layer.ensures.value c.if-layer-id.false in
-    (omega (arith, c.decreases, room), (within.0, (within.1, (leads-inside c.args.id c.args.room l (reverse c.unwrap.result.1.now) c.if-layer-id.false leads, λ k e. c.requires.callable k (sym found ∙ e)))))
+    let found = other-found c.args.id c.args.room c.args.layers.now c.unwrap.result.0.now l way.0 c.get_mut-layer.ensures.value c.if-layer-id.false in (
+      omega (arith, c.decreases, room),
+      (
+        within.0,
+        (
+          within.1,
+          (
+            leads-inside c.args.id c.args.room l (reverse c.unwrap.result.1.now) c.if-layer-id.false leads,
+            λ k e. c.requires.callable k (sym found ∙ e),
+          ),
+        ),
+      ),
+    )
 
 pub change_along-returns : goal.change_along-returns
 change_along-returns g t c =
@@ -60,9 +72,11 @@ change_along-returns g t c =
     record {
       layer = e.layer;
       left = e.left;
-      found = sym (other-found c.args.id c.args.room c.args.layers.now c.unwrap.result.0.now l way.0 c.get_mut-layer.ensures.value c.if-layer-id.false) ∙ e.found;
+      found = sym (other-found c.args.id c.args.room c.args.layers.now c.unwrap.result.0.now l way.0 c.get_mut-layer.ensures.value c.if-layer-id.false)
+          ∙ e.found;
       call = e.call;
-      is = other-changed c.args.id c.args.room c.args.layers.now c.unwrap.result.0.now l way.0 c.get_mut-layer.ensures.value c.if-layer-id.false c.change_inside.new.body e.left e.is;
+      is = other-changed c.args.id c.args.room c.args.layers.now c.unwrap.result.0.now l way.0 c.get_mut-layer.ensures.value c.if-layer-id.false
+          c.change_inside.new.body e.left e.is;
     }
 
 pub change_inside-returns : goal.change_inside-returns

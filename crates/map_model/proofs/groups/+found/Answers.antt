@@ -10,8 +10,10 @@ pub find_under-returns-then-room-eq0 : goal.find_under-returns-then-room-eq0
 find_under-returns-then-room-eq0 t c = find_one-no_room c.args.id c.args.room c.args.layer.now c.if-layer-id.false c.if-room-eq0.true
 
 pub find_under-returns-in-None : goal.find_under-returns-in-None
-find_under-returns-in-None t c = find_one-no_group c.args.id c.args.room c.args.layer.now c.if-layer-id.false (sym c.layers.ensures ∙ ap option_copied c.in-None.is)
+find_under-returns-in-None t c = find_one-no_group c.args.id c.args.room c.args.layer.now c.if-layer-id.false
+    (sym c.layers.ensures ∙ ap option_copied c.in-None.is)
 
 pub find_under-returns-in-Some : goal.find_under-returns-in-Some
 find_under-returns-in-Some t c =
-    c.find_in.ensures ∙ find_one-group c.args.id c.args.room c.args.layer.now c.in-Some.inside.now c.if-layer-id.false c.if-room-eq0.false (sym c.layers.ensures ∙ ap option_copied c.in-Some.is)
+    c.find_in.ensures ∙ find_one-group c.args.id c.args.room c.args.layer.now c.in-Some.inside.now c.if-layer-id.false c.if-room-eq0.false
+    (sym c.layers.ensures ∙ ap option_copied c.in-Some.is)

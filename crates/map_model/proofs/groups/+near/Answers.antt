@@ -12,7 +12,8 @@ returns-clause-way t c done =
     let arrives : ArrivesAt c.args.id (reverse c.if-layer-id.way'.items) l =
     elim c.if-layer-id.branch [
       | then-layer-id+in-Some-layers+else-room-eq0+else-not-find_way_here w ↦
-          rw w.way'-is (arrives-group c.args.id l w.in-Some-layers.inside.now _ (sym w.layers.ensures ∙ ap option_copied w.in-Some-layers.is) (w.find_way_here.ensures.way w.if-not-find_way_here.false))
+          rw w.way'-is (arrives-group c.args.id l w.in-Some-layers.inside.now _ (sym w.layers.ensures ∙ ap option_copied w.in-Some-layers.is)
+          (w.find_way_here.ensures.way w.if-not-find_way_here.false))
       | else-layer-id w ↦ rw w.way'-is (arrives-own c.args.id l c.args.way.now.items c.requires.empty w.if-layer-id.false)
     ] in
     rw c.push.ensures.items (arrives-pushed c.args.id c.args.layers.now l c.if-layer-id.way'.items c.in-Some.at c.in-Some.ensures arrives)

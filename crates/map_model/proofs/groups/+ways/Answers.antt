@@ -33,7 +33,8 @@ find_way-returns-then-find_way_from-clause-way t c done =
     let own : holds c.args.id c.args.room l ≡ true = sym c.find_way_from.ensures.there ∙ c.if-find_way_from.true in
     let place = rw own at (rw c.in-Some.ensures.steps at c.loop-at.invariant.place) in
     let here = at_drop c.args.layers.now c.loop-at.at l _ (rw c.in-Some.ensures.steps at c.loop-at.invariant.left) in
-    rw c.push.ensures.items (way-pushed c.args.id c.args.room c.args.layers.now l c.find_way_from.new.way.items c.loop-at.at (sym place) here.0 (c.find_way_from.ensures.way c.if-find_way_from.true))
+    rw c.push.ensures.items (way-pushed c.args.id c.args.room c.args.layers.now l c.find_way_from.new.way.items c.loop-at.at (sym place) here.0
+    (c.find_way_from.ensures.way c.if-find_way_from.true))
 
 pub find_way-loop-at-preserved : goal.find_way-loop-at-preserved
 find_way-loop-at-preserved t c =
@@ -57,7 +58,8 @@ pub find_way_from-returns-then-layer-id-clause-there : goal.find_way_from-return
 find_way_from-returns-then-layer-id-clause-there t c = holds-own c.args.id c.args.room c.args.layer.now c.if-layer-id.true
 
 pub find_way_from-returns-then-layer-id-clause-way : goal.find_way_from-returns-then-layer-id-clause-way
-find_way_from-returns-then-layer-id-clause-way t c done = leads-own c.args.id c.args.room c.args.layer.now c.args.way.now.items c.requires.empty c.if-layer-id.true
+find_way_from-returns-then-layer-id-clause-way t c done = leads-own c.args.id c.args.room c.args.layer.now c.args.way.now.items c.requires.empty
+    c.if-layer-id.true
 
 pub find_way_from-returns-then-room-eq0-clause-there : goal.find_way_from-returns-then-room-eq0-clause-there
 find_way_from-returns-then-room-eq0-clause-there t c = holds-no_room c.args.id c.args.room c.args.layer.now c.if-layer-id.false c.if-room-eq0.true
@@ -65,11 +67,14 @@ find_way_from-returns-then-room-eq0-clause-there t c = holds-no_room c.args.id c
 pub find_way_from-returns-in-Some-clause-there : goal.find_way_from-returns-in-Some-clause-there
 find_way_from-returns-in-Some-clause-there t c =
     c.find_way.ensures.there
-    ∙ holds-group c.args.id c.args.room c.args.layer.now c.in-Some.inside.now c.if-layer-id.false c.if-room-eq0.false (sym c.layers.ensures ∙ ap option_copied c.in-Some.is)
+    ∙ holds-group c.args.id c.args.room c.args.layer.now c.in-Some.inside.now c.if-layer-id.false c.if-room-eq0.false
+    (sym c.layers.ensures ∙ ap option_copied c.in-Some.is)
 
 pub find_way_from-returns-in-Some-clause-way : goal.find_way_from-returns-in-Some-clause-way
 find_way_from-returns-in-Some-clause-way t c done =
-    leads-group c.args.id c.args.room c.args.layer.now c.in-Some.inside.now _ c.if-layer-id.false c.if-room-eq0.false (sym c.layers.ensures ∙ ap option_copied c.in-Some.is) (c.find_way.ensures.way done)
+    leads-group c.args.id c.args.room c.args.layer.now c.in-Some.inside.now _ c.if-layer-id.false c.if-room-eq0.false
+    (sym c.layers.ensures ∙ ap option_copied c.in-Some.is) (c.find_way.ensures.way done)
 
 pub find_way_from-returns-in-None-clause-there : goal.find_way_from-returns-in-None-clause-there
-find_way_from-returns-in-None-clause-there t c = holds-no_group c.args.id c.args.room c.args.layer.now c.if-layer-id.false (sym c.layers.ensures ∙ ap option_copied c.in-None.is)
+find_way_from-returns-in-None-clause-there t c = holds-no_group c.args.id c.args.room c.args.layer.now c.if-layer-id.false
+    (sym c.layers.ensures ∙ ap option_copied c.in-None.is)

@@ -15,9 +15,12 @@ change_along-requires-clause-way g c =
     let way : IsWay c.args.id MAX_GROUPS (reverse c.if-not-find_way_here.way'.items) c.args.layers.now =
     elim c.if-not-find_way_here.branch [
       | then-not-find_way_here w ↦
-          rw w.way'-is (w.find_way.ensures.way (w.find_way.ensures.there ∙ position-first_some (find_one c.args.id MAX_GROUPS) c.args.layers.now ∙ c.requires.there))
+          rw w.way'-is (w.find_way.ensures.way (w.find_way.ensures.there ∙ position-first_some (find_one c.args.id MAX_GROUPS) c.args.layers.now
+          ∙ c.requires.there))
       | else-not-find_way_here w ↦
           let here = c.find_way_here.new.way.items in
-          rw w.way'-is (way-arrived c.args.id (reverse here) MAX_GROUPS layer_level c.args.layers.now (omega (arith, c.find_way_here.ensures.short, length-reverse here)) c.requires.distinct (c.find_way_here.ensures.way w.if-not-find_way_here.false))
+          rw w.way'-is (way-arrived c.args.id (reverse here) MAX_GROUPS layer_level c.args.layers.now
+          (omega (arith, c.find_way_here.ensures.short, length-reverse here)) c.requires.distinct
+          (c.find_way_here.ensures.way w.if-not-find_way_here.false))
     ] in
     rw c.as_slice.ensures.value way

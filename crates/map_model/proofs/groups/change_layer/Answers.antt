@@ -6,7 +6,8 @@ use Rattle.map_model.proofs.groups.change_layer.Goals as goal
 pub changed-requires : goal.changed-requires
 changed-requires g c =
     c.requires.callable c.get_mut.result.now
-    (own-found c.args.id MAX_GROUPS c.args.layers.now c.in-Some.at c.get_mut.result.now c.in-Some.ensures.first c.get_mut.ensures.value (rw c.get_mut.ensures.value at c.in-Some.ensures.own))
+    (own-found c.args.id MAX_GROUPS c.args.layers.now c.in-Some.at c.get_mut.result.now c.in-Some.ensures.first c.get_mut.ensures.value
+    (rw c.get_mut.ensures.value at c.in-Some.ensures.own))
 
 pub returns-in-Some : goal.returns-in-Some
 returns-in-Some g c =

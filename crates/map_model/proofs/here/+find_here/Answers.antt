@@ -7,5 +7,6 @@ returns-then-layer-id-clause-drawn t c = IsDrawnIn-own c.args.room c.args.layers
 
 pub returns-clause-drawn : goal.returns-clause-drawn
 returns-clause-drawn t c =
-    IsDrawnIn-inside c.args.room c.args.layers.now c.in_ok-layers.field-0.now c.in_ok-layer.field-0-0 c.in_ok-layer.layer.now (λ l. l.now) c.find_here.result c.in_ok-layer.ensures c.if-room-eq0.false
+    IsDrawnIn-inside c.args.room c.args.layers.now c.in_ok-layers.field-0.now c.in_ok-layer.field-0-0 c.in_ok-layer.layer.now
+    (λ l. l.now) c.find_here.result c.in_ok-layer.ensures c.if-room-eq0.false
     (sym c.in_ok-layers.ensures) c.find_here.ensures.drawn

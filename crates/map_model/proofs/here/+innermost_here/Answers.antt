@@ -11,5 +11,6 @@ returns-in-None t c = IsDrawnIn-own c.args.room c.args.layers.now c.in_ok-layer.
 
 pub returns-in-Some : goal.returns-in-Some
 returns-in-Some t c =
-    IsDrawnIn-inside c.args.room c.args.layers.now c.in-Some.inside.now c.in_ok-layer.field-0-0 c.in_ok-layer.layer.now (λ l. l.now) c.innermost_here.result c.in_ok-layer.ensures c.if-room-eq0.false
+    IsDrawnIn-inside c.args.room c.args.layers.now c.in-Some.inside.now c.in_ok-layer.field-0-0 c.in_ok-layer.layer.now
+    (λ l. l.now) c.innermost_here.result c.in_ok-layer.ensures c.if-room-eq0.false
     (sym c.layers.ensures ∙ ap option_copied c.in-Some.is) c.innermost_here.ensures

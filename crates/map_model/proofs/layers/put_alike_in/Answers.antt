@@ -8,4 +8,5 @@ use Rattle.map_model.proofs.layers.put_alike_in.Goals as goal
 pub returns-clause-layers : goal.returns-clause-layers
 returns-clause-layers c =
     let e = c.change_layer.ensures in
-    changed_by c.args.id MAX_GROUPS (layer_with_tiles (put_values c.args.width c.args.side c.args.edits.now)) c.args.layers.now c.change_layer.new.layers e.layer e.left e.found e.is (search rules)
+    changed_by c.args.id MAX_GROUPS (layer_with_tiles (put_values c.args.width c.args.side c.args.edits.now)) c.args.layers.now c.change_layer.new.layers
+    e.layer e.left e.found e.is (search rules)

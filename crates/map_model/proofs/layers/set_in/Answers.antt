@@ -11,4 +11,5 @@ returns c =
     let met = e.call.met in
     let shows = e.call.shows in
     let leaves = e.call.leaves in
-    changed_by c.args.id MAX_GROUPS (layer_with_tiles (with_value c.args.at c.args.value)) c.args.layers.now c.change_layer.new.layers e.layer e.left e.found e.is (search rules)
+    changed_by c.args.id MAX_GROUPS (layer_with_tiles (with_value c.args.at c.args.value)) c.args.layers.now c.change_layer.new.layers e.layer e.left e.found
+    e.is (search rules)

@@ -11,4 +11,5 @@ returns-in-Some-clause-parts c =
     let e = c.change_layer.ensures in
     let m = c.args.parts.now in
     rw c.in-Some.is (ap (λ (ls : List Layer). record m { layers = ls })
-    (changed_by c.in-Some.group MAX_GROUPS (layer_with_layers (λ ls. remove ls c.args.place.at)) m.layers c.change_layer.new.layers e.layer e.left e.found e.is (search rules)))
+    (changed_by c.in-Some.group MAX_GROUPS (layer_with_layers (λ ls. remove ls c.args.place.at)) m.layers c.change_layer.new.layers e.layer e.left e.found e.is
+    (search rules)))

@@ -11,4 +11,10 @@ returns g c =
     let found = rw c.in-Objects.objects-is at e.found in
     let is = rw c.in-Objects.objects-is at e.is in
     rw (c.in-Objects.is, outs-Objects os)
-    record { object = e.item; left = e.left; found = found; call = e.call; is = ap Objects (is ∙ slice_set-change_at (λ own. e.left) os c.args.at e.item found) }
+    record {
+      object = e.item;
+      left = e.left;
+      found = found;
+      call = e.call;
+      is = ap Objects (is ∙ slice_set-change_at (λ own. e.left) os c.args.at e.item found);
+    }

@@ -8,4 +8,5 @@ use Rattle.map_model.proofs.objects.take_object_in.Goals as goal
 pub returns-clause-layers : goal.returns-clause-layers
 returns-clause-layers c =
     let e = c.change_layer.ensures in
-    changed_by c.args.place.layer MAX_GROUPS (layer_with_objects (λ os. remove os c.args.place.at)) c.args.layers.now c.change_layer.new.layers e.layer e.left e.found e.is (search rules)
+    changed_by c.args.place.layer MAX_GROUPS (layer_with_objects (λ os. remove os c.args.place.at)) c.args.layers.now c.change_layer.new.layers e.layer e.left
+    e.found e.is (search rules)

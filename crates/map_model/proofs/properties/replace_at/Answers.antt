@@ -4,4 +4,5 @@ use Rattle.map_model.proofs.ObjectKeeps.{slice_set-change_at}
 
 pub returns-clause-held : goal.returns-clause-held
 returns-clause-held c =
-    rw (c.replace.ensures.after, c.replace-2.ensures.after) (slice_set-change_at (property_with_setting c.args.setting) c.args.properties.now c.args.at c.get_mut-property.result.now c.get_mut-property.ensures.value)
+    rw (c.replace.ensures.after, c.replace-2.ensures.after) (slice_set-change_at (property_with_setting c.args.setting) c.args.properties.now c.args.at
+    c.get_mut-property.result.now c.get_mut-property.ensures.value)

@@ -12,7 +12,8 @@ loop-preserved g c =
     let within = rw c.in-Some.is at c.in_ok-offset.ensures.within in
     let prefix : take c.loop.end bytes ≡ take c.loop.end c.loop.bytes.items =
     c.read_behind.ensures.prefix ∙ ap (λ xs. take c.loop.end xs) c.deref_mut.ensures.value ∙ c.in_ok-make_room.ensures.prefix in
-    let all = ap (λ xs. xs ++ slice_range bytes c.loop.end c.in-Some.offset) (sym prefix) ∙ prefix_and_range bytes c.loop.end c.in-Some.offset read.0 ∙ ap (λ xs. take c.in-Some.offset xs) (sym is) in
+    let all = ap (λ xs. xs ++ slice_range bytes c.loop.end c.in-Some.offset) (sym prefix) ∙ prefix_and_range bytes c.loop.end c.in-Some.offset read.0
+    ∙ ap (λ xs. take c.in-Some.offset xs) (sym is) in
     record {
       within = omega (arith, within, len, c.read_behind.auto.bytes);
       limit = c.in_ok-make_room.ensures.limit;

@@ -10,14 +10,16 @@ pub returns-in_default-split_first-clause-cells : goal.returns-in_default-split_
 returns-in_default-split_first-clause-cells c q =
     let inv = c.loop-next.invariant in
     c.push_runs.ensures.cells q
-    ∙ last_cells c.loop-next.out.items c.push_before-first.new.out.items c.loop-next.first.now c.push_before-first.result.now c.loop-next.second.now c.in-Some.next.now c.in-Some.field-0-1.now q (nil_from_length c.push_before-first.result.now c.in_default-split_first.ensures.cases)
+    ∙ last_cells c.loop-next.out.items c.push_before-first.new.out.items c.loop-next.first.now c.push_before-first.result.now c.loop-next.second.now
+    c.in-Some.next.now c.in-Some.field-0-1.now q (nil_from_length c.push_before-first.result.now c.in_default-split_first.ensures.cases)
     c.in-Some.ensures.cases.0 (c.push_before-first.ensures.cells q)
     ∙ inv.cells q
 
 pub push_before-second-requires-clause-other : goal.push_before-second-requires-clause-other
 push_before-second-requires-clause-other c =
     let left = c.push_before-first.ensures.left in
-    let rest : IsMaximalRuns c.push_before-first.result.now = IsMaximalRuns-back left.0 c.push_before-first.result.now (rw left.1.whole at c.loop-next.invariant.first) in
+    let rest : IsMaximalRuns c.push_before-first.result.now =
+    IsMaximalRuns-back left.0 c.push_before-first.result.now (rw left.1.whole at c.loop-next.invariant.first) in
     (rw c.in-Some-split_first.ensures.cases.0 at rest).0
 
 pub loop-next-preserved : goal.loop-next-preserved
@@ -36,8 +38,10 @@ loop-next-preserved c =
       before_first = rw is (two.ended ended);
       before_second = two.order;
       cells = λ q.
-          either_cells c.loop-next.out.items c.push_before-first.new.out.items c.push_before-second.new.out.items c.loop-next.first.now c.push_before-first.result.now c.loop-next.second.now
-          c.push_before-second.result.now r c.in-Some.next.now c.in-Some-split_first.field-0-1.now c.in-Some.field-0-1.now q is c.in-Some.ensures.cases.0 (one.cells q) (two.cells q)
+          either_cells c.loop-next.out.items c.push_before-first.new.out.items c.push_before-second.new.out.items c.loop-next.first.now
+          c.push_before-first.result.now c.loop-next.second.now
+          c.push_before-second.result.now r c.in-Some.next.now c.in-Some-split_first.field-0-1.now c.in-Some.field-0-1.now q is c.in-Some.ensures.cases.0
+          (one.cells q) (two.cells q)
           ∙ inv.cells q;
     }
 

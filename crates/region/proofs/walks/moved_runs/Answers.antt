@@ -29,11 +29,14 @@ loop-run-preserved c =
     let pushed = c.push_some.ensures in
     record {
       room = omega (arith, inv.room, pushed.len, pushed.capacity, c.loop-run-test.true);
-      order = moved_order _ _ c.args.runs.now c.loop-run.out.items c.push_some.new.runs.items c.loop-run.run-index item c.moved.result c.loop-run-test.true c.requires.runs pushed.items
+      order = moved_order _ _ c.args.runs.now c.loop-run.out.items c.push_some.new.runs.items c.loop-run.run-index item c.moved.result c.loop-run-test.true
+          c.requires.runs pushed.items
           within fits inv.order inv.clear;
-      clear = rw add-one (moved_clear _ _ c.args.runs.now c.loop-run.out.items c.push_some.new.runs.items c.loop-run.run-index item c.moved.result c.loop-run-test.true c.requires.runs pushed.items
+      clear = rw add-one (moved_clear _ _ c.args.runs.now c.loop-run.out.items c.push_some.new.runs.items c.loop-run.run-index item c.moved.result
+          c.loop-run-test.true c.requires.runs pushed.items
           within fits inv.order inv.clear);
-      cells = λ q. rw add-one (moved_step _ _ c.args.runs.now c.loop-run.out.items c.push_some.new.runs.items c.loop-run.run-index item c.moved.result c.loop-run-test.true c.requires.runs pushed.items
+      cells = λ q. rw add-one (moved_step _ _ c.args.runs.now c.loop-run.out.items c.push_some.new.runs.items c.loop-run.run-index item c.moved.result
+          c.loop-run-test.true c.requires.runs pushed.items
           within fits inv.order inv.clear c.args.w c.args.h q (rw c.run-item.is at (c.moved.ensures.cells q)) ∙ inv.cells q);
     }
 

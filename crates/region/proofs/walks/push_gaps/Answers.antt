@@ -1,7 +1,8 @@
 use Rattle.std.proofs.Common.{ℕ, ◌+◌, ◌∷◌, ◌∙◌, sym, ap, length, length-append, arith}
 use Rattle.region.specs.Runs.{IsMaximalRuns}
 use Rattle.region.proofs.Before.{within_order_of}
-use Rattle.region.proofs.Gaps.{option_len, within_itself, within_trans, within_ended, end_from, each_ended, start_cells, cut_cells, done_cells, gone_later, left_order, end_to_start}
+use Rattle.region.proofs.Gaps.{option_len, within_itself, within_trans, within_ended, end_from, each_ended, start_cells, cut_cells, done_cells, gone_later}
+use Rattle.region.proofs.Gaps.{left_order, end_to_start}
 use Rattle.region.proofs.Order.{IsMaximalRuns-back}
 use Rattle.region.proofs.Splits.{in_runs-from, HaveEnded-later}
 use Rattle.region.proofs.walks.push_gaps.Goals as goal
@@ -23,7 +24,8 @@ loop-cut-init c =
     }
 
 pub push_optional-requires-clause-order : goal.push_optional-requires-clause-order
-push_optional-requires-clause-order c = within_order_of c.loop-cut.out.items c.before-in-Some.result c.loop-cut.left c.before-in-Some.ensures.within c.loop-cut.invariant.order
+push_optional-requires-clause-order c = within_order_of c.loop-cut.out.items c.before-in-Some.result c.loop-cut.left c.before-in-Some.ensures.within
+    c.loop-cut.invariant.order
 
 pub loop-cut-preserved : goal.loop-cut-preserved
 loop-cut-preserved c =
@@ -43,9 +45,11 @@ loop-cut-preserved c =
       runs = pushed.runs;
       others = others.2;
       within = within;
-      order = left_order c.loop-cut.out.items c.push_optional.new.out.items c.before-in-Some.result left c.in-Some-after.after cut others.0 before.within before.order after.within after.order inv.order
+      order = left_order c.loop-cut.out.items c.push_optional.new.out.items c.before-in-Some.result left c.in-Some-after.after cut others.0 before.within
+          before.order after.within after.order inv.order
           (pushed.ended (c.in-Some-after.after.x, c.in-Some-after.after.y));
-      cells = λ q. cut_cells c.loop-cut.out.items c.push_optional.new.out.items c.before-in-Some.result left cut behind others pushed.cells before.cells c.in-Some-after.after q (after.cells q)
+      cells = λ q. cut_cells c.loop-cut.out.items c.push_optional.new.out.items c.before-in-Some.result left cut behind others pushed.cells before.cells
+          c.in-Some-after.after q (after.cells q)
           ∙ rw is at (inv.cells q);
       later = λ q from. gone_later cut c.in-Some-after.after c.args.run behind _ q after.order within from (rw is at (inv.later q from));
     }
@@ -55,7 +59,8 @@ returns-in-None-clause-cells c q =
     let inv = c.loop-cut.invariant in
     let is = c.in-Some.ensures.cases.0 in
     let others : IsMaximalRuns (c.in-Some.cut.now ∷ c.in-Some.behind.now) = rw is at inv.others in
-    done_cells c.loop-cut.out.items c.push_optional.new.out.items c.before-in-Some.result c.loop-cut.left c.in-Some.cut.now c.in-Some.behind.now others c.push_optional.ensures.cells c.before-in-Some.ensures.cells q
+    done_cells c.loop-cut.out.items c.push_optional.new.out.items c.before-in-Some.result c.loop-cut.left c.in-Some.cut.now c.in-Some.behind.now others
+    c.push_optional.ensures.cells c.before-in-Some.ensures.cells q
     (c.in-None.ensures.cells q) ∙ rw is at (inv.cells q)
 
 pub returns-in-None-clause-ended : goal.returns-in-None-clause-ended
@@ -71,4 +76,5 @@ returns-clause-ended c =
     let inv = c.loop-cut.invariant in
     let left = c.loop-cut.left in
     let end : ℕ × ℕ = (c.args.run.x + c.args.run.len, c.args.run.y) in
-    c.push_run.ensures.ended end (HaveEnded-later c.loop-cut.out.items (left.x, left.y) end inv.order (end_from left c.args.run inv.within)) (within_ended left c.args.run inv.within)
+    c.push_run.ensures.ended end (HaveEnded-later c.loop-cut.out.items (left.x, left.y) end inv.order (end_from left c.args.run inv.within))
+    (within_ended left c.args.run inv.within)

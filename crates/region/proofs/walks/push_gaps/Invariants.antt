@@ -12,7 +12,8 @@ invariant-loop-cut l = record {
   others : IsMaximalRuns l.rest;
   within : LiesWithin l.left l.fn.run;
   order : HaveEnded (l.left.x, l.left.y) l.out.items;
-  cells : (q : ℕ × ℕ) → (in_runs l.out.items q || (in_run l.left q && not (in_runs l.rest q))) ≡ (in_runs l.fn.out.items q || (in_run l.fn.run q && not (in_runs l.fn.others q)));
+  cells : (q : ℕ × ℕ) → (in_runs l.out.items q || (in_run l.left q && not (in_runs l.rest q)))
+      ≡ (in_runs l.fn.out.items q || (in_run l.fn.run q && not (in_runs l.fn.others q)));
   later : (q : ℕ × ℕ) → IsFrom q (l.fn.run.x + l.fn.run.len, l.fn.run.y) → in_runs l.rest q ≡ in_runs l.fn.others q;
 }
 

@@ -8,7 +8,8 @@ use Rattle.region.proofs.walks.remainders.Goals as goal
 pub returns-in_default-split_first-clause-cells : goal.returns-in_default-split_first-clause-cells
 returns-in_default-split_first-clause-cells c q =
     let inv = c.loop-cut.invariant in
-    let given = prefix_cells c.loop-cut.out.items c.push_before-rest.new.out.items c.loop-cut.runs.now c.push_before-rest.result.now c.loop-cut.cuts.now c.in-Some.cut.now c.in-Some.field-0-1.now
+    let given = prefix_cells c.loop-cut.out.items c.push_before-rest.new.out.items c.loop-cut.runs.now c.push_before-rest.result.now c.loop-cut.cuts.now
+    c.in-Some.cut.now c.in-Some.field-0-1.now
     c.in-Some.ensures.cases.0 inv.second q (c.push_before-rest.ensures.cells q) (c.push_before-rest.ensures.before q) in
     let all = nil_from_length c.push_before-rest.result.now c.in_default-split_first.ensures.cases in
     or-false (in_runs c.push_before-rest.new.out.items q) ∙ rw all at given ∙ inv.cells q
@@ -19,7 +20,8 @@ returns-in_default-split_first-clause-cells c q =
 pub push_gaps-cuts-requires-clause-run : goal.push_gaps-cuts-requires-clause-run
 push_gaps-cuts-requires-clause-run c =
     let left = c.push_before-rest.ensures.left in
-    let rest : IsMaximalRuns c.push_before-rest.result.now = IsMaximalRuns-back left.0 c.push_before-rest.result.now (rw left.1.whole at c.loop-cut.invariant.first) in
+    let rest : IsMaximalRuns c.push_before-rest.result.now =
+    IsMaximalRuns-back left.0 c.push_before-rest.result.now (rw left.1.whole at c.loop-cut.invariant.first) in
     (rw c.in-Some-split_first.ensures.cases.0 at rest).0
 
 pub loop-cut-preserved : goal.loop-cut-preserved
@@ -30,7 +32,8 @@ loop-cut-preserved c =
     let is = c.in-Some-split_first.ensures.cases.0 in
     let run = c.in-Some-split_first.run'.now in
     let others = c.in-Some-split_first.others.now in
-    let rest : IsMaximalRuns c.push_before-rest.result.now = IsMaximalRuns-back before.left.0 c.push_before-rest.result.now (rw before.left.1.whole at inv.first) in
+    let rest : IsMaximalRuns c.push_before-rest.result.now =
+    IsMaximalRuns-back before.left.0 c.push_before-rest.result.now (rw before.left.1.whole at inv.first) in
     let left : IsMaximalRuns (run ∷ others) = rw is at rest in
     record {
       room = omega (arith, inv.room, before.len, before.capacity, gaps.len, gaps.capacity, c.in-Some-split_first.ensures.cases.1);
@@ -39,8 +42,10 @@ loop-cut-preserved c =
       second = gaps.rest;
       order = next_order c.push_gaps-cuts.new.out.items run others left gaps.ended;
       cells = λ q.
-          gap_cells c.push_before-rest.new.out.items c.push_gaps-cuts.new.out.items c.push_before-rest.result.now c.loop-cut.cuts.now c.push_gaps-cuts.result.now run others is left q (gaps.cells q) (gaps.later q)
-          ∙ prefix_cells c.loop-cut.out.items c.push_before-rest.new.out.items c.loop-cut.runs.now c.push_before-rest.result.now c.loop-cut.cuts.now c.in-Some.cut.now c.in-Some.field-0-1.now
+          gap_cells c.push_before-rest.new.out.items c.push_gaps-cuts.new.out.items c.push_before-rest.result.now c.loop-cut.cuts.now
+          c.push_gaps-cuts.result.now run others is left q (gaps.cells q) (gaps.later q)
+          ∙ prefix_cells c.loop-cut.out.items c.push_before-rest.new.out.items c.loop-cut.runs.now c.push_before-rest.result.now c.loop-cut.cuts.now
+          c.in-Some.cut.now c.in-Some.field-0-1.now
           c.in-Some.ensures.cases.0 inv.second q (before.cells q) (before.before q)
           ∙ inv.cells q;
     }

@@ -13,7 +13,12 @@ pub slice_bounds-copy_values-end-in-loop-row : goal.slice_bounds-copy_values-end
 slice_bounds-copy_values-end-in-loop-row c =
     let r = c.args.rectangle in
     let within : c.loop-row.to + r.width ≤ length c.loop-row.cells =
-    omega (arith, copied_within c.loop-row.to c.loop-row.row r.y r.width r.height c.loop-row.invariant.0 c.loop-row-test.true, c.loop-row.auto.cells, c.requires.room) in
+    omega (
+      arith,
+      copied_within c.loop-row.to c.loop-row.row r.y r.width r.height c.loop-row.invariant.0 c.loop-row-test.true,
+      c.loop-row.auto.cells,
+      c.requires.room,
+    ) in
     search rules
 
 pub loop-row-preserved : goal.loop-row-preserved
@@ -28,13 +33,16 @@ loop-row-preserved c =
     let f = row_of m.width r values in
     let rest = flat_map f (range_with_len (row + 1) (r.y + r.height - (row + 1))) in
     let is : new ≡ f row = c.copy_values.ensures in
-    let wide : length new ≡ r.width = ap length is ∙ length-row_of r m.width m.height values row c.requires.columns (omega (arith, c.loop-row-test.true, c.requires.rows)) c.requires.values in
+    let wide : length new ≡ r.width = ap length is ∙ length-row_of r m.width m.height values row c.requires.columns
+    (omega (arith, c.loop-row-test.true, c.requires.rows)) c.requires.values in
     let within = copied_within to row r.y r.width r.height c.loop-row.invariant.0 c.loop-row-test.true in
-    let front = take-put_mid to (to + r.width - to) cells new (to + r.width) (omega (arith, wide)) (omega (arith, within, c.loop-row.auto.cells, c.requires.room)) in (
+    let front = take-put_mid to (to + r.width - to) cells new (to + r.width) (omega (arith, wide))
+    (omega (arith, within, c.loop-row.auto.cells, c.requires.room)) in (
       omega (arith, c.loop-row.invariant.0),
       ap (λ (t : List ℕ). t ++ rest) front
           ∙ (append_assoc (take to cells) new rest
-          ∙ (ap (λ (t : List ℕ). take to cells ++ t) (ap (λ (t : List ℕ). t ++ rest) is ∙ sym (rows_from f row (r.y + r.height) c.loop-row-test.true)) ∙ c.loop-row.invariant.1)),
+          ∙ (ap (λ (t : List ℕ). take to cells ++ t) (ap (λ (t : List ℕ). t ++ rest) is ∙ sym (rows_from f row (r.y + r.height) c.loop-row-test.true))
+          ∙ c.loop-row.invariant.1)),
     )
 
 pub returns : goal.returns

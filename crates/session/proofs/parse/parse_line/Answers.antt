@@ -11,13 +11,15 @@ pub returns-then-is_quiet_line-clause-value : goal.returns-then-is_quiet_line-cl
 returns-then-is_quiet_line-clause-value c =
     let bytes = c.args.bytes.now in
     let short : length bytes ≤ MAX_LINE = omega (arith, c.if-bytes-gt-MAX_LINE.false) in
-    checked bytes short c.in-Some.ensures.some.1 ∙ ap (λ b. cond b (Ok Quiet) (read line_form (words bytes))) (sym c.is_quiet_line.ensures ∙ c.if-is_quiet_line.true)
+    checked bytes short c.in-Some.ensures.some.1 ∙ ap (λ b. cond b (Ok Quiet) (read line_form (words bytes)))
+    (sym c.is_quiet_line.ensures ∙ c.if-is_quiet_line.true)
 
 pub returns-clause-value : goal.returns-clause-value
 returns-clause-value c =
     let bytes = c.args.bytes.now in
     let short : length bytes ≤ MAX_LINE = omega (arith, c.if-bytes-gt-MAX_LINE.false) in
-    let e = checked bytes short c.in-Some.ensures.some.1 ∙ ap (λ b. cond b (Ok Quiet) (read line_form (words bytes))) (sym c.is_quiet_line.ensures ∙ c.if-is_quiet_line.false)
+    let e = checked bytes short c.in-Some.ensures.some.1 ∙ ap (λ b. cond b (Ok Quiet) (read line_form (words bytes)))
+    (sym c.is_quiet_line.ensures ∙ c.if-is_quiet_line.false)
     ∙ ap (read line_form) (ap words (sym c.in-Some.ensures.some.0) ∙ c.cut.ensures.pieces)
     ∙ ap (λ left. read line_form (c.cut.result.0.now ∷ left)) (sym c.new-fields.ensures) in
     rw e c.command.ensures

@@ -6,7 +6,8 @@ use Rattle.session.proofs.reply.push_small_number.Goals as goal
 
 pub returns-then-number-ge100-clause-value : goal.returns-then-number-ge100-clause-value
 returns-then-number-ge100-clause-value c =
-    c.push_three_digits.ensures.value ∙ ap (λ ds. c.args.head.now.bytes ++ ds) (sym (decimal-three c.args.number (omega (arith, c.if-number-ge100.true)) c.requires.small))
+    c.push_three_digits.ensures.value ∙ ap (λ ds. c.args.head.now.bytes ++ ds)
+    (sym (decimal-three c.args.number (omega (arith, c.if-number-ge100.true)) c.requires.small))
 
 pub returns-then-small-lt10-clause-value : goal.returns-then-small-lt10-clause-value
 returns-then-small-lt10-clause-value c =

@@ -12,7 +12,8 @@ pub returns-in_err-negative-in-Some : goal.returns-in_err-negative-in-Some
 returns-in_err-negative-in-Some c =
     let at = rw c.in-Some.is at c.behind_minus.ensures.some in
     let found = c.in_ok-distance-in-Some in
-    rw (c.from_residual-in_err-negative-in-Some.ensures, at) (minus_found _ found.distance found.rest None found.ensures.distance c.in_err-negative-in-Some.ensures)
+    rw (c.from_residual-in_err-negative-in-Some.ensures, at)
+    (minus_found _ found.distance found.rest None found.ensures.distance c.in_err-negative-in-Some.ensures)
 
 pub returns-in_err-distance-in-None : goal.returns-in_err-distance-in-None
 returns-in_err-distance-in-None c =

@@ -12,13 +12,17 @@ returns-in_err-len-clause-number c =
 pub returns-then-not-has_numeral_prefix-clause-number : goal.returns-then-not-has_numeral_prefix-clause-number
 returns-then-not-has_numeral_prefix-clause-number c =
     let digits : AreLeadingDigits c.args.text.now c.in_ok-len.len c.in_ok-len.number = rw c.as_bytes-bytes.ensures.value at c.in_ok-len.ensures.some in
-    let prefix : is_numeral_prefix (take c.in_ok-len.len c.args.text.now) ≡ false = ap (λ bs. is_numeral_prefix (take c.in_ok-len.len bs)) (sym c.as_bytes-bytes.ensures.value) ∙ sym c.has_numeral_prefix.ensures ∙ c.if-not-has_numeral_prefix.true in
+    let prefix : is_numeral_prefix (take c.in_ok-len.len c.args.text.now) ≡ false =
+    ap (λ bs. is_numeral_prefix (take c.in_ok-len.len bs)) (sym c.as_bytes-bytes.ensures.value) ∙ sym c.has_numeral_prefix.ensures
+    ∙ c.if-not-has_numeral_prefix.true in
     first_no_prefix _ _ c.in_ok-len.len c.in_ok-len.number c.requires.other digits prefix
 
 pub returns-then-len-bytes-clause-number : goal.returns-then-len-bytes-clause-number
 returns-then-len-bytes-clause-number c =
     let digits : AreLeadingDigits c.args.text.now c.in_ok-len.len c.in_ok-len.number = rw c.as_bytes-bytes.ensures.value at c.in_ok-len.ensures.some in
-    let prefix : is_numeral_prefix (take c.in_ok-len.len c.args.text.now) ≡ true = ap (λ bs. is_numeral_prefix (take c.in_ok-len.len bs)) (sym c.as_bytes-bytes.ensures.value) ∙ sym c.has_numeral_prefix.ensures ∙ c.if-not-has_numeral_prefix.false in
+    let prefix : is_numeral_prefix (take c.in_ok-len.len c.args.text.now) ≡ true =
+    ap (λ bs. is_numeral_prefix (take c.in_ok-len.len bs)) (sym c.as_bytes-bytes.ensures.value) ∙ sym c.has_numeral_prefix.ensures
+    ∙ c.if-not-has_numeral_prefix.false in
     first_all _ _ c.in_ok-len.len c.in_ok-len.number c.requires.other digits prefix (omega (arith, c.if-len-bytes.true, c.as_bytes-bytes.ensures.len))
 
 pub returns-then-bytes-len-clause-number : goal.returns-then-bytes-len-clause-number
@@ -45,5 +49,6 @@ returns-clause-number c =
     let digits : AreLeadingDigits text n c.in_ok-len.number = rw c.as_bytes-bytes.ensures.value at c.in_ok-len.ensures.some in
     let inside : n < length text = omega (arith, c.if-len-bytes.false, c.as_bytes-bytes.ensures.len, digits.within) in
     let at : get_or text n 0 ≡ c.args.separator = rw c.as_bytes-bytes.ensures.value at c.if-bytes-len.false in
-    let prefix : is_numeral_prefix (take n text) ≡ true = ap (λ bs. is_numeral_prefix (take n bs)) (sym c.as_bytes-bytes.ensures.value) ∙ sym c.has_numeral_prefix.ensures ∙ c.if-not-has_numeral_prefix.false in
+    let prefix : is_numeral_prefix (take n text) ≡ true = ap (λ bs. is_numeral_prefix (take n bs)) (sym c.as_bytes-bytes.ensures.value)
+    ∙ sym c.has_numeral_prefix.ensures ∙ c.if-not-has_numeral_prefix.false in
     first_cut _ _ n c.in_ok-len.number c.range_from.result c.requires.other digits prefix inside at c.range_from.ensures.value

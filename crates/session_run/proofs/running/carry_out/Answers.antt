@@ -15,12 +15,14 @@ returns-in-Some-clause-sound g c =
 
 pub returns-in-Some-clause-step : goal.returns-in-Some-clause-step
 returns-in-Some-clause-step g c =
-    push_step c.args.line.now _ (workspace (machine_of g.C.Command.change c.plan.new.self) (g.S.MapStore.stored c.plan.new.store)) _ c.in-Push.edit (g.C.Command.change c.in-Some.command) c.commit.result
+    push_step c.args.line.now _ (workspace (machine_of g.C.Command.change c.plan.new.self) (g.S.MapStore.stored c.plan.new.store)) _ c.in-Push.edit
+    (g.C.Command.change c.in-Some.command) c.commit.result
     (c.in-Push.ensures.plans c.requires.sound) (c.requires.same c.in-Push.edit (Some c.in-Some.command) c.in-Some.ensures) c.commit.ensures.commits
 
 pub returns-in-None-clause-step : goal.returns-in-None-clause-step
 returns-in-None-clause-step g c =
-    unput_step c.args.line.now _ (workspace (machine_of g.C.Command.change c.plan.new.self) (g.S.MapStore.stored c.plan.new.store)) c.in-Push.edit (c.in-Push.ensures.plans c.requires.sound)
+    unput_step c.args.line.now _ (workspace (machine_of g.C.Command.change c.plan.new.self) (g.S.MapStore.stored c.plan.new.store)) c.in-Push.edit
+    (c.in-Push.ensures.plans c.requires.sound)
 
 pub returns-in-Some-clause-asks : goal.returns-in-Some-clause-asks
 returns-in-Some-clause-asks g c =

@@ -14,7 +14,8 @@ returns-in_default-clause-ok g c =
     known_all _ _ _ _ _ c.new-editor.ensures.machine _ _ _ _ _ _ _ _ _ (rw c.in_default.is at c.in-Ok.ensures.ok) c.group.ensures.group c.end_over-end.ensures
 
 pub returns-then-is_err-clause-write : goal.returns-then-is_err-clause-write
-returns-then-is_err-clause-write g c = λ e. known_unshown _ _ _ _ _ c.new-editor.ensures.machine _ _ _ _ _ _ _ _ (rw c.in-Some.is at c.in-Ok.ensures.ok) c.end_refused.ensures.bytes
+returns-then-is_err-clause-write g c = λ e. known_unshown _ _ _ _ _ c.new-editor.ensures.machine _ _ _ _ _ _ _ _
+    (rw c.in-Some.is at c.in-Ok.ensures.ok) c.end_refused.ensures.bytes
 
 pub returns-clause-ok : goal.returns-clause-ok
 returns-clause-ok g c =

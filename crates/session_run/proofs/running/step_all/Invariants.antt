@@ -10,8 +10,10 @@ abbrev pub invariant-session : goal.invariant-session
 invariant-session g l = record {
   sound : IsSound g.C.Command.change l.editor;
   ended : IsTrue l.lines.ended → IsAtEnd (g.R.Read.remaining l.reader);
-  goes : Goes l.fn.is_strict (workspace (machine_of g.C.Command.change l.fn.editor) (g.S.MapStore.stored l.fn.store)) (g.R.Read.remaining l.fn.reader) (input_left l.lines (g.R.Read.remaining l.reader))
-      (workspace (machine_of g.C.Command.change l.editor) (g.S.MapStore.stored l.store)) (g.W.Write.contents l.fn.writer) (g.W.Write.contents l.writer) l.summary.lines l.summary.replies;
+  goes : Goes l.fn.is_strict (workspace (machine_of g.C.Command.change l.fn.editor) (g.S.MapStore.stored l.fn.store)) (g.R.Read.remaining l.fn.reader)
+      (input_left l.lines (g.R.Read.remaining l.reader))
+      (workspace (machine_of g.C.Command.change l.editor) (g.S.MapStore.stored l.store)) (g.W.Write.contents l.fn.writer)
+      (g.W.Write.contents l.writer) l.summary.lines l.summary.replies;
   bounded : l.summary.lines + budget l.lines ≤ 2 ^ 48;
   few : l.summary.replies ≤ l.summary.lines;
 }

@@ -8,11 +8,13 @@ loop-name-init g c = none-IsReported _ _ _ (search rules)
 
 pub loop-name-preserved-in-Some-unsaved_in : goal.loop-name-preserved-in-Some-unsaved_in
 loop-name-preserved-in-Some-unsaved_in g c =
-    unsaved-IsReported _ _ _ _ c.in-Some.name.now (history g.C.Command.change c.in-Some-get.stack.now) _ _ _ _ c.loop-name.invariant (search rules) c.in-Some-get.ensures.named (search rules) c.unsaved.ensures
+    unsaved-IsReported _ _ _ _ c.in-Some.name.now (history g.C.Command.change c.in-Some-get.stack.now) _ _ _ _ c.loop-name.invariant
+    (search rules) c.in-Some-get.ensures.named (search rules) c.unsaved.ensures
 
 pub loop-name-preserved-in_default-unsaved_in : goal.loop-name-preserved-in_default-unsaved_in
 loop-name-preserved-in_default-unsaved_in g c =
-    clean-IsReported _ _ _ _ c.in-Some.name.now (Some (history g.C.Command.change c.in-Some-get.stack.now)) _ _ c.loop-name.invariant (search rules) c.in-Some-get.ensures.named (search rules)
+    clean-IsReported _ _ _ _ c.in-Some.name.now (Some (history g.C.Command.change c.in-Some-get.stack.now)) _ _ c.loop-name.invariant
+    (search rules) c.in-Some-get.ensures.named (search rules)
 
 pub loop-name-preserved : goal.loop-name-preserved
 loop-name-preserved g c =

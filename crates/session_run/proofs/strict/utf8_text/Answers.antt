@@ -11,5 +11,6 @@ returns-in-Ok c =
 
 pub returns-in-Err : goal.returns-in-Err
 returns-in-Err c =
-    let not_utf8 : is_utf8 c.args.line.now ≡ false = false_from_ne_true (is_utf8 c.args.line.now) (λ t. c.in-Err.ensures.cases.0 (IsUtf8-from_is_utf8 c.args.line.now t)) in
+    let not_utf8 : is_utf8 c.args.line.now ≡ false = false_from_ne_true (is_utf8 c.args.line.now)
+    (λ t. c.in-Err.ensures.cases.0 (IsUtf8-from_is_utf8 c.args.line.now t)) in
     rw not_utf8 refl

@@ -10,4 +10,5 @@ returns-in_err-write_whole-2-clause-err g c =
 
 pub returns-in_err-write_whole-3-clause-err : goal.returns-in_err-write_whole-3-clause-err
 returns-in_err-write_whole-3-clause-err g c =
-    on_err _ (beginning_of_second _ _ _ _ _ (appends_more _ _ _ _ _ c.in_ok-write_whole.ensures.ok c.in_ok-write_whole-2.ensures.ok) c.in_err-write_whole-3.ensures.err)
+    on_err _ (beginning_of_second _ _ _ _ _ (appends_more _ _ _ _ _ c.in_ok-write_whole.ensures.ok c.in_ok-write_whole-2.ensures.ok)
+    c.in_err-write_whole-3.ensures.err)

@@ -27,7 +27,8 @@ returns-in-Ok-clause-folder g c =
     let words : List Text = map g.S.AsStr.text c.args.words.now in
     let rows = (c.in-Ok.ensures.matches (ap is_simple made ∙ command_is_simple)).0 ∙ ap (λ (a : App). matches_of a words) made in
     ap (λ (s : Bor Text). s.now) c.unwrap_or.ensures ∙ unwrapped_text c.get_str.result _
-    ∙ ap (λ (o : Option Text). unwrap_or o (codes ".")) (c.get_str.ensures ∙ first_value-rows (found_of c.in-Ok.matches) (codes "folder") ∙ ap (first_of (codes "folder")) rows)
+    ∙ ap (λ (o : Option Text). unwrap_or o (codes ".")) (c.get_str.ensures ∙ first_value-rows (found_of c.in-Ok.matches) (codes "folder") ∙ ap
+    (first_of (codes "folder")) rows)
 
 pub returns-in-Ok-clause-limit : goal.returns-in-Ok-clause-limit
 returns-in-Ok-clause-limit g c =
@@ -45,7 +46,8 @@ returns-in-Ok-clause-strict g c =
     let read : one_text (found_of c.in-Ok.matches) (codes "strict") ≡ one_of (codes "strict") (matches_of command words) =
     one_text-rows (found_of c.in-Ok.matches) (codes "strict") ∙ ap (one_of (codes "strict")) rows in
     subst (λ (o : Option Text). IsFlag o c.get_flag.result) read
-    (read_IsFlag (one_text (found_of c.in-Ok.matches) (codes "strict")) c.get_flag.result c.get_flag.ensures.none c.get_flag.ensures.value c.get_flag.ensures.other)
+    (read_IsFlag (one_text (found_of c.in-Ok.matches) (codes "strict")) c.get_flag.result c.get_flag.ensures.none c.get_flag.ensures.value
+    c.get_flag.ensures.other)
 
 pub returns-in-Ok-clause-all_maps : goal.returns-in-Ok-clause-all_maps
 returns-in-Ok-clause-all_maps g c =

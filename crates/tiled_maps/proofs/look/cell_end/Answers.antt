@@ -5,7 +5,8 @@ use Rattle.tiled_maps.proofs.look.cell_end.Goals.{else-text-at-eq48-via-then-tex
 
 pub returns-then-text-at-eq44-clause-plain : goal.returns-then-text-at-eq44-clause-plain
 returns-then-text-at-eq44-clause-plain c _ rest =
-    short_cell_plain c.args.text.now c.args.at c.requires.last c.requires.within (sym c.is_ascii_digit.ensures.value ∙ c.if-is_ascii_digit.true) c.if-text-at-eq44.true rest
+    short_cell_plain c.args.text.now c.args.at c.requires.last c.requires.within
+    (sym c.is_ascii_digit.ensures.value ∙ c.if-is_ascii_digit.true) c.if-text-at-eq44.true rest
 
 pub returns-clause-plain : goal.returns-clause-plain
 returns-clause-plain c some rest =
@@ -17,4 +18,5 @@ returns-clause-plain c some rest =
       | else-text-at-eq48-via-then-text-at-eq48+else-len-gt1 w ↦ w.if-len-gt1.false
       | else-text-at-eq48-via-else-text-at-eq48 w ↦ absurd (w.if-text-at-eq48.false e)
     ] in
-    cell_plain text c.args.at end c.requires.within c.digits_end-end.ensures.bound c.digits_end-end.ensures.value some c.if-len-gt-MAX_DIGITS.false zeros comma rest
+    cell_plain text c.args.at end c.requires.within c.digits_end-end.ensures.bound c.digits_end-end.ensures.value some c.if-len-gt-MAX_DIGITS.false zeros comma
+    rest

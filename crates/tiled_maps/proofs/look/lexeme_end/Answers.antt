@@ -6,7 +6,8 @@ pub returns-in-48 : goal.returns-in-48
 returns-in-48 c =
     let text = c.args.text.now in
     let at = c.args.at in
-    ends_leads text at (at + 1) c.after_word.result (omega arith) (λ ended rest. zero_plain text at c.requires.within c.in-48.is ended rest) c.after_word.ensures
+    ends_leads text at (at + 1) c.after_word.result (omega arith)
+    (λ ended rest. zero_plain text at c.requires.within c.in-48.is ended rest) c.after_word.ensures
 
 pub returns-then-is_delimiter : goal.returns-then-is_delimiter
 returns-then-is_delimiter c =

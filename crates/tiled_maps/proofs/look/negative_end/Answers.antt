@@ -11,5 +11,6 @@ returns c =
     let high = c.if-text-from-gt57.false in
     ends_leads text at end c.after_word.result (omega (arith, digits_begin text (at + 1) low high, c.digits_end-end.ensures.value))
     (λ ended rest.
-    negative_plain text (at + 1) end c.digits_end-end.ensures.value c.if-end-from-gt-MAX_DIGITS.false low high ended rest at refl c.requires.within c.requires.minus)
+    negative_plain text (at + 1) end c.digits_end-end.ensures.value c.if-end-from-gt-MAX_DIGITS.false low high ended rest at refl c.requires.within
+    c.requires.minus)
     c.after_word.ensures

@@ -14,7 +14,8 @@ returns-then-rest-len-ne34 c =
     let first = c.in_ok-len.ensures in
     let backslash = backslash_at text (at + 1) len (at + 1 + len) xs is refl first.1 c.if-rest-len-ne34.true in
     let within : len ≤ length xs = omega (arith, first.0.high) in
-    escaped_leads text at len xs is c.requires.within c.requires.quote within (none_before xs len first.0.before) (at + 1 + len) refl backslash c.escaped_end.result c.escaped_end.ensures
+    escaped_leads text at len xs is c.requires.within c.requires.quote within (none_before xs len first.0.before)
+    (at + 1 + len) refl backslash c.escaped_end.result c.escaped_end.ensures
 
 pub returns-then-is_plain_name : goal.returns-then-is_plain_name
 returns-then-is_plain_name c =
@@ -29,5 +30,6 @@ returns-then-is_plain_name c =
     = subst (λ t. IsPlainText (take len xs) (lex between t)) (rest_is text end) (c.is_plain_name.ensures c.if-is_plain_name.true) in (
       omega arith,
       omega (arith, first.0.high, ap length is),
-      λ rest. text_plain text at len xs is c.requires.within c.requires.quote first.0.high (none_before xs len first.0.before) c.if-rest-len-ne34.false end refl plain rest,
+      λ rest. text_plain text at len xs is c.requires.within c.requires.quote first.0.high
+          (none_before xs len first.0.before) c.if-rest-len-ne34.false end refl plain rest,
     )

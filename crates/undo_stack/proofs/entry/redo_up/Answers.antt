@@ -7,7 +7,13 @@ use Rattle.undo_stack.proofs.Turns.{fits_next, moved_on, moved_none, moved_more}
 use Rattle.undo_stack.proofs.entry.redo_up.Goals as goal
 
 pub loop-at-init : goal.loop-at-init
-loop-at-init g c = record { moved = moved_none _ _ _ _ c.requires.down c.requires.up; below = c.requires.order; within = c.requires.within; depth = refl; nests = refl }
+loop-at-init g c = record {
+  moved = moved_none _ _ _ _ c.requires.down c.requires.up;
+  below = c.requires.order;
+  within = c.requires.within;
+  depth = refl;
+  nests = refl;
+}
 
 pub redo-requires : goal.redo-requires
 redo-requires g c =

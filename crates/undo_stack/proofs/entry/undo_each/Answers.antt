@@ -6,7 +6,13 @@ use Rattle.undo_stack.proofs.Turns.{fits_below, moved_below, moved_none, moved_m
 use Rattle.undo_stack.proofs.entry.undo_each.Goals as goal
 
 pub loop-at-init : goal.loop-at-init
-loop-at-init g c = record { moved = moved_none _ _ _ _ c.requires.down c.requires.up; above = c.requires.order; within = c.requires.within; depth = refl; nests = refl }
+loop-at-init g c = record {
+  moved = moved_none _ _ _ _ c.requires.down c.requires.up;
+  above = c.requires.order;
+  within = c.requires.within;
+  depth = refl;
+  nests = refl;
+}
 
 pub undo-requires : goal.undo-requires
 undo-requires g c =

@@ -24,13 +24,15 @@ returns-in-Ok-clause-sound g c = λ sound.
     let old = group_of f c.args.self.now.group in
     let name = c.as_str.result.now in
     let h = history f c.new-stack.result in
-    group-IsSound f _ (chosen (Some name) (added name h old)) (record { limit = c.requires.held.limit; group = c.add_active.ensures.sound }) c.in-Ok.ensures.added
+    group-IsSound f _ (chosen (Some name) (added name h old))
+    (record { limit = c.requires.held.limit; group = c.add_active.ensures.sound }) c.in-Ok.ensures.added
     (added-AreSteady name h old.documents (subst (λ (k : History). IsSteady k) (sym c.new-stack.ensures.history) tt) sound.steady)
 
 pub returns-in-Err-clause-sound : goal.returns-in-Err-clause-sound
 returns-in-Err-clause-sound g c = λ sound.
     let f = g.C.Command.change in
-    group-IsSound f _ (group_of f c.args.self.now.group) (record { limit = c.requires.held.limit; group = c.add_active.ensures.sound }) c.in-Err.ensures.unchanged sound.steady
+    group-IsSound f _ (group_of f c.args.self.now.group) (record { limit = c.requires.held.limit; group = c.add_active.ensures.sound })
+    c.in-Err.ensures.unchanged sound.steady
 
 pub returns-in-Ok-clause-kinds : goal.returns-in-Ok-clause-kinds
 returns-in-Ok-clause-kinds g c =

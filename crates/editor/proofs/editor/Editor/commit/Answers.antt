@@ -14,7 +14,8 @@ use Rattle.editor.proofs.Committing.{Commits-pushed, Commits-refused}
 use Rattle.editor.proofs.editor.Editor.commit.Goals as goal
 
 pub returns-in-Ok-clause-held : goal.returns-in-Ok-clause-held
-returns-in-Ok-clause-held g c = left-IsHeld g.C.Command.change c.args.self.now _ c.push.new.self refl (c.active_mut.follows.holds c.push.new.self c.push.ensures.sound) c.requires.held
+returns-in-Ok-clause-held g c = left-IsHeld g.C.Command.change c.args.self.now _ c.push.new.self refl
+    (c.active_mut.follows.holds c.push.new.self c.push.ensures.sound) c.requires.held
 
 pub returns-in-Ok-clause-sound : goal.returns-in-Ok-clause-sound
 returns-in-Ok-clause-sound g c = λ sound bound.
@@ -27,11 +28,14 @@ returns-in-Ok-clause-sound g c = λ sound bound.
 pub returns-in-Ok-clause-commits : goal.returns-in-Ok-clause-commits
 returns-in-Ok-clause-commits g c =
     let change = g.C.Command.change in
-    Commits-pushed (change c.args.command) (history change c.in-Some.stack.now) (history change c.push.new.self) (machine_of change c.args.self.now) _ c.state_of.result (sym c.in-Some.ensures.active)
-    c.in-Ok.ensures.pushed c.state_of.ensures (left-machine change c.args.self.now _ c.push.new.self refl (c.active_mut.follows.holds c.push.new.self c.push.ensures.sound))
+    Commits-pushed (change c.args.command) (history change c.in-Some.stack.now) (history change c.push.new.self)
+    (machine_of change c.args.self.now) _ c.state_of.result (sym c.in-Some.ensures.active)
+    c.in-Ok.ensures.pushed c.state_of.ensures (left-machine change c.args.self.now _ c.push.new.self refl
+    (c.active_mut.follows.holds c.push.new.self c.push.ensures.sound))
 
 pub returns-in-Err-clause-held : goal.returns-in-Err-clause-held
-returns-in-Err-clause-held g c = left-IsHeld g.C.Command.change c.args.self.now _ c.push.new.self refl (c.active_mut.follows.holds c.push.new.self c.push.ensures.sound) c.requires.held
+returns-in-Err-clause-held g c = left-IsHeld g.C.Command.change c.args.self.now _ c.push.new.self refl
+    (c.active_mut.follows.holds c.push.new.self c.push.ensures.sound) c.requires.held
 
 pub returns-in-Err-clause-sound : goal.returns-in-Err-clause-sound
 returns-in-Err-clause-sound g c = λ sound bound.
@@ -46,7 +50,8 @@ returns-in-Err-clause-commits g c =
     let change = g.C.Command.change in
     let left = left-machine change c.args.self.now _ c.push.new.self refl (c.active_mut.follows.holds c.push.new.self c.push.ensures.sound) in
     Commits-refused (change c.args.command) (history change c.in-Some.stack.now) (machine_of change c.args.self.now) _ (sym c.in-Some.ensures.active)
-    (left ∙ with_active-unchanged (history change c.in-Some.stack.now) (history change c.push.new.self) (machine_of change c.args.self.now) c.in-Some.ensures.whole (sym c.in-Some.ensures.active) c.in-Err.ensures.unchanged)
+    (left ∙ with_active-unchanged (history change c.in-Some.stack.now) (history change c.push.new.self)
+    (machine_of change c.args.self.now) c.in-Some.ensures.whole (sym c.in-Some.ensures.active) c.in-Err.ensures.unchanged)
 
 pub returns-in-Ok-clause-reported : goal.returns-in-Ok-clause-reported
 returns-in-Ok-clause-reported g c =
@@ -54,7 +59,8 @@ returns-in-Ok-clause-reported g c =
     let s = c.in-Some.stack.now in
     let t = c.push.new.self in
     let follows = c.active_mut.follows.holds t c.push.ensures.sound in
-    let put = put_active change c.args.self.now _ s t refl follows c.in-Some.ensures.held c.in-Some.ensures.active c.in-Some.ensures.stack c.push.ensures.sound in
+    let put = put_active change c.args.self.now _ s t refl follows c.in-Some.ensures.held c.in-Some.ensures.active c.in-Some.ensures.stack c.push.ensures.sound
+    in
     rw c.state_of.ensures (s, t, record { put = put; reported = c.in-Ok.ensures.reported })
 
 pub returns-in-Err-clause-reported : goal.returns-in-Err-clause-reported
@@ -63,7 +69,8 @@ returns-in-Err-clause-reported g c =
     let s = c.in-Some.stack.now in
     let t = c.push.new.self in
     let follows = c.active_mut.follows.holds t c.push.ensures.sound in
-    let put = put_active change c.args.self.now _ s t refl follows c.in-Some.ensures.held c.in-Some.ensures.active c.in-Some.ensures.stack c.push.ensures.sound in
+    let put = put_active change c.args.self.now _ s t refl follows c.in-Some.ensures.held c.in-Some.ensures.active c.in-Some.ensures.stack c.push.ensures.sound
+    in
     (s, t, record { put = put; kept = c.in-Err.ensures.kept })
 
 pub returns-in-Ok-clause-kinds : goal.returns-in-Ok-clause-kinds

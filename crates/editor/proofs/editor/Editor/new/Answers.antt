@@ -6,7 +6,8 @@ use Rattle.editor.proofs.Steady.{none-AreSteady}
 use Rattle.editor.proofs.editor.Editor.new.Goals as goal
 
 pub returns-clause-sound : goal.returns-clause-sound
-returns-clause-sound g c = group-IsSound g.C.Command.change _ empty_group (record { limit = c.requires; group = c.new.ensures.sound }) c.new.ensures.group none-AreSteady
+returns-clause-sound g c = group-IsSound g.C.Command.change _ empty_group
+    (record { limit = c.requires; group = c.new.ensures.sound }) c.new.ensures.group none-AreSteady
 
 pub returns-clause-kinds : goal.returns-clause-kinds
 returns-clause-kinds g c = ap (map kinds_of) c.new.ensures.stacks

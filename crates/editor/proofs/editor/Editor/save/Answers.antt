@@ -30,7 +30,8 @@ returns-in-Some-clause-step g c =
     let stack = c.save_document.new.stack in
     let old = machine_of change c.args.self.now in
     saves _ (history change c.in-Some.stack.now) (history change stack) c.save_document.result old _ _ _ c.in-Some.ensures.whole (sym c.in-Some.ensures.active)
-    c.save_document.ensures.saves c.save_document.ensures.unchanged (left-machine change c.args.self.now _ stack refl (c.active_mut.follows.holds stack c.save_document.ensures.sound))
+    c.save_document.ensures.saves c.save_document.ensures.unchanged
+    (left-machine change c.args.self.now _ stack refl (c.active_mut.follows.holds stack c.save_document.ensures.sound))
 
 pub returns-in-Some-clause-unchanged : goal.returns-in-Some-clause-unchanged
 returns-in-Some-clause-unchanged g c =
@@ -39,7 +40,8 @@ returns-in-Some-clause-unchanged g c =
     let old = machine_of change c.args.self.now in
     let P : Machine → Type 0 = λ m. KeepsReply c.save_document.result old m in
     subst P (sym (left-machine change c.args.self.now _ stack refl (c.active_mut.follows.holds stack c.save_document.ensures.sound)))
-    (on-KeepsReply (history change c.in-Some.stack.now) (history change stack) old c.in-Some.ensures.whole (sym c.in-Some.ensures.active) c.save_document.result c.save_document.ensures.unchanged)
+    (on-KeepsReply (history change c.in-Some.stack.now) (history change stack) old c.in-Some.ensures.whole
+    (sym c.in-Some.ensures.active) c.save_document.result c.save_document.ensures.unchanged)
 
 pub returns-in-Some-clause-kinds : goal.returns-in-Some-clause-kinds
 returns-in-Some-clause-kinds g c =

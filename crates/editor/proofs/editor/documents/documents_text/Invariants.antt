@@ -8,4 +8,5 @@ use Rattle.editor.proofs.editor.documents.documents_text.Given as goal
 
 abbrev pub invariant-loop-name : goal.invariant-loop-name
 invariant-loop-name g l =
-    IsListed (option_copied l.active) (map (λ (d : OpenDocument). d.name) (group_of g.C.Command.change l.group).documents) (string_bytes l.text) l.is_first l.name-iterator
+    IsListed (option_copied l.active) (map (λ (d : OpenDocument). d.name) (group_of g.C.Command.change l.group).documents)
+    (string_bytes l.text) l.is_first l.name-iterator

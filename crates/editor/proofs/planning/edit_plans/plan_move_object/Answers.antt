@@ -13,4 +13,5 @@ returns c =
     let y : SFits w32 c.args.y = search rules in
     let command = rw (to_z-of_z w32 c.args.x x, to_z-of_z w32 c.args.y y) at c.moved.ensures.command in
     let refusal = rw (to_z-of_z w32 c.args.x x, to_z-of_z w32 c.args.y y) at c.moved.ensures.refusal in
-    rw c.planned.ensures (exact-PlansEdit PlaceObject (move_object_names c.args.object c.args.follows) c.args.document.now _ c.moved.result c.map.result command refusal c.map.ensures.cases)
+    rw c.planned.ensures (exact-PlansEdit PlaceObject (move_object_names c.args.object c.args.follows) c.args.document.now _ c.moved.result c.map.result command
+    refusal c.map.ensures.cases)

@@ -7,4 +7,5 @@ pub returns : goal.returns
 returns c =
     let command = rw c.as_str.ensures at c.new.ensures.command in
     let refusal = rw c.as_str.ensures at c.new.ensures.refusal in
-    rw c.planned.ensures (exact-PlansEdit RemoveProperty remove_property_names c.args.document.now _ c.new.result c.map.result command refusal c.map.ensures.cases)
+    rw c.planned.ensures (exact-PlansEdit RemoveProperty remove_property_names c.args.document.now _ c.new.result c.map.result command refusal
+    c.map.ensures.cases)

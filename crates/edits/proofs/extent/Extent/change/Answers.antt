@@ -10,4 +10,5 @@ of_list-requires g c =
     let r = c.args.self.now in
     let P : List CellEdit → Type 0 = AreInRowOrder in
     subst P (sym c.in-Ok.ensures)
-    (difference-AreInRowOrder r.width r.tiles.now (covered r.width (where_selected r.selection.now (g.C.Cover.over c.args.cover.now)) r.tiles.now) (length r.tiles.now) (omega (arith, c.requires.layer.wide)))
+    (difference-AreInRowOrder r.width r.tiles.now (covered r.width (where_selected r.selection.now (g.C.Cover.over c.args.cover.now)) r.tiles.now)
+    (length r.tiles.now) (omega (arith, c.requires.layer.wide)))

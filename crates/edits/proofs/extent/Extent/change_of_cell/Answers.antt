@@ -22,6 +22,7 @@ returns g c =
     let over = g.C.Cover.over c.args.cover.now in
     let row : r.rows.first < h.layer.height = omega (arith, h.rows_within, c.requires.row) in
     let column : r.columns.first < r.width = omega (arith, h.columns_within, c.requires.column) in
-    changes-next over r h r.columns.first r.rows.first _ c.index-self-number.result c.value.result (cells_in c.new-cells.result) (cells_in c.push_change.new.cells) column row
+    changes-next over r h r.columns.first r.rows.first _ c.index-self-number.result c.value.result (cells_in c.new-cells.result)
+    (cells_in c.push_change.new.cells) column row
     (sym c.if-not-lets_change.ensures) refl c.value.ensures (c.new-cells.ensures ∙ changes-before_one over r h row) c.in_ok-push_change.ensures
     ∙ changes-of_one over r h c.requires.column c.requires.row

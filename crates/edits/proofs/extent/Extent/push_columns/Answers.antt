@@ -14,7 +14,8 @@ loop-x-preserved g c =
     let h = c.requires.extent in
     let column : x < r.width = omega (arith, h.columns_within, c.requires.columns.1) in
     let row : c.args.y < h.layer.height = omega (arith, h.rows_within, c.requires.row.1) in
-    changes-next (g.C.Cover.over c.args.cover.now) r h x c.args.y _ c.index-self-number.result c.value.result (cells_in c.loop-x.cells) (cells_in c.push_change.new.cells) column row
+    changes-next (g.C.Cover.over c.args.cover.now) r h x c.args.y _ c.index-self-number.result c.value.result (cells_in c.loop-x.cells)
+    (cells_in c.push_change.new.cells) column row
     (c.requires.selected x (omega arith) (omega arith)) refl c.value.ensures c.loop-x.invariant c.in_ok-push_change.ensures
 
 pub returns : goal.returns

@@ -14,7 +14,8 @@ push_columns-requires-clause-so_far g c =
     let h = c.requires.extent in
     let next = c.in-Some.ensures.some in
     c.loop-columns.invariant.1
-    ∙ sym (changes-unselected (g.C.Cover.over c.args.cover.now) r h c.args.y c.loop-columns.from c.in-Some.columns.first (omega (arith, h.rows_within, c.requires.row.1)) next.start
+    ∙ sym (changes-unselected (g.C.Cover.over c.args.cover.now) r h c.args.y c.loop-columns.from c.in-Some.columns.first
+    (omega (arith, h.rows_within, c.requires.row.1)) next.start
     (omega (arith, next.some, next.fits, h.columns_within)) next.before)
 
 pub returns : goal.returns

@@ -6,4 +6,9 @@ pub returns-clause-row : goal.returns-clause-row
 returns-clause-row c = omega (arith, div-add-mod' c.args.number c.args.ground.now.width)
 
 pub returns-clause-to : goal.returns-clause-to
-returns-clause-to c = omega (arith, div-add-mod' c.args.number c.args.ground.now.width, mod_below c.args.number c.args.ground.now.width (omega (arith, c.requires.ground.column)))
+returns-clause-to c = omega (
+  arith,
+  div-add-mod' c.args.number c.args.ground.now.width,
+  mod_below c.args.number c.args.ground.now.width
+      (omega (arith, c.requires.ground.column)),
+)

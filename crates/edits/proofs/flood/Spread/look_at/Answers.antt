@@ -10,23 +10,50 @@ use Rattle.edits.proofs.flood.Spread.look_at.Goals as goal
 pub returns-then-unseen-ne0-clause-sound : goal.returns-then-unseen-ne0-clause-sound
 returns-then-unseen-ne0-clause-sound c =
     let s = c.args.self.now in
-    let t : Spread = record { «open» = c.set_word.new.self; taken = c.set_word-then-unseen-ne0.new.self; count = s.count; first = s.first; end = s.end; pending = s.pending } in
-    IsSound-seen c.args.ground.now s t c.args.word c.word-open.result c.word-taken.result c.equal_bits-equal.result (omega arith) c.word-open.ensures c.word-taken.ensures c.equal_bits-equal.ensures
-    c.set_word.ensures.marks c.set_word-then-unseen-ne0.ensures.marks c.set_word.ensures.room c.set_word-then-unseen-ne0.ensures.room refl refl refl c.requires.sound
+    let t : Spread = record {
+      «open» = c.set_word.new.self;
+      taken = c.set_word-then-unseen-ne0.new.self;
+      count = s.count;
+      first = s.first;
+      end = s.end;
+      pending = s.pending;
+    } in
+    IsSound-seen c.args.ground.now s t c.args.word c.word-open.result c.word-taken.result c.equal_bits-equal.result
+    (omega arith) c.word-open.ensures c.word-taken.ensures c.equal_bits-equal.ensures
+    c.set_word.ensures.marks c.set_word-then-unseen-ne0.ensures.marks c.set_word.ensures.room c.set_word-then-unseen-ne0.ensures.room refl refl refl
+    c.requires.sound
 
 pub returns-then-unseen-ne0-clause-spreads : goal.returns-then-unseen-ne0-clause-spreads
 returns-then-unseen-ne0-clause-spreads c =
     let s = c.args.self.now in
-    let t : Spread = record { «open» = c.set_word.new.self; taken = c.set_word-then-unseen-ne0.new.self; count = s.count; first = s.first; end = s.end; pending = s.pending } in
-    Spreads-seen c.args.ground.now s t c.args.word c.word-open.result c.word-taken.result c.equal_bits-equal.result (omega arith) c.word-open.ensures c.word-taken.ensures c.equal_bits-equal.ensures
-    c.set_word.ensures.marks c.set_word-then-unseen-ne0.ensures.marks c.set_word.ensures.room c.set_word-then-unseen-ne0.ensures.room refl refl refl c.requires.sound
+    let t : Spread = record {
+      «open» = c.set_word.new.self;
+      taken = c.set_word-then-unseen-ne0.new.self;
+      count = s.count;
+      first = s.first;
+      end = s.end;
+      pending = s.pending;
+    } in
+    Spreads-seen c.args.ground.now s t c.args.word c.word-open.result c.word-taken.result c.equal_bits-equal.result
+    (omega arith) c.word-open.ensures c.word-taken.ensures c.equal_bits-equal.ensures
+    c.set_word.ensures.marks c.set_word-then-unseen-ne0.ensures.marks c.set_word.ensures.room c.set_word-then-unseen-ne0.ensures.room refl refl refl
+    c.requires.sound
 
 pub returns-then-unseen-ne0-clause-seen : goal.returns-then-unseen-ne0-clause-seen
 returns-then-unseen-ne0-clause-seen c =
     let s = c.args.self.now in
-    let t : Spread = record { «open» = c.set_word.new.self; taken = c.set_word-then-unseen-ne0.new.self; count = s.count; first = s.first; end = s.end; pending = s.pending } in
-    seen-not_both c.args.ground.now s t c.args.word c.word-open.result c.word-taken.result c.equal_bits-equal.result (omega arith) c.word-open.ensures c.word-taken.ensures c.equal_bits-equal.ensures
-    c.set_word.ensures.marks c.set_word-then-unseen-ne0.ensures.marks c.set_word.ensures.room c.set_word-then-unseen-ne0.ensures.room refl refl refl c.requires.sound
+    let t : Spread = record {
+      «open» = c.set_word.new.self;
+      taken = c.set_word-then-unseen-ne0.new.self;
+      count = s.count;
+      first = s.first;
+      end = s.end;
+      pending = s.pending;
+    } in
+    seen-not_both c.args.ground.now s t c.args.word c.word-open.result c.word-taken.result c.equal_bits-equal.result
+    (omega arith) c.word-open.ensures c.word-taken.ensures c.equal_bits-equal.ensures
+    c.set_word.ensures.marks c.set_word-then-unseen-ne0.ensures.marks c.set_word.ensures.room c.set_word-then-unseen-ne0.ensures.room refl refl refl
+    c.requires.sound
 
 pub returns-else-unseen-ne0-clause-seen : goal.returns-else-unseen-ne0-clause-seen
 returns-else-unseen-ne0-clause-seen c i l =

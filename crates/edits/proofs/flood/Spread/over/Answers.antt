@@ -6,12 +6,15 @@ use Rattle.edits.proofs.flood.Spread.over.Goals as goal
 
 pub take_start-requires-clause-sound : goal.take_start-requires-clause-sound
 take_start-requires-clause-sound c =
-    let s : Spread = record { «open» = c.in_ok-open.open; taken = c.in_ok-copied.field-0; count = 0; first = c.words.result; end = 0; pending = c.new.result } in
-    IsSound-first c.args.ground.now s c.requires c.in_ok-open.ensures.room c.in_ok-copied.ensures c.in_ok-open.ensures.cells c.new.ensures.items c.words.ensures refl
+    let s : Spread = record { «open» = c.in_ok-open.open; taken = c.in_ok-copied.field-0; count = 0; first = c.words.result; end = 0; pending = c.new.result }
+    in
+    IsSound-first c.args.ground.now s c.requires c.in_ok-open.ensures.room c.in_ok-copied.ensures c.in_ok-open.ensures.cells c.new.ensures.items c.words.ensures
+    refl
 
 pub take_start-requires-clause-none : goal.take_start-requires-clause-none
 take_start-requires-clause-none c =
-    let s : Spread = record { «open» = c.in_ok-open.open; taken = c.in_ok-copied.field-0; count = 0; first = c.words.result; end = 0; pending = c.new.result } in
+    let s : Spread = record { «open» = c.in_ok-open.open; taken = c.in_ok-copied.field-0; count = 0; first = c.words.result; end = 0; pending = c.new.result }
+    in
     taken-first s c.in_ok-copied.ensures
 
 pub returns-clause-cells : goal.returns-clause-cells

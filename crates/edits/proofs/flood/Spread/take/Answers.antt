@@ -13,8 +13,11 @@ joined_bits-bits-requires-clause-seeds c i l e =
     let bits = c.word-open.result in
     let both = bit_at_and c.args.seeds bits i in
     let on : bit_at bits i ≡ 1 = omega (arith, e, both, bit_at-lt bits i, bit_at-lt c.args.seeds i) in
-    let seed : bit_at c.args.seeds i ≡ 1 = omega (arith, e, both, bit_at-lt bits i, bit_at-lt c.args.seeds i) in
-    (on, c.requires.led i l seed (free-opened c.args.ground.now s p (c.look_at.ensures.sound.numbers p) (c.look_at.ensures.seen i l) (sym (c.word-open.ensures i l) ∙ eq-eqb (bit_at bits i) 1 on)))
+    let seed : bit_at c.args.seeds i ≡ 1 = omega (arith, e, both, bit_at-lt bits i, bit_at-lt c.args.seeds i) in (
+      on,
+      c.requires.led i l seed (free-opened c.args.ground.now s p (c.look_at.ensures.sound.numbers p) (c.look_at.ensures.seen i l)
+          (sym (c.word-open.ensures i l) ∙ eq-eqb (bit_at bits i) 1 on)),
+    )
 
 pub returns-then-bits-eq0-clause-covers : goal.returns-then-bits-eq0-clause-covers
 returns-then-bits-eq0-clause-covers c =
@@ -26,20 +29,29 @@ returns-then-bits-eq0-clause-covers c =
 
 pub returns-clause-sound : goal.returns-clause-sound
 returns-clause-sound c =
-    IsSound-taken c.args.ground.now c.look_at.new.self _ c.args.word c.word-open.result c.word-taken.result c.joined_bits-bits.result (omega arith) (omega (arith, c.requires.ground.column)) c.if-bits-eq0.false
-    c.word-open.ensures c.word-taken.ensures c.look_at.ensures.seen c.joined_bits-bits.ensures.led c.joined_bits-bits.ensures.closed c.set_word.ensures.marks c.set_word-2.ensures.marks
-    c.set_word.ensures.room c.set_word-2.ensures.room c.in_ok-push.ensures.items c.min-self.ensures c.max-self.ensures (omega (arith, c.requires.within, c.look_at.ensures.room)) c.look_at.ensures.sound
+    IsSound-taken c.args.ground.now c.look_at.new.self _ c.args.word c.word-open.result c.word-taken.result c.joined_bits-bits.result (omega arith)
+    (omega (arith, c.requires.ground.column)) c.if-bits-eq0.false
+    c.word-open.ensures c.word-taken.ensures c.look_at.ensures.seen c.joined_bits-bits.ensures.led c.joined_bits-bits.ensures.closed c.set_word.ensures.marks
+    c.set_word-2.ensures.marks
+    c.set_word.ensures.room c.set_word-2.ensures.room c.in_ok-push.ensures.items c.min-self.ensures c.max-self.ensures
+    (omega (arith, c.requires.within, c.look_at.ensures.room)) c.look_at.ensures.sound
 
 pub returns-clause-spreads : goal.returns-clause-spreads
 returns-clause-spreads c =
     Spreads-then c.args.ground.now c.args.self.now c.look_at.new.self _ c.look_at.ensures.spreads
-    (Spreads-taken c.args.ground.now c.look_at.new.self _ c.args.word c.word-open.result c.word-taken.result c.joined_bits-bits.result (omega arith) (omega (arith, c.requires.ground.column)) c.if-bits-eq0.false
-    c.word-open.ensures c.word-taken.ensures c.look_at.ensures.seen c.joined_bits-bits.ensures.led c.joined_bits-bits.ensures.closed c.set_word.ensures.marks c.set_word-2.ensures.marks
-    c.set_word.ensures.room c.set_word-2.ensures.room c.in_ok-push.ensures.items c.min-self.ensures c.max-self.ensures (omega (arith, c.requires.within, c.look_at.ensures.room)) c.look_at.ensures.sound)
+    (Spreads-taken c.args.ground.now c.look_at.new.self _ c.args.word c.word-open.result c.word-taken.result c.joined_bits-bits.result (omega arith)
+    (omega (arith, c.requires.ground.column)) c.if-bits-eq0.false
+    c.word-open.ensures c.word-taken.ensures c.look_at.ensures.seen c.joined_bits-bits.ensures.led c.joined_bits-bits.ensures.closed c.set_word.ensures.marks
+    c.set_word-2.ensures.marks
+    c.set_word.ensures.room c.set_word-2.ensures.room c.in_ok-push.ensures.items c.min-self.ensures c.max-self.ensures
+    (omega (arith, c.requires.within, c.look_at.ensures.room)) c.look_at.ensures.sound)
 
 pub returns-clause-covers : goal.returns-clause-covers
 returns-clause-covers c =
-    taken-covers c.args.ground.now c.look_at.new.self _ c.args.word c.word-open.result c.word-taken.result c.joined_bits-bits.result (omega arith) (omega (arith, c.requires.ground.column)) c.if-bits-eq0.false
-    c.word-open.ensures c.word-taken.ensures c.look_at.ensures.seen c.joined_bits-bits.ensures.led c.joined_bits-bits.ensures.closed c.set_word.ensures.marks c.set_word-2.ensures.marks
-    c.set_word.ensures.room c.set_word-2.ensures.room c.in_ok-push.ensures.items c.min-self.ensures c.max-self.ensures (omega (arith, c.requires.within, c.look_at.ensures.room)) c.look_at.ensures.sound
+    taken-covers c.args.ground.now c.look_at.new.self _ c.args.word c.word-open.result c.word-taken.result c.joined_bits-bits.result (omega arith)
+    (omega (arith, c.requires.ground.column)) c.if-bits-eq0.false
+    c.word-open.ensures c.word-taken.ensures c.look_at.ensures.seen c.joined_bits-bits.ensures.led c.joined_bits-bits.ensures.closed c.set_word.ensures.marks
+    c.set_word-2.ensures.marks
+    c.set_word.ensures.room c.set_word-2.ensures.room c.in_ok-push.ensures.items c.min-self.ensures c.max-self.ensures
+    (omega (arith, c.requires.within, c.look_at.ensures.room)) c.look_at.ensures.sound
     c.args.seeds c.joined_bits-bits.ensures.seeds

@@ -13,7 +13,8 @@ returns-clause-covers c p r b near free =
     let left = c.in_ok-take_left.ensures in
     let right = c.in_ok-take_right.ensures in
     elim near [
-      | inl e ↦ right.spreads.keeps r (left.spreads.keeps r (subst (λ n. taken_at c.take_below.new.self n ≡ true) (sym e) (below.covers p b (subst (λ n. free_at g n ≡ true) e free))))
+      | inl e ↦ right.spreads.keeps r (left.spreads.keeps r
+          (subst (λ n. taken_at c.take_below.new.self n ≡ true) (sym e) (below.covers p b (subst (λ n. free_at g n ≡ true) e free))))
       | inr (inl e) ↦ right.spreads.keeps r (left.spreads.keeps r (below.spreads.keeps r (above.covers r (subst (InBatch c.args.from) e b) free)))
       | inr (inr side) ↦ elim (cases_eq (p / 64) (r / 64)) [
         | inl same ↦
@@ -34,5 +35,6 @@ returns-clause-spreads c =
     let g = c.args.ground.now in
     Spreads-then g c.args.self.now c.take_left.new.self c.take_right.new.self
     (Spreads-then g c.args.self.now c.take_below.new.self c.take_left.new.self
-    (Spreads-then g c.args.self.now c.take_above.new.self c.take_below.new.self c.in_ok-take_above.ensures.spreads c.in_ok-take_below.ensures.spreads) c.in_ok-take_left.ensures.spreads)
+    (Spreads-then g c.args.self.now c.take_above.new.self c.take_below.new.self c.in_ok-take_above.ensures.spreads c.in_ok-take_below.ensures.spreads)
+    c.in_ok-take_left.ensures.spreads)
     c.in_ok-take_right.ensures.spreads

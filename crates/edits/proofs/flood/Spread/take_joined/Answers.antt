@@ -11,7 +11,8 @@ take_around-requires-clause-sound c =
     let g = c.args.ground.now in
     let s = c.loop-from.self in
     let t : Spread = record { «open» = s.open; taken = s.taken; count = s.count; first = s.first; end = s.end; pending = c.pop.new.self } in
-    IsSound-off g s t refl refl refl refl c.loop-from.invariant.sound (pending-off g s t refl refl refl refl c.in-Some.from c.in-Some.ensures.items c.loop-from.invariant.sound).1
+    IsSound-off g s t refl refl refl refl c.loop-from.invariant.sound
+    (pending-off g s t refl refl refl refl c.in-Some.from c.in-Some.ensures.items c.loop-from.invariant.sound).1
 
 pub take_around-requires-clause-batch : goal.take_around-requires-clause-batch
 take_around-requires-clause-batch c =
@@ -34,7 +35,8 @@ loop-from-preserved c =
     let around = c.in_ok-take_around.ensures in
     record {
       sound = around.sound;
-      closed = IsClosed-done g s t refl refl refl refl c.in-Some.from c.in-Some.ensures.items c.take_around.new.self c.loop-from.invariant.closed around.spreads around.covers;
+      closed = IsClosed-done g s t refl refl refl refl c.in-Some.from c.in-Some.ensures.items c.take_around.new.self c.loop-from.invariant.closed around.spreads
+          around.covers;
       keeps = λ p h. around.spreads.keeps p (taken-off g s t refl refl refl refl p ∙ c.loop-from.invariant.keeps p h);
     }
 
@@ -43,7 +45,8 @@ returns-clause-sound c =
     let s = c.loop-from.self in
     let t : Spread = record { «open» = s.open; taken = s.taken; count = s.count; first = s.first; end = s.end; pending = c.pop.new.self } in
     let all = c.in_default.ensures.items ∙ append-nil c.pop.new.self.items in
-    IsSound-off c.args.ground.now s t refl refl refl refl c.loop-from.invariant.sound (subst (λ (bs : List Batch). Each (IsBatch s) bs) all c.loop-from.invariant.sound.pending)
+    IsSound-off c.args.ground.now s t refl refl refl refl c.loop-from.invariant.sound
+    (subst (λ (bs : List Batch). Each (IsBatch s) bs) all c.loop-from.invariant.sound.pending)
 
 pub returns-clause-closed : goal.returns-clause-closed
 returns-clause-closed c p r h near free =

@@ -23,7 +23,8 @@ pub returns-clause-start : goal.returns-clause-start
 returns-clause-start c free =
     let g = c.args.ground.now in
     let number = g.start.1 * g.width + g.start.0 in
-    let set : bit_at (1 * 2 ^ (number % 64) % 2 ^ 64) (number % 64) ≡ 1 = ap (λ n. bit_at n (number % 64)) (one_shl (number % 64) 64 (omega arith)) ∙ bit_at-pow_same (number % 64) in
+    let set : bit_at (1 * 2 ^ (number % 64) % 2 ^ 64) (number % 64) ≡ 1 = ap (λ n. bit_at n (number % 64)) (one_shl (number % 64) 64 (omega arith))
+    ∙ bit_at-pow_same (number % 64) in
     is_taken-at g c.reach.new.self g.start.0 g.start.1 c.requires.ground.column
     ∙ reached_at g c.reach.new.self (64 * (number / 64) + number % 64) number (omega arith) (c.in_ok-reach.ensures.covers (number % 64) (omega arith) set)
     (sym (free_in-at g g.start.0 g.start.1 c.requires.ground.column) ∙ free)

@@ -12,7 +12,8 @@ returns-then-is_empty-clause-cells c =
     let g = c.args.self.now in
     all_of c.all.result c.all.ensures.room c.all.ensures.all
   where
-    all_of : (r : Result Marks AllocError) → IfOk r (λ marks. room marks ≡ 64 * (length c.args.self.now.tiles.now / 64 + 1)) → IfOk r (λ marks. (k : ℕ) → k < room marks → is_marked marks k ≡ true) → IfOk r (AreAllowed c.args.self.now)
+    all_of : (r : Result Marks AllocError) → IfOk r (λ marks. room marks ≡ 64 * (length c.args.self.now.tiles.now / 64 + 1))
+        → IfOk r (λ marks. (k : ℕ) → k < room marks → is_marked marks k ≡ true) → IfOk r (AreAllowed c.args.self.now)
     all_of (Ok m) e h = AreAllowed-all c.args.self.now m (search rules) (λ p l. h p (omega (arith, e)))
     all_of (Err f) e h = tt
 

@@ -40,4 +40,5 @@ returns c j l =
     let first = c.args.first in
     c.loop-i.invariant j l
     ∙ found-all (nat_lt j c.loop-i.i) (is_value (slice_get tiles (first + j)) c.args.self.now.value)
-    (λ h. let past : c.loop-i.i ≤ j = grind (arith, nat_tests) in ap (λ o. is_value o c.args.self.now.value) (slice_get_past tiles (first + j) (omega (arith, c.min-count.ensures, c.saturating_sub.ensures))))
+    (λ h. let past : c.loop-i.i ≤ j = grind (arith, nat_tests) in
+    ap (λ o. is_value o c.args.self.now.value) (slice_get_past tiles (first + j) (omega (arith, c.min-count.ensures, c.saturating_sub.ensures))))

@@ -24,5 +24,6 @@ returns c i l =
           let at : first + 32 + (i - 32) ≡ first + i = omega arith in
           ap (λ n. nat_eq n 1 || nat_eq (bit_at up i) 1) (bit_at_above low 32 i (omega (arith, c.from.ensures)) there)
           ∙ ap (λ n. nat_eq n 1) (shl_high high 32 i l there)
-          ∙ ap (λ n. nat_eq (bit_at n (i - 32)) 1) c.from-2.ensures ∙ c.equal_in_half-high.ensures (i - 32) (omega arith) ∙ ap (λ k. is_value (slice_get g.tiles.now k) g.value) at
+          ∙ ap (λ n. nat_eq (bit_at n (i - 32)) 1) c.from-2.ensures ∙ c.equal_in_half-high.ensures (i - 32) (omega arith)
+          ∙ ap (λ k. is_value (slice_get g.tiles.now k) g.value) at
     ]

@@ -10,7 +10,8 @@ use Rattle.edits.proofs.Marking.{other_no, other_yes, stepped, stepped-from, ste
 use Rattle.edits.proofs.ground.Ground.joined_bits.Goals as goal
 
 -- one step along the rows of a word, within a mask of free cells; the starts are the bits in which a row begins
-module _ (g : Ground) (word next starts mask : ℕ) (some : 0 < g.width) (fits : starts < 2 ^ 64) (row_starts : (i : ℕ) → i < 64 → nat_eq (bit_at starts i) 1 ≡ nat_eq ((64 * word + i) % g.width) 0) where
+module _ (g : Ground) (word next starts mask : ℕ) (some : 0 < g.width) (fits : starts < 2 ^ 64)
+    (row_starts : (i : ℕ) → i < 64 → nat_eq (bit_at starts i) 1 ≡ nat_eq ((64 * word + i) % g.width) 0) where
   abbrev inner : ℕ
   inner = bit_not w64 starts
 
@@ -24,7 +25,8 @@ module _ (g : Ground) (word next starts mask : ℕ) (some : 0 < g.width) (fits :
   no i l e = other_no starts i ((first + i) % g.width) fits l (row_starts i l) e
 
   -- it leads to free cells that are joined to the start
-  step-led : ((i : ℕ) → i < 64 → bit_at mask i ≡ 1 → free_at g (first + i) ≡ true) → ((i : ℕ) → i < 64 → bit_at next i ≡ 1 → (bit_at mask i ≡ 1) × IsLed g (first + i))
+  step-led : ((i : ℕ) → i < 64 → bit_at mask i ≡ 1 → free_at g (first + i) ≡ true)
+      → ((i : ℕ) → i < 64 → bit_at next i ≡ 1 → (bit_at mask i ≡ 1) × IsLed g (first + i))
       → (i : ℕ) → i < 64 → bit_at (stepped next inner mask) i ≡ 1 → (bit_at mask i ≡ 1) × IsLed g (first + i)
   step-led free led i l e = elim (stepped-from next inner mask i l e) [
     | inl own ↦ led i l own
@@ -37,7 +39,8 @@ module _ (g : Ground) (word next starts mask : ℕ) (some : 0 < g.width) (fits :
   ]
 
   -- and to each free cell that stands beside one of the cells
-  step-closed : (i j : ℕ) → i < 64 → j < 64 → AreSideBySide g (first + i) (first + j) → bit_at next i ≡ 1 → bit_at mask j ≡ 1 → bit_at (stepped next inner mask) j ≡ 1
+  step-closed : (i j : ℕ) → i < 64 → j < 64 → AreSideBySide g (first + i) (first + j) → bit_at next i ≡ 1 → bit_at mask j ≡ 1
+      → bit_at (stepped next inner mask) j ≡ 1
   step-closed i j l m side e on = elim side [
     | inl s ↦ stepped-right next inner mask j m i (omega (arith, s.0)) e (no j m s.1) on
     | inr s ↦ stepped-left next inner mask j m i (omega (arith, s.0)) e (no i l s.1) on

@@ -20,8 +20,11 @@ loop-step-init c =
       led = c.requires.seeds;
       rises = λ i l e.
           let both = and_bits (bit_and mask (mask * 2 ^ 1 % 2 ^ 64)) inner i e in
-          let own = and_bits mask (mask * 2 ^ 1 % 2 ^ 64) i both.0 in
-          (own.0, λ k at led. IsLed-step g some (first + k) (first + i) led (inr (inr (inl (omega arith, c.requires.inner i l both.1)))) (c.requires.free i l own.0));
+          let own = and_bits mask (mask * 2 ^ 1 % 2 ^ 64) i both.0 in (
+            own.0,
+            λ k at led. IsLed-step g some (first + k) (first + i) led (inr (inr (inl (omega arith, c.requires.inner i l both.1))))
+                (c.requires.free i l own.0),
+          );
       falls = λ i l e.
           let own = and_bits mask (bit_and mask inner / 2 ^ 1) i e in
           let down = down_from (bit_and mask inner) 1 i fits own.1 in

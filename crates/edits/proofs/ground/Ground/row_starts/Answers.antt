@@ -39,7 +39,11 @@ loop-number-preserved c =
       λ i l. has_one c.loop-number.starts number i (omega arith) l
           ∙ ap (λ b. b || nat_eq number i) (c.loop-number.invariant.1 i l)
           ∙ found-more (nat_lt i number) (nat_eq ((first + i) % w) 0) (nat_eq number i) (nat_lt i (number + w))
-          (λ h. let before = ltb-true i number h in (let differ : nat_eq number i ≡ false = grind (arith, nat_tests) in differ, lt-ltb i (number + w) (omega arith)))
+          (λ h. let before = ltb-true i number h in (
+            let differ : nat_eq number i ≡ false = grind (arith, nat_tests) in differ,
+            lt-ltb i (number + w)
+                (omega arith),
+          ))
           (λ h. let same = eqb-true number i h in (row_start w (first + i) y some (omega (arith, here)), lt-ltb i (number + w) (omega arith)))
           (λ a e b. let under = ltb-true i (number + w) b in
           let past : number < i = grind (arith, nat_tests) in

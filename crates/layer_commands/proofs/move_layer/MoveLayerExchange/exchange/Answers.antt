@@ -14,7 +14,8 @@ pub insert_layer-requires-clause-well_formed : goal.insert_layer-requires-clause
 insert_layer-requires-clause-well_formed c =
     let s = c.args.self.now in
     let m = c.args.document.now.map in
-    rw (c.take_layer-layer.ensures.document, c.take_layer-layer.ensures.layer) (moved_well_formed (layer_at m s.from) s.to (without_layer_at s.from m) c.requires.fits.there c.requires.fits.after)
+    rw (c.take_layer-layer.ensures.document, c.take_layer-layer.ensures.layer)
+    (moved_well_formed (layer_at m s.from) s.to (without_layer_at s.from m) c.requires.fits.there c.requires.fits.after)
 
 pub returns : goal.returns
 returns c =

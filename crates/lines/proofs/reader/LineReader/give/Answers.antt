@@ -9,4 +9,5 @@ returns c =
     let n : c.args.len + c.args.separator ≤ length c.args.self.now.pending = c.requires in
     let h : r.start + (c.args.len + c.args.separator) ≤ r.end = omega (arith, len, n, ap (λ s. length s.pending) c.self.view_is, c.self.invariant) in
     let k : r.start + c.args.len ≤ r.end = omega arith in
-    rw (← c.self.view_is, range_rest r.buffer.items r.start r.end (c.args.len + c.args.separator) h, range_prefix r.buffer.items r.start r.end c.args.len k) refl
+    rw (← c.self.view_is, range_rest r.buffer.items r.start r.end (c.args.len + c.args.separator) h, range_prefix r.buffer.items r.start r.end c.args.len k)
+    refl

@@ -15,4 +15,5 @@ returns-clause-found c =
     let r = c.self.inside in
     let len = length-range r.buffer.items r.start r.end (omega (arith, c.self.invariant, r.buffer.ok.0)) in
     let is = ap (λ s. s.pending) c.self.view_is in
-    rw (← is) (cut_at_first (slice_range r.buffer.items r.start r.end) (r.newline - r.start) (omega (arith, c.self.invariant)) (omega (arith, len, c.self.invariant, c.if-self.false)))
+    rw (← is) (cut_at_first (slice_range r.buffer.items r.start r.end) (r.newline - r.start) (omega (arith, c.self.invariant))
+    (omega (arith, len, c.self.invariant, c.if-self.false)))

@@ -44,7 +44,8 @@ returns-clause-given c =
 
 pub returns-clause-back : goal.returns-clause-back
 returns-clause-back c =
-    back-as c.args.canvas.now _ c.args.self.now _ (returns-clause-given c) (returns-clause-document c) c.requires (subst IsDocument c.self.view_is c.self.invariant)
+    back-as c.args.canvas.now _ c.args.self.now _ (returns-clause-given c) (returns-clause-document c) c.requires
+    (subst IsDocument c.self.view_is c.self.invariant)
 
 pub returns-clause-turned : goal.returns-clause-turned
 returns-clause-turned c = turned-as c.args.canvas.now _ c.args.self.now _ (returns-clause-given c) (returns-clause-document c)

@@ -19,7 +19,12 @@ invariant_of-self-inside c =
     (with_setting-keeps c.args.owner c.args.at c.args.setting.now m there value c.self-inside.invariant)
 
 pub invariant_of-self : goal.invariant_of-self
-invariant_of-self c = record { map = invariant_of-self-inside c; selection = rw c.swap_in.ensures.parts (with_properties-IsSelectionOf c.args.owner (change_at c.args.at (property_with_setting c.args.setting.now)) c.self-inside.inside.0.0.parts c.self-inside.inside.0.1.0 (selection-IsSelectionOf c.self-inside.view_is c.self.invariant)) }
+invariant_of-self c = record {
+  map = invariant_of-self-inside c;
+  selection = rw c.swap_in.ensures.parts
+      (with_properties-IsSelectionOf c.args.owner (change_at c.args.at (property_with_setting c.args.setting.now)) c.self-inside.inside.0.0.parts
+      c.self-inside.inside.0.1.0 (selection-IsSelectionOf c.self-inside.view_is c.self.invariant));
+}
 
 pub returns-clause-given : goal.returns-clause-given
 returns-clause-given c =

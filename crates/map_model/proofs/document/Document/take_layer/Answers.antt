@@ -15,7 +15,12 @@ invariant_of-self-inside c =
     rw c.take_layer_in.ensures.parts (remove-keeps m c.args.place there c.self-inside.invariant)
 
 pub invariant_of-self : goal.invariant_of-self
-invariant_of-self c = record { map = invariant_of-self-inside c; selection = rw c.take_layer_in.ensures.parts (with_siblings-IsSelectionOf c.args.place.parent (λ ls. remove ls c.args.place.at) c.self-inside.inside.0.0.parts c.self-inside.inside.0.1.0 (selection-IsSelectionOf c.self-inside.view_is c.self.invariant)) }
+invariant_of-self c = record {
+  map = invariant_of-self-inside c;
+  selection = rw c.take_layer_in.ensures.parts
+      (with_siblings-IsSelectionOf c.args.place.parent (λ ls. remove ls c.args.place.at) c.self-inside.inside.0.0.parts c.self-inside.inside.0.1.0
+      (selection-IsSelectionOf c.self-inside.view_is c.self.invariant));
+}
 
 pub returns-clause-well_formed : goal.returns-clause-well_formed
 returns-clause-well_formed c = invariant_of-self c

@@ -20,7 +20,12 @@ invariant_of-self-inside c =
     rw c.take_in.ensures.parts (without_property_at-keeps c.args.owner c.args.at m there c.self-inside.invariant)
 
 pub invariant_of-self : goal.invariant_of-self
-invariant_of-self c = record { map = invariant_of-self-inside c; selection = rw c.take_in.ensures.parts (with_properties-IsSelectionOf c.args.owner (λ ps. remove ps c.args.at) c.self-inside.inside.0.0.parts c.self-inside.inside.0.1.0 (selection-IsSelectionOf c.self-inside.view_is c.self.invariant)) }
+invariant_of-self c = record {
+  map = invariant_of-self-inside c;
+  selection = rw c.take_in.ensures.parts
+      (with_properties-IsSelectionOf c.args.owner (λ ps. remove ps c.args.at) c.self-inside.inside.0.0.parts c.self-inside.inside.0.1.0
+      (selection-IsSelectionOf c.self-inside.view_is c.self.invariant));
+}
 
 pub returns-clause-property : goal.returns-clause-property
 returns-clause-property c =

@@ -7,4 +7,5 @@ pub returns : goal.returns
 returns c =
     let m = c.args.self.now in
     let some : is_some (tileset_place m c.args.first_id) ≡ true = ap is_some (sym c.in_ok-tileset_place.ensures.place) in
-    rw (some, c.is_in_layers.ensures, c.end_of_tileset-end.ensures, c.self.view_is) (ap Some (sym (has_uses-range m c.args.first_id some c.in_ok-tileset_place.ensures.well_formed)))
+    rw (some, c.is_in_layers.ensures, c.end_of_tileset-end.ensures, c.self.view_is)
+    (ap Some (sym (has_uses-range m c.args.first_id some c.in_ok-tileset_place.ensures.well_formed)))

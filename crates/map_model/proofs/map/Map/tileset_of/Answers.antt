@@ -7,7 +7,8 @@ use Rattle.map_model.proofs.map.Map.tileset_of.Goals as goal
 pub returns-clause-found : goal.returns-clause-found
 returns-clause-found c =
     let some : base_of c.args.value ≡ 0 → ⊥ = λ e. c.if-base-eq0.false (c.base.ensures ∙ e) in
-    elim (nat_eq (base_of c.args.value) 0) as (λ b. IfSome (cond b None (best_of (base_of c.args.value) None c.args.self.now.tilesets)) (IsTilesetOf c.args.self.now c.args.value))
+    elim (nat_eq (base_of c.args.value) 0) as (λ b. IfSome (cond b None (best_of (base_of c.args.value) None c.args.self.now.tilesets))
+    (IsTilesetOf c.args.self.now c.args.value))
     [ true ↦ tt | false ↦ tileset_of-greatest c.args.self.now c.args.value some ]
 
 pub returns-clause-none : goal.returns-clause-none

@@ -34,11 +34,13 @@ note_spec 𝓤 𝓛 𝓜 𝓡 wired =
     let c = f.clauses 𝓛 𝓜.mem 𝓡.returns in
     proved 𝓛 f.ended stayed c 𝓜 𝓡 (Goes-ref 𝓛 3 0 tt (plain (λ _. Row)), (Goes-dropped 𝓛 3 (shr_ref_to (1 ∷ []) tt call) yes (λ κs x w. refl), tt))
     f.Key.name code.function (code.unfolded 𝓤 𝓛.H 𝓜 𝓡 wired)
-    (λ κs. (mut_vals, (shr_vals, tt))) (λ κs. (mut_Tells (named 0) κs.0 Row, (shr_Tells (name_of (1 ∷ [])) (meet_at 3 (1 ∷ []) tt κs) (call.row κs), tt))) (λ κs qs bounds a none _.
+    (λ κs. (mut_vals, (shr_vals, tt))) (λ κs. (mut_Tells (named 0) κs.0 Row, (shr_Tells (name_of (1 ∷ [])) (meet_at 3 (1 ∷ []) tt κs) (call.row κs), tt)))
+    (λ κs qs bounds a none _.
     let b = a.0.ref_ptr.0 in let o = a.0.ref_ptr.1 in let was : StoreLog = a.0.now in
     let next : StoreLog = record { marker = was.marker; asked = asked_of a.1.0.now ∷ was.asked } in
     let bits : List Val × (List Val × Unit {0}) = (mut_vals a.0, (shr_vals a.1.0, tt)) in
-    qed 𝓛 (((‵ (flft κs.0 qs.0) ⊛ (‵ (flft κs.1.0 qs.1.0) ⊛ (‵ (flft κs.1.1.0 qs.1.1.0) ⊛ ‵ ftrue))) ⊛ ‵ (owns (types_at f.signature.params κs) a bits)) ∷ raw ((c κs a).requires none) ∷ []) ∵
+    qed 𝓛 (((‵ (flft κs.0 qs.0) ⊛ (‵ (flft κs.1.0 qs.1.0) ⊛ (‵ (flft κs.1.1.0 qs.1.1.0) ⊛ ‵ ftrue))) ⊛ ‵ (owns (types_at f.signature.params κs) a bits)) ∷ raw
+    ((c κs a).requires none) ∷ []) ∵
     split ! $ move ! (2 ∷ []) $ drop ! $ move ! (1 ∷ []) $ fsplit ! $ move ! (1 ∷ []) $ drop ! $ move ! (1 ∷ []) $ split ! $ move ! (2 ∷ []) $
     -- [the log; the token of its borrow; the other tokens]
     enter ! _ _ _ _ _ $ alloc_all ! (λ l. pass_all ! refl ((tt, tt), ((tt, tt), tt)) $

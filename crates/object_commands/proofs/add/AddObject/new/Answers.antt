@@ -15,8 +15,10 @@ returns-in-Ok-clause-command c =
     let y = to_z-of_z w32 c.args.y (search rules) in
     let same : c.parts.result.now ≡ d.map = c.parts.ensures.value ∙ c.map-map.ensures in
     let objects : objects_or_fault (layer_of d.map c.args.layer) ≡ Ok c.in_ok-objects.objects.now = rw c.map-map.ensures at c.in_ok-objects.ensures in
-    let given = given_by (is_object_size c.args.width c.args.height) c.in-Some.placing (placing_of c.args.x c.args.y c.args.width c.args.height) (rw (x, y) at c.in-Some.ensures) in
-    let made : c.in-Ok.object ≡ Some (new_object d.map.next_object_id (placing_of c.args.x c.args.y c.args.width c.args.height) c.args.name.now) = rw (same, given.1) at c.in-Ok.ensures in
+    let given = given_by (is_object_size c.args.width c.args.height) c.in-Some.placing (placing_of c.args.x c.args.y c.args.width c.args.height)
+    (rw (x, y) at c.in-Some.ensures) in
+    let made : c.in-Ok.object ≡ Some (new_object d.map.next_object_id (placing_of c.args.x c.args.y c.args.width c.args.height) c.args.name.now) =
+    rw (same, given.1) at c.in-Ok.ensures in
     let few : length c.in_ok-objects.objects.now < MAX_OBJECTS = rw c.len.ensures.value at c.if-len-ge-MAX_OBJECTS.false in
     rw same (
     add_made d c.args.layer c.args.x c.args.y c.args.width c.args.height c.args.name.now c.in_ok-objects.objects.now

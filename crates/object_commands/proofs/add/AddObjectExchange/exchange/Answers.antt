@@ -11,7 +11,8 @@ insert_object-requires-clause-well_formed c =
     let s = c.args.self.now in
     let d = c.args.document.now in
     let fits : FitsLink (next_object_slot s.layer s.id) (Some c.in-Some-take.object) d = rw (sym c.in-Some-take.ensures.value) at c.requires.fits in
-    put_last-IsWellFormed s.layer s.id c.parts.result.now.next_layer_id d c.set_next_ids.new.self c.in-Some.place (search rules) (search rules) c.set_next_ids.ensures.document c.in-Some-take.object fits
+    put_last-IsWellFormed s.layer s.id c.parts.result.now.next_layer_id d c.set_next_ids.new.self c.in-Some.place (search rules)
+    (search rules) c.set_next_ids.ensures.document c.in-Some-take.object fits
 
 pub take_object-requires : goal.take_object-requires
 take_object-requires c =
@@ -34,7 +35,8 @@ returns-in-Some-take c =
     let d = c.args.document.now in
     let fits : FitsLink (next_object_slot s.layer s.id) (Some c.in-Some-take.object) d = rw (sym c.in-Some-take.ensures.value) at c.requires.fits in
     linked_in (next_object_slot-laws s.layer s.id) c.requires.fits c.in-Some-take.object (search rules) (search rules) (
-    put_last-with_item s.layer s.id c.parts.result.now.next_layer_id d c.set_next_ids.new.self c.in-Some.place (search rules) (search rules) c.set_next_ids.ensures.document
+    put_last-with_item s.layer s.id c.parts.result.now.next_layer_id d c.set_next_ids.new.self c.in-Some.place (search rules)
+    (search rules) c.set_next_ids.ensures.document
     c.in-Some-take.object c.insert_object.new.self fits c.insert_object.ensures.document
     )
 
@@ -45,5 +47,6 @@ returns-in-None c =
     linked_out (next_object_slot-laws s.layer s.id) c.requires.fits (search rules)
     (c.take_object.ensures.object ∙ rw c.sibling-last.ensures (object_at-last s.layer d c.in-Some.place (search rules) s.id)) (
     c.set_next_ids-in-None.ensures.document
-    ∙ take_last s.layer s.id c.parts.result.now.next_layer_id d c.take_object.new.self c.in-Some.place (search rules) (search rules) (rw c.sibling-last.ensures at c.take_object.ensures.document)
+    ∙ take_last s.layer s.id c.parts.result.now.next_layer_id d c.take_object.new.self c.in-Some.place (search rules) (search rules)
+    (rw c.sibling-last.ensures at c.take_object.ensures.document)
     )

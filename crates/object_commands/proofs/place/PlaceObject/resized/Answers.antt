@@ -21,6 +21,7 @@ returns-clause-command c =
     let found : object_at d.map place ≡ Some o = rw c.map.ensures at c.in-Some.ensures.object in
     let well_formed : IsWellFormed d.map = rw c.map.ensures at c.in-Some.ensures.well_formed in
     rw (c.new.ensures, c.new-2.ensures, width, height) (
-    place_object_made d Resize c.args.object false place o (resized c.args.width c.args.height) c.eq.result refl there found well_formed (resized-IsPlacing c.args.width c.args.height given.0) (rw (width, height) at c.eq.ensures)
+    place_object_made d Resize c.args.object false place o (resized c.args.width c.args.height) c.eq.result refl there found well_formed
+    (resized-IsPlacing c.args.width c.args.height given.0) (rw (width, height) at c.eq.ensures)
     (rw (there, given.0) refl)
     )

@@ -12,8 +12,10 @@ new-requires c =
     let p = c.args.self.now in
     let asked = rw c.in-Cells.is at c.requires in
     let same : c.in-Cells.layer ≡ p.layer = tag-layer p.kind p.layer p.follows c.in-Cells.id c.in-Cells.layer (c.has_tag.ensures.0 c.if-not-has_tag.false) in
-    let cells : c.in_ok-joined.joined.items ≡ joined p.cells c.in-Cells.cells.now = c.in_ok-joined.ensures ∙ ap (λ es. joined es c.in-Cells.cells.now) c.as_slice.ensures.cells in
-    subst AreInRowOrder (sym cells) (order_merged p.kind p.layer p.follows p.is_made p.cells c.in-Cells.cells.now c.args.document.now (rw same at asked.0) (rw same at asked.1))
+    let cells : c.in_ok-joined.joined.items ≡ joined p.cells c.in-Cells.cells.now = c.in_ok-joined.ensures
+    ∙ ap (λ es. joined es c.in-Cells.cells.now) c.as_slice.ensures.cells in
+    subst AreInRowOrder (sym cells) (order_merged p.kind p.layer p.follows p.is_made p.cells c.in-Cells.cells.now c.args.document.now (rw same at asked.0)
+    (rw same at asked.1))
 
 pub returns-clause-merged : goal.returns-clause-merged
 returns-clause-merged c told =

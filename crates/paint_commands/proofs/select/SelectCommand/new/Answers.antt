@@ -6,4 +6,5 @@ use Rattle.paint_commands.proofs.select.SelectCommand.new.Goals as goal
 
 pub returns-in-Ok-clause-command : goal.returns-in-Ok-clause-command
 returns-in-Ok-clause-command c =
-    swap_where_made (λ d cells. IsSelectionOf d.map cells) selection-laws refl c.args.document.now.selection refl (search rules) (search rules) c.in-Ok.ensures.within (search rules)
+    swap_where_made (λ d cells. IsSelectionOf d.map cells) selection-laws refl c.args.document.now.selection refl (search rules)
+    (search rules) c.in-Ok.ensures.within (search rules)

@@ -6,4 +6,5 @@ use Rattle.paint_commands.proofs.select.SelectCommandExchange.exchange.Goals as 
 
 pub returns : goal.returns
 returns c =
-    swapped_where (λ d cells. IsSelectionOf d.map cells) selection-laws (ap Some (sym c.swap_selection.ensures.given)) c.swap_selection.ensures.document c.swap_selection.ensures.back
+    swapped_where (λ d cells. IsSelectionOf d.map cells) selection-laws
+    (ap Some (sym c.swap_selection.ensures.given)) c.swap_selection.ensures.document c.swap_selection.ensures.back

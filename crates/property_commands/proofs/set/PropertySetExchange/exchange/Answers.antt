@@ -42,5 +42,6 @@ returns-in-Add c =
     let turn = c.exchange_property in
     let fits = rw c.in-Add.is at c.requires.fits in
     rw c.in-Add.is (
-    new_link-turned s.owner s.name s.place s.at names (given_setting s.shown) c.in-Add.held turn.new.held c.args.document.now turn.new.document fits turn.ensures.held (turn.ensures.exchanged names)
+    new_link-turned s.owner s.name s.place s.at names (given_setting s.shown) c.in-Add.held turn.new.held c.args.document.now turn.new.document fits
+    turn.ensures.held (turn.ensures.exchanged names)
     )

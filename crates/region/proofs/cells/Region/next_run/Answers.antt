@@ -15,10 +15,12 @@ pub returns-clause-some : goal.returns-clause-some
 returns-clause-some c =
     let s = c.args.self.now in
     let runs = c.as_slice.result.now in
-    IsNextRun-along (in_runs runs) (set.contains s) (has s runs c.self.inside.runs.items c.self.view_is c.as_slice.ensures.value) c.args.y c.args.from c.args.end c.next_in.result c.next_in.ensures.some
+    IsNextRun-along (in_runs runs) (set.contains s) (has s runs c.self.inside.runs.items c.self.view_is c.as_slice.ensures.value) c.args.y c.args.from
+    c.args.end c.next_in.result c.next_in.ensures.some
 
 pub returns-clause-none : goal.returns-clause-none
 returns-clause-none c =
     let s = c.args.self.now in
     let runs = c.as_slice.result.now in
-    HasNone-along (in_runs runs) (set.contains s) (has s runs c.self.inside.runs.items c.self.view_is c.as_slice.ensures.value) c.args.y c.args.from c.args.end c.next_in.result c.next_in.ensures.none
+    HasNone-along (in_runs runs) (set.contains s) (has s runs c.self.inside.runs.items c.self.view_is c.as_slice.ensures.value) c.args.y c.args.from c.args.end
+    c.next_in.result c.next_in.ensures.none

@@ -27,5 +27,6 @@ loop-row-preserved c =
       room = omega (arith, inv.room, pushed.len, pushed.capacity, c.loop-row-test.true);
       runs = rw (append_none c.push_run.new.runs.items) at (pushed.runs [] (search rules, tt, tt));
       cells = λ q. pushed.cells q ∙ rw (c.of-run.ensures, inv.cells q) (one_row_more c.args.x c.args.y c.args.w c.loop-row.row q);
-      ended = pushed.ended (c.args.x, c.args.y + (c.loop-row.row + 1)) (HaveEnded-later c.loop-row.runs.items (c.args.x, c.args.y + c.loop-row.row) _ inv.ended (inl (omega arith))) (grind (arith, nat_tests));
+      ended = pushed.ended (c.args.x, c.args.y + (c.loop-row.row + 1))
+          (HaveEnded-later c.loop-row.runs.items (c.args.x, c.args.y + c.loop-row.row) _ inv.ended (inl (omega arith))) (grind (arith, nat_tests));
     }

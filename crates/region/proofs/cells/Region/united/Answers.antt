@@ -13,5 +13,6 @@ returns c =
     let s = c.args.self.now in
     let t = c.args.other.now in
     rw c.of.ensures (set_of-is c.in_ok-runs.runs.items (set.union s t) (λ q.
-    let cells : in_runs c.in_ok-runs.runs.items q ≡ (in_runs a q || in_runs b q) = rw (← c.as_slice.ensures.value, ← c.as_slice-2.ensures.value) (c.in_ok-runs.ensures.cells q) in
+    let cells : in_runs c.in_ok-runs.runs.items q ≡ (in_runs a q || in_runs b q) =
+    rw (← c.as_slice.ensures.value, ← c.as_slice-2.ensures.value) (c.in_ok-runs.ensures.cells q) in
     rw (set.contains-union cell_cmp_total s t q, ← c.self.view_is, ← c.other.view_is, contains-set_of a q, contains-set_of b q) cells))

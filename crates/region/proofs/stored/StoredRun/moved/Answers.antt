@@ -17,10 +17,12 @@ returns-then-end-start-clause-cells c q =
     (record { within = c.moved_column-start.ensures.within; behind = c.moved_column-start.ensures.behind; before = c.moved_column-start.ensures.before }) in
     let end : IsMovedColumn (c.run-own.result.x + c.run-own.result.len) c.args.dx c.args.w c.moved_column-end.result =
     read_back (c.run-own.result.x + c.run-own.result.len) c.args.dx c.args.w c.moved_column-end.result c.ranges.dx
-    (rw (← c.end.ensures) (record { within = c.moved_column-end.ensures.within; behind = c.moved_column-end.ensures.behind; before = c.moved_column-end.ensures.before })) in
+    (rw (← c.end.ensures) (record
+    { within = c.moved_column-end.ensures.within; behind = c.moved_column-end.ensures.behind; before = c.moved_column-end.ensures.before })) in
     let row : pos c.in_ok-y.y ≡ pos c.run-own.result.y +ℤ c.args.dy = omega (arith, ints, c.in_ok-y.ensures.some.1) in
     sym (nothing c.in_ok-y.y c.moved_column-start.result c.moved_column-end.result q c.if-end-start.true)
-    ∙ moved_cells c.run-own.result c.args.dx c.args.dy c.args.w c.args.h c.in_ok-y.y c.moved_column-start.result c.moved_column-end.result c.in_ok-y.ensures.some.0 row start end q
+    ∙ moved_cells c.run-own.result c.args.dx c.args.dy c.args.w c.args.h c.in_ok-y.y c.moved_column-start.result c.moved_column-end.result
+    c.in_ok-y.ensures.some.0 row start end q
     ∙ ap (λ r. in_moved_run r c.args.dx c.args.dy c.args.w c.args.h q) c.run-own.ensures.run
 
 pub returns-clause-cells : goal.returns-clause-cells
@@ -30,11 +32,14 @@ returns-clause-cells c q =
     (record { within = c.moved_column-start.ensures.within; behind = c.moved_column-start.ensures.behind; before = c.moved_column-start.ensures.before }) in
     let end : IsMovedColumn (c.run-own.result.x + c.run-own.result.len) c.args.dx c.args.w c.moved_column-end.result =
     read_back (c.run-own.result.x + c.run-own.result.len) c.args.dx c.args.w c.moved_column-end.result c.ranges.dx
-    (rw (← c.end.ensures) (record { within = c.moved_column-end.ensures.within; behind = c.moved_column-end.ensures.behind; before = c.moved_column-end.ensures.before })) in
+    (rw (← c.end.ensures) (record
+    { within = c.moved_column-end.ensures.within; behind = c.moved_column-end.ensures.behind; before = c.moved_column-end.ensures.before })) in
     let row : pos c.in_ok-y.y ≡ pos c.run-own.result.y +ℤ c.args.dy = omega (arith, ints, c.in_ok-y.ensures.some.1) in
     let sum : c.moved_column-start.result + (c.moved_column-end.result - c.moved_column-start.result) ≡ c.moved_column-end.result = omega arith in
-    let cells : in_run (record { y = c.in_ok-y.y; x = c.moved_column-start.result; len = c.moved_column-end.result - c.moved_column-start.result }) q ≡ in_moved_run c.run-own.result c.args.dx c.args.dy c.args.w c.args.h q =
-    rw sum (moved_cells c.run-own.result c.args.dx c.args.dy c.args.w c.args.h c.in_ok-y.y c.moved_column-start.result c.moved_column-end.result c.in_ok-y.ensures.some.0 row start end q) in
+    let cells : in_run (record { y = c.in_ok-y.y; x = c.moved_column-start.result; len = c.moved_column-end.result - c.moved_column-start.result }) q
+    ≡ in_moved_run c.run-own.result c.args.dx c.args.dy c.args.w c.args.h q =
+    rw sum (moved_cells c.run-own.result c.args.dx c.args.dy c.args.w c.args.h c.in_ok-y.y c.moved_column-start.result c.moved_column-end.result
+    c.in_ok-y.ensures.some.0 row start end q) in
     ap (λ r. in_run r q) c.of.ensures ∙ cells ∙ ap (λ r. in_moved_run r c.args.dx c.args.dy c.args.w c.args.h q) c.run-own.ensures.run
 
 pub returns-clause-within : goal.returns-clause-within
@@ -44,8 +49,10 @@ returns-clause-within c =
     (record { within = c.moved_column-start.ensures.within; behind = c.moved_column-start.ensures.behind; before = c.moved_column-start.ensures.before }) in
     let end : IsMovedColumn (c.run-own.result.x + c.run-own.result.len) c.args.dx c.args.w c.moved_column-end.result =
     read_back (c.run-own.result.x + c.run-own.result.len) c.args.dx c.args.w c.moved_column-end.result c.ranges.dx
-    (rw (← c.end.ensures) (record { within = c.moved_column-end.ensures.within; behind = c.moved_column-end.ensures.behind; before = c.moved_column-end.ensures.before })) in
+    (rw (← c.end.ensures) (record
+    { within = c.moved_column-end.ensures.within; behind = c.moved_column-end.ensures.behind; before = c.moved_column-end.ensures.before })) in
     let row : pos c.in_ok-y.y ≡ pos c.run-own.result.y +ℤ c.args.dy = omega (arith, ints, c.in_ok-y.ensures.some.1) in
     subst (λ r. LiesWithinMoved c.args.dx c.args.dy c.of.result r) c.run-own.ensures.run
     (subst (λ p. LiesWithinMoved c.args.dx c.args.dy p c.run-own.result) (sym c.of.ensures)
-    (moved_within c.run-own.result c.args.dx c.args.dy c.args.w c.in_ok-y.y c.moved_column-start.result c.moved_column-end.result row start end c.if-end-start.false))
+    (moved_within c.run-own.result c.args.dx c.args.dy c.args.w c.in_ok-y.y c.moved_column-start.result c.moved_column-end.result row start end
+    c.if-end-start.false))

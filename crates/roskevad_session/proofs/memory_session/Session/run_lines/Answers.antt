@@ -5,7 +5,8 @@ use Rattle.lines.specs.Lines.{lines_of}
 use Rattle.roskevad_session.specs.Buffers.{size_within, written}
 use Rattle.roskevad_session.specs.Hearing.{Ends, HearsUpTo, reply_bytes}
 use Rattle.roskevad_session.specs.declared.heard.Heard.{Heard}
-use Rattle.roskevad_session.proofs.Hearings.{bytes-with_line, goes_on, heard_more, length-written, lines-with_line, none_heard, put_rest, replies-with_line, rest_is, some_heard}
+use Rattle.roskevad_session.proofs.Hearings.{bytes-with_line, goes_on, heard_more, length-written, lines-with_line, none_heard, put_rest, replies-with_line}
+use Rattle.roskevad_session.proofs.Hearings.{rest_is, some_heard}
 use Rattle.roskevad_session.proofs.memory_session.Session.run_lines.Goals as goal
 
 pub returns-then-ends : goal.returns-then-ends
@@ -33,26 +34,30 @@ lines-preserved c =
     let reply = reply_bytes new.reply in
     let put = c.hear-put.result in
     let refused = c.is_refused.result in
-    let goes = goes_on stops bytes buffer start l.heard l.self l.replies l.invariant.so_far (c.ends.ensures.room c.if-ends.false) (c.ends.ensures.accepted c.if-ends.false) in
+    let goes = goes_on stops bytes buffer start l.heard l.self l.replies l.invariant.so_far (c.ends.ensures.room c.if-ends.false)
+    (c.ends.ensures.accepted c.if-ends.false) in
     let cut : lines_of rest ≡ line ∷ lines_of (drop taken rest) =
     subst (λ (bs : List ℕ). lines_of bs ≡ line ∷ lines_of (drop taken bs)) (rest_is l.heard.bytes bytes) c.first_line-taken.ensures.cut in
     let fits : taken ≤ length rest = subst (λ (bs : List ℕ). taken ≤ length bs) (rest_is l.heard.bytes bytes) c.first_line-taken.ensures.within in
     let within : l.heard.bytes + taken ≤ length bytes = omega (arith, fits, length-drop l.heard.bytes bytes, l.invariant.within) in
     let size : put ≡ size_within reply left = subst (λ (t : List ℕ). put ≡ size_within reply t) (rest_is l.heard.replies l.replies) c.hear-put.ensures.size in
-    let put_is : c.hear-put.new.replies ≡ written reply left = subst (λ (t : List ℕ). c.hear-put.new.replies ≡ written reply t) (rest_is l.heard.replies l.replies) c.hear-put.ensures.put in
+    let put_is : c.hear-put.new.replies ≡ written reply left =
+    subst (λ (t : List ℕ). c.hear-put.new.replies ≡ written reply t) (rest_is l.heard.replies l.replies) c.hear-put.ensures.put in
     let end = put_mid l.heard.replies (length l.replies - l.heard.replies) l.replies c.hear-put.new.replies in
     let is : end ≡ take l.heard.replies l.replies ++ written reply left =
     put_rest l.heard.replies l.replies c.hear-put.new.replies ∙ ap (λ (t : List ℕ). take l.heard.replies l.replies ++ t) put_is in
     let counted = c.with_line-heard.ensures in
     let more : HearsUpTo stops bytes buffer start c.with_line-heard.result new end =
     subst (λ (x : Heard). HearsUpTo stops bytes buffer start x new end) (sym counted)
-    (heard_more stops bytes buffer start l.heard l.self l.replies goes line taken cut within new c.hear-put.ensures.step refused c.is_refused.ensures put end size is) in
+    (heard_more stops bytes buffer start l.heard l.self l.replies goes line taken cut within new c.hear-put.ensures.step refused c.is_refused.ensures put end
+    size is) in
     let more_lines = ap (λ (x : Heard). x.lines) counted ∙ lines-with_line taken refused put l.heard in
     let more_bytes = ap (λ (x : Heard). x.bytes) counted ∙ bytes-with_line taken refused put l.heard in
     let more_replies = ap (λ (x : Heard). x.replies) counted in
     let most = replies-with_line taken refused put l.heard reply left size in
     let whole : length end ≡ length (take l.heard.replies l.replies) + length left =
-    ap length is ∙ (length-append (take l.heard.replies l.replies) (written reply left) ∙ ap (λ n. length (take l.heard.replies l.replies) + n) (length-written reply left)) in
+    ap length is ∙ (length-append (take l.heard.replies l.replies) (written reply left)
+    ∙ ap (λ n. length (take l.heard.replies l.replies) + n) (length-written reply left)) in
     let front = length-take-le l.heard.replies l.replies l.invariant.room in
     record {
       so_far = inr more;

@@ -21,5 +21,7 @@ returns-in-Some g c =
     )
 
 pub returns-in-None : goal.returns-in-None
-returns-in-None g c =
-    ((refl, λ w holds. record { sound = c.requires; group = rw c.in-None.is refl; stacks = rw c.in-None.is refl }, refl), record { lends = tt; active = rw c.in-None.is; stack = rw c.in-None.is refl; held = tt; whole = tt })
+returns-in-None g c = (
+  (refl, λ w holds. record { sound = c.requires; group = rw c.in-None.is refl; stacks = rw c.in-None.is refl }, refl),
+  record { lends = tt; active = rw c.in-None.is; stack = rw c.in-None.is refl; held = tt; whole = tt },
+)

@@ -14,7 +14,8 @@ unwrap-stack-requires g c = grind (arith, gets)
 
 pub returns-clause-sound : goal.returns-clause-sound
 returns-clause-sound g c =
-    AreHeld-removed g.C.Command.change c.args.self.now c.in-Some.at _ c.in-Some.ensures.within c.shift_remove_index.ensures.entries c.number_without-self.ensures c.requires
+    AreHeld-removed g.C.Command.change c.args.self.now c.in-Some.at _ c.in-Some.ensures.within c.shift_remove_index.ensures.entries
+    c.number_without-self.ensures c.requires
 
 pub returns-clause-held : goal.returns-clause-held
 returns-clause-held g c =
@@ -27,7 +28,11 @@ returns-clause-stack g c = grind (arith, gets, slice_get-map, history_named-docu
 pub returns-clause-removed : goal.returns-clause-removed
 returns-clause-removed g c =
     let old = c.args.self.now in
-    grind (arith, removed-found g.C.Command.change c.args.name.now old.stacks.entries c.in-Some.at c.unwrap-stack.result old.active, c.get_index_of.ensures.unique)
+    grind (
+      arith,
+      removed-found g.C.Command.change c.args.name.now old.stacks.entries c.in-Some.at c.unwrap-stack.result old.active,
+      c.get_index_of.ensures.unique,
+    )
 
 pub returns-clause-taken : goal.returns-clause-taken
 returns-clause-taken g c =

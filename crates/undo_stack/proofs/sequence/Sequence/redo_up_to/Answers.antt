@@ -27,7 +27,7 @@ returns g c =
             has_free = ap (λ x. x.has_free) w.self-is;
           } in
           let t = turned f d e q p ys j slice.result.now w.redo_up.new.document slice.ensures.value w.document-is b
-            up.moved up.depth up.nests c.requires.within c.requires.sound in
+          up.moved up.depth up.nests c.requires.within c.requires.sound in
           record { sound = t.sound; has_free = t.has_free; stale = t.stale; nests = t.nests; history = t.history }
       | else-is_worth_a_slice w ↦
           let each = w.redo_each.ensures in
@@ -40,6 +40,6 @@ returns g c =
             has_free = ap (λ x. x.has_free) w.self-is;
           } in
           let t = turned f d e q p ys j q.entries.items w.redo_each.new.document refl w.document-is b
-            each.moved each.depth each.nests c.requires.within c.requires.sound in
+          each.moved each.depth each.nests c.requires.within c.requires.sound in
           record { sound = t.sound; has_free = t.has_free; stale = t.stale; nests = t.nests; history = t.history }
     ]

@@ -31,7 +31,7 @@ returns g c =
             has_free = ap (λ x. x.has_free) w.self-is;
           } in
           let t = turned f d e q p ys j slice.result.now w.undo_down.new.document slice.ensures.value w.document-is b
-            down.moved down.depth down.nests least c.requires.sound in
+          down.moved down.depth down.nests least c.requires.sound in
           record { sound = t.sound; has_free = t.has_free; stale = t.stale; nests = t.nests; history = t.history ∙ to }
       | else-is_worth_a_slice w ↦
           let each = w.undo_each.ensures in
@@ -44,6 +44,6 @@ returns g c =
             has_free = ap (λ x. x.has_free) w.self-is;
           } in
           let t = turned f d e q p ys j q.entries.items w.undo_each.new.document refl w.document-is b
-            each.moved each.depth each.nests least c.requires.sound in
+          each.moved each.depth each.nests least c.requires.sound in
           record { sound = t.sound; has_free = t.has_free; stale = t.stale; nests = t.nests; history = t.history ∙ to }
     ]
