@@ -133,6 +133,32 @@ fn finds_same(low: usize, tree: &LinkTree<usize>, plain: &Vec<usize>) -> bool {
     found.map(|(at, _)| at) == place && tree.any(|item| low <= *item) == place.is_some()
 }
 
+// Whether a number stays noted for a place where only the item there is changed.
+fn keeps_note(tree: &mut LinkTree<usize>) -> bool {
+    if tree.len() < 8 {
+        return false;
+    }
+    tree.go_to(5, 9);
+    let noted = tree.is_noted(9) && !tree.is_noted(8);
+    tree.change_at(5, |item| *item = 1);
+    let kept = tree.is_noted(9);
+    tree.change_at(6, |item| *item = 1);
+    noted && kept && !tree.is_noted(9)
+}
+
+// Whether it is noted no more where a link was taken out or put in.
+fn loses_note(tree: &mut LinkTree<usize>) -> bool {
+    if tree.len() < 8 {
+        return false;
+    }
+    tree.go_to(5, 9);
+    let link = tree.take(7);
+    let taken = tree.is_noted(9);
+    tree.go_to(5, 9);
+    tree.insert(0, link);
+    !taken && !tree.is_noted(9)
+}
+
 // A tree of 4,096 items is at most 22 links deep in each of these orders. By its balance alone it could be 26 deep.
 #[test]
 fn balanced_in_each_order(rt: HostRuntime) -> Result<(), Fail> {
@@ -178,5 +204,14 @@ fn same_as_a_plain_list(rt: HostRuntime) -> Result<(), Fail> {
     for low in 0..2_001 {
         assert!(rt; finds_same(low, &tree, &plain));
     }
+    Ok(())
+}
+
+// A number is noted for a place until the list changes elsewhere.
+#[test]
+fn notes_a_number(rt: HostRuntime) -> Result<(), Fail> {
+    let mut tree = filled(rt.alloc(), Order::End)?;
+    assert!(rt; keeps_note(&mut tree));
+    assert!(rt; loses_note(&mut tree));
     Ok(())
 }
