@@ -4,48 +4,27 @@ use super::{
 };
 use map_store::MemoryStore;
 use session_run::run;
-use std::alloc::{AllocError, Global};
+use std::alloc::Global;
 use std::cell::Cell;
 use std::io;
 use std::io::{BufWriter, Read, Write};
 use std::test::Fail;
 
-/// What a run has written where the flush with so many before it fails: whether that is replies, and whole ones; whether
-/// the flush failed at all; and how much it is.
-fn written_at_flush(
-    alloc: Global,
-    script: &Script,
-    step: usize,
-    flushes_left: u32,
-) -> Result<(bool, bool, usize), AllocError> {
-    let sink = Sink::new(alloc, WHOLE, MANY, flushes_left);
-    let told = taken(alloc, source_of(script, step, MANY), sink, false)?;
-    match told.strip_suffix("write failed") {
-        Some(text) => {
-            let is_whole = text.is_empty() || text.ends_with('\n');
-            let is_of_replies = script.replies.starts_with(text);
-            Ok((is_whole && is_of_replies, true, text.len()))
-        }
-        None => Ok((true, false, told.len())),
-    }
-}
-
 /// How much was written where each of a session's flushes fails in turn, and at last none: whole replies each time.
-fn lengths_at_flushes(
-    alloc: Global,
-    script: &Script,
-    step: usize,
-) -> Result<Vec<usize>, AllocError> {
+fn lengths_at_flushes(alloc: Global, script: &Script, step: usize) -> Result<Vec<usize>, Fail> {
     let mut lengths = Vec::new(alloc);
     for flushes_left in 0..100u32 {
-        let (is_whole, has_failed, length) = written_at_flush(alloc, script, step, flushes_left)?;
-        if !is_whole {
+        let sink = Sink::new(alloc, WHOLE, MANY, flushes_left);
+        let told = taken(alloc, source_of(script, step, MANY), sink, false)?;
+        let Some(text) = told.strip_suffix("write failed") else {
+            lengths.push(told.len())?;
+            break;
+        };
+        let is_whole = text.is_empty() || text.ends_with('\n');
+        if !is_whole || !script.replies.starts_with(text) {
             return Ok(Vec::new(alloc));
         }
-        lengths.push(length)?;
-        if !has_failed {
-            break;
-        }
+        lengths.push(text.len())?;
     }
     Ok(lengths)
 }
@@ -103,69 +82,39 @@ impl<'a> Read for Onlooker<'a> {
     }
 }
 
-/// How long the replies are to the lines that are whole at each read.
-fn due_at_reads(alloc: Global, script: &Script, step: usize) -> Result<Vec<usize>, AllocError> {
-    let bytes = script.session.as_bytes();
-    let mut due = Vec::new(alloc);
-    for read in 0..=bytes.len().div_ceil(step.max(1)) {
-        let lines = whole_lines(bytes, read.saturating_mul(step));
-        due.push(first_replies(&script.replies, lines).len())?;
-    }
-    Ok(due)
-}
-
-/// How much was flushed at each read. The sink stands behind a buffer, or by itself.
-fn flushed_at_reads(
-    alloc: Global,
-    script: &Script,
-    step: usize,
-    has_buffer: bool,
-) -> Result<Vec<usize>, Fail> {
-    let flushed = &Cell::new(0);
-    let mut reader = Onlooker {
-        source: source_of(script, step, MANY),
-        flushed,
-        seen: Vec::new(alloc),
-    };
-    let mut writer = Counter { bytes: 0, flushed };
-    let mut store = MemoryStore::new(alloc);
-    if has_buffer {
-        let mut writer = BufWriter::new(alloc, writer)?;
-        run(alloc, &mut reader, &mut writer, &mut store, 0)?;
-    } else {
-        run(alloc, &mut reader, &mut writer, &mut store, 0)?;
-    }
-    Ok(reader.seen)
-}
-
-/// Whether each read finds the replies flushed to all lines that were given whole.
-fn is_each_flushed(
-    alloc: Global,
-    script: &Script,
-    step: usize,
-    has_buffer: bool,
-) -> Result<bool, Fail> {
-    let due = due_at_reads(alloc, script, step)?;
-    let flushed = flushed_at_reads(alloc, script, step, has_buffer)?;
-    Ok(flushed.as_slice() == due.as_slice())
-}
-
 #[test]
 fn each_read_finds_all_replies_flushed(rt: HostRuntime) -> Result<(), Fail> {
     let alloc = rt.alloc();
     let script = read_script(alloc, ONE)?;
-    for (step, has_buffer) in [
-        (1, false),
-        (1, true),
-        (7, false),
-        (7, true),
-        (65_536, false),
-        (65_536, true),
-    ] {
-        assert!(rt;
-            is_each_flushed(alloc, &script, step, has_buffer)?,
-            "by {step}"
-        );
+    let bytes = script.session.as_bytes();
+    for step in [1, 7, 65_536] {
+        // The replies to all lines that were given whole are due.
+        let mut due = Vec::new(alloc);
+        for read in 0..=bytes.len().div_ceil(step) {
+            let lines = whole_lines(bytes, read.saturating_mul(step));
+            due.push(first_replies(&script.replies, lines).len())?;
+        }
+        for has_buffer in [false, true] {
+            let flushed = &Cell::new(0);
+            let mut reader = Onlooker {
+                source: Source {
+                    bytes,
+                    step,
+                    calls_left: MANY,
+                },
+                flushed,
+                seen: Vec::new(alloc),
+            };
+            let mut writer = Counter { bytes: 0, flushed };
+            let mut store = MemoryStore::new(alloc);
+            if has_buffer {
+                let mut writer = BufWriter::new(alloc, writer)?;
+                run(alloc, &mut reader, &mut writer, &mut store, 0)?;
+            } else {
+                run(alloc, &mut reader, &mut writer, &mut store, 0)?;
+            }
+            assert_eq!(rt; reader.seen.as_slice(), due.as_slice(), "by {step}");
+        }
     }
     Ok(())
 }
