@@ -5,6 +5,8 @@ use roskevad_session::Session;
 use std::alloc::{AllocError, Global};
 use std::test::Fail;
 
+// No test owns a session, and what owns one does nothing else: an assertion or an early end beside it makes a long proof.
+
 /// Steps a line, and gives the text of its reply, and none where it is quiet.
 fn told(alloc: Global, session: &mut Session, line: &str) -> Result<String, AllocError> {
     session.step(line.as_bytes());
@@ -33,34 +35,67 @@ fn first_fault<'a>(
     Ok(None)
 }
 
+/// The same of a new session.
+fn first_fault_of_a_new<'a>(alloc: Global, pairs: &'a str) -> Result<Option<&'a str>, AllocError> {
+    let mut session = Session::new(alloc, 0);
+    first_fault(alloc, &mut session, pairs)
+}
+
 #[test]
 fn sessions_have_the_replies_of_runs(rt: HostRuntime) -> Result<(), Fail> {
-    let alloc = rt.alloc();
     for pairs in [ONE, SEVERAL, "# quiet\n\nstatus => ok none clean"] {
-        let mut session = Session::new(alloc, 0);
-        assert_eq!(rt; first_fault(alloc, &mut session, pairs)?, None);
+        assert_eq!(rt; first_fault_of_a_new(rt.alloc(), pairs)?, None);
     }
     Ok(())
 }
 
-#[test]
-fn files_are_put_and_taken_out(rt: HostRuntime) -> Result<(), Fail> {
-    let alloc = rt.alloc();
-    let mut session = Session::new(alloc, 0);
+const SAVED: &str = "open m m.tmj => ok 0/0 clean 0\nsave n.tmj => saved n.tmj 384";
+
+/// How many files there are, and how long the empty and the saved one are.
+type Files = (usize, Option<usize>, Option<usize>);
+
+fn files_of(session: &Session) -> Files {
+    let empty = session.file("empty").map(|bytes| bytes.len());
+    let saved = session.file("n.tmj").map(|bytes| bytes.len());
+    (session.file_count(), empty, saved)
+}
+
+/// Whether the first file is the empty one, the third the saved one, and there is no fourth.
+fn are_named(session: &Session) -> [bool; 3] {
+    [
+        session.file_name(0) == Some("empty"),
+        session.file_name(2) == Some("n.tmj"),
+        session.file_name(3).is_none(),
+    ]
+}
+
+/// The first pair to which a session that saves beside two files answers otherwise; its files and their names; whether the
+/// saved one was taken out, and was once more; and its files behind that.
+type TakenOut = (Option<&'static str>, Files, [bool; 3], [bool; 2], Files);
+
+fn save_and_take_out(alloc: Global, session: &mut Session) -> Result<TakenOut, AllocError> {
     session.put_file("m.tmj", MAP.as_bytes())?;
     session.put_file("empty", b"")?;
-    let pairs = "open m m.tmj => ok 0/0 clean 0\nsave n.tmj => saved n.tmj 384";
-    assert_eq!(rt; first_fault(alloc, &mut session, pairs)?, None);
-    assert_eq!(rt; session.file_count(), 3);
-    assert_eq!(rt; session.file_name(0), Some("empty"));
-    assert_eq!(rt; session.file_name(2), Some("n.tmj"));
-    assert_eq!(rt; session.file_name(3), None);
-    assert_eq!(rt; session.file("empty"), Some(b"".as_slice()));
-    assert_eq!(rt; session.file("n.tmj").map_or(0, |bytes| bytes.len()), 384);
-    assert!(rt; session.remove_file("n.tmj"));
-    assert!(rt; !session.remove_file("n.tmj"));
-    assert_eq!(rt; session.file("n.tmj"), None);
-    assert_eq!(rt; session.file_count(), 2);
+    let fault = first_fault(alloc, session, SAVED)?;
+    let before = files_of(session);
+    let names = are_named(session);
+    let taken = [session.remove_file("n.tmj"), session.remove_file("n.tmj")];
+    Ok((fault, before, names, taken, files_of(session)))
+}
+
+fn saved_and_taken_out(alloc: Global) -> Result<TakenOut, AllocError> {
+    let mut session = Session::new(alloc, 0);
+    save_and_take_out(alloc, &mut session)
+}
+
+#[test]
+fn files_are_put_and_taken_out(rt: HostRuntime) -> Result<(), Fail> {
+    let (fault, before, names, taken, behind) = saved_and_taken_out(rt.alloc())?;
+    assert_eq!(rt; fault, None);
+    assert_eq!(rt; before, (3, Some(0), Some(384)));
+    assert_eq!(rt; names, [true; 3]);
+    assert_eq!(rt; taken, [true, false]);
+    assert_eq!(rt; behind, (2, Some(0), None));
     Ok(())
 }
 
@@ -72,22 +107,40 @@ stamp 1 1 0 1 5 => ok 2/2 dirty 0
 clean => ok 2/2 clean 0
 begin Gate => ok 2/3 dirty 1";
 
+/// The clean index, and which of the first four steps are macros.
+type Marks = (Option<usize>, [Option<bool>; 4]);
+
+fn marks_of(session: &Session) -> Marks {
+    let kinds = [
+        session.is_macro(0),
+        session.is_macro(1),
+        session.is_macro(2),
+        session.is_macro(3),
+    ];
+    (session.clean_index(), kinds)
+}
+
+/// The first pair to which a session answers otherwise, and its marks before and behind the pairs.
+type Marked = (Option<&'static str>, Marks, Marks);
+
+fn mark(alloc: Global, session: &mut Session) -> Result<Marked, AllocError> {
+    let before = marks_of(session);
+    let fault = first_fault(alloc, session, MARKED)?;
+    Ok((fault, before, marks_of(session)))
+}
+
+fn marked(alloc: Global) -> Result<Marked, AllocError> {
+    let mut session = Session::new(alloc, 0);
+    mark(alloc, &mut session)
+}
+
 #[test]
 fn macros_and_the_clean_index_are_told(rt: HostRuntime) -> Result<(), Fail> {
-    let alloc = rt.alloc();
-    let mut session = Session::new(alloc, 0);
-    assert_eq!(rt; session.clean_index(), None);
-    assert_eq!(rt; session.is_macro(0), None);
-    assert_eq!(rt; first_fault(alloc, &mut session, MARKED)?, None);
-    assert_eq!(rt; session.clean_index(), Some(2));
-    for (at, wanted) in [
-        (0, Some(true)),
-        (1, Some(false)),
-        (2, Some(true)),
-        (3, None),
-    ] {
-        assert_eq!(rt; session.is_macro(at), wanted, "at {at}");
-    }
+    let (fault, before, behind) = marked(rt.alloc())?;
+    assert_eq!(rt; before, (None, [None; 4]));
+    assert_eq!(rt; fault, None);
+    let kinds = [Some(true), Some(false), Some(true), None];
+    assert_eq!(rt; behind, (Some(2), kinds));
     Ok(())
 }
 
@@ -95,17 +148,43 @@ const SELECTED: &str = "new town 4 3 16 16 town.tsj => ok 0/0 clean 0
 select replace 1 0 2 2 => ok 1/1 dirty 0
 select add 0 2 1 1 => ok 2/2 dirty 0";
 
+/// How many runs the selection has, and the first four.
+type Runs = (usize, [Option<Run>; 4]);
+
+fn runs_of(session: &Session) -> Runs {
+    let runs = [
+        session.selection_run(0),
+        session.selection_run(1),
+        session.selection_run(2),
+        session.selection_run(3),
+    ];
+    (session.selection_count(), runs)
+}
+
+/// The first pair to which a session answers otherwise, and the runs of its selection before and behind the pairs.
+type Selected = (Option<&'static str>, Runs, Runs);
+
+fn select(alloc: Global, session: &mut Session) -> Result<Selected, AllocError> {
+    let before = runs_of(session);
+    let fault = first_fault(alloc, session, SELECTED)?;
+    Ok((fault, before, runs_of(session)))
+}
+
+fn selected(alloc: Global) -> Result<Selected, AllocError> {
+    let mut session = Session::new(alloc, 0);
+    select(alloc, &mut session)
+}
+
+fn run(y: u32, x: u32, len: u32) -> Option<Run> {
+    Some(Run { y, x, len })
+}
+
 #[test]
 fn runs_of_the_selection_are_in_row_order(rt: HostRuntime) -> Result<(), Fail> {
-    let alloc = rt.alloc();
-    let mut session = Session::new(alloc, 0);
-    assert_eq!(rt; session.selection_count(), 0);
-    assert_eq!(rt; first_fault(alloc, &mut session, SELECTED)?, None);
-    assert_eq!(rt; session.selection_count(), 3);
-    for (y, x, len) in [(0, 1, 2), (1, 1, 2), (2, 0, 1)] {
-        let run = Some(Run { y, x, len });
-        assert_eq!(rt; session.selection_run(y as usize), run, "in row {y}");
-    }
-    assert_eq!(rt; session.selection_run(3), None);
+    let (fault, before, behind) = selected(rt.alloc())?;
+    assert_eq!(rt; before, (0, [None; 4]));
+    assert_eq!(rt; fault, None);
+    let runs = [run(0, 1, 2), run(1, 1, 2), run(2, 0, 1), None];
+    assert_eq!(rt; behind, (3, runs));
     Ok(())
 }
