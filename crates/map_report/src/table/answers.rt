@@ -13,6 +13,14 @@ pub fn answer_of(fault: MapFault) -> &'static str {
     }
 }
 
+/// The text that is written for the map that some bytes are read as, or why there is no map.
+pub fn read_back(alloc: Global, bytes: &[u8]) -> Result<Result<Vec<u8>, MapFault>, AllocError> {
+    match read_map(alloc, bytes) {
+        Ok(map) => Ok(Ok(write_map(alloc, &map)?)),
+        Err(fault) => Ok(Err(fault)),
+    }
+}
+
 // Writes what some bytes are read as: the text that is written for the map, or that text's name where it has one.
 fn write_read<W: Write>(
     alloc: Global,
@@ -20,12 +28,10 @@ fn write_read<W: Write>(
     bytes: &[u8],
     output: &mut W,
 ) -> io::Result<()> {
-    let map = match read_map(alloc, bytes) {
-        Ok(map) => map,
-        Err(fault) => return output.write_all(answer_of(fault).as_bytes()),
-    };
-    let Ok(written) = write_map(alloc, &map) else {
-        return output.write_all(b"no memory");
+    let written = match read_back(alloc, bytes) {
+        Ok(Ok(written)) => written,
+        Ok(Err(fault)) => return output.write_all(answer_of(fault).as_bytes()),
+        Err(_) => return output.write_all(b"no memory"),
     };
     match texts.name_of(&written) {
         Some(name) => output.write_all(name.as_bytes()),

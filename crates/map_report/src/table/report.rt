@@ -1,6 +1,6 @@
 // What is in a map.
 use crate::listing::write_sizes;
-use crate::table::answers::answer_of;
+use crate::table::answers::{answer_of, read_back};
 use link_chain::Chain;
 use map_json::{read_map, write_map};
 use map_model::limits::MAX_GROUPS;
@@ -151,8 +151,8 @@ fn write_again<W: Write>(alloc: Global, map: &Map, output: &mut W) -> io::Result
     let text = write_map(alloc, map)?;
     let len = text.len();
     write!(output, "\nwritten in {len} bytes, ")?;
-    let again = match read_map(alloc, &text) {
-        Ok(again) => write_map(alloc, &again)?,
+    let again = match read_back(alloc, &text)? {
+        Ok(again) => again,
         Err(fault) => return output.write_all(answer_of(fault).as_bytes()),
     };
     output.write_all(if again.as_slice() == text.as_slice() {
