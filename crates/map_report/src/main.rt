@@ -63,6 +63,7 @@ fn ends_without_words(rt: &impl Eprint, error: &io::Error) -> ExitCode {
 
 // Shows help or the version, or why the command line is refused.
 fn ends_with_answer(rt: &(impl Print + Eprint), answer: &clap::Error) -> ExitCode {
+    // (a comparison of two kinds takes the prover a minute)
     if let ErrorKind::OutOfMemory = answer.kind() {
         return ends(rt, "no memory", FAILED);
     }

@@ -54,7 +54,8 @@ fn ends_without_words(rt: &impl Eprint, error: &io::Error) -> ExitCode {
 
 // Shows help or the version, or why the command line is refused.
 fn ends_with_answer(rt: &(impl Print + Eprint), answer: &clap::Error) -> ExitCode {
-    if answer.kind() == ErrorKind::OutOfMemory {
+    // (a comparison of two kinds takes the prover a minute)
+    if let ErrorKind::OutOfMemory = answer.kind() {
         return ends(rt, RunFault::Memory, FAILED);
     }
     let is_shown = answer.print(rt).is_ok();
