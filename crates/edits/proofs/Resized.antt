@@ -35,7 +35,6 @@ use Rattle.edits.specs.Blocks.{ValueBlock, offset, value_in}
 use Rattle.edits.specs.Resizing.{row, table, drawn_stays, each_under, value_at, layer_block, resized_values, pixels_right, pixels_down, are_pixels, stays}
 use Rattle.edits.specs.Resizing.{all_stay, objects_stay, resized_layer, resized_selection, resized, IsDistance}
 use Rattle.edits.proofs.ResizedTrees.{layer-with, layers-with}
-use Rattle.map_model.proofs.CanvasLaws.{layers-cells}
 
 -- ---- the values of a table
 length-table : (f : ℕ → ℕ → ℕ) (width height : ℕ) → length (table f width height) ≡ width * height
