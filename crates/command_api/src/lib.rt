@@ -5,11 +5,10 @@
 
 mod command;
 mod exchange;
-mod fault;
 pub mod ids;
 mod offer;
 
 pub use command::Command;
 pub use exchange::{Exchange, Label, Lone};
-pub use fault::EditFault;
 pub use offer::Offer;
+pub use refusals::EditFault;

@@ -8,9 +8,9 @@ use Rattle.std.specs.List.{join_with_byte}
 use Rattle.map_model.specs.Document.{DocumentParts}
 use Rattle.map_model.specs.WellFormed.{IsPixels}
 use Rattle.edits.specs.Stamping.{IsBlock}
-use Rattle.command_api.specs.declared.fault.EditFault.{EditFault}
-use Rattle.command_api.specs.declared.fault.EditFault.TheVariants.{NoSuchLayer, LayerOfAnotherKind, OutsideTheMap, UnknownTile, NoSuchObject, NoSuchProperty}
-use Rattle.command_api.specs.declared.fault.EditFault.TheVariants.{NoSuchTileset, TilesetInUse, FirstIdNotAbove, OutOfRange, TooMany, NoMemory}
+use Rattle.refusals.specs.declared.edit_fault.EditFault.{EditFault}
+use Rattle.refusals.specs.declared.edit_fault.EditFault.TheVariants.{NoMemory}
+use Rattle.refusals.specs.Layers.{refusal_of_edit}
 use Rattle.command_api.specs.Names.{Names}
 use Rattle.command_api.specs.Making.{IsRefusalOf, Makes}
 use Rattle.session.specs.declared.limits.TheConstants.{MAX_LINE}
@@ -20,22 +20,11 @@ use Rattle.session.specs.Spelling.{AreRows, CanBeSpelled, IsCoordinate, commas, 
 use Rattle.editor.specs.declared.planned.Edit.{Edit}
 use Rattle.editor.specs.Acts.{answer_of}
 use Rattle.editor.specs.Planning.{PlansEdit, edit_change, plan_of}
-use Rattle.editor.specs.Refusals.{refusal_of_edit}
 
 -- a refusal is out of memory, or the edit's own
 IsRefusalOf-cases : (after : Result DocumentParts EditFault) (fault : EditFault) → IsRefusalOf after fault → (fault ≡ NoMemory) ⊎ (after ≡ Err fault)
 IsRefusalOf-cases after NoMemory h = inl refl
-IsRefusalOf-cases after NoSuchLayer h = inr h
-IsRefusalOf-cases after LayerOfAnotherKind h = inr h
-IsRefusalOf-cases after OutsideTheMap h = inr h
-IsRefusalOf-cases after UnknownTile h = inr h
-IsRefusalOf-cases after NoSuchObject h = inr h
-IsRefusalOf-cases after NoSuchProperty h = inr h
-IsRefusalOf-cases after NoSuchTileset h = inr h
-IsRefusalOf-cases after TilesetInUse h = inr h
-IsRefusalOf-cases after FirstIdNotAbove h = inr h
-IsRefusalOf-cases after OutOfRange h = inr h
-IsRefusalOf-cases after TooMany h = inr h
+IsRefusalOf-cases after other h = inr h
 
 -- an edit that was made, or refused, is planned so
 pub made-PlansEdit : (names : Names) (d : DocumentParts) (after : Result DocumentParts EditFault) (edit : Result Edit EditFault)

@@ -17,7 +17,7 @@ use Rattle.undo_group.specs.Groups.{AreDistinct, IsGroup, OpenDocument, active_a
 use Rattle.undo_group.specs.Lending.{IsLeft}
 use Rattle.undo_group.specs.Stacks.{IsReplaced, IsReplacedAt, IsTakenOut, NamedStack, document_of, documents_of, group_of, named, stack_at, stack_named}
 use Rattle.session.specs.declared.line.Line.{Line}
-use Rattle.session.specs.declared.reply.Refusal.{Refusal}
+use Rattle.refusals.specs.declared.refusal.Refusal.{Refusal}
 use Rattle.session.specs.declared.reply.Reply.{Reply}
 use Rattle.session.specs.declared.reply.Reply.TheVariants.{Refused}
 use Rattle.editor.specs.declared.editor.Editor.{Editor}

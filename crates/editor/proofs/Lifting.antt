@@ -5,8 +5,8 @@ use Rattle.undo_stack.specs.History.{History, Step, current}
 use Rattle.undo_group.specs.Groups.{GroupParts, IsGroup, active_history}
 use Rattle.undo_group.specs.Groups as groups
 use Rattle.undo_group.proofs.Documents.{with_active-same}
-use Rattle.session.specs.declared.reply.Refusal.{Refusal}
-use Rattle.session.specs.declared.reply.Refusal.TheVariants.{NoActiveDocument}
+use Rattle.refusals.specs.declared.refusal.Refusal.{Refusal}
+use Rattle.refusals.specs.declared.refusal.Refusal.TheVariants.{NoActiveDocument}
 use Rattle.session.specs.declared.reply.Reply.{Reply}
 use Rattle.session.specs.declared.reply.Reply.TheVariants.{Refused}
 use Rattle.editor.specs.declared.planned.Edit.{Edit}

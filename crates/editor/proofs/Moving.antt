@@ -6,7 +6,7 @@ use Rattle.undo_stack.specs.Turning.{IsSteady, LeadsSo, Redoes, SetsIndex, Turns
 use Rattle.undo_stack.proofs.Turnings.{Redoes-steady, SetsIndex-steady, Undoes-steady}
 use Rattle.session.specs.declared.line.Line.{Line}
 use Rattle.session.specs.declared.line.Line.TheVariants.{Undo, Redo, Goto}
-use Rattle.session.specs.declared.reply.Refusal.TheVariants.{NoActiveDocument}
+use Rattle.refusals.specs.declared.refusal.Refusal.TheVariants.{NoActiveDocument}
 use Rattle.session.specs.declared.reply.Reply.{Reply}
 use Rattle.map_store.specs.Files.{StoreParts}
 use Rattle.editor.specs.declared.planned.Planned.{Planned}

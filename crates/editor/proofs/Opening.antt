@@ -13,12 +13,12 @@ use Rattle.session.specs.declared.reply.Reply.{Reply}
 use Rattle.session.specs.declared.reply.Reply.TheVariants as replies
 use Rattle.editor.specs.Acts.{FilesStay, Loads, NewName, Opens, OrNoMemory, OrNoMemoryForFile, OrStoreFails}
 use Rattle.editor.specs.Machine.{Machine}
-use Rattle.editor.specs.Refusals.{refusal_of_map_fault}
+use Rattle.map_json.specs.Refusals.{refusal_of_map}
 
 -- a file whose bytes say no map
 pub refused-NewName : (name file bytes : List ℕ) (old : Machine) (before after : StoreParts) (fault : MapFault) → history_named name old.group.documents ≡ None
     → (IsTrue before.honest → Some bytes ≡ get before.files file) → Says bytes (Err fault) → IsCalled FilesStay before after
-    → NewName name (OrStoreFails FilesStay (OrNoMemoryForFile (Loads name file))) before after old (Some (replies.Refused (refusal_of_map_fault fault))) old
+    → NewName name (OrStoreFails FilesStay (OrNoMemoryForFile (Loads name file))) before after old (Some (replies.Refused (refusal_of_map fault))) old
 refused-NewName name file bytes old before after Memory free is says called = rw free (inl (inr (called, (refl, refl))))
 refused-NewName name file bytes old before after (Refused refusal) free is says called =
     rw free (inl (inl (called, Some bytes, is, inr (refusal, says, (refl, refl)))))

@@ -7,22 +7,22 @@ use Rattle.map_model.specs.WellFormed.{IsSize, IsTileSize}
 use Rattle.map_json.specs.Maps.{Says}
 use Rattle.map_json.specs.Trees.{text_of}
 use Rattle.map_json.specs.declared.fault.MapFault.TheVariants.{Refused}
-use Rattle.map_json.specs.declared.fault.MapRefusal.{MapRefusal}
+use Rattle.refusals.specs.declared.map_refusal.MapRefusal.{MapRefusal}
 use Rattle.map_store.specs.Files.{Files, StoreParts, IsCalled, HasFailed}
-use Rattle.command_api.specs.declared.fault.EditFault.{EditFault}
+use Rattle.refusals.specs.declared.edit_fault.EditFault.{EditFault}
 use Rattle.command_api.specs.Names.{Names}
 use Rattle.undo_stack.specs.History.{Step, History, step_named, current, new_history, is_clean, count}
 use Rattle.undo_stack.specs.Moving.{Answer, clean_answer, SetsLimit}
 use Rattle.undo_stack.specs.declared.limits.TheConstants.{MAX_LIMIT}
 use Rattle.undo_stack.specs.Pushing.{IsPushed}
 use Rattle.undo_group.specs.Groups.{GroupParts, active_history, chosen, history_named, removed, text_of_active}
-use Rattle.session.specs.declared.reply.Refusal.{Refusal}
-use Rattle.session.specs.declared.reply.Refusal.TheVariants as refusals
+use Rattle.refusals.specs.declared.refusal.Refusal.{Refusal}
+use Rattle.refusals.specs.declared.refusal.Refusal.TheVariants as refusals
+use Rattle.refusals.specs.Layers.{refusal_of_edit, refusal_of_stack, no_such_file, out_of_range, stack_not_empty, store_failed}
 use Rattle.session.specs.declared.reply.Reply.{Reply}
 use Rattle.session.specs.declared.reply.Reply.TheVariants as replies
 use Rattle.editor.specs.Answers.{state_reply, status_reply, call_reply}
 use Rattle.editor.specs.Machine.{Machine, active_of, with_active, opened, started}
-use Rattle.editor.specs.Refusals.{refusal_of_edit, refusal_of_map, refusal_of_stack}
 
 abbrev pub Act : Type 0 → Type 1
 Act S = S → Option Reply → S → Type 0
@@ -55,9 +55,9 @@ action_or text (Some action) = action
 
 -- the undo limit is set: where there are steps that is the refusal, and else the limit must be in its range
 abbrev pub LimitsAt : ℕ → Bool → ℕ → Act History
-LimitsAt (suc steps) within limit h reply n = Refuses refusals.StackNotEmpty h reply n
+LimitsAt (suc steps) within limit h reply n = Refuses stack_not_empty h reply n
 LimitsAt zero true limit h reply n = Calls (SetsLimit limit) h reply n
-LimitsAt zero false limit h reply n = Refuses refusals.OutOfRange h reply n
+LimitsAt zero false limit h reply n = Refuses out_of_range h reply n
 
 abbrev pub LimitsTo : ℕ → Act History
 LimitsTo limit h reply n = LimitsAt (count h) (leb limit MAX_LIMIT) limit h reply n
@@ -123,7 +123,7 @@ NotTaken name act old reply new = IfFree act (history_named name old.group.docum
 abbrev pub Creates : List ℕ → ℕ → ℕ → ℕ → ℕ → List ℕ → Act Machine
 Creates name width height tile_width tile_height source old reply new =
     (IsSize width height × IsTileSize tile_width tile_height × Opens name (started old.limit width height tile_width tile_height source) old reply new)
-    ⊎ ((IsSize width height × IsTileSize tile_width tile_height → ⊥) × Refuses refusals.OutOfRange old reply new)
+    ⊎ ((IsSize width height × IsTileSize tile_width tile_height → ⊥) × Refuses out_of_range old reply new)
 
 -- a document becomes the active one, or none does
 abbrev pub Uses : Option (List ℕ) → Act Machine
@@ -176,7 +176,7 @@ FilesStay before after = after ≡ before
 abbrev pub OrStoreFails : {S : Type 0} → (Files → Files → Type 0) → FileAct S → FileAct S
 OrStoreFails Leaves act before after old reply new =
     act before after old reply new
-    ⊎ (HasFailed before after × IsCalled Leaves before after × Refuses refusals.StoreFailed old reply new)
+    ⊎ (HasFailed before after × IsCalled Leaves before after × Refuses store_failed old reply new)
 
 -- an act, or out of memory, whether the store was called or not
 abbrev pub OrNoMemoryForFile : {S : Type 0} → FileAct S → FileAct S
@@ -186,10 +186,10 @@ OrNoMemoryForFile act before after old reply new =
 
 -- what a file says becomes a document, or is refused
 abbrev pub Reads : List ℕ → Option (List ℕ) → Act Machine
-Reads name None old reply new = Refuses refusals.NoSuchFile old reply new
+Reads name None old reply new = Refuses no_such_file old reply new
 Reads name (Some bytes) old reply new =
     ((m : MapParts) × Says bytes (Ok m) × Opens name (new_history (document_of m) old.limit) old reply new)
-    ⊎ ((refusal : MapRefusal) × Says bytes (Err (Refused refusal)) × Refuses (refusal_of_map refusal) old reply new)
+    ⊎ ((refusal : MapRefusal) × Says bytes (Err (Refused refusal)) × Refuses (refusals.Map refusal) old reply new)
 
 -- what the store finds is read: where it is honest, what is there
 abbrev pub Loads : List ℕ → List ℕ → FileAct Machine

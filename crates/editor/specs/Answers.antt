@@ -7,18 +7,18 @@ use Rattle.std.specs.Str.{bytes_eq}
 use Rattle.map_model.specs.declared.parts.MapParts.{MapParts}
 use Rattle.map_model.specs.Lookups.{layer_of}
 use Rattle.map_model.specs.Tilesets.{tileset_of}
-use Rattle.command_api.specs.declared.fault.EditFault.{EditFault}
-use Rattle.command_api.specs.declared.fault.EditFault.TheVariants.{OutsideTheMap}
+use Rattle.refusals.specs.declared.edit_fault.EditFault.{EditFault}
+use Rattle.refusals.specs.declared.edit_fault.EditFault.TheVariants.{OutsideTheMap}
 use Rattle.map_model.specs.Steps.{◌>>=◌}
 use Rattle.edits.specs.Refusals.{tiles_or_fault}
 use Rattle.undo_stack.specs.History.{History, count, is_clean}
 use Rattle.undo_stack.specs.Moving.{Answer}
 use Rattle.undo_group.specs.Groups.{GroupParts, OpenDocument}
 use Rattle.session.specs.declared.reply.LocalTile.{LocalTile}
-use Rattle.session.specs.declared.reply.Refusal.TheVariants as refusals
+use Rattle.refusals.specs.declared.refusal.Refusal.TheVariants as refusals
+use Rattle.refusals.specs.Layers.{out_of_range, refusal_of_edit, refusal_of_stack}
 use Rattle.session.specs.declared.reply.Reply.{Reply}
 use Rattle.session.specs.declared.reply.Reply.TheVariants as replies
-use Rattle.editor.specs.Refusals.{refusal_of_edit, refusal_of_stack}
 use Rattle.tile_id.specs.Gid.{base_of}
 
 -- how a history stands: its position, its count, whether it is clean, and its open levels
@@ -37,7 +37,7 @@ call_reply (Err fault) n = replies.Refused (refusal_of_stack fault)
 
 -- the text for lists of a step, where there is one
 abbrev pub step_text_reply : Option (List ℕ) → Reply
-step_text_reply None = replies.Refused refusals.OutOfRange
+step_text_reply None = replies.Refused out_of_range
 step_text_reply (Some text) = replies.Text text
 
 -- ---- the open documents

@@ -6,7 +6,7 @@ use Rattle.undo_stack.specs.Moving.{Answer, clean_answer}
 use Rattle.undo_group.specs.Groups.{history_named}
 use Rattle.session.specs.declared.line.Line.{Line}
 use Rattle.session.specs.declared.line.Line.TheVariants.{Open, Save}
-use Rattle.session.specs.declared.reply.Refusal.TheVariants.{NoMemory}
+use Rattle.refusals.specs.declared.refusal.Refusal.TheVariants.{NoMemory}
 use Rattle.session.specs.declared.reply.Reply.{Reply}
 use Rattle.session.specs.declared.reply.Reply.TheVariants.{Refused}
 use Rattle.editor.specs.declared.planned.Planned.{Planned}

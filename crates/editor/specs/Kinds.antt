@@ -11,8 +11,8 @@ use Rattle.undo_stack.specs.Pushing.{IsPushed, step_of, without_last}
 use Rattle.undo_stack.specs.Stacks.{macros}
 use Rattle.session.specs.declared.line.Line.{Line}
 use Rattle.session.specs.declared.line.Line.TheVariants as lines
-use Rattle.session.specs.declared.line.LineFault.{LineFault}
-use Rattle.session.specs.declared.reply.Refusal.{Refusal}
+use Rattle.refusals.specs.declared.line_fault.LineFault.{LineFault}
+use Rattle.refusals.specs.declared.refusal.Refusal.{Refusal}
 use Rattle.session.specs.declared.reply.Reply.{Reply}
 use Rattle.session.specs.declared.reply.Reply.TheVariants.{Refused}
 use Rattle.session.specs.Grammar.{line_of}

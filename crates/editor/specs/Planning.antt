@@ -1,7 +1,7 @@
 -- What planning a line and committing an edit say of each other.
 use Rattle.std.specs.Prelude.{◌≡◌, Option, None, Some, Result, Ok, Err, ◌⊎◌, ⊤}
 use Rattle.map_model.specs.Document.{DocumentParts}
-use Rattle.command_api.specs.declared.fault.EditFault.{EditFault}
+use Rattle.refusals.specs.declared.edit_fault.EditFault.{EditFault}
 use Rattle.command_api.specs.Law.{Change}
 use Rattle.command_api.specs.Offers.{Shown, Nothing}
 use Rattle.layer_commands.specs.Changes.{add_change, remove_change, rename_change, show_change, move_change, resize_change}
@@ -15,8 +15,9 @@ use Rattle.undo_stack.specs.History as histories
 use Rattle.undo_stack.specs.Pushing.{IsPushed, step_of}
 use Rattle.session.specs.declared.line.Line.{Line}
 use Rattle.session.specs.declared.line.Line.TheVariants.{Quiet}
-use Rattle.session.specs.declared.reply.Refusal.{Refusal}
-use Rattle.session.specs.declared.reply.Refusal.TheVariants as refusals
+use Rattle.refusals.specs.declared.refusal.Refusal.{Refusal}
+use Rattle.refusals.specs.declared.refusal.Refusal.TheVariants as refusals
+use Rattle.refusals.specs.Layers.{refusal_of_edit}
 use Rattle.session.specs.declared.reply.Reply.{Reply}
 use Rattle.session.specs.declared.reply.Reply.TheVariants as replies
 use Rattle.editor.specs.declared.planned.Edit.{Edit}
@@ -26,7 +27,6 @@ use Rattle.editor.specs.declared.planned.Planned.{Planned}
 use Rattle.editor.specs.declared.planned.Planned.TheVariants as planned
 use Rattle.editor.specs.Acts.{Act, Refuses, answer_of}
 use Rattle.editor.specs.Answers.{state_reply}
-use Rattle.editor.specs.Refusals.{refusal_of_edit}
 use Rattle.editor.specs.Machine.{Machine, Workspace, active_of, with_active}
 use Rattle.editor.specs.Steps.{Rule, OnFiles, OnDocuments, OnActive, Edits, Allows, rule_of}
 

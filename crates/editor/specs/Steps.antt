@@ -3,7 +3,7 @@ use Rattle.std.specs.Prelude.{List, ℕ, Result, Ok, Err}
 use Rattle.map_model.specs.Document.{DocumentParts}
 use Rattle.map_json.specs.Trees.{text_of}
 use Rattle.map_store.specs.Files.{SameOthers}
-use Rattle.command_api.specs.declared.fault.EditFault.{EditFault}
+use Rattle.refusals.specs.declared.edit_fault.EditFault.{EditFault}
 use Rattle.command_api.specs.Names.{Names}
 use Rattle.edits.specs.declared.selecting.Selecting.TheVariants.{Nothing, Rectangle}
 use Rattle.edits.specs.Filling.{after_fill}
@@ -28,8 +28,8 @@ use Rattle.session.specs.declared.line.Line.TheVariants.{Quiet, New, Open, Save,
 use Rattle.session.specs.declared.line.Line.TheVariants.{AddLayer, RemoveLayer, RenameLayer, ShowLayer, MoveLayer, Resize, AddObject, MoveObject, ResizeObject}
 use Rattle.session.specs.declared.line.Line.TheVariants.{RemoveObject, SetProperty, RemoveProperty, AddTileset, RemoveTileset, Undo, Redo, Goto, Clean, Begin}
 use Rattle.session.specs.declared.line.Line.TheVariants.{End, Limit, Dirty, Clear, Show, Status, UndoText, RedoText, StepText}
-use Rattle.session.specs.declared.line.LineFault.{LineFault}
-use Rattle.session.specs.declared.reply.Refusal.TheVariants as refusals
+use Rattle.refusals.specs.declared.line_fault.LineFault.{LineFault}
+use Rattle.refusals.specs.declared.refusal.Refusal.TheVariants as refusals
 use Rattle.session.specs.declared.reply.Reply.TheVariants as replies
 use Rattle.session.specs.Grammar.{line_of}
 use Rattle.session.specs.TypedValues.{property_value, type_name}

@@ -6,7 +6,6 @@ mod edit_command;
 mod editor;
 mod planned;
 mod planning;
-mod refusal;
 mod saving;
 mod steps;
 mod tile;

@@ -19,7 +19,7 @@ use crate::planning::edit_plans::{
     plan_set_property, plan_show_layer, plan_stamp,
 };
 use crate::steps::{plan_answered, plan_begin, plan_limit, plan_show, plan_step_text, state_of};
-use crate::{refusal, tile};
+use crate::tile;
 use command_api::{Command, EditFault};
 use edits::{Area, Selecting};
 use map_model::Owner;
@@ -40,7 +40,7 @@ pub fn planned(edit: Result<Edit, EditFault>) -> Planned
 {
     match edit {
         Ok(edit) => Planned::Push(edit),
-        Err(fault) => refused(refusal::of_edit(fault)),
+        Err(fault) => refused(Refusal::from(fault)),
     }
 }
 

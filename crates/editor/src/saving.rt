@@ -7,11 +7,11 @@ ghost use Rattle.undo_stack.specs.Moving.{clean_answer};
 ghost use Rattle.editor.specs.Asking.{AsksOutside};
 ghost use Rattle.editor.specs.Planning.{KeepsReply};
 
-use crate::refusal;
 use command_api::Command;
 use map_json::write_map;
 use map_store::MapStore;
-use session::{FileName, Refusal, Reply, Text};
+use refusals::{Refusal, StackFault};
+use session::{FileName, Reply, Text};
 use std::alloc::Global;
 use undo_stack::Stack;
 
@@ -32,7 +32,7 @@ pub fn save_document<C: Command, S: MapStore>(
     ensures asks { AsksOutside file.now (clean_answer (history C.change stack.old)) result (S.asked store.old) (S.asked store.new) }
 {
     if stack.depth() > 0 {
-        return Reply::Refused(Refusal::MacroOpen);
+        return Reply::Refused(Refusal::Stack(StackFault::MacroOpen));
     }
     let Ok(bytes) = write_map(alloc, stack.document().map()) else {
         return Reply::Refused(Refusal::NoMemory);
@@ -41,7 +41,7 @@ pub fn save_document<C: Command, S: MapStore>(
         return Reply::Refused(Refusal::NoMemory);
     };
     if let Err(fault) = store.store(alloc, file.as_str(), bytes.as_slice()) {
-        return Reply::Refused(refusal::of_store(fault));
+        return Reply::Refused(Refusal::from(fault));
     }
     match stack.set_clean() {
         Ok(()) => Reply::Saved {

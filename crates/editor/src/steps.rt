@@ -1,7 +1,7 @@
 // Lines about the active document's history, and the replies that tell how it stands.
 ghost use Rattle.std.specs.Prelude.{◌≡◌, ◌⊎◌, Some};
 ghost use Rattle.session.specs.declared.line.Line.TheVariants.{Begin};
-ghost use Rattle.session.specs.declared.reply.Refusal.TheVariants as refusals;
+ghost use Rattle.refusals.specs.declared.refusal.Refusal.TheVariants as refusals;
 ghost use Rattle.session.specs.declared.reply.Reply.TheVariants as replies;
 ghost use Rattle.map_json.specs.Trees.{text_of};
 ghost use Rattle.undo_stack.specs.Reading.{text_at};
@@ -15,14 +15,14 @@ ghost use Rattle.editor.specs.declared.planned.Planned.TheVariants as planned;
 
 use crate::planned::Planned;
 use crate::planning::refused;
-use crate::refusal;
 use command_api::Command;
 use map_json::write_map;
 use map_model::{Document, MapText};
-use session::{MapBytes, Refusal, Reply, Text};
+use refusals::{EditFault, Refusal, StackFault};
+use session::{MapBytes, Reply, Text};
 use std::alloc::Global;
+use undo_stack::Stack;
 use undo_stack::limits::MAX_LIMIT;
-use undo_stack::{Stack, StackFault};
 
 /// How a stack stands.
 pub fn state_of<C: Command>(stack: &Stack<C>) -> Reply
@@ -52,7 +52,7 @@ pub fn answered<C: Command>(stack: &Stack<C>, answer: Result<(), StackFault>) ->
 {
     match answer {
         Ok(()) => state_of(stack),
-        Err(fault) => Reply::Refused(refusal::of_stack(fault)),
+        Err(fault) => Reply::Refused(Refusal::from(fault)),
     }
 }
 
@@ -82,7 +82,7 @@ pub fn plan_step_text<C: Command>(alloc: Global, stack: &Stack<C>, number: u32) 
 {
     match stack.text(number as usize) {
         Some(text) => Planned::Reply(text_reply(alloc, text)),
-        None => refused(Refusal::OutOfRange),
+        None => refused(Refusal::Edit(EditFault::OutOfRange)),
     }
 }
 
@@ -117,10 +117,10 @@ pub fn plan_limit<C: Command>(stack: &mut Stack<C>, limit: u32) -> Planned
 {
     let limit = limit as usize;
     if stack.count() > 0 {
-        return refused(Refusal::StackNotEmpty);
+        return refused(Refusal::Stack(StackFault::NotEmpty));
     }
     if limit > MAX_LIMIT {
-        return refused(Refusal::OutOfRange);
+        return refused(Refusal::Edit(EditFault::OutOfRange));
     }
     let answer = stack.set_undo_limit(limit);
     Planned::Reply(answered(stack, answer))

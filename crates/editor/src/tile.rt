@@ -2,10 +2,10 @@
 ghost use Rattle.std.specs.Prelude.{◌≡◌};
 ghost use Rattle.editor.specs.Answers.{cell_value, local_tile, tile_reply};
 
-use crate::refusal;
 use edits::tiles_of_layer;
 use map_model::Map;
-use session::{LocalTile, Refusal, Reply};
+use refusals::{EditFault, Refusal};
+use session::{LocalTile, Reply};
 use tile_id::Gid;
 
 // The tile that a value names: the first id of its tileset, and how far the value's base is above that.
@@ -41,10 +41,10 @@ pub fn reply(map: &Map, layer: u32, x: i32, y: i32) -> Reply
 {
     let tiles = match tiles_of_layer(map, layer) {
         Ok(tiles) => tiles,
-        Err(fault) => return Reply::Refused(refusal::of_edit(fault)),
+        Err(fault) => return Reply::Refused(Refusal::from(fault)),
     };
     let Some(value) = cell_value(map, tiles, x, y) else {
-        return Reply::Refused(Refusal::OutsideTheMap);
+        return Reply::Refused(Refusal::Edit(EditFault::OutsideTheMap));
     };
     if value.is_empty() {
         return Reply::EmptyTile;

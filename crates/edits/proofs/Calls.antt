@@ -15,7 +15,7 @@ use Rattle.map_model.specs.Lookups.{layer_of, HasTiles, tiles_in, tiles_of_layer
 use Rattle.map_model.specs.WellFormed.{IsWellFormed}
 use Rattle.map_model.proofs.Keeps.{length-tiles_in}
 use Rattle.map_model.proofs.Turns.{tiles_in-with_tiles}
-use Rattle.command_api.specs.declared.fault.EditFault.{EditFault}
+use Rattle.refusals.specs.declared.edit_fault.EditFault.{EditFault}
 use Rattle.edits.specs.declared.area.Area.{Area}
 use Rattle.edits.specs.declared.change.CellChange.{CellChange}
 use Rattle.edits.specs.declared.span.Span.{Span}

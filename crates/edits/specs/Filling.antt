@@ -8,8 +8,8 @@ use Rattle.map_model.specs.declared.parts.MapParts.{MapParts}
 use Rattle.map_model.specs.Document.{DocumentParts, with_map}
 use Rattle.map_model.specs.Lookups.{layer_of, tiles_in, HasTiles}
 use Rattle.map_model.specs.WellFormed.{IsWellFormed}
-use Rattle.command_api.specs.declared.fault.EditFault.{EditFault}
-use Rattle.command_api.specs.declared.fault.EditFault.TheVariants.{OutsideTheMap, UnknownTile}
+use Rattle.refusals.specs.declared.edit_fault.EditFault.{EditFault}
+use Rattle.refusals.specs.declared.edit_fault.EditFault.TheVariants.{OutsideTheMap, UnknownTile}
 use Rattle.map_model.specs.Steps.{◌>>=◌, ◌>>◌, check}
 use Rattle.edits.specs.Covering.{covered_map}
 use Rattle.edits.specs.Joining.{AreJoined, is_free, is_reached}

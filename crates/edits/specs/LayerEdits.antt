@@ -13,8 +13,8 @@ use Rattle.map_model.specs.Layers.{layer_with_visible, with_next_ids}
 use Rattle.map_model.specs.NewMap.{new_layer}
 use Rattle.map_model.specs.Lookups.{layer_of, with_layer}
 use Rattle.map_model.specs.Steps.{◌>>=◌, ◌>>◌, check}
-use Rattle.command_api.specs.declared.fault.EditFault.{EditFault}
-use Rattle.command_api.specs.declared.fault.EditFault.TheVariants.{NoSuchLayer, OutOfRange, TooMany}
+use Rattle.refusals.specs.declared.edit_fault.EditFault.{EditFault}
+use Rattle.refusals.specs.declared.edit_fault.EditFault.TheVariants.{NoSuchLayer, OutOfRange, TooMany}
 
 -- ---- a layer more
 -- the layer goes last, and the next layer id is one higher

@@ -14,8 +14,8 @@ use Rattle.map_model.specs.NewMap.{new_object}
 use Rattle.map_model.specs.Objects.{objects_of, object_place, object_with_placing, with_object, with_objects, without_object_at}
 use Rattle.map_model.specs.Lookups.{layer_of}
 use Rattle.map_model.specs.Steps.{◌>>=◌, ◌>>◌, check}
-use Rattle.command_api.specs.declared.fault.EditFault.{EditFault}
-use Rattle.command_api.specs.declared.fault.EditFault.TheVariants.{NoSuchLayer, LayerOfAnotherKind, NoSuchObject, OutOfRange, TooMany}
+use Rattle.refusals.specs.declared.edit_fault.EditFault.{EditFault}
+use Rattle.refusals.specs.declared.edit_fault.EditFault.TheVariants.{NoSuchLayer, LayerOfAnotherKind, NoSuchObject, OutOfRange, TooMany}
 
 -- an object may be so wide and high
 abbrev pub is_object_size : ℕ → ℕ → Bool

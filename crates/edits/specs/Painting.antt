@@ -5,7 +5,7 @@ use Rattle.map_model.specs.CellEdits.{AreInRowOrder}
 use Rattle.map_model.specs.Document.{DocumentParts, with_map}
 use Rattle.map_model.specs.Lookups.{HasTiles}
 use Rattle.map_model.specs.WellFormed.{IsWellFormed}
-use Rattle.command_api.specs.declared.fault.EditFault.{EditFault}
+use Rattle.refusals.specs.declared.edit_fault.EditFault.{EditFault}
 use Rattle.edits.specs.declared.change.CellChange.{CellChange}
 use Rattle.edits.specs.Covering.{covered_map}
 use Rattle.map_model.specs.Difference.{difference_in}

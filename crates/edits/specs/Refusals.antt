@@ -7,8 +7,8 @@ use Rattle.map_model.specs.declared.parts.Layer.{Layer}
 use Rattle.map_model.specs.declared.parts.MapParts.{MapParts}
 use Rattle.map_model.specs.Tilesets.{tileset_of}
 use Rattle.tile_id.specs.Gid.{base_of}
-use Rattle.command_api.specs.declared.fault.EditFault.{EditFault}
-use Rattle.command_api.specs.declared.fault.EditFault.TheVariants.{NoSuchLayer, LayerOfAnotherKind}
+use Rattle.refusals.specs.declared.edit_fault.EditFault.{EditFault}
+use Rattle.refusals.specs.declared.edit_fault.EditFault.TheVariants.{NoSuchLayer, LayerOfAnotherKind}
 use Rattle.map_model.specs.Steps.{◌>>=◌}
 
 abbrev pub body_tiles_or_fault : Body → Result (List ℕ) EditFault

@@ -15,8 +15,8 @@ use Rattle.map_model.specs.Document.{DocumentParts}
 use Rattle.map_model.specs.Groups.{all_drawn, layer_with_layers}
 use Rattle.map_model.specs.Lookups.{layer_with_tiles}
 use Rattle.map_model.specs.Sizes.{is_size}
-use Rattle.command_api.specs.declared.fault.EditFault.{EditFault}
-use Rattle.command_api.specs.declared.fault.EditFault.TheVariants.{OutOfRange}
+use Rattle.refusals.specs.declared.edit_fault.EditFault.{EditFault}
+use Rattle.refusals.specs.declared.edit_fault.EditFault.TheVariants.{OutOfRange}
 use Rattle.map_model.specs.Steps.{◌>>◌, check}
 use Rattle.edits.specs.Blocks.{ValueBlock, value_over}
 

@@ -6,7 +6,7 @@ use Rattle.map_model.specs.declared.parts.MapParts.{MapParts}
 use Rattle.map_model.specs.declared.selection.SelectionMode.{SelectionMode}
 use Rattle.map_model.specs.declared.selection.SelectionMode.TheVariants.{Replace, Add, Subtract, Intersect}
 use Rattle.map_model.specs.Document.{DocumentParts, with_selection}
-use Rattle.command_api.specs.declared.fault.EditFault.{EditFault}
+use Rattle.refusals.specs.declared.edit_fault.EditFault.{EditFault}
 use Rattle.edits.specs.declared.area.Area.{Area}
 use Rattle.edits.specs.declared.selecting.Selecting.{Selecting}
 use Rattle.edits.specs.declared.selecting.Selecting.TheVariants.{Nothing, Rectangle}

@@ -4,8 +4,8 @@ use Rattle.std.specs.List.{list_all}
 use Rattle.map_model.specs.declared.limits.TheConstants.{MAX_SIDE}
 use Rattle.map_model.specs.Document.{DocumentParts, with_map}
 use Rattle.map_model.specs.Lookups.{layer_of}
-use Rattle.command_api.specs.declared.fault.EditFault.{EditFault}
-use Rattle.command_api.specs.declared.fault.EditFault.TheVariants.{UnknownTile}
+use Rattle.refusals.specs.declared.edit_fault.EditFault.{EditFault}
+use Rattle.refusals.specs.declared.edit_fault.EditFault.TheVariants.{UnknownTile}
 use Rattle.map_model.specs.Steps.{◌>>◌, check}
 use Rattle.edits.specs.declared.area.Area.{Area}
 use Rattle.edits.specs.Blocks.{ValueBlock, stamp_over, erase_over}

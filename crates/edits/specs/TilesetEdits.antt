@@ -9,8 +9,8 @@ use Rattle.map_model.specs.Document.{DocumentParts, with_map}
 use Rattle.map_model.specs.NewMap.{external_tileset}
 use Rattle.map_model.specs.Tilesets.{tileset_place, has_uses, with_tileset_at, without_tileset_at}
 use Rattle.map_model.specs.Steps.{◌>>=◌, ◌>>◌, check}
-use Rattle.command_api.specs.declared.fault.EditFault.{EditFault}
-use Rattle.command_api.specs.declared.fault.EditFault.TheVariants.{NoSuchTileset, TilesetInUse, FirstIdNotAbove, OutOfRange, TooMany}
+use Rattle.refusals.specs.declared.edit_fault.EditFault.{EditFault}
+use Rattle.refusals.specs.declared.edit_fault.EditFault.TheVariants.{NoSuchTileset, TilesetInUse, FirstIdNotAbove, OutOfRange, TooMany}
 
 -- ---- a tileset more
 -- whether the first ids of all tilesets are below this one

@@ -1,6 +1,6 @@
 // The extent of an edit in a tile layer, and the changes that it makes there.
 ghost use Rattle.std.specs.Prelude.{◌≡◌, ℕ, ◌+◌, ◌*◌, ◌<◌, ◌≤◌, ◌++◌, true, false, OnOk, IfOk, IfErr, IfSome, IfNone, length};
-ghost use Rattle.command_api.specs.declared.fault.EditFault.TheVariants.{NoMemory};
+ghost use Rattle.refusals.specs.declared.edit_fault.EditFault.TheVariants.{NoMemory};
 ghost use Rattle.map_model.specs.declared.limits.TheConstants.{MAX_SIDE};
 ghost use Rattle.edits.specs.CellLists.{cells_in};
 ghost use Rattle.edits.specs.Covering.{lets_change};

@@ -6,7 +6,7 @@ use Rattle.std.proofs.lemmas.Bool.{le-leb, lt-ltb}
 use Rattle.std.proofs.lemmas.Nat.{from_le_bytes-to_le_bytes_4}
 use Rattle.serde_json.specs.Data.{Data, array}
 use Rattle.serde_json.specs.Events.{items_len}
-use Rattle.map_json.specs.declared.fault.MapRefusal.{MapRefusal}
+use Rattle.refusals.specs.declared.map_refusal.MapRefusal.{MapRefusal}
 use Rattle.map_json.specs.Scalars.{whole_at}
 use Rattle.map_json.specs.Elements.{each, elements_at}
 use Rattle.map_json.specs.Cells.{cell_of, cells_of, words_of}

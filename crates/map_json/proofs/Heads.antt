@@ -11,8 +11,8 @@ use Rattle.map_model.specs.Keeping.{common_names, body_names, layer_names}
 use Rattle.map_model.specs.Steps.{◌>>=◌}
 use Rattle.map_json.specs.declared.body.LayerType.{LayerType}
 use Rattle.map_json.specs.declared.layer.Head.{Head}
-use Rattle.map_json.specs.declared.fault.MapRefusal.{MapRefusal}
-use Rattle.map_json.specs.declared.fault.MapRefusal.TheVariants.{MemberOfAnotherKind}
+use Rattle.refusals.specs.declared.map_refusal.MapRefusal.{MapRefusal}
+use Rattle.refusals.specs.declared.map_refusal.MapRefusal.TheVariants.{MemberOfAnotherKind}
 use Rattle.map_json.specs.declared.fault.MapFault.{MapFault}
 use Rattle.map_json.specs.Steps.{Fails, required, absent_means}
 use Rattle.map_json.specs.Scalars.{text_at, truth_at}

@@ -22,7 +22,7 @@ use Rattle.map_model.specs.Keeping.{IsOfAnotherKind, property_names, object_name
 use Rattle.map_model.specs.WellFormed.{IsId, IsValue, IsProperty, AreProperties, IsPixels, IsPlacing, IsTileValue, IsObject, IsTileset}
 use Rattle.json_members.specs.Members.{without_all}
 use Rattle.map_json.specs.Members.{with_own}
-use Rattle.map_json.specs.declared.fault.MapRefusal.{MapRefusal}
+use Rattle.refusals.specs.declared.map_refusal.MapRefusal.{MapRefusal}
 use Rattle.map_json.specs.Steps.{optional, absent_means}
 use Rattle.map_json.specs.Scalars.{whole_at, signed_at, text_at, truth_at}
 use Rattle.map_json.specs.Elements.{elements_at}

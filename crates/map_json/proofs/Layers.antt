@@ -23,7 +23,7 @@ use Rattle.json_members.specs.Members.{without_all}
 use Rattle.map_json.specs.declared.body.LayerType.{LayerType}
 use Rattle.map_json.specs.declared.body.LayerType.TheVariants.{TileLayer, ObjectGroup, ImageLayer, GroupLayer}
 use Rattle.map_json.specs.declared.layer.Head.{Head}
-use Rattle.map_json.specs.declared.fault.MapRefusal.TheVariants.{MemberOfAnotherKind, OverLimit}
+use Rattle.refusals.specs.declared.map_refusal.MapRefusal.TheVariants.{MemberOfAnotherKind, OverLimit}
 use Rattle.map_json.specs.Steps.{required, absent_means}
 use Rattle.map_json.specs.Scalars.{text_at, truth_at}
 use Rattle.map_json.specs.Elements.{Counting, each_counted, elements_at}

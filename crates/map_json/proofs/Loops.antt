@@ -7,7 +7,7 @@ use Rattle.serde_json.proofs.Views.{items_len-items_view}
 use Rattle.serde_json.specs.declared.value.Value.{Value}
 use Rattle.serde_json.specs.Data.{Data, Items, no_items, item}
 use Rattle.map_model.specs.Steps.{◌>>=◌}
-use Rattle.map_json.specs.declared.fault.MapRefusal.{MapRefusal}
+use Rattle.refusals.specs.declared.map_refusal.MapRefusal.{MapRefusal}
 use Rattle.map_json.specs.declared.fault.MapFault.{MapFault}
 use Rattle.map_json.specs.declared.fault.MapFault.TheVariants.{Memory, Refused}
 use Rattle.map_json.specs.Steps.{Fails}

@@ -15,8 +15,8 @@ use Rattle.map_model.specs.declared.parts.Tileset.{Tileset}
 use Rattle.map_model.specs.Keeping.{AreKept, object_names, tileset_names, tileset_level, property_level}
 use Rattle.map_model.specs.WellFormed.{IsPlacing, IsPixels, IsTileValue, IsTileset}
 use Rattle.json_members.specs.Members.{without_all}
-use Rattle.map_json.specs.declared.fault.MapRefusal.{MapRefusal}
-use Rattle.map_json.specs.declared.fault.MapRefusal.TheVariants.{MemberOfAnotherKind, OverLimit}
+use Rattle.refusals.specs.declared.map_refusal.MapRefusal.{MapRefusal}
+use Rattle.refusals.specs.declared.map_refusal.MapRefusal.TheVariants.{MemberOfAnotherKind, OverLimit}
 use Rattle.map_json.specs.Steps.{required, optional}
 use Rattle.map_json.specs.Scalars.{whole_at, signed_at, text_at, truth_at}
 use Rattle.map_json.specs.Reading.{id_at, pixels_at, placing_of, object_at, properties_of, tileset_at}

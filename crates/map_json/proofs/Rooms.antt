@@ -6,7 +6,7 @@ use Rattle.serde_json.specs.Data.{Data, Items}
 use Rattle.serde_json.specs.Events.{items_len}
 use Rattle.serde_json.specs.Find.{as_array}
 use Rattle.map_model.specs.declared.limits.TheConstants.{MAX_LAYERS}
-use Rattle.map_json.specs.declared.fault.MapRefusal.TheVariants.{MemberOfAnotherKind, OverLimit}
+use Rattle.refusals.specs.declared.map_refusal.MapRefusal.TheVariants.{MemberOfAnotherKind, OverLimit}
 use Rattle.map_json.specs.Elements.{each_counted}
 use Rattle.map_json.specs.Reading.{layer_by, layers_at}
 

@@ -26,8 +26,8 @@ use Rattle.map_model.specs.Keeping.{AreKept, IsKeptValue, IsOfAnotherKind, prope
 use Rattle.map_model.specs.WellFormed.{IsWhole, IsValue, IsProperty}
 use Rattle.map_model.specs.Steps.{◌>>=◌, ◌>>◌, check}
 use Rattle.json_members.specs.Members.{without_all}
-use Rattle.map_json.specs.declared.fault.MapRefusal.{MapRefusal}
-use Rattle.map_json.specs.declared.fault.MapRefusal.TheVariants.{MemberOfAnotherKind, OverLimit, BadData}
+use Rattle.refusals.specs.declared.map_refusal.MapRefusal.{MapRefusal}
+use Rattle.refusals.specs.declared.map_refusal.MapRefusal.TheVariants.{MemberOfAnotherKind, OverLimit, BadData}
 use Rattle.map_json.specs.Steps.{required, absent_means, optional}
 use Rattle.map_json.specs.Scalars.{whole_at, text_at}
 use Rattle.map_json.specs.Elements.{each, elements_at}

@@ -4,6 +4,7 @@ pub mod Elements
 pub mod Members
 pub mod Cells
 pub mod Reading
+pub mod Refusals
 pub mod Distinctness
 pub mod Maps
 pub mod Trees

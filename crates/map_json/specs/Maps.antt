@@ -12,8 +12,8 @@ use Rattle.map_model.specs.declared.limits.TheConstants.{MAX_SIDE, MAX_CELLS, MA
 use Rattle.map_model.specs.declared.parts.MapParts.{MapParts}
 use Rattle.map_model.specs.Keeping.{map_names}
 use Rattle.map_model.specs.Steps.{◌>>=◌, ◌>>◌, check}
-use Rattle.map_json.specs.declared.fault.MapRefusal.{MapRefusal}
-use Rattle.map_json.specs.declared.fault.MapRefusal.TheVariants.{NotJson, Fraction, Infinite, IdUsedTwice, OverLimit, NotAMap}
+use Rattle.refusals.specs.declared.map_refusal.MapRefusal.{MapRefusal}
+use Rattle.refusals.specs.declared.map_refusal.MapRefusal.TheVariants.{NotJson, Fraction, Infinite, IdUsedTwice, OverLimit, NotAMap}
 use Rattle.map_json.specs.declared.fault.MapFault.{MapFault}
 use Rattle.map_json.specs.declared.fault.MapFault.TheVariants.{Memory, Refused}
 use Rattle.map_json.specs.Steps.{required, absent_means}

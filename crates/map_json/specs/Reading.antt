@@ -24,8 +24,8 @@ use Rattle.map_model.specs.Steps.{◌>>=◌, ◌>>◌, check}
 use Rattle.map_json.specs.declared.body.LayerType.{LayerType}
 use Rattle.map_json.specs.declared.body.LayerType.TheVariants.{TileLayer, ObjectGroup, ImageLayer, GroupLayer}
 use Rattle.map_json.specs.declared.layer.Head.{Head}
-use Rattle.map_json.specs.declared.fault.MapRefusal.{MapRefusal}
-use Rattle.map_json.specs.declared.fault.MapRefusal.TheVariants.{MemberOfAnotherKind, Compressed, BadData, OverLimit}
+use Rattle.refusals.specs.declared.map_refusal.MapRefusal.{MapRefusal}
+use Rattle.refusals.specs.declared.map_refusal.MapRefusal.TheVariants.{MemberOfAnotherKind, Compressed, BadData, OverLimit}
 use Rattle.map_json.specs.Steps.{required, absent_means, optional}
 use Rattle.map_json.specs.Scalars.{whole_at, signed_at, text_at, truth_at}
 use Rattle.map_json.specs.Elements.{Counting, each_counted, elements_at}

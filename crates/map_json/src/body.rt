@@ -12,12 +12,13 @@ ghost use Rattle.map_json.specs.Reading.{type_at, encoding_at, compression_at, s
 
 use crate::cells::{array_cells, base64_cells};
 use crate::elements::required_elements;
-use crate::fault::{MapFault, MapRefusal};
+use crate::fault::MapFault;
 use crate::json_object::JsonObject;
 use crate::size::Size;
 use crate::trail::Trail;
 use map_model::limits::MAX_OBJECTS;
 use map_model::{Body, Cells, Encoding, names};
+use refusals::MapRefusal;
 use serde_json::Value;
 use std::alloc::Global;
 

@@ -7,13 +7,14 @@ ghost use Rattle.serde_json.specs.View.{view as data_of, items_view};
 ghost use Rattle.map_model.specs.declared.limits.TheConstants.{MAX_CELLS};
 ghost use Rattle.map_json.specs.Steps.{Gives, GivesBy};
 ghost use Rattle.map_json.specs.Cells.{is_blank, cell_of, cells_of, array_cells_at, base64_cells_at, packed, words_of};
-ghost use Rattle.map_json.specs.declared.fault.MapRefusal.TheVariants.{BadData};
+ghost use Rattle.refusals.specs.declared.map_refusal.MapRefusal.TheVariants.{BadData};
 
-use crate::fault::{MapFault, MapRefusal};
+use crate::fault::MapFault;
 use crate::trail::{Step, Trail};
 use base64::DecodeAllocError;
 use base64::engine::general_purpose::STANDARD;
 use map_model::Cells;
+use refusals::MapRefusal;
 use serde_json::Value;
 use std::alloc::{AllocError, Global};
 use tile_id::Gid;

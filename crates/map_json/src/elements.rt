@@ -8,19 +8,20 @@ ghost use Rattle.json_members.specs.Members.{without};
 ghost use Rattle.map_json.specs.Steps.{Gives, GivesBy, required, absent_means};
 ghost use Rattle.map_json.specs.Elements.{each, elements_at};
 
-use crate::fault::{MapFault, MapRefusal};
+use crate::fault::MapFault;
 use crate::json_object::JsonObject;
 use crate::size::Size;
 use crate::trail::{Step, Trail};
 use link_chain::Chain;
 use link_tree::LinkTree;
+use refusals::MapRefusal;
 use serde_json::Value;
 use std::alloc::{AllocError, Global};
 
 /// What an array of a file has as its elements.
 pub trait Element {
     ghost use Rattle.map_json.specs.declared.size.Size.{Size};
-    ghost use Rattle.map_json.specs.declared.fault.MapRefusal.{MapRefusal};
+    ghost use Rattle.refusals.specs.declared.map_refusal.MapRefusal.{MapRefusal};
 
     ghost reads: { Size → Data → Result Self MapRefusal };
 

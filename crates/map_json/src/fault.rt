@@ -3,32 +3,8 @@
 ghost use Rattle.std.specs.Prelude.{◌≡◌};
 ghost use Rattle.map_json.specs.declared.fault.MapFault.TheVariants.{Memory, Refused};
 
+use refusals::{MapRefusal, Refusal};
 use std::alloc::{AllocError, AllocFailed};
-
-/// What is wrong with a file: the first fault in the order in which a file is looked at.
-#[derive(Clone, Copy, PartialEq, Eq, Debug)]
-pub enum MapRefusal {
-    /// The bytes are not UTF-8, or no JSON text, or it nests deeper than 127, or a number is too great for a float.
-    NotJson,
-    /// A number that is not whole, or is `-0`, or does not fit 64 bits, stands somewhere but as the version of the map.
-    Fraction,
-    /// A member that must be there is absent.
-    MemberMissing,
-    /// A member is of another kind than it must be.
-    MemberOfAnotherKind,
-    /// The map is infinite.
-    Infinite,
-    /// The data of a layer is compressed.
-    Compressed,
-    /// The data of a layer is not one value for each cell of the map.
-    BadData,
-    /// An id, a first id, or the name of a property of one owner, is used twice.
-    IdUsedTwice,
-    /// A number or a list is past its limit, or an id is not below the next one.
-    OverLimit,
-    /// The root is no object, or its type is not the text `map`.
-    NotAMap,
-}
 
 /// Why a file gave no map: out of memory, or what is wrong with it.
 #[derive(Clone, Copy, PartialEq, Eq, Debug)]
@@ -58,5 +34,18 @@ impl From<MapRefusal> for MapFault {
 
     fn from(refusal: MapRefusal) -> MapFault {
         MapFault::Refused(refusal)
+    }
+}
+
+impl From<MapFault> for Refusal {
+    ghost use Rattle.map_json.specs.Refusals.{refusal_of_map};
+
+    ghost from_gives = { λ fault refusal. refusal ≡ refusal_of_map fault };
+
+    fn from(fault: MapFault) -> Refusal {
+        match fault {
+            MapFault::Memory => Refusal::NoMemory,
+            MapFault::Refused(refusal) => Refusal::Map(refusal),
+        }
     }
 }

@@ -12,7 +12,7 @@ ghost use Rattle.map_json.specs.Reading.{body_by, head_of, layer_by, layers_at, 
 
 use crate::body::{LayerType, objects, required_type, tiles};
 use crate::elements::{ElementList, array_of};
-use crate::fault::{MapFault, MapRefusal};
+use crate::fault::MapFault;
 use crate::json_object::JsonObject;
 use crate::property::properties_or_none;
 use crate::scalar::{required_id, text_or, truth_or};
@@ -21,6 +21,7 @@ use crate::trail::{Step, Trail};
 use link_chain::Chain;
 use map_model::limits::{MAX_GROUPS, MAX_LAYERS};
 use map_model::{Body, Layer, MapText, Property, names};
+use refusals::MapRefusal;
 use serde_json::Value;
 use std::alloc::Global;
 

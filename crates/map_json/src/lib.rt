@@ -21,7 +21,8 @@ mod tileset;
 mod trail;
 mod writing;
 
-pub use fault::{MapFault, MapRefusal};
+pub use fault::MapFault;
 pub use map_text::{saved_is_opened, write_map, write_outline, written_is_read};
 pub use reading::{read_map, read_map_along};
+pub use refusals::MapRefusal;
 pub use trail::{NoTrail, Step, Trail};

@@ -8,13 +8,14 @@ ghost use Rattle.map_json.specs.Scalars.{whole_at};
 ghost use Rattle.map_json.specs.Reading.{object_at, placing_of};
 
 use crate::elements::Element;
-use crate::fault::{MapFault, MapRefusal};
+use crate::fault::MapFault;
 use crate::json_object::JsonObject;
 use crate::property::properties_or_none;
 use crate::scalar::{optional_pixels, optional_text, optional_truth, optional_whole, required_id};
 use crate::size::Size;
 use crate::trail::Trail;
 use map_model::{Object, Placing, names};
+use refusals::MapRefusal;
 use serde_json::Value;
 use std::alloc::Global;
 use tile_id::Gid;

@@ -9,7 +9,7 @@ ghost use Rattle.map_json.specs.Steps.{Gives, required};
 ghost use Rattle.map_json.specs.Reading.{value_of, value_at, property_at, properties_of};
 
 use crate::elements::{Element, elements_or_none};
-use crate::fault::{MapFault, MapRefusal};
+use crate::fault::MapFault;
 use crate::json_object::JsonObject;
 use crate::scalar::{required_text, text_or};
 use crate::size::Size;
@@ -17,6 +17,7 @@ use crate::trail::Trail;
 use link_chain::Chain;
 use map_model::limits::MAX_PROPERTIES;
 use map_model::{JsonValue, MapText, PropValue, Property, names};
+use refusals::MapRefusal;
 use serde_json::Value;
 use std::alloc::Global;
 

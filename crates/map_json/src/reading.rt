@@ -5,7 +5,7 @@ ghost use Rattle.map_json.specs.Steps.{Gives};
 ghost use Rattle.map_json.specs.Maps.{is_map_type, parts_of, consistent, map_of, Says};
 
 use crate::doubles::{are_below_next, ids_are_unique, ids_of_map};
-use crate::fault::{MapFault, MapRefusal};
+use crate::fault::MapFault;
 use crate::fractions::has_fraction;
 use crate::json_object::JsonObject;
 use crate::layer::map_layers;
@@ -16,6 +16,7 @@ use crate::tileset::required_tilesets;
 use crate::trail::{NoTrail, Step, Trail};
 use map_model::limits::{MAX_CELLS, MAX_SIDE, MAX_TILE_SIDE};
 use map_model::{Map, MapParts, names};
+use refusals::MapRefusal;
 use serde_json::Value;
 use std::alloc::Global;
 

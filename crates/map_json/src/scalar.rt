@@ -8,11 +8,12 @@ ghost use Rattle.map_json.specs.Steps.{required, absent_means, optional, Gives};
 ghost use Rattle.map_json.specs.Scalars.{whole_at, text_at, truth_at};
 ghost use Rattle.map_json.specs.Reading.{id_at, pixels_at};
 
-use crate::fault::{MapFault, MapRefusal};
+use crate::fault::MapFault;
 use crate::json_object::JsonObject;
 use crate::trail::Trail;
 use map_model::limits::{MAX_NEXT_ID, MAX_PIXELS};
 use map_model::{MapText, names};
+use refusals::MapRefusal;
 use serde_json::Value;
 use std::alloc::Global;
 

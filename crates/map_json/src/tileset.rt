@@ -9,7 +9,7 @@ ghost use Rattle.map_json.specs.Elements.{elements_at};
 ghost use Rattle.map_json.specs.Reading.{tileset_at};
 
 use crate::elements::{Element, required_elements};
-use crate::fault::{MapFault, MapRefusal};
+use crate::fault::MapFault;
 use crate::json_object::JsonObject;
 use crate::scalar::{optional_text, required_whole};
 use crate::size::Size;
@@ -17,6 +17,7 @@ use crate::trail::Trail;
 use link_chain::Chain;
 use map_model::limits::{MAX_FIRST_ID, MAX_TILESETS};
 use map_model::{Tileset, names};
+use refusals::MapRefusal;
 use serde_json::Value;
 use std::alloc::Global;
 

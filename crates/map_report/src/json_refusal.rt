@@ -2,7 +2,7 @@
 use crate::fractions::{Fractions, Owner, find_fractions, write_owner};
 use crate::json_fault::{LineColumn, place_of_fault};
 use crate::place::Place;
-use crate::refusals::{TOO_LONG, words_of};
+use crate::refusals::TOO_LONG;
 use json::Writer;
 use map_json::{MapFault, MapRefusal, read_map_along};
 use serde_json::{Error, Value};
@@ -134,7 +134,7 @@ fn put_refused(
     place: &Place,
     out: &mut Writer,
 ) -> io::Result<()> {
-    put_code(out, words_of(refusal))?;
+    put_code(out, refusal.words())?;
     out.key("places")?;
     out.begin_array()?;
     put_places(alloc, bytes, refusal, place, out)?;

@@ -11,22 +11,6 @@ use tiled_maps::{Fault, LONGEST, set_aside};
 /// Why a map can't be set aside, if its text would be longer than `LONGEST`.
 pub const TOO_LONG: &str = "set aside, it would be longer than 67,108,864 bytes";
 
-/// The code of a refusal, and its words behind it.
-pub fn words_of(refusal: MapRefusal) -> &'static str {
-    match refusal {
-        MapRefusal::NotJson => "60 not JSON",
-        MapRefusal::Fraction => "61 fraction",
-        MapRefusal::MemberMissing => "62 member missing",
-        MapRefusal::MemberOfAnotherKind => "63 member of another kind",
-        MapRefusal::Infinite => "64 infinite",
-        MapRefusal::Compressed => "65 compressed",
-        MapRefusal::BadData => "66 bad data",
-        MapRefusal::IdUsedTwice => "67 id used twice",
-        MapRefusal::OverLimit => "68 over a limit",
-        MapRefusal::NotAMap => "69 not a map",
-    }
-}
-
 // Writes where a text ceases to be JSON, where there is memory to know it.
 fn write_line<W: Write>(
     alloc: Global,
@@ -51,7 +35,7 @@ fn write_refused<W: Write>(
     place: &Place,
     output: &mut W,
 ) -> io::Result<()> {
-    let words = words_of(refusal);
+    let words = refusal.words();
     write!(output, "no {words}")?;
     match Value::from_slice(alloc, bytes) {
         Ok(root) => {

@@ -2,8 +2,8 @@
 use Rattle.std.specs.Prelude.{◌≡◌, ◌⊎◌}
 use Rattle.map_store.specs.declared.folder_store.LoadError.{LoadError}
 use Rattle.map_store.specs.declared.folder_store.LoadError.TheVariants.{Open, Read, NotAFile, TooLong, Memory}
-use Rattle.map_store.specs.declared.map_store.StoreFault.{StoreFault}
-use Rattle.map_store.specs.declared.map_store.StoreFault.TheVariants as faults
+use Rattle.refusals.specs.declared.store_fault.StoreFault.{StoreFault}
+use Rattle.refusals.specs.declared.store_fault.StoreFault.TheVariants as faults
 
 -- a file that can't be opened may be missing; one that is too long, is no file or can't be read is a fault of the device
 abbrev pub IsAnswered : LoadError → StoreFault → Type 0

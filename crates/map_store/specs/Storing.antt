@@ -3,8 +3,8 @@ use Rattle.std.specs.Prelude.{◌≡◌, ℕ, List, None, Some, Result, Ok, Err,
 use Rattle.std.specs.Global.{Global}
 use Rattle.std.specs.FinMap.{get, insert}
 use Rattle.map_store.specs.Files.{Files, SameOthers}
-use Rattle.map_store.specs.declared.map_store.StoreFault.{StoreFault}
-use Rattle.map_store.specs.declared.map_store.StoreFault.TheVariants.{Missing, Device, Memory}
+use Rattle.refusals.specs.declared.store_fault.StoreFault.{StoreFault}
+use Rattle.refusals.specs.declared.store_fault.StoreFault.TheVariants.{Missing, Device, Memory}
 
 -- loading: the file's bytes, or no such file is there; the files stay
 abbrev pub Loads : List ℕ → Files → Result (Vec ℕ Global) StoreFault → Files → Type 0

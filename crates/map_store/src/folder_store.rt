@@ -7,7 +7,7 @@ ghost use Rattle.map_store.specs.Files.{HasFailed};
 ghost use Rattle.map_store.specs.Paths.{path_to, front_of, IsName};
 ghost use Rattle.map_store.specs.Storing.{Loads};
 
-use crate::map_store::{MapStore, StoreFault};
+use crate::map_store::MapStore;
 use crate::reason::Reason;
 use crate::store_log::{StoreCall, StoreLog};
 use atomic_save::{LockFile, SaveError, SystemFolder, save};

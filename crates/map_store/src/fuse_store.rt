@@ -2,7 +2,7 @@ ghost use Rattle.map_store.specs.Files.{HasFailed};
 ghost use Rattle.map_store.specs.Fuse.{FuseParts, fuse_code, HasBurned};
 ghost use Rattle.map_store.specs.Stored.{files_of};
 
-use crate::map_store::{MapStore, StoreFault};
+use crate::map_store::MapStore;
 use crate::memory_store::MemoryStore;
 use crate::store_log::{StoreCall, StoreLog};
 use std::alloc::Global;

@@ -10,7 +10,8 @@ mod store_log;
 
 pub use folder_store::{FolderStore, new_files_are_apart};
 pub use fuse_store::FuseStore;
-pub use map_store::{MapStore, StoreFault};
+pub use map_store::MapStore;
 pub use memory_store::MemoryStore;
 pub use reason::Reason;
+pub use refusals::StoreFault;
 pub use store_log::{StoreCall, StoreLog};

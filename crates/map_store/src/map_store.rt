@@ -2,18 +2,8 @@ ghost use Rattle.std.specs.Prelude.{◌≡◌, ◌≤◌, ◌∷◌, List, IsErr
 ghost use Rattle.map_store.specs.Asking.{Asked, loading, storing};
 ghost use Rattle.map_store.specs.Files.{StoreParts, HasFailed};
 
+use refusals::StoreFault;
 use std::alloc::Global;
-
-/// Why a store refuses.
-#[derive(Clone, Copy, Debug, PartialEq, Eq)]
-pub enum StoreFault {
-    /// No file of that name is there. Only a load answers so.
-    Missing,
-    /// The device failed.
-    Device,
-    /// There was no memory.
-    Memory,
-}
 
 /// Keeps files by name.
 ///

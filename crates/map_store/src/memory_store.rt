@@ -1,4 +1,4 @@
-use crate::map_store::{MapStore, StoreFault};
+use crate::map_store::MapStore;
 use crate::store_log::{StoreCall, StoreLog};
 use std::alloc::Global;
 use std::collections::BTreeMap;

@@ -21,7 +21,7 @@ use Rattle.map_model.proofs.Lookups.{level_of-low}
 use Rattle.map_model.proofs.NewMaps.{new_object-IsObject}
 use Rattle.map_model.proofs.ObjectKeeps.{numbered_object-keeps, with_objects-along}
 use Rattle.map_model.proofs.SlotLaws.{next_object_slot-laws}
-use Rattle.command_api.specs.declared.fault.EditFault.TheVariants.{LayerOfAnotherKind}
+use Rattle.refusals.specs.declared.edit_fault.EditFault.TheVariants.{LayerOfAnotherKind}
 use Rattle.command_api.specs.Link.{FitsLink}
 use Rattle.command_api.specs.Making.{Makes}
 use Rattle.command_api.proofs.Links.{link_made}

@@ -12,7 +12,7 @@ use Rattle.edits.specs.declared.change.CellChange.{CellChange}
 use Rattle.edits.specs.Merging.{joined}
 use Rattle.edits.specs.Painting.{IsPainted}
 use Rattle.edits.specs.Stamping.{IsBlock}
-use Rattle.command_api.specs.declared.fault.EditFault.{EditFault}
+use Rattle.refusals.specs.declared.edit_fault.EditFault.{EditFault}
 use Rattle.command_api.specs.Exchange.{FitsTurn}
 use Rattle.command_api.specs.Making.{Makes}
 use Rattle.command_api.specs.Offers.{FitsCells, IsOfferOf}

@@ -17,7 +17,7 @@ use Rattle.map_model.specs.Difference.{difference_in}
 use Rattle.edits.specs.Painting.{IsPainted}
 use Rattle.edits.proofs.Differences.{length-each_at}
 use Rattle.edits.proofs.Turns.{with_edits-after, with_edits-before, with_edits-again, with_edits-none, difference_in-same, difference_in-within}
-use Rattle.command_api.specs.declared.fault.EditFault.{EditFault}
+use Rattle.refusals.specs.declared.edit_fault.EditFault.{EditFault}
 use Rattle.command_api.specs.Names.{Names, WhenEqual}
 use Rattle.command_api.specs.Making.{Makes}
 use Rattle.paint_commands.specs.declared.paint.PaintKind.{PaintKind}

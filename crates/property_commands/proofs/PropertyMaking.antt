@@ -25,8 +25,8 @@ use Rattle.map_model.proofs.LensLaws.{mapped}
 use Rattle.map_model.proofs.PropertyKeeps.{new_property-IsProperty, with_property_at-keeps, with_setting-keeps}
 use Rattle.map_model.proofs.PropertyLaws.{properties-laws}
 use Rattle.map_model.proofs.StayPut.{setting_named-laws}
-use Rattle.command_api.specs.declared.fault.EditFault.{EditFault}
-use Rattle.command_api.specs.declared.fault.EditFault.TheVariants.{NoSuchLayer, NoSuchObject}
+use Rattle.refusals.specs.declared.edit_fault.EditFault.{EditFault}
+use Rattle.refusals.specs.declared.edit_fault.EditFault.TheVariants.{NoSuchLayer, NoSuchObject}
 use Rattle.command_api.specs.Exchange.{change_of}
 use Rattle.command_api.specs.Making.{Makes}
 use Rattle.command_api.proofs.Links.{place_in-differs}

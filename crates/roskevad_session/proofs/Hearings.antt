@@ -9,7 +9,7 @@ use Rattle.std.proofs.lemmas.List.Elements.{All-append, All-nil, All-cons}
 use Rattle.std.proofs.lemmas.Grind.{flat_map-append}
 use Rattle.lines.specs.Lines.{lines_of}
 use Rattle.session.specs.Replies.{refusal_of}
-use Rattle.session.specs.declared.reply.Refusal.{Refusal}
+use Rattle.refusals.specs.declared.refusal.Refusal.{Refusal}
 use Rattle.session.specs.declared.reply.Reply.{Reply}
 use Rattle.session_run.specs.Runs.{IsAccepted, output, reply_line}
 use Rattle.roskevad_session.specs.Buffers.{size_within, written}

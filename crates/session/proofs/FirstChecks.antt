@@ -4,7 +4,7 @@ use Rattle.std.specs.Str.{IsUtf8, is_utf8}
 use Rattle.std.proofs.lemmas.Str.{is_utf8-from_IsUtf8, IsUtf8-from_is_utf8}
 use Rattle.std.proofs.lemmas.Bool.{le-ltb, false_from_ne_true}
 use Rattle.session.specs.declared.limits.TheConstants.{MAX_LINE}
-use Rattle.session.specs.declared.line.LineFault.TheVariants.{NotUtf8}
+use Rattle.refusals.specs.declared.line_fault.LineFault.TheVariants.{NotUtf8}
 use Rattle.session.specs.declared.line.Line.TheVariants.{Quiet}
 use Rattle.session.specs.Words.{words}
 use Rattle.session.specs.Grammar.{read, line_form, is_quiet, line_of}

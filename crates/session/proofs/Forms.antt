@@ -7,7 +7,7 @@ use Rattle.std.proofs.lemmas.List.{append-nil}
 use Rattle.std.proofs.lemmas.Bool.{cond_both}
 use Rattle.std.proofs.lemmas.Slice.Eq.{bytes_eq-Decides}
 use Rattle.session.specs.declared.line.Line.{Line}
-use Rattle.session.specs.declared.line.LineFault.{LineFault}
+use Rattle.refusals.specs.declared.line_fault.LineFault.{LineFault}
 use Rattle.session.specs.Grammar.{FieldKind, Number, Coordinate, Block, Name, File, Choice, LayerSort, YesNo, Truth, Key, Color, OwnerName, FieldValue}
 use Rattle.session.specs.Grammar.{LineForm, Ends, Text, Texts, Field, Word, Fails, choose, read, field_at, ends_at, last_text_at, last_texts_at, ◌>>=◌}
 use Rattle.session.specs.Spelling.{Token, Fixed, Given, Rest, RestTexts, tokens, token_words, field_words, IsToken}

@@ -12,7 +12,7 @@ use Rattle.session.specs.declared.line.Line.{Line}
 use Rattle.session.specs.declared.line.Line.TheVariants.{Quiet, Stamp, Erase, Select, MoveObject, SetProperty}
 use Rattle.session.specs.declared.typed_value.TypedValue.TheVariants as typed
 use Rattle.map_model.specs.declared.selection.SelectionMode.TheVariants.{Replace}
-use Rattle.session.specs.declared.line.LineFault.{LineFault}
+use Rattle.refusals.specs.declared.line_fault.LineFault.{LineFault}
 use Rattle.session.specs.Words.{words}
 use Rattle.session.specs.Grammar.{Gives, read, line_form, is_quiet, line_of}
 use Rattle.session.specs.Spelling.{joined_by_bars, Token, Fixed, Given, Rest, RestTexts, tokens, has_block, token_words, spaced, spelling, IsToken, Says}

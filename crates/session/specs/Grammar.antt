@@ -9,8 +9,8 @@ use Rattle.session.specs.declared.line.Line.TheVariants.{Quiet, New, Open, Save,
 use Rattle.session.specs.declared.line.Line.TheVariants.{AddLayer, RemoveLayer, RenameLayer, ShowLayer, MoveLayer, Resize, AddObject, MoveObject, ResizeObject}
 use Rattle.session.specs.declared.line.Line.TheVariants.{RemoveObject, SetProperty, RemoveProperty, AddTileset, RemoveTileset, Undo, Redo, Goto, Clean, Dirty}
 use Rattle.session.specs.declared.line.Line.TheVariants.{Clear, Begin, End, Limit, Show, Status, UndoText, RedoText, StepText}
-use Rattle.session.specs.declared.line.LineFault.{LineFault}
-use Rattle.session.specs.declared.line.LineFault.TheVariants.{TooLong, NotUtf8, UnknownCommand, BadWord}
+use Rattle.refusals.specs.declared.line_fault.LineFault.{LineFault}
+use Rattle.refusals.specs.declared.line_fault.LineFault.TheVariants.{TooLong, NotUtf8, UnknownCommand, BadWord}
 use Rattle.map_model.specs.declared.parts.LayerKind.{LayerKind}
 use Rattle.map_model.specs.declared.selection.SelectionMode.{SelectionMode}
 use Rattle.map_model.specs.declared.selection.SelectionMode.TheVariants.{Replace, Add, Subtract, Intersect}

@@ -1,17 +1,17 @@
 ghost use Rattle.session.specs.declared.limits.TheConstants.{MAX_DOCUMENT_NAME, MAX_FILE_NAME};
 ghost use Rattle.session.specs.Grammar.{Gives, word_at, passing, rows_at, block_at, word_is, last_text_at, last_texts_at, ends_at};
-ghost use Rattle.session.specs.declared.line.LineFault.TheVariants.{BadWord};
+ghost use Rattle.refusals.specs.declared.line_fault.LineFault.TheVariants.{BadWord};
 ghost use Rattle.std.specs.Prelude.{◌≡◌, ◌∷◌, [], IfOk, IfErr};
 ghost use Rattle.session.specs.Words.{words_left, are_rows, choice_of, coordinate_of, is_name, number_of};
 
 use crate::gids::Gids;
 use crate::limits::{MAX_DOCUMENT_NAME, MAX_FILE_NAME};
-use crate::line::LineFault;
 use crate::text::Text;
 use crate::words::{
     are_texts_here, coordinate_before, cut, cut_at_bars, is_name_word, is_text_here, number_before,
 };
 use map_model::limits::MAX_SIDE;
+use refusals::LineFault;
 use std::marker::Model;
 
 /// Whether so many values are the rows of a block of that width.

@@ -1,11 +1,12 @@
-ghost use Rattle.session.specs.declared.line.LineFault.TheVariants.{BadWord};
+ghost use Rattle.refusals.specs.declared.line_fault.LineFault.TheVariants.{BadWord};
 ghost use Rattle.session.specs.Grammar.{choose, layer_lines, Gives, read, add_layer_form, move_layer_form, remove_layer_form, rename_layer_form, show_layer_form};
 ghost use Rattle.std.specs.Prelude.{◌≡◌};
 ghost use Rattle.session.specs.Words.{layer_kind_of, yes_no_of};
 
 use crate::fields::{Fields, known};
-use crate::line::{Line, LineFault};
+use crate::line::Line;
 use map_model::LayerKind;
+use refusals::LineFault;
 
 /// The kind of layer that a word is.
 fn layer_kind(word: &str) -> Option<LayerKind>

@@ -18,9 +18,10 @@ mod typed_value;
 mod words;
 
 pub use gids::{Gids, Values};
-pub use line::{Line, LineFault};
+pub use line::Line;
 pub use parse::parse_line;
-pub use reply::{LocalTile, Refusal, Reply};
+pub use refusals::{LineFault, Refusal};
+pub use reply::{LocalTile, Reply};
 pub use spelling::{long_is_not_read, quiet_is_read, read_is_spelled, spelled_is_read};
 pub use text::{FileName, MapBytes, Text};
 pub use typed_value::TypedValue;

@@ -200,15 +200,3 @@ pub enum Line<'a> {
         number: u32,
     },
 }
-
-/// Why a line says nothing.
-#[derive(Clone, Copy, Debug, PartialEq, Eq)]
-pub enum LineFault {
-    /// It has more than `MAX_LINE` bytes.
-    TooLong,
-    NotUtf8,
-    /// Its first word is none of the commands.
-    UnknownCommand,
-    /// Something behind its first word is not as the command has it.
-    BadWord,
-}

@@ -1,8 +1,9 @@
-ghost use Rattle.session.specs.declared.line.LineFault.TheVariants.{BadWord};
+ghost use Rattle.refusals.specs.declared.line_fault.LineFault.TheVariants.{BadWord};
 ghost use Rattle.session.specs.Grammar.{choose, object_lines, Gives, read, add_object_form, move_object_form, remove_object_form, resize_object_form};
 
 use crate::fields::Fields;
-use crate::line::{Line, LineFault};
+use crate::line::Line;
+use refusals::LineFault;
 
 fn add_object<'a>(fields: &mut Fields<'a>) -> Result<Line<'a>, LineFault>
     ensures { Gives (λ x. x) result (read add_object_form fields.old) }

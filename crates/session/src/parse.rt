@@ -1,6 +1,6 @@
 ghost use Rattle.session.specs.Grammar.{Gives, read, choose, Ends, line_form, rare_commands, is_quiet, line_of, begin_form, erase_form, fill_form, close_form, discard_form, goto_form, limit_form, new_form, open_form, resize_form, save_form, stamp_form, step_text_form, tile_form, use_form};
 ghost use Rattle.session.specs.Spelling.{Says, CanBeSpelled};
-ghost use Rattle.session.specs.declared.line.LineFault.TheVariants.{UnknownCommand};
+ghost use Rattle.refusals.specs.declared.line_fault.LineFault.TheVariants.{UnknownCommand};
 ghost use Rattle.std.specs.Prelude.{◌≡◌, ◌==◌, ◌∷◌, IfOk, IfSome, IfNone};
 ghost use Rattle.std.specs.Str.{IsUtf8};
 ghost use Rattle.std.specs.List.{list_all};
@@ -8,12 +8,13 @@ ghost use Rattle.std.specs.List.{list_all};
 use crate::fields::Fields;
 use crate::layer_lines::layer;
 use crate::limits::MAX_LINE;
-use crate::line::{Line, LineFault};
+use crate::line::Line;
 use crate::object_lines::object;
 use crate::property_lines::property;
 use crate::select_lines::select;
 use crate::tileset_lines::tileset;
 use crate::words::cut;
+use refusals::LineFault;
 use tile_id::Gid;
 
 fn new<'a>(fields: &mut Fields<'a>) -> Result<Line<'a>, LineFault>

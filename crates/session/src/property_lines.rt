@@ -2,18 +2,19 @@ ghost use Rattle.std.specs.Prelude.{◌≡◌};
 ghost use Rattle.std.specs.List.{list_all};
 ghost use Rattle.session.specs.declared.line.Line.{Line};
 ghost use Rattle.session.specs.declared.line.Line.TheVariants.{SetProperty};
-ghost use Rattle.session.specs.declared.line.LineFault.TheVariants.{BadWord};
+ghost use Rattle.refusals.specs.declared.line_fault.LineFault.TheVariants.{BadWord};
 ghost use Rattle.session.specs.declared.typed_value.TypedValue.{TypedValue};
 ghost use Rattle.session.specs.Grammar.{choose, property_lines, passing, value_types, Gives, read, remove_property_form, set_property_form};
 ghost use Rattle.session.specs.Words.{is_color, is_color_digit, is_key, is_key_byte, owner_of, owner_with, truth_of};
 
 use crate::fields::{Fields, known};
 use crate::limits::MAX_KEY;
-use crate::line::{Line, LineFault};
+use crate::line::Line;
 use crate::text::Text;
 use crate::typed_value::TypedValue;
 use crate::words::{cut, number_before};
 use map_model::Owner;
+use refusals::LineFault;
 
 fn has_only_key_bytes(bytes: &[u8]) -> bool
     ensures { result ≡ list_all is_key_byte bytes.now }

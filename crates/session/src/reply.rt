@@ -1,55 +1,14 @@
 ghost use Rattle.std.specs.Prelude.{◌≡◌, ◌++◌, ◌∷◌, ◌+◌, ◌/◌, ◌%◌, ◌≤◌, ◌<◌, [], Option, length, decimal};
 ghost use Rattle.arrayvec.specs.ArrayString.{array_string_len};
 ghost use Rattle.session.specs.declared.limits.TheConstants.{MAX_FILE_NAME};
-ghost use Rattle.session.specs.Replies.{body_of, reply_text, refusal_of, refusal_text, flag_letter, flags_text, local_text, word_and};
+ghost use Rattle.session.specs.Replies.{body_of, reply_text, refusal_of, flag_letter, flags_text, local_text, word_and};
 
-use crate::line::LineFault;
 use crate::text::{FileName, MapBytes};
 use arrayvec::ArrayString;
 use itoa::Buffer;
 use map_model::MapText;
+use refusals::Refusal;
 use tile_id::Gid;
-
-/// Why a line was refused. The line changed nothing; only a `save` that the store failed may have changed its file.
-#[derive(Clone, Copy, Debug, PartialEq, Eq)]
-pub enum Refusal {
-    /// The line says nothing.
-    Line(LineFault),
-    NoActiveDocument,
-    NameTaken,
-    NoSuchDocument,
-    UnsavedChanges,
-    MacroOpen,
-    NothingToUndo,
-    NothingToRedo,
-    NoMacroOpen,
-    TooDeep,
-    StackNotEmpty,
-    NoSuchLayer,
-    LayerOfAnotherKind,
-    OutsideTheMap,
-    UnknownTile,
-    NoSuchObject,
-    NoSuchProperty,
-    NoSuchTileset,
-    TilesetInUse,
-    FirstIdNotAbove,
-    OutOfRange,
-    TooMany,
-    NoSuchFile,
-    StoreFailed,
-    NotJson,
-    Fraction,
-    MemberMissing,
-    MemberOfAnotherKind,
-    Infinite,
-    Compressed,
-    BadData,
-    IdUsedTwice,
-    OverLimit,
-    NotAMap,
-    NoMemory,
-}
 
 /// The tile of a tileset that a value names: the tileset's first global id, and the tile's local id in it.
 #[derive(Clone, Copy, Debug, PartialEq, Eq)]
@@ -89,55 +48,6 @@ pub enum Reply {
         local: Option<LocalTile>,
     },
     Refused(Refusal),
-}
-
-impl Refusal {
-    /// Its number and its words, as they stand in a reply: `30 no such layer`.
-    pub fn words(self) -> &'static str
-        ensures value { result.now ≡ refusal_text self }
-        ensures short { length result.now ≤ 100 }
-    {
-        match self {
-            Refusal::Line(LineFault::TooLong) => "1 line too long",
-            Refusal::Line(LineFault::NotUtf8) => "2 not UTF-8",
-            Refusal::Line(LineFault::UnknownCommand) => "3 unknown command",
-            Refusal::Line(LineFault::BadWord) => "4 bad word",
-            Refusal::NoActiveDocument => "10 no active document",
-            Refusal::NameTaken => "11 name taken",
-            Refusal::NoSuchDocument => "12 no such document",
-            Refusal::UnsavedChanges => "13 unsaved changes",
-            Refusal::MacroOpen => "20 macro open",
-            Refusal::NothingToUndo => "21 nothing to undo",
-            Refusal::NothingToRedo => "22 nothing to redo",
-            Refusal::NoMacroOpen => "23 no macro open",
-            Refusal::TooDeep => "24 too deep",
-            Refusal::StackNotEmpty => "25 stack not empty",
-            Refusal::NoSuchLayer => "30 no such layer",
-            Refusal::LayerOfAnotherKind => "31 layer of another kind",
-            Refusal::OutsideTheMap => "32 outside the map",
-            Refusal::UnknownTile => "33 unknown tile",
-            Refusal::NoSuchObject => "34 no such object",
-            Refusal::NoSuchProperty => "35 no such property",
-            Refusal::NoSuchTileset => "36 no such tileset",
-            Refusal::TilesetInUse => "37 tileset in use",
-            Refusal::FirstIdNotAbove => "38 first id not above the others",
-            Refusal::OutOfRange => "39 out of range",
-            Refusal::TooMany => "40 too many",
-            Refusal::NoSuchFile => "50 no such file",
-            Refusal::StoreFailed => "51 store failed",
-            Refusal::NotJson => "60 not JSON",
-            Refusal::Fraction => "61 fraction",
-            Refusal::MemberMissing => "62 member missing",
-            Refusal::MemberOfAnotherKind => "63 member of another kind",
-            Refusal::Infinite => "64 infinite",
-            Refusal::Compressed => "65 compressed",
-            Refusal::BadData => "66 bad data",
-            Refusal::IdUsedTwice => "67 id used twice",
-            Refusal::OverLimit => "68 over a limit",
-            Refusal::NotAMap => "69 not a map",
-            Refusal::NoMemory => "90 no memory",
-        }
-    }
 }
 
 fn push_digit(head: &mut ArrayString<512>, digit: u32)

@@ -1,10 +1,11 @@
-ghost use Rattle.session.specs.declared.line.LineFault.TheVariants.{BadWord};
+ghost use Rattle.refusals.specs.declared.line_fault.LineFault.TheVariants.{BadWord};
 ghost use Rattle.session.specs.declared.line.Line.TheVariants.{SelectNone};
 ghost use Rattle.session.specs.Grammar.{choose, select_lines, Ends, Gives, read, select_form};
 
 use crate::fields::Fields;
-use crate::line::{Line, LineFault};
+use crate::line::Line;
 use map_model::SelectionMode;
+use refusals::LineFault;
 
 fn select_rectangle<'a>(mode: SelectionMode, fields: &mut Fields<'a>) -> Result<Line<'a>, LineFault>
     ensures { Gives (λ x. x) result (read (select_form mode) fields.old) }

@@ -4,7 +4,7 @@ use Rattle.command_api.specs.Law.{Change, IsSame}
 use Rattle.map_store.specs.Asking.{Asked}
 use Rattle.undo_stack.specs.History.{History}
 use Rattle.session.specs.declared.line.Line.{Line}
-use Rattle.session.specs.declared.reply.Refusal.TheVariants.{NoMemory}
+use Rattle.refusals.specs.declared.refusal.Refusal.TheVariants.{NoMemory}
 use Rattle.session.specs.declared.reply.Reply.{Reply}
 use Rattle.session.specs.declared.reply.Reply.TheVariants.{Refused}
 use Rattle.editor.specs.declared.planned.Edit.{Edit}

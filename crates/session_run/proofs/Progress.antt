@@ -12,9 +12,9 @@ use Rattle.lines.specs.declared.reader.Found.TheVariants as found
 use Rattle.lines.specs.Lines.{lines_of, HasNoNewline}
 use Rattle.lines.specs.Reading.{FindsLine, Reading, StopsInLine, fresh, input_left}
 use Rattle.session.specs.declared.limits.TheConstants.{MAX_LINE}
-use Rattle.session.specs.declared.line.LineFault.TheVariants.{TooLong}
-use Rattle.session.specs.declared.reply.Refusal.{Refusal}
-use Rattle.session.specs.declared.reply.Refusal.TheVariants.{Line as LineRefusal}
+use Rattle.refusals.specs.declared.line_fault.LineFault.TheVariants.{TooLong}
+use Rattle.refusals.specs.declared.refusal.Refusal.{Refusal}
+use Rattle.refusals.specs.declared.refusal.Refusal.TheVariants.{Line as LineRefusal}
 use Rattle.session.specs.declared.reply.Reply.{Reply}
 use Rattle.session.specs.declared.reply.Reply.TheVariants.{Refused}
 use Rattle.session.specs.Grammar.{line_of}

@@ -2,7 +2,7 @@
 use Rattle.std.specs.Prelude.{◌≡◌, ℕ, List, Option, None, Some, Result, Ok, Err}
 use Rattle.map_store.specs.Asking.{Asked}
 use Rattle.session.specs.declared.line.Line.{Line}
-use Rattle.session.specs.declared.line.LineFault.{LineFault}
+use Rattle.refusals.specs.declared.line_fault.LineFault.{LineFault}
 use Rattle.session.specs.declared.reply.Reply.{Reply}
 use Rattle.session.specs.Grammar.{line_of}
 use Rattle.editor.specs.Asking.{Asks}

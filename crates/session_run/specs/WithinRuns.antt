@@ -5,7 +5,7 @@ use Rattle.command_api.specs.Law.{Change, IsSame}
 use Rattle.lines.specs.declared.reader.Found.{Found}
 use Rattle.lines.specs.declared.reader.Found.TheVariants as found
 use Rattle.lines.specs.Lines.{lines_of}
-use Rattle.session.specs.declared.reply.Refusal.{Refusal}
+use Rattle.refusals.specs.declared.refusal.Refusal.{Refusal}
 use Rattle.session.specs.declared.reply.Reply.{Reply}
 use Rattle.undo_group.specs.Groups.{OpenDocument}
 use Rattle.map_store.specs.Files.{StoreParts}

@@ -4,8 +4,8 @@ use Rattle.std.specs.Global.{Global}
 use Rattle.std.specs.FinMap.{get, insert}
 use Rattle.map_store.specs.Asking.{Asked, storing}
 use Rattle.map_store.specs.Files.{StoreParts, HasFailed, SameOthers}
-use Rattle.map_store.specs.declared.map_store.StoreFault.{StoreFault}
-use Rattle.map_store.specs.declared.map_store.StoreFault.TheVariants.{Missing, Device, Memory}
+use Rattle.refusals.specs.declared.store_fault.StoreFault.{StoreFault}
+use Rattle.refusals.specs.declared.store_fault.StoreFault.TheVariants.{Missing, Device, Memory}
 use Rattle.tiled_maps.specs.declared.fault.Fault.{Fault}
 use Rattle.tiled_maps.specs.declared.fault.Fault.TheVariants as fault
 use Rattle.tiled_maps.specs.declared.text.TheConstants.{LONGEST}

@@ -15,7 +15,7 @@ use Rattle.undo_stack.specs.declared.entry.Entry.{Entry}
 use Rattle.undo_stack.specs.declared.level.Level.{Level}
 use Rattle.undo_stack.specs.declared.sequence.Sequence.{Sequence}
 use Rattle.undo_stack.specs.declared.stack.Stack.{Stack}
-use Rattle.undo_stack.specs.declared.stack.StackFault.TheVariants.{MacroOpen, NothingToRedo}
+use Rattle.refusals.specs.declared.stack_fault.StackFault.TheVariants.{MacroOpen, NothingToRedo}
 use Rattle.undo_stack.proofs.Sequences.{last_after-down, take-steps, length-steps}
 
 -- the history of a stack with these open levels, at the document d, of which q is the own sequence

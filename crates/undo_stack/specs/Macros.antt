@@ -10,7 +10,7 @@ use Rattle.undo_stack.specs.History.{Step, step_named, Open, History, last_after
 use Rattle.undo_stack.specs.Pushing.{cut, without_last, with_added}
 use Rattle.undo_stack.specs.Moving.{Answer, Leads}
 use Rattle.undo_stack.specs.declared.limits.TheConstants.{MAX_DEPTH}
-use Rattle.undo_stack.specs.declared.stack.StackFault.TheVariants.{NoMacroOpen, TooDeep, NoMemory}
+use Rattle.refusals.specs.declared.stack_fault.StackFault.TheVariants.{NoMacroOpen, TooDeep, NoMemory}
 
 -- the level that begins at h, with no inner steps
 abbrev pub level_at : List ℕ → List ℕ → History → Open

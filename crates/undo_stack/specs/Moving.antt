@@ -2,8 +2,8 @@
 -- the history before, the answer and the history after. All but clearing and unmarking are refused while a level is open.
 use Rattle.std.specs.Prelude.{◌≡◌, ℕ, ◌+◌, ◌-◌, min, length, List, [], ◌∷◌, Some, None, Result, Ok, Err, zero, suc, nat_lt, if◌then◌else◌}
 use Rattle.undo_stack.specs.History.{History, Open, current, count}
-use Rattle.undo_stack.specs.declared.stack.StackFault.{StackFault}
-use Rattle.undo_stack.specs.declared.stack.StackFault.TheVariants.{MacroOpen, NothingToUndo, NothingToRedo, NotEmpty}
+use Rattle.refusals.specs.declared.stack_fault.StackFault.{StackFault}
+use Rattle.refusals.specs.declared.stack_fault.StackFault.TheVariants.{MacroOpen, NothingToUndo, NothingToRedo, NotEmpty}
 
 -- done, or refused
 abbrev pub Answer : Type 0

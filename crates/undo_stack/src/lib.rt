@@ -10,4 +10,5 @@ pub mod limits;
 mod sequence;
 mod stack;
 
-pub use stack::{Stack, StackFault};
+pub use refusals::StackFault;
+pub use stack::Stack;

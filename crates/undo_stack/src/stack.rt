@@ -15,27 +15,9 @@ mod sequences;
 use crate::sequence::Sequence;
 use command_api::Command;
 use map_model::Document;
+use refusals::StackFault;
 use sequences::Sequences;
 use std::alloc::{AllocError, Global};
-
-/// Why a call on a stack is refused. The stack is then as it was.
-#[derive(Clone, Copy, PartialEq, Eq, Debug)]
-pub enum StackFault {
-    /// A macro is open.
-    MacroOpen,
-    /// The index is 0: no step is below it.
-    NothingToUndo,
-    /// The index is the count: no step is above it.
-    NothingToRedo,
-    /// No macro is open that could end.
-    NoMacroOpen,
-    /// As many macros are open as can be, and a further one was to begin. No memory was asked for.
-    TooDeep,
-    /// There are steps, or a macro is open: a limit can be set only before either.
-    NotEmpty,
-    /// There was no memory for a macro that was to begin. The steps above the index are kept too.
-    NoMemory,
-}
 
 /// A document and its history, over commands of one type, which may be `Box<dyn Command>`.
 ///

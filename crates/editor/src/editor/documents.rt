@@ -21,7 +21,7 @@ ghost use Rattle.editor.specs.Steps.{Step};
 
 use crate::editor::Editor;
 use crate::steps::{state_of, text_reply};
-use command_api::Command;
+use command_api::{Command, EditFault};
 use map_model::{Document, Map, MapText, is_size, is_tile_size};
 use map_store::MapStore;
 use session::{Line, Refusal, Reply, Text};
@@ -173,7 +173,7 @@ impl<C: Command> Editor<C> {
             return Reply::Refused(Refusal::NameTaken);
         }
         if !sizes.are_within_limits() {
-            return Reply::Refused(Refusal::OutOfRange);
+            return Reply::Refused(Refusal::Edit(EditFault::OutOfRange));
         }
         match new_document(alloc, sizes, source.as_str()) {
             Ok(document) => self.add_document(alloc, name, document),

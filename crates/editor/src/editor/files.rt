@@ -11,13 +11,13 @@ ghost use Rattle.editor.specs.Machine.{active_of};
 ghost use Rattle.editor.specs.Planning.{KeepsReply};
 
 use crate::editor::Editor;
-use crate::refusal;
 use crate::saving::save_document;
 use command_api::Command;
 use map_json::read_map;
 use map_model::Document;
 use map_store::MapStore;
-use session::{Refusal, Reply, Text};
+use refusals::Refusal;
+use session::{Reply, Text};
 use std::alloc::Global;
 
 impl<C: Command> Editor<C> {
@@ -44,11 +44,11 @@ impl<C: Command> Editor<C> {
         }
         let bytes = match store.load(alloc, file.as_str()) {
             Ok(bytes) => bytes,
-            Err(fault) => return Reply::Refused(refusal::of_store(fault)),
+            Err(fault) => return Reply::Refused(Refusal::from(fault)),
         };
         match read_map(alloc, bytes.as_slice()) {
             Ok(map) => self.add_document(alloc, name, Document::new(alloc, map)),
-            Err(fault) => Reply::Refused(refusal::of_map(fault)),
+            Err(fault) => Reply::Refused(Refusal::from(fault)),
         }
     }
 

@@ -1,5 +1,4 @@
 // What is read of a text: what is written for its map, or why there is none.
-use crate::refusals::words_of;
 use crate::table::texts::Texts;
 use map_json::{MapFault, MapRefusal, read_map, write_map};
 use std::alloc::{AllocError, Global};
@@ -9,7 +8,7 @@ use std::io::{self, Write};
 pub fn answer_of(fault: MapFault) -> &'static str {
     match fault {
         MapFault::Memory => "no memory",
-        MapFault::Refused(refusal) => words_of(refusal),
+        MapFault::Refused(refusal) => refusal.words(),
     }
 }
 

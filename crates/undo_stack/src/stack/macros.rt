@@ -7,10 +7,11 @@ ghost use Rattle.undo_stack.specs.Lending.{innermost};
 ghost use Rattle.undo_stack.specs.Nestings.{NestingsLead, nestings_begun, nestings_cut, nestings_ended};
 ghost use Rattle.undo_stack.specs.Stacks.{history, nestings, Holds, IsReady};
 
-use super::{Stack, StackFault};
+use super::Stack;
 use crate::level::Level;
 use crate::limits::MAX_DEPTH;
 use command_api::Command;
+use refusals::StackFault;
 use std::alloc::AllocError;
 
 impl<C: Command> Stack<C> {

@@ -3,7 +3,7 @@ use Rattle.std.proofs.Common.{ap, sym, ◌∙◌}
 use Rattle.serde_json.specs.View.{items_view}
 use Rattle.map_json.specs.Cells.{cells_of}
 use Rattle.map_json.proofs.Loops.{no_prefix, one_more_cell, bad_cell, all_cells}
-use Rattle.map_json.specs.declared.fault.MapRefusal.TheVariants.{BadData}
+use Rattle.refusals.specs.declared.map_refusal.MapRefusal.TheVariants.{BadData}
 use Rattle.map_json.proofs.cells.cells.Goals as goal
 
 pub loop-at-init : goal.loop-at-init

@@ -1,6 +1,6 @@
 use Rattle.std.proofs.Common.{rules, sym, subst}
 use Rattle.session.specs.Grammar.{Gives, common_commands, rare_commands}
-use Rattle.session.specs.declared.line.LineFault.TheVariants.{UnknownCommand}
+use Rattle.refusals.specs.declared.line_fault.LineFault.TheVariants.{UnknownCommand}
 use Rattle.session.proofs.Forms.{choose-append}
 use Rattle.session.proofs.parse.command.Goals as goal
 

@@ -1,6 +1,6 @@
 use Rattle.std.proofs.Common.{rules}
 use Rattle.session.specs.Grammar.{rare_commands}
-use Rattle.session.specs.declared.line.LineFault.TheVariants.{UnknownCommand}
+use Rattle.refusals.specs.declared.line_fault.LineFault.TheVariants.{UnknownCommand}
 use Rattle.session.proofs.Forms.{choose_none}
 use Rattle.session.proofs.parse.rare_command.Goals as goal
 

@@ -1,6 +1,6 @@
 use Rattle.std.proofs.Common.{Some}
 use Rattle.editor.specs.Editors.{machine_of}
-use Rattle.session.specs.declared.reply.Refusal.TheVariants.{NoMemory}
+use Rattle.refusals.specs.declared.refusal.Refusal.TheVariants.{NoMemory}
 use Rattle.session.specs.declared.reply.Reply.TheVariants.{Refused}
 use Rattle.editor.specs.Machine.{workspace}
 use Rattle.editor.specs.Planning.{edit_change}

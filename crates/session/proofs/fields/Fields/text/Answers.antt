@@ -1,5 +1,5 @@
 use Rattle.std.proofs.Common.{Ok, Err, cond, sym, ap, ◌∙◌}
-use Rattle.session.specs.declared.line.LineFault.TheVariants.{BadWord}
+use Rattle.refusals.specs.declared.line_fault.LineFault.TheVariants.{BadWord}
 use Rattle.session.specs.Grammar.{last_text_at}
 use Rattle.session.specs.Words.{is_text, words_left}
 use Rattle.session.proofs.Cutting.{text_of_words}

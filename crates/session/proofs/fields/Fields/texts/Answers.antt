@@ -1,6 +1,6 @@
 use Rattle.std.proofs.Common.{◌≡◌, ◌∙◌, Bool, true, false, cond, List, ℕ, Option, Some, Bor, Ok, Err, sym, ap, ap₂, subst}
 use Rattle.std.specs.Prelude.{option_map}
-use Rattle.session.specs.declared.line.LineFault.TheVariants.{BadWord}
+use Rattle.refusals.specs.declared.line_fault.LineFault.TheVariants.{BadWord}
 use Rattle.session.specs.Grammar.{Gives, last_texts_at}
 use Rattle.session.specs.Words.{are_texts, cut_at_bars, words, words_left}
 use Rattle.session.proofs.Cutting.{texts_of_words}

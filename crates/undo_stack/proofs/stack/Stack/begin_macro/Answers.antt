@@ -11,7 +11,7 @@ use Rattle.undo_stack.specs.Sound.{Inner}
 use Rattle.undo_stack.specs.Stacks.{history, inner_of, inners, nestings}
 use Rattle.undo_stack.specs.declared.limits.TheConstants.{MAX_DEPTH}
 use Rattle.undo_stack.specs.declared.stack.Stack.{Stack}
-use Rattle.undo_stack.specs.declared.stack.StackFault.TheVariants.{NoMemory}
+use Rattle.refusals.specs.declared.stack_fault.StackFault.TheVariants.{NoMemory}
 use Rattle.undo_stack.proofs.Macros.{begun_view}
 use Rattle.undo_stack.proofs.Innermost.{opened_holds}
 use Rattle.undo_stack.proofs.Lent.{begun_nestings, levels_as}

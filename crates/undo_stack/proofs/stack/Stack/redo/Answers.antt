@@ -3,7 +3,7 @@ use Rattle.std.specs.Prelude.{if◌then◌else◌}
 use Rattle.undo_stack.specs.Reporting.{AreTurned}
 use Rattle.undo_stack.specs.Stacks.{history}
 use Rattle.undo_stack.specs.Turning.{TurnsOn}
-use Rattle.undo_stack.specs.declared.stack.StackFault.TheVariants.{NothingToRedo}
+use Rattle.refusals.specs.declared.stack_fault.StackFault.TheVariants.{NothingToRedo}
 use Rattle.undo_stack.proofs.Innermost.{closed_shape, closed_step}
 use Rattle.undo_stack.proofs.Reported.{turned_once_up}
 use Rattle.undo_stack.proofs.Views.{outside-open, redo-accepted, redo-refused, step_above}

@@ -1,0 +1,93 @@
+ghost use Rattle.std.specs.Prelude.{◌≡◌, ◌≤◌, length};
+ghost use Rattle.refusals.specs.Words.{refusal_text};
+
+use crate::edit_fault::EditFault;
+use crate::line_fault::LineFault;
+use crate::map_refusal::MapRefusal;
+use crate::stack_fault::StackFault;
+use crate::store_fault::StoreFault;
+
+/// The number and the words of every refusal for want of memory.
+pub const NO_MEMORY: &str = "90 no memory";
+
+/// Why a line was refused. The line changed nothing; only a `save` that the store failed may have changed its file.
+///
+/// A fault of a layer below that is want of memory is `NoMemory`: `Refusal::from` makes it so.
+#[derive(Clone, Copy, Debug, PartialEq, Eq)]
+pub enum Refusal {
+    /// The line says nothing.
+    Line(LineFault),
+    NoActiveDocument,
+    NameTaken,
+    NoSuchDocument,
+    UnsavedChanges,
+    /// The active document's stack refused its call.
+    Stack(StackFault),
+    /// The edit was refused, or a number of another line is out of range.
+    Edit(EditFault),
+    /// The store has no such file, or failed.
+    Store(StoreFault),
+    /// The file says no map.
+    Map(MapRefusal),
+    NoMemory,
+}
+
+impl Refusal {
+    /// Its number and its words, as they stand in a reply: `30 no such layer`.
+    pub fn words(self) -> &'static str
+        ensures value { result.now ≡ refusal_text self }
+        ensures short { length result.now ≤ 100 }
+    {
+        match self {
+            Refusal::Line(fault) => fault.words(),
+            Refusal::NoActiveDocument => "10 no active document",
+            Refusal::NameTaken => "11 name taken",
+            Refusal::NoSuchDocument => "12 no such document",
+            Refusal::UnsavedChanges => "13 unsaved changes",
+            Refusal::Stack(fault) => fault.words(),
+            Refusal::Edit(fault) => fault.words(),
+            Refusal::Store(fault) => fault.words(),
+            Refusal::Map(refusal) => refusal.words(),
+            Refusal::NoMemory => NO_MEMORY,
+        }
+    }
+}
+
+impl From<StackFault> for Refusal {
+    ghost use Rattle.refusals.specs.Layers.{refusal_of_stack};
+
+    ghost from_gives = { λ fault refusal. refusal ≡ refusal_of_stack fault };
+
+    fn from(fault: StackFault) -> Refusal {
+        match fault {
+            StackFault::NoMemory => Refusal::NoMemory,
+            _ => Refusal::Stack(fault),
+        }
+    }
+}
+
+impl From<EditFault> for Refusal {
+    ghost use Rattle.refusals.specs.Layers.{refusal_of_edit};
+
+    ghost from_gives = { λ fault refusal. refusal ≡ refusal_of_edit fault };
+
+    fn from(fault: EditFault) -> Refusal {
+        match fault {
+            EditFault::NoMemory => Refusal::NoMemory,
+            _ => Refusal::Edit(fault),
+        }
+    }
+}
+
+impl From<StoreFault> for Refusal {
+    ghost use Rattle.refusals.specs.Layers.{refusal_of_store};
+
+    ghost from_gives = { λ fault refusal. refusal ≡ refusal_of_store fault };
+
+    fn from(fault: StoreFault) -> Refusal {
+        match fault {
+            StoreFault::Memory => Refusal::NoMemory,
+            _ => Refusal::Store(fault),
+        }
+    }
+}
