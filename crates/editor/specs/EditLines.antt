@@ -1,9 +1,13 @@
 -- The lines that are edits of the active document, by what they edit. A stamp is planned before all others.
 use Rattle.std.specs.Prelude.{⊤}
 use Rattle.session.specs.declared.line.Line.{Line}
-use Rattle.session.specs.declared.line.Line.TheVariants.{Erase, Fill, Select, SelectNone, AddLayer, RemoveLayer, RenameLayer, ShowLayer, MoveLayer, Resize}
-use Rattle.session.specs.declared.line.Line.TheVariants.{AddObject, MoveObject, ResizeObject, RemoveObject, SetProperty, RemoveProperty, AddTileset}
+use Rattle.session.specs.declared.line.Line.TheVariants.{Stamp, Erase, Fill, Select, SelectNone, AddLayer, RemoveLayer, RenameLayer, ShowLayer, MoveLayer}
+use Rattle.session.specs.declared.line.Line.TheVariants.{Resize, AddObject, MoveObject, ResizeObject, RemoveObject, SetProperty, RemoveProperty, AddTileset}
 use Rattle.session.specs.declared.line.Line.TheVariants.{RemoveTileset}
+
+abbrev pub IsStamp : Line → Type 0
+IsStamp (Stamp layer x y width values follows) = ⊤
+IsStamp line = ⊥
 
 -- an edit of cells or of the selection, but for a stamp
 abbrev pub IsOfCells : Line → Type 0

@@ -6,7 +6,7 @@ ghost use Rattle.session.specs.Spelling.{CanBeSpelled};
 ghost use Rattle.editor.specs.Steps.{rule_of};
 ghost use Rattle.editor.specs.Turns.{turning_rule_of};
 ghost use Rattle.editor.specs.Kinds.{DocumentKinds};
-ghost use Rattle.editor.specs.EditLines.{IsOfCells, IsOfLayers, IsOfObjects, IsOfProperties};
+ghost use Rattle.editor.specs.EditLines.{IsOfCells, IsOfLayers, IsOfObjects, IsOfProperties, IsStamp};
 ghost use Rattle.editor.specs.Planning.{IsOfActive, IsOfHistory, PlansOn, plan_of, refused};
 
 mod edit_plans;
@@ -103,12 +103,57 @@ fn on_history<C: Command>(alloc: Global, stack: &mut Stack<C>, line: &Line<'_>) 
         }
         Line::Show => plan_show(alloc, stack.document()),
         Line::StepText { number } => plan_step_text(alloc, stack, *number),
-        Line::Tile { layer, x, y } => Planned::Reply(tile::reply(
-            stack.document().map(),
-            *layer,
-            *x,
-            *y,
-        )),
+        Line::Tile { layer, x, y } => {
+            let map = stack.document().map();
+            Planned::Reply(tile::reply(map, *layer, *x, *y))
+        }
+        _ => unreachable!(),
+    }
+}
+
+// The rectangle that a line names.
+#[inline(always)]
+fn area(x: i32, y: i32, width: u32, height: u32) -> Area
+    ensures { result ≡ record { x = x; y = y; width = width; height = height } }
+{
+    Area {
+        x,
+        y,
+        width,
+        height,
+    }
+}
+
+// Plans a stamp.
+#[inline(always)]
+fn on_stamp<C: Command>(alloc: Global, stack: &mut Stack<C>, line: &Line<'_>) -> Planned
+    requires sound { Holds C.change stack.old }
+    requires spelled { CanBeSpelled line.now }
+    requires about { IsStamp line.now }
+    ensures sound { Holds C.change stack.new }
+    ensures plans { PlansOn (turning_rule_of line.now) (history C.change stack.old) result (history C.change stack.new) }
+    ensures kinds { IsSteady (history C.change stack.old)
+        → DocumentKinds line.now (rule_of line.now) (history C.change stack.old) result (macros stack.old) (macros stack.new) }
+{
+    match line {
+        Line::Stamp {
+            layer,
+            x,
+            y,
+            width,
+            values,
+            follows,
+        } => {
+            let (x, y, width) = (*x, *y, *width);
+            stack.seek_layer(*layer);
+            let block = SpelledBlock {
+                x,
+                y,
+                width,
+                values,
+            };
+            plan_stamp(alloc, stack.document(), *layer, &block, *follows)
+        }
         _ => unreachable!(),
     }
 }
@@ -133,20 +178,9 @@ fn on_cells<C: Command>(alloc: Global, stack: &mut Stack<C>, line: &Line<'_>) ->
             height,
             follows,
         } => {
-            let (x, y, width, height) = (*x, *y, *width, *height);
             stack.seek_layer(*layer);
-            plan_erase(
-                alloc,
-                stack.document(),
-                *layer,
-                &Area {
-                    x,
-                    y,
-                    width,
-                    height,
-                },
-                *follows,
-            )
+            let area = area(*x, *y, *width, *height);
+            plan_erase(alloc, stack.document(), *layer, &area, *follows)
         }
         Line::Fill { layer, x, y, value } => {
             stack.seek_layer(*layer);
@@ -159,13 +193,8 @@ fn on_cells<C: Command>(alloc: Global, stack: &mut Stack<C>, line: &Line<'_>) ->
             width,
             height,
         } => {
-            let (mode, x, y, width, height) = (*mode, *x, *y, *width, *height);
-            let area = Area {
-                x,
-                y,
-                width,
-                height,
-            };
+            let mode = *mode;
+            let area = area(*x, *y, *width, *height);
             plan_select(alloc, stack.document(), Selecting::Rectangle { mode, area })
         }
         Line::SelectNone => plan_select(alloc, stack.document(), Selecting::Nothing),
@@ -226,20 +255,9 @@ fn on_objects<C: Command>(alloc: Global, stack: &mut Stack<C>, line: &Line<'_>) 
             height,
             name,
         } => {
-            let (x, y, width, height) = (*x, *y, *width, *height);
             stack.seek_layer(*layer);
-            plan_add_object(
-                alloc,
-                stack.document(),
-                *layer,
-                &Area {
-                    x,
-                    y,
-                    width,
-                    height,
-                },
-                name,
-            )
+            let area = area(*x, *y, *width, *height);
+            plan_add_object(alloc, stack.document(), *layer, &area, name)
         }
         Line::MoveObject {
             object,
@@ -311,29 +329,7 @@ pub fn on_document<C: Command>(alloc: Global, stack: &mut Stack<C>, line: &Line<
 {
     match line {
         // Most lines are stamps.
-        Line::Stamp {
-            layer,
-            x,
-            y,
-            width,
-            values,
-            follows,
-        } => {
-            let (x, y, width) = (*x, *y, *width);
-            stack.seek_layer(*layer);
-            plan_stamp(
-                alloc,
-                stack.document(),
-                *layer,
-                &SpelledBlock {
-                    x,
-                    y,
-                    width,
-                    values,
-                },
-                *follows,
-            )
-        }
+        Line::Stamp { .. } => on_stamp(alloc, stack, line),
         Line::Undo
         | Line::Redo
         | Line::Goto { .. }

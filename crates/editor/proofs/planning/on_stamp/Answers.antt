@@ -3,7 +3,7 @@ use Rattle.std.proofs.lemmas.Int.{to_z-of_z}
 use mir.Syntax.{w32}
 use mir.Val.{SFits}
 use Rattle.undo_stack.specs.History.{current}
-use Rattle.editor.proofs.planning.on_document.Goals as goal
+use Rattle.editor.proofs.planning.on_stamp.Goals as goal
 
 pub returns-in-Stamp-clause-plans : goal.returns-in-Stamp-clause-plans
 returns-in-Stamp-clause-plans g c =
