@@ -6,26 +6,14 @@ use Rattle.object_commands.proofs.Placements.{place_object-WhenEqual}
 use Rattle.paint_commands.proofs.Merges.{paint-WhenEqual}
 use Rattle.property_commands.proofs.Settings.{set-names}
 use Rattle.editor.specs.declared.planned.Edit.{Edit}
-use Rattle.editor.specs.declared.planned.Edit.TheVariants.{Paint, AddLayer, RemoveLayer, RenameLayer, ShowLayer, MoveLayer, Select, ResizeMap, AddObject}
-use Rattle.editor.specs.declared.planned.Edit.TheVariants.{RemoveObject, PlaceObject, SetProperty, RemoveProperty, AddTileset, RemoveTileset}
+use Rattle.editor.specs.declared.planned.Edit.TheVariants.{Paint, PlaceObject, SetProperty}
 use Rattle.editor.specs.Planning.{edit_change}
 
 pub edit-bound : (e : Edit) → is_free (edit_change e).names.vanishing ≡ false
 edit-bound (Paint c) = ap is_free (paint-WhenEqual c.kind c.layer c.follows)
-edit-bound (AddLayer c) = refl
-edit-bound (RemoveLayer c) = refl
-edit-bound (RenameLayer c) = refl
-edit-bound (ShowLayer c) = refl
-edit-bound (MoveLayer c) = refl
-edit-bound (Select c) = refl
-edit-bound (ResizeMap c) = refl
-edit-bound (AddObject c) = refl
-edit-bound (RemoveObject c) = refl
 edit-bound (PlaceObject c) = ap is_free (place_object-WhenEqual c.kind c.object c.follows)
 edit-bound (SetProperty c) = ap (λ (n : Names). is_free n.vanishing) (set-names c.set.value)
-edit-bound (RemoveProperty c) = refl
-edit-bound (AddTileset c) = refl
-edit-bound (RemoveTileset c) = refl
+edit-bound other = refl
 
 -- nor is a command that does what an edit does
 pub same-bound : (e : Edit) (w : Change) → IsSame (edit_change e) w → is_free w.names.vanishing ≡ false
