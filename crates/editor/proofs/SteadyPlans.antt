@@ -8,10 +8,7 @@ use Rattle.undo_stack.specs.declared.limits.TheConstants.{MAX_LIMIT}
 use Rattle.undo_stack.proofs.Steadiness.{Begins-steady, Clears-steady, Ends-steady, GoesTo-steady, MarksClean-steady, SetsLimit-steady, StepsBack-steady}
 use Rattle.undo_stack.proofs.Steadiness.{StepsOn-steady, UnmarksClean-steady}
 use Rattle.session.specs.declared.line.Line.{Line}
-use Rattle.session.specs.declared.line.Line.TheVariants.{Quiet, New, Open, Save, Close, Discard, Use, Documents, Stamp, Erase, Fill, Select, SelectNone, Tile}
-use Rattle.session.specs.declared.line.Line.TheVariants.{AddLayer, RemoveLayer, RenameLayer, ShowLayer, MoveLayer, Resize, AddObject, MoveObject, ResizeObject}
-use Rattle.session.specs.declared.line.Line.TheVariants.{RemoveObject, SetProperty, RemoveProperty, AddTileset, RemoveTileset, Undo, Redo, Goto, Clean, Begin}
-use Rattle.session.specs.declared.line.Line.TheVariants.{End, Limit, Dirty, Clear, Show, Status, UndoText, RedoText, StepText}
+use Rattle.session.specs.declared.line.Line.TheVariants.{Tile, Undo, Redo, Goto, Clean, Begin, End, Limit, Dirty, Clear, Show, StepText}
 use Rattle.session.specs.declared.reply.Reply.{Reply}
 use Rattle.editor.specs.declared.planned.Planned.{Planned}
 use Rattle.editor.specs.declared.planned.Planned.TheVariants as planned
@@ -50,36 +47,7 @@ rule_of-KeepsSteady Clear = λ h n reply steady a. Clears-steady h n a.0
 rule_of-KeepsSteady Show = λ h n reply steady a. same_or h n _ _ steady a
 rule_of-KeepsSteady (StepText i) = λ h n reply steady a. same_or h n _ _ steady a
 rule_of-KeepsSteady (Tile layer x y) = λ h n reply steady a. same h n _ steady a
-rule_of-KeepsSteady Quiet = tt
-rule_of-KeepsSteady (New name width height tile_width tile_height source) = tt
-rule_of-KeepsSteady (Open name file) = tt
-rule_of-KeepsSteady (Save file) = tt
-rule_of-KeepsSteady (Close name) = tt
-rule_of-KeepsSteady (Discard name) = tt
-rule_of-KeepsSteady (Use choice) = tt
-rule_of-KeepsSteady Documents = tt
-rule_of-KeepsSteady Status = tt
-rule_of-KeepsSteady UndoText = tt
-rule_of-KeepsSteady RedoText = tt
-rule_of-KeepsSteady (Stamp layer x y width values follows) = tt
-rule_of-KeepsSteady (Erase layer x y width height follows) = tt
-rule_of-KeepsSteady (Fill layer x y value) = tt
-rule_of-KeepsSteady (Select mode x y width height) = tt
-rule_of-KeepsSteady SelectNone = tt
-rule_of-KeepsSteady (AddLayer kind name) = tt
-rule_of-KeepsSteady (RemoveLayer layer) = tt
-rule_of-KeepsSteady (RenameLayer layer name) = tt
-rule_of-KeepsSteady (ShowLayer layer visible) = tt
-rule_of-KeepsSteady (MoveLayer layer place) = tt
-rule_of-KeepsSteady (Resize width height dx dy) = tt
-rule_of-KeepsSteady (AddObject layer x y width height name) = tt
-rule_of-KeepsSteady (MoveObject object x y follows) = tt
-rule_of-KeepsSteady (ResizeObject object width height) = tt
-rule_of-KeepsSteady (RemoveObject object) = tt
-rule_of-KeepsSteady (SetProperty owner name value follows) = tt
-rule_of-KeepsSteady (RemoveProperty owner name) = tt
-rule_of-KeepsSteady (AddTileset first_id source) = tt
-rule_of-KeepsSteady (RemoveTileset first_id) = tt
+rule_of-KeepsSteady other = tt
 
 planned-steady : (rule : Rule) (h n : History) (plan : Planned) → KeepsSteady rule → IsSteady h → PlansOn rule h plan n → IsSteady n
 planned-steady (OnFiles act) h n plan keeps steady p = absurd p
