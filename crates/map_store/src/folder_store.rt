@@ -11,6 +11,7 @@ use crate::map_store::MapStore;
 use crate::reason::Reason;
 use crate::store_log::{StoreCall, StoreLog};
 use atomic_save::{LockFile, SaveError, SystemFolder, save};
+use refusals::StoreFault;
 use std::alloc::{AllocError, Global};
 use std::fmt::Display;
 use std::fs;

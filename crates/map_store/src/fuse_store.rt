@@ -5,6 +5,7 @@ ghost use Rattle.map_store.specs.Stored.{files_of};
 use crate::map_store::MapStore;
 use crate::memory_store::MemoryStore;
 use crate::store_log::{StoreCall, StoreLog};
+use refusals::StoreFault;
 use std::alloc::Global;
 use std::marker::Model;
 

@@ -1,5 +1,6 @@
 use crate::map_store::MapStore;
 use crate::store_log::{StoreCall, StoreLog};
+use refusals::StoreFault;
 use std::alloc::Global;
 use std::collections::BTreeMap;
 
