@@ -5,7 +5,7 @@ use crate::word_kinds::{
     is_type, is_value,
 };
 use map_model::limits::MAX_SIDE;
-use session::LineFault;
+use refusals::LineFault;
 use session::limits::{MAX_DOCUMENT_NAME, MAX_FILE_NAME};
 use std::alloc::{AllocError, Global};
 use std::fmt::Write;

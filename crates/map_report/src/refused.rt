@@ -2,7 +2,8 @@
 use crate::fractions::{Fractions, Owner, find_fractions, write_owner};
 use crate::json_fault::{LineColumn, place_of_fault};
 use crate::place::Place;
-use map_json::{MapFault, MapRefusal, read_map_along};
+use map_json::{MapFault, read_map_along};
+use refusals::{MapRefusal, Refusal};
 use serde_json::{Error, Value};
 use std::alloc::Global;
 use std::io::{self, Write};
@@ -122,7 +123,7 @@ pub fn write_refusal<W: Write>(
                 _ => {}
             }
         }
-        MapFault::Refused(_) | MapFault::Memory => output.write_all(b"no 90 no memory")?,
+        MapFault::Refused(_) | MapFault::Memory => write!(output, "no {}", Refusal::NoMemory.words())?,
     }
     output.write_all(b"\n")
 }
