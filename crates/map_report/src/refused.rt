@@ -123,7 +123,11 @@ pub fn write_refusal<W: Write>(
                 _ => {}
             }
         }
-        MapFault::Refused(_) | MapFault::Memory => write!(output, "no {}", Refusal::NoMemory.words())?,
+        MapFault::Refused(_) | MapFault::Memory => write!(
+            output,
+            "no {}",
+            Refusal::NoMemory.words()
+        )?,
     }
     output.write_all(b"\n")
 }
