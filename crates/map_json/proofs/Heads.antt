@@ -13,12 +13,12 @@ use Rattle.map_json.specs.declared.body.LayerType.{LayerType}
 use Rattle.map_json.specs.declared.layer.Head.{Head}
 use Rattle.refusals.specs.declared.map_refusal.MapRefusal.{MapRefusal}
 use Rattle.refusals.specs.declared.map_refusal.MapRefusal.TheVariants.{MemberOfAnotherKind}
-use Rattle.map_json.specs.declared.fault.MapFault.{MapFault}
-use Rattle.map_json.specs.Steps.{Fails, required, absent_means}
-use Rattle.map_json.specs.Scalars.{text_at, truth_at}
+use Rattle.map_values.specs.declared.fault.MapFault.{MapFault}
+use Rattle.map_values.specs.Steps.{Fails, required, absent_means}
+use Rattle.map_values.specs.Scalars.{text_at, truth_at, id_at}
 use Rattle.map_json.specs.Elements.{Counting}
 use Rattle.json_members.specs.Members.{without_all}
-use Rattle.map_json.specs.Reading.{type_at, id_at, properties_of, head_of, body_by, layer_by}
+use Rattle.map_json.specs.Reading.{type_at, properties_of, head_of, body_by, layer_by}
 use Rattle.map_json.proofs.Bodies.{body_by_common}
 use Rattle.map_json.proofs.Parts.{Fails->>=}
 

@@ -17,10 +17,11 @@ use Rattle.serde_json.specs.Data.{no_members, member, put}
 use Rattle.serde_json.specs.Find.{is_float}
 use Rattle.serde_json.specs.Written.{has_float, items_have_float, members_have_float}
 use Rattle.map_model.specs.Readable.{IsBefore, IsReadableNumber, IsReadable, AreReadableItems, AreReadableMembers}
-use Rattle.map_json.specs.Appending.{Returns}
-use Rattle.map_json.proofs.NumberTexts.{whole_returns}
+use Rattle.map_values.specs.Texts.{Returns}
+use Rattle.map_values.proofs.NumberTexts.{whole_returns}
 use Rattle.map_json.proofs.Orders.{after_Less}
-use Rattle.map_json.proofs.Returning.{ItemsReturn, ItemsReturn-none, ItemsReturn-item, Returns-array, MembersReturn, MembersReturn-none, MembersReturn-member}
+use Rattle.map_values.proofs.Returning.{ItemsReturn, ItemsReturn-none, ItemsReturn-item, Returns-array}
+use Rattle.map_json.proofs.Returning.{MembersReturn, MembersReturn-none, MembersReturn-member}
 use Rattle.map_json.proofs.Returning.{Returns-object}
 
 -- ---- numbers

@@ -19,16 +19,6 @@ use Rattle.map_model.specs.WellFormed.{IsDrawn}
 use Rattle.map_json.specs.Members.{with_own}
 use Rattle.map_json.specs.Trees.{layer_own, own_around}
 
--- the value's text is UTF-8, and its JSON reads as the value
-pub record Returns (d : Data) : Type 0 where
-  pub utf8 : IsUtf8 (compact_text d)
-  pub numbers : HasNumbers (outline d)
-  pub reads : of_json (outline d) ≡ Some d
-
--- the new text is the old one and the value's, which reads as the value
-abbrev pub Appends : Data → List ℕ → List ℕ → Type 0
-Appends d old new = (new ≡ old ++ compact_text d) × Returns d
-
 -- the value, and this one in place of that with the name
 abbrev pub instead : List ℕ → Data → List ℕ → Data → Data
 instead k d l e = if bytes_eq l k then d else e
@@ -44,10 +34,6 @@ pub record AreWritten (room size : ℕ) (ls : List Layer) : Type 0 where
   pub high : layer_level ≤ level
   pub balance : level + 2 * room ≡ deepest_level
   pub each : Each (IsDrawn size) (drawn room level ls)
-
--- numbers, each behind a comma
-abbrev pub numbers_text : List ℕ → List ℕ
-numbers_text ns = flat_map (λ n. 44 ∷ decimal n) ns
 
 -- a tile layer's values as they stand in its frame: of an array none
 abbrev pub framed_cells : Encoding → List ℕ → List ℕ

@@ -26,11 +26,11 @@ use Rattle.map_json.specs.declared.body.LayerType.TheVariants.{TileLayer, Object
 use Rattle.map_json.specs.declared.layer.Head.{Head}
 use Rattle.refusals.specs.declared.map_refusal.MapRefusal.{MapRefusal}
 use Rattle.refusals.specs.declared.map_refusal.MapRefusal.TheVariants.{MemberOfAnotherKind, Compressed, BadData, OverLimit}
-use Rattle.map_json.specs.Steps.{required, absent_means, optional}
-use Rattle.map_json.specs.Scalars.{whole_at, signed_at, text_at, truth_at}
+use Rattle.map_values.specs.Steps.{required, absent_means, optional}
+use Rattle.map_values.specs.Scalars.{whole_at, signed_at, text_at, truth_at}
 use Rattle.map_json.specs.Elements.{Counting, each_counted, elements_at}
 use Rattle.json_members.specs.Members.{without_all}
-use Rattle.map_json.specs.Cells.{array_cells_at, base64_cells_at}
+use Rattle.map_values.specs.Cells.{array_cells_at, base64_cells_at}
 
 -- ---- properties
 abbrev pub number_value : Num → Option ℤ → PropValue
@@ -62,12 +62,6 @@ abbrev pub properties_of : Members → Result (List Property) MapRefusal
 properties_of ms = absent_means [] (elements_at MAX_PROPERTIES property_at) (get_member PROPERTIES.now ms)
 
 -- ---- objects
-abbrev pub id_at : Data → Result ℕ MapRefusal
-id_at = whole_at 1 (MAX_NEXT_ID - 1)
-
-abbrev pub pixels_at : Data → Result ℤ MapRefusal
-pixels_at = signed_at (neg_ℤ MAX_PIXELS) MAX_PIXELS
-
 unfoldable pub placing_of : Members → Result Placing MapRefusal
 placing_of ms = do
   x ← optional pixels_at (get_member X.now ms)

@@ -25,16 +25,6 @@ use Rattle.map_model.specs.declared.parts.MapParts.{MapParts}
 use Rattle.map_model.specs.Groups.{inside}
 use Rattle.map_json.specs.Members.{Own, with_own}
 
-abbrev pub items_by : {A : Type 0} → (A → Data) → List A → Items
-items_by f [] = no_items
-items_by f (x ∷ xs) = item (f x) (items_by f xs)
-
-abbrev pub array_by : {A : Type 0} → (A → Data) → List A → Data
-array_by f xs = array (items_by f xs)
-
-abbrev pub whole_tree : ℕ → Data
-whole_tree n = number (unsigned n)
-
 -- ---- properties
 abbrev pub value_tree : PropValue → Data
 value_tree (values.Text s) = string s
@@ -78,11 +68,6 @@ unfoldable pub tileset_tree : Tileset → Data
 tileset_tree t = object (with_own (tileset_own t) t.kept)
 
 -- ---- layers
--- four bytes a value, the least significant first
-abbrev pub bytes_of : List ℕ → List ℕ
-bytes_of [] = []
-bytes_of (n ∷ ns) = to_le_bytes w32 n ++ bytes_of ns
-
 abbrev pub cells_tree : Encoding → List ℕ → Data
 cells_tree Array cells = array_by whole_tree cells
 cells_tree Base64 cells = string (encode_of standard (bytes_of cells))
