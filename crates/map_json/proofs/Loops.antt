@@ -1,10 +1,8 @@
 -- Elements read one after the other, as a loop does.
-use Rattle.std.proofs.Common.{◌≡◌, ℕ, List, [], ◌∷◌, ◌++◌, Option, Some, None, option_map, Result, Ok, Err, refl, sym, ap, ◌∙◌, append_assoc}
-use Rattle.std.proofs.Common.{◌+◌, ◌<◌, ◌≤◌, length, get_or, drop}
-use Rattle.std.proofs.lemmas.List.{append-nil, at_drop_more, drop_all}
-use Rattle.serde_json.specs.View.{view, items_view}
+use Rattle.std.proofs.Common.{◌≡◌, ℕ, List, [], ◌∷◌, ◌++◌, Result, Ok, Err, refl, sym, ap, ◌∙◌, append_assoc}
+use Rattle.std.proofs.Common.{◌+◌}
+use Rattle.std.proofs.lemmas.List.{append-nil}
 use Rattle.serde_json.proofs.Views.{items_len-items_view}
-use Rattle.serde_json.specs.declared.value.Value.{Value}
 use Rattle.serde_json.specs.Data.{Data, Items, no_items, item}
 use Rattle.map_model.specs.Steps.{◌>>=◌}
 use Rattle.refusals.specs.declared.map_refusal.MapRefusal.{MapRefusal}

@@ -4,7 +4,7 @@ use Rattle.std.proofs.Common.{arith, append_assoc, append-nil}
 use Rattle.std.proofs.lemmas.Str.{IsUtf8-append}
 use Rattle.json.specs.Json as json
 use Rattle.json.specs.Tree as tree
-use Rattle.json.specs.Tree.{HasNumbers, ItemsHaveNumbers, MembersHaveNumbers, json_tokens}
+use Rattle.json.specs.Tree.{MembersHaveNumbers, json_tokens}
 use Rattle.json.specs.Lex.{tokens}
 use Rattle.json.specs.Print.{quoted}
 use Rattle.json.proofs.Numbered.{document-HasNumbers}
@@ -14,8 +14,8 @@ use Rattle.json.proofs.Printed.Trees.{ArePrintable-json_tokens, value-json_token
 use Rattle.json.proofs.Printed.Utf8.{IsUtf8-are_ascii, IsUtf8-key}
 use Rattle.serde_json.specs.Data.{Data, null, boolean, number, string, array, object, Items, no_items, item, Members, no_members, member, put, depth}
 use Rattle.serde_json.specs.Data.{items_depth, members_depth}
-use Rattle.serde_json.specs.Read.{read, max_depth, of_json, of_items, of_members}
-use Rattle.serde_json.specs.Written.{IsInOrder, has_float, outline, items_outline, members_outline, comma_if, compact_text, items_text, members_text}
+use Rattle.serde_json.specs.Read.{read, max_depth, of_json, of_members}
+use Rattle.serde_json.specs.Written.{IsInOrder, has_float, outline, items_outline, members_outline, compact_text, members_text}
 use Rattle.serde_json.proofs.Texts.{tokens_from_order, print-outline}
 use Rattle.map_values.specs.Texts.{Returns}
 use Rattle.map_values.proofs.Returning.{ascii_then, comma_then}

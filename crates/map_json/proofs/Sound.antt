@@ -6,7 +6,6 @@ use Rattle.std.specs.Prelude.{codes, IfSome, nat_le, nat_lt, option_and_then, op
 use Rattle.std.specs.List.{list_all}
 use Rattle.std.specs.Result.{result_ok}
 use Rattle.std.specs.Int.Signed.{le_z_yes}
-use Rattle.std.proofs.Math.Dec.{T}
 use Rattle.std.proofs.lemmas.Int.{ints}
 use Rattle.std.proofs.lemmas.Bool.{eqb-true, leb-true, ltb-true, le-leb, and_parts}
 use Rattle.std.specs.Option.{ok_or}

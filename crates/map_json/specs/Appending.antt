@@ -1,11 +1,7 @@
 -- For private clauses: a text that grows by one value after another, and what stays true of it.
-use Rattle.std.specs.Prelude.{◌≡◌, IsUtf8, ℕ, ◌+◌, ◌*◌, ◌≤◌, List, [], ◌∷◌, ◌++◌, if◌then◌else◌, Some, decimal}
-use Rattle.std.specs.List.{flat_map}
+use Rattle.std.specs.Prelude.{◌≡◌, ℕ, ◌+◌, ◌*◌, ◌≤◌, List, [], if◌then◌else◌}
 use Rattle.std.specs.Str.{bytes_eq}
-use Rattle.json.specs.Tree.{HasNumbers}
 use Rattle.serde_json.specs.Data.{Data, array, Members, no_members, member, no_items}
-use Rattle.serde_json.specs.Read.{of_json}
-use Rattle.serde_json.specs.Written.{compact_text, outline}
 use Rattle.map_model.specs.declared.parts.Body.{Body}
 use Rattle.map_model.specs.declared.parts.Body.TheVariants.{Tiles, Objects, Other, Group'}
 use Rattle.map_model.specs.declared.parts.Encoding.{Encoding}

@@ -1,5 +1,5 @@
 -- Four bytes a number, as a loop reads them, and as one writes them.
-use Rattle.std.proofs.Common.{eqb, eq-eqb, Some, Ok, Bool, true, false, ◌&&◌, zero, suc, ◌^◌, ◌≡◌, ℕ, ◌+◌, ◌*◌, ◌<◌, ◌≤◌, List, [], ◌∷◌, ◌++◌, length, get_or}
+use Rattle.std.proofs.Common.{eqb, eq-eqb, Some, Ok, true, zero, suc, ◌^◌, ◌≡◌, ℕ, ◌+◌, ◌*◌, ◌<◌, ◌≤◌, List, [], ◌∷◌, ◌++◌, length, get_or}
 use Rattle.std.proofs.Common.{take, drop, refl, sym, ap, ◌∙◌, append_assoc, arith}
 use Rattle.std.specs.List.{list_all}
 use Rattle.map_model.specs.Lists.{Each}

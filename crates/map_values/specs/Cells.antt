@@ -1,6 +1,6 @@
 -- The cells of a layer, as an array or in base64: how they are read, and the bytes that are written.
-use Rattle.std.specs.Prelude.{ℕ, ◌*◌, ◌^◌, ◌++◌, ◌||◌, ◌&&◌, ◌==◌, List, [], ◌∷◌, length, filter, nat_lt, not, Bool, if◌then◌else◌, Option, Some, None, option_map}
-use Rattle.std.specs.Prelude.{option_and_then, Result, Ok, Err}
+use Rattle.std.specs.Prelude.{ℕ, ◌*◌, ◌^◌, ◌++◌, ◌||◌, ◌&&◌, ◌==◌, List, [], ◌∷◌, length, filter, nat_lt, not, Bool, if◌then◌else◌, Option, Some, None}
+use Rattle.std.specs.Prelude.{option_map, option_and_then, Result, Ok, Err}
 use Rattle.std.specs.List.{list_all}
 use Rattle.std.specs.Int.{w32, from_le_bytes, to_le_bytes}
 use Rattle.std.specs.Result.{result_ok}

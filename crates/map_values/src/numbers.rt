@@ -1,5 +1,5 @@
 // The values of a tile layer as an array of numbers, straight into a text.
-ghost use Rattle.std.specs.Prelude.{◌≡◌, ◌+◌, ◌*◌, ◌<◌, ◌≤◌, ◌++◌, OnOk, length, drop};
+ghost use Rattle.std.specs.Prelude.{◌≡◌, ◌+◌, ◌*◌, ◌<◌, ◌≤◌, OnOk, length, drop};
 ghost use Rattle.map_model.specs.Lists.{Each};
 ghost use Rattle.map_model.specs.WellFormed.{IsTileValue};
 ghost use Rattle.map_values.specs.Texts.{Appends, numbers_text};
