@@ -27,7 +27,7 @@ use Rattle.map_json.specs.declared.layer.Head.{Head}
 use Rattle.refusals.specs.declared.map_refusal.MapRefusal.{MapRefusal}
 use Rattle.refusals.specs.declared.map_refusal.MapRefusal.TheVariants.{MemberOfAnotherKind, Compressed, BadData, OverLimit}
 use Rattle.map_values.specs.Steps.{required, absent_means, optional}
-use Rattle.map_values.specs.Scalars.{whole_at, text_at, truth_at}
+use Rattle.map_values.specs.Scalars.{whole_at, id_at, pixels_at, text_at, truth_at}
 use Rattle.map_json.specs.Elements.{Counting, each_counted, elements_at}
 use Rattle.json_members.specs.Members.{without_all}
 use Rattle.map_values.specs.Cells.{array_cells_at, base64_cells_at}

@@ -23,6 +23,8 @@ use Rattle.map_model.specs.declared.parts.Tileset.{Tileset}
 use Rattle.map_model.specs.declared.parts.MapParts.{MapParts}
 use Rattle.map_model.specs.Groups.{inside}
 use Rattle.map_json.specs.Members.{Own, with_own}
+use Rattle.map_values.specs.Arrays.{array_by, whole_tree}
+use Rattle.map_values.specs.Cells.{bytes_of}
 
 -- ---- properties
 abbrev pub value_tree : PropValue → Data
