@@ -1,18 +1,27 @@
 //! The reader and the writer of Tiled's JSON maps.
 #![tactic(auto)]
 
+// A map is read,
+mod reading;
+
+// and its parts:
 mod body;
-mod detail;
-mod doubles;
 mod elements;
-mod fractions;
 mod layer;
-mod map_text;
 mod object;
 mod property;
-mod reading;
 mod size;
 mod tileset;
+
+// no number may have a fraction, and ids and names must differ.
+mod doubles;
+mod fractions;
+
+// A map is written,
+mod map_text;
+
+// and its parts.
+mod detail;
 mod writing;
 
 pub use map_text::{saved_is_opened, write_map, write_outline, written_is_read};

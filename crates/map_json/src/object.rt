@@ -11,7 +11,10 @@ use crate::elements::Element;
 use crate::property::properties_or_none;
 use crate::size::Size;
 use map_model::{Object, Placing, names};
-use map_values::{JsonObject, MapFault, Trail, optional_pixels, optional_text, optional_truth, optional_whole, required_id};
+use map_values::{
+    JsonObject, MapFault, Trail, optional_pixels, optional_text, optional_truth, optional_whole,
+    required_id,
+};
 use refusals::MapRefusal;
 use serde_json::Value;
 use std::alloc::Global;

@@ -12,7 +12,9 @@ use crate::size::Size;
 use crate::tileset::required_tilesets;
 use map_model::limits::{MAX_CELLS, MAX_SIDE, MAX_TILE_SIDE};
 use map_model::{Map, MapParts, names};
-use map_values::{JsonObject, MapFault, NoTrail, Step, Trail, required_next_id, required_whole, truth_or};
+use map_values::{
+    JsonObject, MapFault, NoTrail, Step, Trail, required_next_id, required_whole, truth_or,
+};
 use refusals::MapRefusal;
 use serde_json::Value;
 use std::alloc::Global;

@@ -12,9 +12,8 @@ ghost use Rattle.refusals.specs.declared.map_refusal.MapRefusal.TheVariants.{Bad
 
 use crate::fault::MapFault;
 use crate::trail::{Step, Trail};
-use base64::DecodeAllocError;
-use base64::encoded_len;
 use base64::engine::general_purpose::STANDARD;
+use base64::{DecodeAllocError, encoded_len};
 use map_model::Cells;
 use refusals::MapRefusal;
 use serde_json::Value;
