@@ -195,11 +195,12 @@ def test_commands():
 
 
 def test_refusals_of_the_source():
-    source = (TOP / 'crates' / 'session' / 'src' / 'reply.rt').read_text()
-    wanted = [
+    sources = (TOP / 'crates' / 'refusals' / 'src').glob('*.rt')
+    wanted = sorted(
         (int(code), words)
-        for code, words in re.findall(r'^ +Refusal::.* => "(\d+) (.+)",$', source, re.MULTILINE)
-    ]
+        for source in sources
+        for code, words in re.findall(r'"(\d+) (.+)"', source.read_text())
+    )
     assert (
         wanted == ROWS and wanted
     ), f'docs/refusals.md: {sorted({*wanted} ^ {*ROWS})}: not as in the source, or not in its order'

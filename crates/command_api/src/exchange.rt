@@ -42,7 +42,7 @@ pub trait Exchange: Drop {
         ensures { IsLabelOf (exchange_parts self.now).names result };
 
     /// Whether the command changes nothing and may be dropped.
-    fn is_settled(&self) -> bool
+    fn is_obsolete(&self) -> bool
         ensures { result ≡ (exchange_parts self.now).obsolete };
 
     /// Exchanges what the command holds and its part of the document.
@@ -79,7 +79,7 @@ impl<E: Lone> Command for E {
     }
 
     fn obsolete(&self) -> bool {
-        self.is_settled()
+        self.is_obsolete()
     }
 
     fn is_free(&self) -> bool {

@@ -1,5 +1,5 @@
 -- Planned edits, and the lines that ask for them.
-use Rattle.std.proofs.Common.{◌≡◌, ℕ, ◌+◌, ◌^◌, ◌<◌, ◌≤◌, List, [], ◌∷◌, length, map, Result, Ok, Err, Bool, ◌⊎◌, inl, inr, refl, sym, ap, subst, arith}
+use Rattle.std.proofs.Common.{◌≡◌, ℕ, ◌+◌, ◌^◌, ◌<◌, ◌≤◌, List, [], ◌∷◌, length, map, Result, Ok, Err, Bool, inl, inr, refl, sym, ap, subst, arith}
 use Rattle.std.proofs.Common.{length-append}
 use Rattle.std.proofs.lemmas.List.{length-map}
 use Rattle.std.specs.Prelude.{ℤ, decimal, codes, IfOk, IfErr, MatchResult, IsOkAnd}
@@ -15,25 +15,17 @@ use Rattle.command_api.specs.Names.{Names}
 use Rattle.command_api.specs.Making.{IsRefusalOf, Makes}
 use Rattle.session.specs.declared.limits.TheConstants.{MAX_LINE}
 use Rattle.session.specs.declared.line.Line.TheVariants.{Stamp}
-use Rattle.session.specs.declared.reply.Reply.TheVariants.{Refused}
 use Rattle.session.specs.Spelling.{AreRows, CanBeSpelled, IsCoordinate, commas, leading, spelling}
 use Rattle.editor.specs.declared.planned.Edit.{Edit}
 use Rattle.editor.specs.Acts.{answer_of}
 use Rattle.editor.specs.Planning.{PlansEdit, edit_change, plan_of}
 
--- a refusal is out of memory, or the edit's own
-IsRefusalOf-cases : (after : Result DocumentParts EditFault) (fault : EditFault) → IsRefusalOf after fault → (fault ≡ NoMemory) ⊎ (after ≡ Err fault)
-IsRefusalOf-cases after NoMemory h = inl refl
-IsRefusalOf-cases after other h = inr h
-
 -- an edit that was made, or refused, is planned so
 pub made-PlansEdit : (names : Names) (d : DocumentParts) (after : Result DocumentParts EditFault) (edit : Result Edit EditFault)
     → IfOk edit (λ e. Makes names d after (edit_change e)) → IfErr edit (IsRefusalOf after) → PlansEdit (answer_of names after) d (plan_of edit)
 made-PlansEdit names d after (Ok edit) is r = (rw (is.document, is.names) refl, is.fits)
-made-PlansEdit names d after (Err fault) is r = elim (IsRefusalOf-cases after fault r) [
-  | inl e ↦ inl (ap (λ f. Refused (refusal_of_edit f)) e)
-  | inr e ↦ inr (refusal_of_edit fault, ap (answer_of names) e, refl)
-]
+made-PlansEdit names d after (Err NoMemory) is r = inl refl
+made-PlansEdit names d after (Err fault) is r = inr (refusal_of_edit fault, ap (answer_of names) r, refl)
 
 -- a command that was made, or refused, and then put into an edit
 pub mapped-PlansEdit : {K : Type 0} (wrap : K → Edit) (names : Names) (d : DocumentParts) (after : Result DocumentParts EditFault) (made : Result K EditFault)

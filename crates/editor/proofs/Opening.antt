@@ -4,8 +4,8 @@ use Rattle.std.specs.FinMap.{get}
 use Rattle.map_model.specs.Document.{document_of}
 use Rattle.map_model.specs.declared.parts.MapParts.{MapParts}
 use Rattle.map_json.specs.Maps.{Says}
-use Rattle.map_json.specs.declared.fault.MapFault.{MapFault}
-use Rattle.map_json.specs.declared.fault.MapFault.TheVariants.{Memory, Refused}
+use Rattle.map_values.specs.declared.fault.MapFault.{MapFault}
+use Rattle.map_values.specs.declared.fault.MapFault.TheVariants.{Memory, Refused}
 use Rattle.map_store.specs.Files.{IsCalled, StoreParts}
 use Rattle.undo_stack.specs.History.{new_history}
 use Rattle.undo_group.specs.Groups.{history_named}
@@ -13,7 +13,7 @@ use Rattle.session.specs.declared.reply.Reply.{Reply}
 use Rattle.session.specs.declared.reply.Reply.TheVariants as replies
 use Rattle.editor.specs.Acts.{FilesStay, Loads, NewName, Opens, OrNoMemory, OrNoMemoryForFile, OrStoreFails}
 use Rattle.editor.specs.Machine.{Machine}
-use Rattle.map_json.specs.Refusals.{refusal_of_map}
+use Rattle.map_values.specs.Refusals.{refusal_of_map}
 
 -- a file whose bytes say no map
 pub refused-NewName : (name file bytes : List ℕ) (old : Machine) (before after : StoreParts) (fault : MapFault) → history_named name old.group.documents ≡ None

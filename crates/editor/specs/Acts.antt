@@ -6,7 +6,7 @@ use Rattle.map_model.specs.declared.parts.MapParts.{MapParts}
 use Rattle.map_model.specs.WellFormed.{IsSize, IsTileSize}
 use Rattle.map_json.specs.Maps.{Says}
 use Rattle.map_json.specs.Trees.{text_of}
-use Rattle.map_json.specs.declared.fault.MapFault.TheVariants.{Refused}
+use Rattle.map_values.specs.declared.fault.MapFault.TheVariants.{Refused}
 use Rattle.refusals.specs.declared.map_refusal.MapRefusal.{MapRefusal}
 use Rattle.map_store.specs.Files.{Files, StoreParts, IsCalled, HasFailed}
 use Rattle.refusals.specs.declared.edit_fault.EditFault.{EditFault}

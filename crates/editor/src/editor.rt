@@ -21,7 +21,8 @@ use crate::planning::{on_document, refused};
 use crate::steps::state_of;
 use command_api::Command;
 use map_store::MapStore;
-use session::{Line, Refusal, Reply};
+use refusals::Refusal;
+use session::{Line, Reply};
 use std::alloc::Global;
 use undo_group::Group;
 

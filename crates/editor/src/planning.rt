@@ -20,10 +20,11 @@ use crate::planning::edit_plans::{
 };
 use crate::steps::{plan_answered, plan_begin, plan_limit, plan_show, plan_step_text, state_of};
 use crate::tile;
-use command_api::{Command, EditFault};
+use command_api::Command;
 use edits::{Area, Selecting};
 use map_model::Owner;
-use session::{Line, Refusal, Reply};
+use refusals::{EditFault, Refusal};
+use session::{Line, Reply};
 use std::alloc::Global;
 use undo_stack::Stack;
 

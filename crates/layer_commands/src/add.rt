@@ -71,7 +71,7 @@ impl Exchange for AddLayer {
         Label::untagged("Add Layer", "add layer")
     }
 
-    fn is_settled(&self) -> bool {
+    fn is_obsolete(&self) -> bool {
         false
     }
 

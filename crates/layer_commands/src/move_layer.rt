@@ -48,7 +48,7 @@ impl Exchange for MoveLayer {
         Label::untagged("Move Layer", "move layer")
     }
 
-    fn is_settled(&self) -> bool {
+    fn is_obsolete(&self) -> bool {
         false
     }
 

@@ -39,7 +39,7 @@ impl Exchange for RemoveLayer {
         Label::untagged("Remove Layer", "remove layer")
     }
 
-    fn is_settled(&self) -> bool {
+    fn is_obsolete(&self) -> bool {
         false
     }
 

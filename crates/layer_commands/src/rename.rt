@@ -53,7 +53,7 @@ impl Exchange for RenameLayer {
         Label::untagged("Rename Layer", "rename layer")
     }
 
-    fn is_settled(&self) -> bool {
+    fn is_obsolete(&self) -> bool {
         self.is_same
     }
 

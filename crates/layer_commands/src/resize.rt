@@ -49,7 +49,7 @@ impl Exchange for ResizeMap {
         Label::untagged("Resize Map", "resize map")
     }
 
-    fn is_settled(&self) -> bool {
+    fn is_obsolete(&self) -> bool {
         false
     }
 

@@ -43,7 +43,7 @@ impl Exchange for ShowLayer {
         Label::untagged("Show Layer", "show layer")
     }
 
-    fn is_settled(&self) -> bool {
+    fn is_obsolete(&self) -> bool {
         self.is_same
     }
 

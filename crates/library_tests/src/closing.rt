@@ -33,7 +33,7 @@ impl Exchange for Probe {
         Label::untagged("", "")
     }
 
-    fn is_settled(&self) -> bool {
+    fn is_obsolete(&self) -> bool {
         false
     }
 

@@ -82,7 +82,7 @@ impl Exchange for Probe {
         Label::untagged("", "")
     }
 
-    fn is_settled(&self) -> bool {
+    fn is_obsolete(&self) -> bool {
         false
     }
 
@@ -132,7 +132,7 @@ impl Exchange for Idle {
         Label::untagged("", "")
     }
 
-    fn is_settled(&self) -> bool {
+    fn is_obsolete(&self) -> bool {
         true
     }
 

@@ -7,10 +7,10 @@ use Rattle.std.proofs.lemmas.Nat.{from_le_bytes-to_le_bytes_4}
 use Rattle.serde_json.specs.Data.{Data, array}
 use Rattle.serde_json.specs.Events.{items_len}
 use Rattle.refusals.specs.declared.map_refusal.MapRefusal.{MapRefusal}
-use Rattle.map_json.specs.Scalars.{whole_at}
+use Rattle.map_values.specs.Scalars.{whole_at}
 use Rattle.map_json.specs.Elements.{each, elements_at}
-use Rattle.map_json.specs.Cells.{cell_of, cells_of, words_of}
-use Rattle.map_json.specs.Trees.{items_by, whole_tree, bytes_of}
+use Rattle.map_values.specs.Cells.{cell_of, cells_of, words_of, bytes_of}
+use Rattle.map_values.specs.Arrays.{items_by, whole_tree}
 
 pub whole_again : (low high n : ℕ) → low ≤ n → n ≤ high → whole_at low high (whole_tree n) ≡ Ok n
 unfolding whole_at

@@ -1,5 +1,5 @@
 -- What holds of each layer in drawing order: of a layer, of those in it, and of the layers of a list.
-use Rattle.std.proofs.Common.{◌≡◌, ℕ, zero, suc, ◌+◌, List, [], ◌∷◌, ◌++◌, length, length-append, Option, Some, None, refl, sym, ap, ◌∙◌, subst}
+use Rattle.std.proofs.Common.{◌≡◌, ℕ, zero, suc, ◌+◌, List, [], ◌∷◌, length, length-append, Option, Some, None, refl, sym, ap, ◌∙◌, subst}
 use Rattle.map_model.specs.declared.parts.Body.{Body}
 use Rattle.map_model.specs.declared.parts.Body.TheVariants.{Group}
 use Rattle.map_model.specs.declared.parts.Layer.{Layer}
@@ -8,19 +8,6 @@ use Rattle.map_model.specs.Keeping.{inner_level}
 use Rattle.map_model.specs.Lists.{Each, or_empty}
 use Rattle.map_model.proofs.GroupBodies.{group_cases, group_in-Group}
 use Rattle.map_model.proofs.Trees.{below, tree-is}
-
-module _ {A : Type 0} (P : A → Type 0) where
-  pub Each-left : (xs ys : List A) → Each P (xs ++ ys) → Each P xs
-  Each-left [] ys h = tt
-  Each-left (x ∷ xs) ys h = (h.0, Each-left xs ys h.1)
-
-  pub Each-right : (xs ys : List A) → Each P (xs ++ ys) → Each P ys
-  Each-right [] ys h = h
-  Each-right (x ∷ xs) ys h = Each-right xs ys h.1
-
-  pub Each-both : (xs ys : List A) → Each P xs → Each P ys → Each P (xs ++ ys)
-  Each-both [] ys h g = g
-  Each-both (x ∷ xs) ys h g = (h.0, Each-both xs ys h.1 g)
 
 module _ (P : ℕ × Layer → Type 0) where
   pub tree-Each : (room level : ℕ) (l : Layer) → Each P (tree room level l) → P (level, bare l) × Each P (below room level l)

@@ -1,6 +1,6 @@
 -- A map that was read, with the tests passed that take all of it, is well formed.
-use Rattle.std.proofs.Common.{◌≡◌, ℕ, ◌*◌, ◌≤◌, List, [], ◌∷◌, map, length, Bool, true, false, not, ◌&&◌, Ordering, Less, Equal, Greater, nat_cmp, Some, Ok}
-use Rattle.std.proofs.Common.{true≢false, refl, sym, ap, ◌∙◌, subst, arith}
+use Rattle.std.proofs.Common.{◌≡◌, ℕ, ◌*◌, ◌≤◌, List, [], ◌∷◌, map, length, true, false, not, ◌&&◌, Ordering, Less, Equal, Greater, nat_cmp, Some, Ok}
+use Rattle.std.proofs.Common.{refl, sym, ap, ◌∙◌, subst, arith}
 use Rattle.std.specs.Prelude.{◌==◌, nat_le, nat_lt}
 use Rattle.std.specs.List.{list_all, flat_map}
 use Rattle.std.specs.Cmp.Lexicographic.{slice_cmp}
@@ -27,8 +27,8 @@ use Rattle.map_model.specs.WellFormed.{IsSize, IsTileSize, IsTileset, ArePropert
 use Rattle.map_model.specs.WellFormed.{ids_of, layer_ids, ids_of_object, object_ids_in, object_ids_of, object_ids, first_ids_of}
 use Rattle.json_members.specs.Members.{without, without_all}
 use Rattle.refusals.specs.declared.map_refusal.MapRefusal.TheVariants.{Fraction, Infinite, IdUsedTwice, OverLimit, NotAMap}
-use Rattle.map_json.specs.Steps.{required, absent_means}
-use Rattle.map_json.specs.Scalars.{whole_at, truth_at}
+use Rattle.map_values.specs.Steps.{required, absent_means}
+use Rattle.map_values.specs.Scalars.{whole_at, truth_at}
 use Rattle.map_json.specs.Elements.{elements_at}
 use Rattle.map_json.specs.Reading.{property_at, properties_of, tileset_at, map_layers_at}
 use Rattle.map_json.specs.Distinctness.{are_distinct, lists_in, lists_of_drawn, lists_of_layer, property_lists, are_named_apart, ids_are_unique, are_below_next}

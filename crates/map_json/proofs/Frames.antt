@@ -23,7 +23,8 @@ use Rattle.map_json.specs.Appending.{frame_of, framed_body, instead, layer_frame
 use Rattle.map_json.specs.Details.{numbers_of}
 use Rattle.json_members.specs.Members.{put_some}
 use Rattle.map_json.specs.Members.{Own, with_own}
-use Rattle.map_json.specs.Trees.{array_by, layer_own, layer_tree, layers_tree, own_around, plain_own, properties_member, tileset_tree, whole_tree}
+use Rattle.map_values.specs.Arrays.{array_by, whole_tree}
+use Rattle.map_json.specs.Trees.{layer_own, layer_tree, layers_tree, own_around, plain_own, properties_member, tileset_tree}
 use Rattle.json_members.proofs.MembersLemmas.{same_name}
 
 -- ---- members that are put

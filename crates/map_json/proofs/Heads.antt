@@ -1,24 +1,20 @@
 -- A layer, by the members that a layer of any kind has and by what it holds.
-use Rattle.std.proofs.Common.{◌≡◌, ℕ, List, [], Bool, true, None, Some, refl, sym, ap, ◌∙◌, subst}
+use Rattle.std.proofs.Common.{◌≡◌, ℕ, List, None, Some, refl, sym, ap, ◌∙◌, subst}
 use Rattle.std.specs.Prelude.{Result, Ok, Err}
 use Rattle.serde_json.specs.Data.{Data, Members}
-use Rattle.serde_json.specs.Find.{as_object, get_member}
-use Rattle.map_model.specs.declared.names.TheConstants.{TYPE, ID, NAME, VISIBLE}
+use Rattle.serde_json.specs.Find.{as_object}
 use Rattle.map_model.specs.declared.parts.Body.{Body}
 use Rattle.map_model.specs.declared.parts.Layer.{Layer}
-use Rattle.map_model.specs.declared.parts.Property.{Property}
 use Rattle.map_model.specs.Keeping.{common_names, body_names, layer_names}
 use Rattle.map_model.specs.Steps.{◌>>=◌}
-use Rattle.map_json.specs.declared.body.LayerType.{LayerType}
 use Rattle.map_json.specs.declared.layer.Head.{Head}
 use Rattle.refusals.specs.declared.map_refusal.MapRefusal.{MapRefusal}
 use Rattle.refusals.specs.declared.map_refusal.MapRefusal.TheVariants.{MemberOfAnotherKind}
-use Rattle.map_json.specs.declared.fault.MapFault.{MapFault}
-use Rattle.map_json.specs.Steps.{Fails, required, absent_means}
-use Rattle.map_json.specs.Scalars.{text_at, truth_at}
+use Rattle.map_values.specs.declared.fault.MapFault.{MapFault}
+use Rattle.map_values.specs.Steps.{Fails}
 use Rattle.map_json.specs.Elements.{Counting}
 use Rattle.json_members.specs.Members.{without_all}
-use Rattle.map_json.specs.Reading.{type_at, id_at, properties_of, head_of, body_by, layer_by}
+use Rattle.map_json.specs.Reading.{head_of, body_by, layer_by}
 use Rattle.map_json.proofs.Bodies.{body_by_common}
 use Rattle.map_json.proofs.Parts.{Fails->>=}
 

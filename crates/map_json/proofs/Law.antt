@@ -23,17 +23,18 @@ use Rattle.map_model.specs.WellFormed.{IsId, IsValue, IsProperty, AreProperties,
 use Rattle.json_members.specs.Members.{without_all}
 use Rattle.map_json.specs.Members.{with_own}
 use Rattle.refusals.specs.declared.map_refusal.MapRefusal.{MapRefusal}
-use Rattle.map_json.specs.Steps.{optional, absent_means}
-use Rattle.map_json.specs.Scalars.{whole_at, signed_at, text_at, truth_at}
+use Rattle.map_values.specs.Steps.{optional, absent_means}
+use Rattle.map_values.specs.Scalars.{whole_at, signed_at, text_at, truth_at, id_at, pixels_at}
 use Rattle.map_json.specs.Elements.{elements_at}
-use Rattle.map_json.specs.Reading.{value_of, property_at, id_at, pixels_at, placing_of, object_at, tileset_at, encoding_at, same_at, cells_at}
-use Rattle.map_json.specs.Cells.{array_cells_at, base64_cells_at}
-use Rattle.map_json.specs.Trees.{whole_tree, value_tree, property_own, property_tree, properties_member, object_own, object_tree, tileset_own, tileset_tree}
-use Rattle.map_json.specs.Trees.{bytes_of, cells_tree, encoding_member}
+use Rattle.map_json.specs.Reading.{value_of, property_at, placing_of, object_at, tileset_at, encoding_at, same_at, cells_at}
+use Rattle.map_values.specs.Cells.{array_cells_at, base64_cells_at, bytes_of}
+use Rattle.map_values.specs.Arrays.{whole_tree}
+use Rattle.map_json.specs.Trees.{value_tree, property_own, property_tree, properties_member, object_own, object_tree, tileset_own, tileset_tree}
+use Rattle.map_json.specs.Trees.{cells_tree, encoding_member}
 use Rattle.map_json.proofs.Own.{get_member-with_own, without_all-with_own, or_else}
 use Rattle.map_json.proofs.Again.{whole_again, elements_again, cells_again, length-bytes_of, words_again}
-use Rattle.map_json.proofs.Words.{is_byte-from_IsBytes}
-use Rattle.map_json.proofs.Base64.{decoded_again, IsBytes-bytes_of}
+use Rattle.map_values.proofs.Words.{is_byte-from_IsBytes}
+use Rattle.map_values.proofs.Base64.{decoded_again, IsBytes-bytes_of}
 use Rattle.map_model.proofs.TilesetChanges.{Each-along}
 
 -- ---- scalars

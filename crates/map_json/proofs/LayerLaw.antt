@@ -23,14 +23,16 @@ use Rattle.json_members.specs.Members.{without_all}
 use Rattle.map_json.specs.Members.{with_own}
 use Rattle.map_json.specs.declared.body.LayerType.{LayerType}
 use Rattle.map_json.specs.declared.body.LayerType.TheVariants.{TileLayer, ObjectGroup, ImageLayer, GroupLayer}
-use Rattle.map_json.specs.Steps.{absent_means}
-use Rattle.map_json.specs.Scalars.{text_at, truth_at}
+use Rattle.map_values.specs.Steps.{absent_means}
+use Rattle.map_values.specs.Scalars.{text_at, truth_at, id_at}
 use Rattle.map_json.specs.Elements.{Counting, each_counted, elements_at}
-use Rattle.map_json.specs.Reading.{property_at, id_at, object_at, type_at, cells_at, tiles_of, objects_of, body_by, head_of, layer_by, layers_at, map_layers_at}
-use Rattle.map_json.specs.Trees.{array_by, items_by, whole_tree, properties_member, object_tree, cells_tree, encoding_member, body_own, type_word, layer_own}
+use Rattle.map_json.specs.Reading.{property_at, object_at, type_at, cells_at, tiles_of, objects_of, body_by, head_of, layer_by, layers_at, map_layers_at}
+use Rattle.map_values.specs.Arrays.{array_by, items_by, whole_tree}
+use Rattle.map_json.specs.Trees.{properties_member, object_tree, cells_tree, encoding_member, body_own, type_word, layer_own}
 use Rattle.map_json.specs.Trees.{layer_tree, layers_tree}
 use Rattle.map_json.proofs.Again.{elements_again, items_len-items_by}
-use Rattle.map_json.proofs.DrawnLayers.{Each-left, Each-right, Group-inside, drawn_in, drawn_in-none, length-drawn, tree-Each}
+use Rattle.map_values.proofs.Lists.{Each-left, Each-right}
+use Rattle.map_json.proofs.DrawnLayers.{Group-inside, drawn_in, drawn_in-none, length-drawn, tree-Each}
 use Rattle.map_json.proofs.Law.{or_none, id_again, properties_again, object_again, encoding_again, cells_tree_again, same_again}
 use Rattle.map_json.proofs.Lacking.{LacksAll}
 use Rattle.map_json.proofs.Own.{get_member-with_own, find_own, without_all-with_own}

@@ -24,12 +24,13 @@ use Rattle.map_json.specs.declared.body.LayerType.{LayerType}
 use Rattle.map_json.specs.declared.body.LayerType.TheVariants.{TileLayer, ObjectGroup, ImageLayer, GroupLayer}
 use Rattle.map_json.specs.declared.layer.Head.{Head}
 use Rattle.refusals.specs.declared.map_refusal.MapRefusal.TheVariants.{MemberOfAnotherKind, OverLimit}
-use Rattle.map_json.specs.Steps.{required, absent_means}
-use Rattle.map_json.specs.Scalars.{text_at, truth_at}
+use Rattle.map_values.specs.Steps.{required, absent_means}
+use Rattle.map_values.specs.Scalars.{text_at, truth_at, id_at}
 use Rattle.map_json.specs.Elements.{Counting, each_counted, elements_at}
-use Rattle.map_json.specs.Reading.{id_at, properties_of, object_at, type_at, encoding_at, compression_at, same_at, cells_at, tiles_of, objects_of, body_by}
+use Rattle.map_json.specs.Reading.{properties_of, object_at, type_at, encoding_at, compression_at, same_at, cells_at, tiles_of, objects_of, body_by}
 use Rattle.map_json.specs.Reading.{layer_by, layers_at, map_layers_at, head_of}
-use Rattle.map_json.proofs.DrawnLayers.{Each-both, Each-tree, length-drawn, drawn_in, below-drawn_in, drawn_in-none, drawn_in-Group}
+use Rattle.map_values.proofs.Lists.{Each-both}
+use Rattle.map_json.proofs.DrawnLayers.{Each-tree, length-drawn, drawn_in, below-drawn_in, drawn_in-none, drawn_in-Group}
 use Rattle.map_json.proofs.Fine.{IsFine, AreFineItems, AreFineMembers}
 use Rattle.map_json.proofs.FineLemmas.{IsFine-get_member}
 use Rattle.map_json.proofs.Sound.{text_or_sound, by_bind, by_check, by_step, ok_is, ok_or_ok, required_ok, array_fine, object_fine, kept_sound}

@@ -1,10 +1,8 @@
 pub mod Lacking
 pub mod Own
 pub mod Loops
-pub mod Words
 pub mod Again
 pub mod Pushes
-pub mod Base64
 pub mod Walks
 pub mod Bodies
 pub mod Parts
@@ -36,5 +34,4 @@ pub mod DrawnLayers
 pub mod Written
 pub mod Outlines
 pub mod LayerLaw
-pub mod NumberTexts
 pub mod PutMembers

@@ -1,5 +1,5 @@
 -- What is written is read again: maps.
-use Rattle.std.proofs.Common.{◌≡◌, ℕ, ◌*◌, Bool, true, false, ◌&&◌, List, [], ◌∷◌, map, Some, Ordering, Less, Equal, Greater, nat_cmp, Ok, refl, ◌∙◌}
+use Rattle.std.proofs.Common.{◌≡◌, ℕ, ◌*◌, true, false, List, [], ◌∷◌, map, Some, Ordering, Less, Equal, Greater, nat_cmp, Ok, refl, ◌∙◌}
 use Rattle.std.specs.Prelude.{codes, nat_le}
 use Rattle.std.specs.List.{list_all, flat_map}
 use Rattle.std.specs.Cmp.Lexicographic.{slice_cmp}
@@ -25,13 +25,14 @@ use Rattle.map_model.specs.WellFormed.{IsObject, IsBody, IsDrawn, IsTileset, Are
 use Rattle.map_model.specs.WellFormed.{first_ids_of}
 use Rattle.json_members.specs.Members.{without, without_all}
 use Rattle.map_json.specs.Members.{with_own}
-use Rattle.map_json.specs.Steps.{absent_means}
-use Rattle.map_json.specs.Scalars.{whole_at, truth_at}
+use Rattle.map_values.specs.Steps.{absent_means}
+use Rattle.map_values.specs.Scalars.{whole_at, truth_at}
 use Rattle.map_json.specs.Elements.{elements_at}
 use Rattle.map_json.specs.Reading.{property_at, tileset_at, map_layers_at}
 use Rattle.map_json.specs.Distinctness.{lists_in, lists_of_drawn, property_lists, are_named_apart}
 use Rattle.map_json.specs.Maps.{parts_of, consistent, map_of}
-use Rattle.map_json.specs.Trees.{array_by, whole_tree, properties_member, tileset_tree, layers_tree, map_own, tree_of}
+use Rattle.map_values.specs.Arrays.{array_by, whole_tree}
+use Rattle.map_json.specs.Trees.{properties_member, tileset_tree, layers_tree, map_own, tree_of}
 use Rattle.map_json.proofs.Own.{get_member-with_own, without_all-with_own}
 use Rattle.map_json.proofs.Again.{whole_again, elements_again}
 use Rattle.map_json.proofs.Apart.{numbers-Distinct, texts-Distinct, below-IsId}

@@ -2,7 +2,7 @@
 use Rattle.std.proofs.Common.{◌≡◌, ℕ, ◌+◌, ◌<◌, ◌∙◌, length, get_or, drop, map, bytes_eq, Bor, ◌++◌, eqb, arith, Less, Equal, Greater, List, [], ◌∷◌, Bool}
 use Rattle.std.proofs.Common.{true, false, not, cond, true≢false, ◌&&◌, ◌||◌, nat_cmp, is_eq, refl, sym, ap}
 use Rattle.std.specs.Prelude.{◌==◌, nat_lt}
-use Rattle.std.proofs.lemmas.Bool.{ltb-true, eqb-true, not-true}
+use Rattle.std.proofs.lemmas.Bool.{ltb-true, eqb-true}
 use Rattle.std.proofs.lemmas.List.{at_drop_more}
 use Rattle.std.specs.List.{list_any, list_all}
 use Rattle.std.specs.Cmp.Lexicographic.{slice_cmp}

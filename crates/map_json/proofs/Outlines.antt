@@ -20,8 +20,9 @@ use Rattle.map_json.specs.Appending.{AreWritten, layer_frame, replaced}
 use Rattle.map_json.specs.Details.{common_own, frame_in, layer_in, layers_in, numbers_in, numbers_of, outline_frame, shape_own}
 use Rattle.map_json.specs.Members.{Own, with_own}
 use Rattle.map_json.specs.Outlines.{outline_layer, outline_own}
-use Rattle.map_json.specs.Trees.{array_by, layer_own, whole_tree}
-use Rattle.map_json.proofs.DrawnLayers.{Each-left}
+use Rattle.map_values.specs.Arrays.{array_by, whole_tree}
+use Rattle.map_json.specs.Trees.{layer_own}
+use Rattle.map_values.proofs.Lists.{Each-left}
 use Rattle.map_json.proofs.Frames.{framed-whole, layer_own-other, layer_tree-frame, layer_tree-group, layer_tree-numbers, layer_tree-room, replaced-layer_frame}
 use Rattle.map_json.proofs.Plain.{ArePlainOwn, IsPlain, IsPlainOwn, kept_plain, layer_frame_plain, object_plain, own_are_plain, own_IsLayer}
 

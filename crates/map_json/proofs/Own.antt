@@ -1,6 +1,6 @@
 -- Own members put over kept members, and taken out again.
 use Rattle.std.proofs.Common.{◌≡◌, ℕ, List, [], ◌∷◌, map, Option, Some, None, Ordering, Less, Equal, Greater, nat_cmp, is_eq, cond, Bool, true, false, bytes_eq}
-use Rattle.std.proofs.Common.{◌&&◌, ◌||◌, not, true≢false, refl, sym, ap, ◌∙◌}
+use Rattle.std.proofs.Common.{◌||◌, true≢false, refl, sym, ap, ◌∙◌}
 use Rattle.std.specs.List.{list_any}
 use Rattle.std.specs.Cmp.Lexicographic.{slice_cmp}
 use Rattle.std.specs.Ordering.{match_ordering}

@@ -17,9 +17,9 @@ use Rattle.map_model.specs.WellFormed.{IsPlacing, IsPixels, IsTileValue, IsTiles
 use Rattle.json_members.specs.Members.{without_all}
 use Rattle.refusals.specs.declared.map_refusal.MapRefusal.{MapRefusal}
 use Rattle.refusals.specs.declared.map_refusal.MapRefusal.TheVariants.{MemberOfAnotherKind, OverLimit}
-use Rattle.map_json.specs.Steps.{required, optional}
-use Rattle.map_json.specs.Scalars.{whole_at, signed_at, text_at, truth_at}
-use Rattle.map_json.specs.Reading.{id_at, pixels_at, placing_of, object_at, properties_of, tileset_at}
+use Rattle.map_values.specs.Steps.{required, optional}
+use Rattle.map_values.specs.Scalars.{whole_at, signed_at, text_at, truth_at, id_at, pixels_at}
+use Rattle.map_json.specs.Reading.{placing_of, object_at, properties_of, tileset_at}
 use Rattle.map_json.proofs.Fine.{IsFine}
 use Rattle.map_json.proofs.Sound.{by_bind, ok_is, chosen, ok_or_ok, object_fine, kept_sound, required_whole_sound, whole_sound, optional_text_sound, WereRead}
 use Rattle.map_json.proofs.Sound.{properties_sound}

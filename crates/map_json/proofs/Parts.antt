@@ -15,10 +15,10 @@ use Rattle.map_model.specs.declared.parts.Property.{Property}
 use Rattle.map_model.specs.Keeping.{map_names}
 use Rattle.map_model.specs.Steps.{◌>>=◌}
 use Rattle.refusals.specs.declared.map_refusal.MapRefusal.{MapRefusal}
-use Rattle.map_json.specs.declared.fault.MapFault.{MapFault}
-use Rattle.map_json.specs.declared.fault.MapFault.TheVariants.{Memory, Refused}
-use Rattle.map_json.specs.Steps.{Fails, required, absent_means}
-use Rattle.map_json.specs.Scalars.{whole_at, truth_at}
+use Rattle.map_values.specs.declared.fault.MapFault.{MapFault}
+use Rattle.map_values.specs.declared.fault.MapFault.TheVariants.{Memory, Refused}
+use Rattle.map_values.specs.Steps.{Fails, required, absent_means}
+use Rattle.map_values.specs.Scalars.{whole_at, truth_at}
 use Rattle.map_json.specs.Elements.{elements_at}
 use Rattle.json_members.specs.Members.{without, without_all}
 use Rattle.map_json.specs.Reading.{properties_of, tileset_at, map_layers_at}

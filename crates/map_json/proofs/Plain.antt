@@ -29,11 +29,13 @@ use Rattle.map_model.specs.WellFormed.{IsValue, IsProperty, AreProperties, IsObj
 use Rattle.map_model.proofs.GroupBodies.{IsLayer-without}
 use Rattle.json_members.specs.Members.{put_some}
 use Rattle.map_json.specs.Members.{with_own}
-use Rattle.map_json.specs.Trees.{items_by, array_by, whole_tree, value_tree, property_own, property_tree, properties_member, object_own, object_tree}
+use Rattle.map_values.specs.Arrays.{items_by, array_by, whole_tree}
+use Rattle.map_json.specs.Trees.{value_tree, property_own, property_tree, properties_member, object_own, object_tree}
 use Rattle.map_json.specs.Trees.{tileset_own, tileset_tree, cells_tree, encoding_member, body_own, layer_own, layer_tree, layers_tree, own_around, tree_of}
 use Rattle.map_json.specs.Trees.{type_word}
 use Rattle.map_json.specs.Appending.{AreWritten, frame_of, framed_body, layer_frame}
-use Rattle.map_json.proofs.DrawnLayers.{Each-left, Each-right, tree-Each}
+use Rattle.map_values.proofs.Lists.{Each-left, Each-right}
+use Rattle.map_json.proofs.DrawnLayers.{tree-Each}
 use Rattle.map_json.proofs.Own.{put_whole}
 
 -- each number is whole, and nothing is more than n deep

@@ -11,7 +11,8 @@ use Rattle.serde_json.specs.Read.{max_depth}
 use Rattle.serde_json.specs.View.{view, members_view}
 use Rattle.serde_json.specs.Written.{comma_if, compact_text, has_float, members_have_float, members_text}
 use Rattle.serde_json.proofs.Views.{Entry, put_last}
-use Rattle.map_json.specs.Appending.{Appends, instead, replaced}
+use Rattle.map_values.specs.Texts.{Appends}
+use Rattle.map_json.specs.Appending.{instead, replaced}
 use Rattle.map_json.proofs.Frames.{replaced-put}
 use Rattle.map_json.proofs.Returning.{MembersReturn, MembersReturn-none, MembersReturn-member, Returns-object, regroup_member}
 

@@ -4,7 +4,7 @@ use Rattle.std.proofs.Common.{arith, append_assoc, append-nil}
 use Rattle.std.proofs.lemmas.Str.{IsUtf8-append}
 use Rattle.json.specs.Json as json
 use Rattle.json.specs.Tree as tree
-use Rattle.json.specs.Tree.{HasNumbers, ItemsHaveNumbers, MembersHaveNumbers, json_tokens}
+use Rattle.json.specs.Tree.{MembersHaveNumbers, json_tokens}
 use Rattle.json.specs.Lex.{tokens}
 use Rattle.json.specs.Print.{quoted}
 use Rattle.json.proofs.Numbered.{document-HasNumbers}
@@ -14,10 +14,11 @@ use Rattle.json.proofs.Printed.Trees.{ArePrintable-json_tokens, value-json_token
 use Rattle.json.proofs.Printed.Utf8.{IsUtf8-are_ascii, IsUtf8-key}
 use Rattle.serde_json.specs.Data.{Data, null, boolean, number, string, array, object, Items, no_items, item, Members, no_members, member, put, depth}
 use Rattle.serde_json.specs.Data.{items_depth, members_depth}
-use Rattle.serde_json.specs.Read.{read, max_depth, of_json, of_items, of_members}
-use Rattle.serde_json.specs.Written.{IsInOrder, has_float, outline, items_outline, members_outline, comma_if, compact_text, items_text, members_text}
+use Rattle.serde_json.specs.Read.{read, max_depth, of_json, of_members}
+use Rattle.serde_json.specs.Written.{IsInOrder, has_float, outline, items_outline, members_outline, compact_text, members_text}
 use Rattle.serde_json.proofs.Texts.{tokens_from_order, print-outline}
-use Rattle.map_json.specs.Appending.{Returns}
+use Rattle.map_values.specs.Texts.{Returns}
+use Rattle.map_values.proofs.Returning.{ascii_then, comma_then}
 
 mutual
   depth-outline : (d : Data) → tree.depth (outline d) ≡ depth d
@@ -59,39 +60,6 @@ pub read-compact_text : (d : Data) → Returns d → depth d ≤ max_depth → r
 read-compact_text d h shallow =
     let same = ap tokens (sym (print-outline d)) ∙ tokens-print (json_tokens (outline d)) (ArePrintable-json_tokens (outline d) h.numbers) in
     ap (option_and_then of_json) (parsed-outline max_depth d (tokens (compact_text d)) same shallow) ∙ h.reads
-
--- ---- text in front of text
-ascii_then : (b : ℕ) (rest : List ℕ) → IsUtf8 (b ∷ []) → IsUtf8 rest → IsUtf8 (b ∷ rest)
-ascii_then b rest one more = IsUtf8-append (b ∷ []) rest one more
-
-comma_then : (later : Bool) (rest : List ℕ) → IsUtf8 rest → IsUtf8 (comma_if later ++ rest)
-comma_then true rest utf8 = ascii_then 44 rest (IsUtf8-are_ascii (44 ∷ []) refl) utf8
-comma_then false rest utf8 = utf8
-
--- ---- items
-pub record ItemsReturn (ds : Items) : Type 0 where
-  pub utf8 : (later : Bool) → IsUtf8 (items_text later ds)
-  pub numbers : ItemsHaveNumbers (items_outline ds)
-  pub reads : of_items (items_outline ds) ≡ Some ds
-
-pub ItemsReturn-none : ItemsReturn no_items
-ItemsReturn-none = record { utf8 = λ later. IsUtf8-are_ascii (93 ∷ []) refl; numbers = tt; reads = refl }
-
-pub ItemsReturn-item : (d : Data) (ds : Items) → Returns d → ItemsReturn ds → ItemsReturn (item d ds)
-ItemsReturn-item d ds one more =
-    record {
-      utf8 = λ later. comma_then later (compact_text d ++ items_text true ds) (IsUtf8-append (compact_text d) (items_text true ds) one.utf8 (more.utf8 true));
-      numbers = (one.numbers, more.numbers);
-      reads = ap (option_and_then (λ e. option_map (item e) (of_items (items_outline ds)))) one.reads ∙ ap (option_map (item d)) more.reads;
-    }
-
-pub Returns-array : (ds : Items) → ItemsReturn ds → Returns (array ds)
-Returns-array ds h =
-    record {
-      utf8 = ascii_then 91 (items_text false ds) (IsUtf8-are_ascii (91 ∷ []) refl) (h.utf8 false);
-      numbers = h.numbers;
-      reads = ap (option_map array) h.reads;
-    }
 
 -- ---- members
 key_then : (k rest : List ℕ) → IsUtf8 k → IsUtf8 rest → IsUtf8 (quoted k ++ 58 ∷ rest)

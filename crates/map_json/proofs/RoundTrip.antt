@@ -3,7 +3,7 @@ use Rattle.std.proofs.Common.{◌≡◌, ℕ, List, Some, Ok, Err, inl, inr, ref
 use Rattle.serde_json.specs.Data.{Data}
 use Rattle.map_model.specs.declared.parts.MapParts.{MapParts}
 use Rattle.refusals.specs.declared.map_refusal.MapRefusal.{MapRefusal}
-use Rattle.map_json.specs.declared.fault.MapFault.TheVariants.{Memory, Refused}
+use Rattle.map_values.specs.declared.fault.MapFault.TheVariants.{Memory, Refused}
 use Rattle.map_json.specs.Maps.{IsTreeOf, IsRefusedAs, map_of}
 use Rattle.map_json.specs.RoundTrip.{SavedIsOpened, WrittenIsRead}
 use Rattle.map_json.specs.Trees.{text_of, tree_of}

@@ -6,7 +6,6 @@ use Rattle.std.specs.Prelude.{codes, IfSome, nat_le, nat_lt, option_and_then, op
 use Rattle.std.specs.List.{list_all}
 use Rattle.std.specs.Result.{result_ok}
 use Rattle.std.specs.Int.Signed.{le_z_yes}
-use Rattle.std.proofs.Math.Dec.{T}
 use Rattle.std.proofs.lemmas.Int.{ints}
 use Rattle.std.proofs.lemmas.Bool.{eqb-true, leb-true, ltb-true, le-leb, and_parts}
 use Rattle.std.specs.Option.{ok_or}
@@ -28,16 +27,16 @@ use Rattle.map_model.specs.Steps.{◌>>=◌, ◌>>◌, check}
 use Rattle.json_members.specs.Members.{without_all}
 use Rattle.refusals.specs.declared.map_refusal.MapRefusal.{MapRefusal}
 use Rattle.refusals.specs.declared.map_refusal.MapRefusal.TheVariants.{MemberOfAnotherKind, OverLimit, BadData}
-use Rattle.map_json.specs.Steps.{required, absent_means, optional}
-use Rattle.map_json.specs.Scalars.{whole_at, text_at}
+use Rattle.map_values.specs.Steps.{required, absent_means, optional}
+use Rattle.map_values.specs.Scalars.{whole_at, text_at}
 use Rattle.map_json.specs.Elements.{each, elements_at}
-use Rattle.map_json.specs.Cells.{cell_of, cells_of, packed, words_of, is_byte, array_cells_at, base64_cells_at}
+use Rattle.map_values.specs.Cells.{cell_of, cells_of, packed, words_of, is_byte, array_cells_at, base64_cells_at}
 use Rattle.map_json.specs.Reading.{value_of, value_at, property_at, properties_of, cells_at}
 use Rattle.map_json.proofs.Fine.{IsFineNum, IsFine, AreFineItems, AreFineMembers}
 use Rattle.map_json.proofs.FineLemmas.{IsFine-get_member, AreFineMembers-without_all, has_float-fine, members_have_float-fine, depth-fine, members_depth-fine}
 use Rattle.map_json.proofs.FineLemmas.{IsReadable-fine, AreReadableMembers-fine}
 use Rattle.map_json.proofs.Lacking.{LacksAll-without_all}
-use Rattle.map_json.proofs.Words.{words_sound}
+use Rattle.map_values.proofs.Words.{words_sound}
 
 pub bind_ok : {A B : Type 0} (r : Result A MapRefusal) (f : A → Result B MapRefusal) (y : B) → (r >>= f) ≡ Ok y → (x : A) × (r ≡ Ok x) × (f x ≡ Ok y)
 bind_ok (Ok x) f y e = (x, refl, e)

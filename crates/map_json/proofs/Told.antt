@@ -1,6 +1,6 @@
 -- A tree that a file can say is read from its own text.
-use Rattle.std.proofs.Common.{◌≡◌, ℕ, suc, ◌^◌, ◌<◌, pos, negsuc, List, [], ◌∷◌, get_or, option_map, option_and_then, Less, nat_cmp, decimal, Bool, true, false}
-use Rattle.std.proofs.Common.{◌||◌, true≢false, refl, sym, ap, ◌∙◌, subst, arith}
+use Rattle.std.proofs.Common.{◌≡◌, ℕ, suc, ◌^◌, ◌<◌, pos, negsuc, List, [], ◌∷◌, get_or, option_map, option_and_then, Less, nat_cmp, decimal, true, false}
+use Rattle.std.proofs.Common.{true≢false, refl, sym, ap, ◌∙◌, subst, arith}
 use Rattle.std.specs.Cmp.Lexicographic.{slice_cmp}
 use Rattle.std.specs.Fmt.{signed_decimal}
 use Rattle.std.proofs.lemmas.Bool.{ne_eqb, or_parts}
@@ -17,10 +17,11 @@ use Rattle.serde_json.specs.Data.{no_members, member, put}
 use Rattle.serde_json.specs.Find.{is_float}
 use Rattle.serde_json.specs.Written.{has_float, items_have_float, members_have_float}
 use Rattle.map_model.specs.Readable.{IsBefore, IsReadableNumber, IsReadable, AreReadableItems, AreReadableMembers}
-use Rattle.map_json.specs.Appending.{Returns}
-use Rattle.map_json.proofs.NumberTexts.{whole_returns}
+use Rattle.map_values.specs.Texts.{Returns}
+use Rattle.map_values.proofs.NumberTexts.{whole_returns}
 use Rattle.map_json.proofs.Orders.{after_Less}
-use Rattle.map_json.proofs.Returning.{ItemsReturn, ItemsReturn-none, ItemsReturn-item, Returns-array, MembersReturn, MembersReturn-none, MembersReturn-member}
+use Rattle.map_values.proofs.Returning.{ItemsReturn, ItemsReturn-none, ItemsReturn-item, Returns-array}
+use Rattle.map_json.proofs.Returning.{MembersReturn, MembersReturn-none, MembersReturn-member}
 use Rattle.map_json.proofs.Returning.{Returns-object}
 
 -- ---- numbers

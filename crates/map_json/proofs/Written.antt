@@ -14,7 +14,8 @@ use Rattle.map_json.specs.declared.detail.Detail.{Detail}
 use Rattle.map_json.specs.declared.detail.Detail.TheVariants.{Whole, Outline}
 use Rattle.map_json.specs.Appending.{AreWritten}
 use Rattle.map_json.specs.Details.{numbers_in, numbers_of}
-use Rattle.map_json.proofs.DrawnLayers.{Each-both, Each-left, Each-right, tree-Each}
+use Rattle.map_values.proofs.Lists.{Each-both, Each-left, Each-right}
+use Rattle.map_json.proofs.DrawnLayers.{tree-Each}
 use Rattle.map_json.proofs.Plain.{own_IsLayer}
 
 pub AreWritten-first : (room size : ℕ) (l : Layer) (ls : List Layer) → AreWritten room size (l ∷ ls) → AreWritten room size (l ∷ [])

@@ -33,10 +33,13 @@ use Rattle.map_model.specs.WellFormed.{IsWellFormed, ids_of, ids_of_object, obje
 use Rattle.map_model.proofs.GroupBodies.{IsLayer-without, object_ids-with}
 use Rattle.json_members.specs.Members.{put_some}
 use Rattle.map_json.specs.Members.{Own, with_own}
-use Rattle.map_json.specs.Trees.{items_by, whole_tree, value_tree, property_own, property_tree, properties_member, object_own, object_tree, tileset_own}
-use Rattle.map_json.specs.Trees.{tileset_tree, bytes_of, cells_tree, encoding_member, type_word, body_own, layer_own, layer_tree, layers_tree, plain_own}
+use Rattle.map_values.specs.Arrays.{items_by, whole_tree}
+use Rattle.map_json.specs.Trees.{value_tree, property_own, property_tree, properties_member, object_own, object_tree, tileset_own}
+use Rattle.map_values.specs.Cells.{bytes_of}
+use Rattle.map_json.specs.Trees.{tileset_tree, cells_tree, encoding_member, type_word, body_own, layer_own, layer_tree, layers_tree, plain_own}
 use Rattle.map_json.specs.Trees.{lists_own, map_own, tree_of}
-use Rattle.map_json.proofs.DrawnLayers.{Each-left, Each-right, tree-Each}
+use Rattle.map_values.proofs.Lists.{Each-left, Each-right}
+use Rattle.map_json.proofs.DrawnLayers.{tree-Each}
 use Rattle.map_json.proofs.Orders.{AreReadableMembers-put}
 
 -- ---- own members

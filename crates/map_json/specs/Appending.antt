@@ -1,11 +1,7 @@
 -- For private clauses: a text that grows by one value after another, and what stays true of it.
-use Rattle.std.specs.Prelude.{◌≡◌, IsUtf8, ℕ, ◌+◌, ◌*◌, ◌≤◌, List, [], ◌∷◌, ◌++◌, if◌then◌else◌, Some, decimal}
-use Rattle.std.specs.List.{flat_map}
+use Rattle.std.specs.Prelude.{◌≡◌, ℕ, ◌+◌, ◌*◌, ◌≤◌, List, [], if◌then◌else◌}
 use Rattle.std.specs.Str.{bytes_eq}
-use Rattle.json.specs.Tree.{HasNumbers}
 use Rattle.serde_json.specs.Data.{Data, array, Members, no_members, member, no_items}
-use Rattle.serde_json.specs.Read.{of_json}
-use Rattle.serde_json.specs.Written.{compact_text, outline}
 use Rattle.map_model.specs.declared.parts.Body.{Body}
 use Rattle.map_model.specs.declared.parts.Body.TheVariants.{Tiles, Objects, Other, Group'}
 use Rattle.map_model.specs.declared.parts.Encoding.{Encoding}
@@ -18,16 +14,6 @@ use Rattle.map_model.specs.Lists.{Each}
 use Rattle.map_model.specs.WellFormed.{IsDrawn}
 use Rattle.map_json.specs.Members.{with_own}
 use Rattle.map_json.specs.Trees.{layer_own, own_around}
-
--- the value's text is UTF-8, and its JSON reads as the value
-pub record Returns (d : Data) : Type 0 where
-  pub utf8 : IsUtf8 (compact_text d)
-  pub numbers : HasNumbers (outline d)
-  pub reads : of_json (outline d) ≡ Some d
-
--- the new text is the old one and the value's, which reads as the value
-abbrev pub Appends : Data → List ℕ → List ℕ → Type 0
-Appends d old new = (new ≡ old ++ compact_text d) × Returns d
 
 -- the value, and this one in place of that with the name
 abbrev pub instead : List ℕ → Data → List ℕ → Data → Data
@@ -44,10 +30,6 @@ pub record AreWritten (room size : ℕ) (ls : List Layer) : Type 0 where
   pub high : layer_level ≤ level
   pub balance : level + 2 * room ≡ deepest_level
   pub each : Each (IsDrawn size) (drawn room level ls)
-
--- numbers, each behind a comma
-abbrev pub numbers_text : List ℕ → List ℕ
-numbers_text ns = flat_map (λ n. 44 ∷ decimal n) ns
 
 -- a tile layer's values as they stand in its frame: of an array none
 abbrev pub framed_cells : Encoding → List ℕ → List ℕ

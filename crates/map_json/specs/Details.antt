@@ -13,7 +13,8 @@ use Rattle.map_json.specs.declared.detail.Detail.TheVariants.{Whole, Outline}
 use Rattle.map_json.specs.Appending.{layer_frame}
 use Rattle.map_json.specs.Members.{Own, with_own}
 use Rattle.map_json.specs.Outlines.{outline_layer, outline_of, outline_own}
-use Rattle.map_json.specs.Trees.{array_by, encoding_member, layer_tree, properties_member, tree_of, type_word, whole_tree}
+use Rattle.map_values.specs.Arrays.{array_by, whole_tree}
+use Rattle.map_json.specs.Trees.{encoding_member, layer_tree, properties_member, tree_of, type_word}
 
 -- the own members of a layer of any kind
 abbrev pub common_own : Layer → Own

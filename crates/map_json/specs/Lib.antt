@@ -1,10 +1,6 @@
-pub mod Steps
-pub mod Scalars
 pub mod Elements
 pub mod Members
-pub mod Cells
 pub mod Reading
-pub mod Refusals
 pub mod Distinctness
 pub mod Maps
 pub mod Trees

@@ -14,10 +14,10 @@ use Rattle.map_model.specs.Keeping.{map_names}
 use Rattle.map_model.specs.Steps.{◌>>=◌, ◌>>◌, check}
 use Rattle.refusals.specs.declared.map_refusal.MapRefusal.{MapRefusal}
 use Rattle.refusals.specs.declared.map_refusal.MapRefusal.TheVariants.{NotJson, Fraction, Infinite, IdUsedTwice, OverLimit, NotAMap}
-use Rattle.map_json.specs.declared.fault.MapFault.{MapFault}
-use Rattle.map_json.specs.declared.fault.MapFault.TheVariants.{Memory, Refused}
-use Rattle.map_json.specs.Steps.{required, absent_means}
-use Rattle.map_json.specs.Scalars.{whole_at, truth_at}
+use Rattle.map_values.specs.declared.fault.MapFault.{MapFault}
+use Rattle.map_values.specs.declared.fault.MapFault.TheVariants.{Memory, Refused}
+use Rattle.map_values.specs.Steps.{required, absent_means}
+use Rattle.map_values.specs.Scalars.{whole_at, truth_at}
 use Rattle.map_json.specs.Elements.{elements_at}
 use Rattle.json_members.specs.Members.{without, without_all}
 use Rattle.map_json.specs.Reading.{properties_of, tileset_at, map_layers_at}

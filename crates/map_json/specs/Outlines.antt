@@ -9,7 +9,8 @@ use Rattle.map_model.specs.declared.parts.Layer.{Layer}
 use Rattle.map_model.specs.declared.parts.MapParts.{MapParts}
 use Rattle.map_model.specs.Groups.{inside}
 use Rattle.map_json.specs.Members.{Own, with_own}
-use Rattle.map_json.specs.Trees.{array_by, layer_own, own_around}
+use Rattle.map_values.specs.Arrays.{array_by}
+use Rattle.map_json.specs.Trees.{layer_own, own_around}
 
 -- a layer's own members but the values of its cells
 abbrev pub outline_own : ℕ → ℕ → Data → Layer → Own

@@ -1,5 +1,5 @@
 -- What the tree of each owner says: properties, objects, tilesets and layers, member by member in this order.
-use Rattle.std.specs.Prelude.{ℕ, zero, suc, ◌+◌, ◌-◌, ◌*◌, ◌==◌, nat_le, ℤ, neg_ℤ, List, [], codes, true, if◌then◌else◌, ⊤, Option, Some, None, Result, Ok, Err}
+use Rattle.std.specs.Prelude.{ℕ, zero, suc, ◌+◌, ◌-◌, ◌*◌, ◌==◌, nat_le, ℤ, List, [], codes, true, if◌then◌else◌, ⊤, Option, Some, None, Result, Ok, Err}
 use Rattle.std.specs.Str.{bytes_eq}
 use Rattle.std.specs.Option.{ok_or}
 use Rattle.serde_json.specs.Data.{Num, Data, null, boolean, number, string, array, object, Members}
@@ -7,7 +7,7 @@ use Rattle.serde_json.specs.Events.{items_len}
 use Rattle.serde_json.specs.Find.{as_object, as_array, as_number, as_u64, as_i64, as_str, get_member}
 use Rattle.map_model.specs.declared.names.TheConstants.{ID, NAME, TYPE, VISIBLE, PROPERTIES, WIDTH, HEIGHT, LAYERS, ENCODING, COMPRESSION, DATA, OBJECTS, X, Y}
 use Rattle.map_model.specs.declared.names.TheConstants.{GID, FIRST_ID, SOURCE, VALUE}
-use Rattle.map_model.specs.declared.limits.TheConstants.{MAX_LAYERS, MAX_GROUPS, MAX_NEXT_ID, MAX_PIXELS, MAX_PROPERTIES, MAX_OBJECTS, MAX_FIRST_ID}
+use Rattle.map_model.specs.declared.limits.TheConstants.{MAX_LAYERS, MAX_GROUPS, MAX_PROPERTIES, MAX_OBJECTS, MAX_FIRST_ID}
 use Rattle.map_model.specs.declared.parts.Encoding.{Encoding}
 use Rattle.map_model.specs.declared.parts.Encoding.TheVariants.{Array, Base64}
 use Rattle.map_model.specs.declared.parts.PropValue.{PropValue}
@@ -26,11 +26,11 @@ use Rattle.map_json.specs.declared.body.LayerType.TheVariants.{TileLayer, Object
 use Rattle.map_json.specs.declared.layer.Head.{Head}
 use Rattle.refusals.specs.declared.map_refusal.MapRefusal.{MapRefusal}
 use Rattle.refusals.specs.declared.map_refusal.MapRefusal.TheVariants.{MemberOfAnotherKind, Compressed, BadData, OverLimit}
-use Rattle.map_json.specs.Steps.{required, absent_means, optional}
-use Rattle.map_json.specs.Scalars.{whole_at, signed_at, text_at, truth_at}
+use Rattle.map_values.specs.Steps.{required, absent_means, optional}
+use Rattle.map_values.specs.Scalars.{whole_at, id_at, pixels_at, text_at, truth_at}
 use Rattle.map_json.specs.Elements.{Counting, each_counted, elements_at}
 use Rattle.json_members.specs.Members.{without_all}
-use Rattle.map_json.specs.Cells.{array_cells_at, base64_cells_at}
+use Rattle.map_values.specs.Cells.{array_cells_at, base64_cells_at}
 
 -- ---- properties
 abbrev pub number_value : Num → Option ℤ → PropValue
@@ -62,12 +62,6 @@ abbrev pub properties_of : Members → Result (List Property) MapRefusal
 properties_of ms = absent_means [] (elements_at MAX_PROPERTIES property_at) (get_member PROPERTIES.now ms)
 
 -- ---- objects
-abbrev pub id_at : Data → Result ℕ MapRefusal
-id_at = whole_at 1 (MAX_NEXT_ID - 1)
-
-abbrev pub pixels_at : Data → Result ℤ MapRefusal
-pixels_at = signed_at (neg_ℤ MAX_PIXELS) MAX_PIXELS
-
 unfoldable pub placing_of : Members → Result Placing MapRefusal
 placing_of ms = do
   x ← optional pixels_at (get_member X.now ms)

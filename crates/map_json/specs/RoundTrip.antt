@@ -1,8 +1,8 @@
 -- A map that is written, and read again.
 use Rattle.std.specs.Prelude.{◌≡◌, ◌⊎◌, ℕ, List, Result, Ok, Err}
 use Rattle.map_model.specs.declared.parts.MapParts.{MapParts}
-use Rattle.map_json.specs.declared.fault.MapFault.{MapFault}
-use Rattle.map_json.specs.declared.fault.MapFault.TheVariants.{Memory}
+use Rattle.map_values.specs.declared.fault.MapFault.{MapFault}
+use Rattle.map_values.specs.declared.fault.MapFault.TheVariants.{Memory}
 use Rattle.map_json.specs.Maps.{IsTreeOf, Says}
 use Rattle.map_json.specs.Trees.{tree_of, text_of}
 

@@ -1,10 +1,9 @@
 -- What is written for a map: its tree, and the text of that tree. The own members of each owner stand in the reader's order.
 use Rattle.std.specs.Prelude.{ℕ, zero, suc, ◌++◌, List, [], ◌∷◌, codes, false, Option, Some, None}
 use Rattle.std.specs.Option.{option_map}
-use Rattle.std.specs.Int.{w32, to_le_bytes}
 use Rattle.base64.specs.Engines.{standard}
 use Rattle.base64.specs.GeneralPurpose.{encode_of}
-use Rattle.serde_json.specs.Data.{Data, boolean, number, string, array, object, unsigned, Items, no_items, item}
+use Rattle.serde_json.specs.Data.{Data, boolean, number, string, array, object, no_items}
 use Rattle.serde_json.specs.Find.{of_integer}
 use Rattle.serde_json.specs.Written.{compact_text}
 use Rattle.map_model.specs.declared.names.TheConstants.{ID, NAME, TYPE, VISIBLE, PROPERTIES, WIDTH, HEIGHT, TILE_WIDTH, TILE_HEIGHT, INFINITE, NEXT_LAYER_ID}
@@ -24,16 +23,8 @@ use Rattle.map_model.specs.declared.parts.Tileset.{Tileset}
 use Rattle.map_model.specs.declared.parts.MapParts.{MapParts}
 use Rattle.map_model.specs.Groups.{inside}
 use Rattle.map_json.specs.Members.{Own, with_own}
-
-abbrev pub items_by : {A : Type 0} → (A → Data) → List A → Items
-items_by f [] = no_items
-items_by f (x ∷ xs) = item (f x) (items_by f xs)
-
-abbrev pub array_by : {A : Type 0} → (A → Data) → List A → Data
-array_by f xs = array (items_by f xs)
-
-abbrev pub whole_tree : ℕ → Data
-whole_tree n = number (unsigned n)
+use Rattle.map_values.specs.Arrays.{array_by, whole_tree}
+use Rattle.map_values.specs.Cells.{bytes_of}
 
 -- ---- properties
 abbrev pub value_tree : PropValue → Data
@@ -78,11 +69,6 @@ unfoldable pub tileset_tree : Tileset → Data
 tileset_tree t = object (with_own (tileset_own t) t.kept)
 
 -- ---- layers
--- four bytes a value, the least significant first
-abbrev pub bytes_of : List ℕ → List ℕ
-bytes_of [] = []
-bytes_of (n ∷ ns) = to_le_bytes w32 n ++ bytes_of ns
-
 abbrev pub cells_tree : Encoding → List ℕ → Data
 cells_tree Array cells = array_by whole_tree cells
 cells_tree Base64 cells = string (encode_of standard (bytes_of cells))

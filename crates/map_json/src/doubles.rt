@@ -8,11 +8,11 @@ ghost use Rattle.map_model.specs.declared.parts.Body.TheVariants.{Objects};
 ghost use Rattle.map_model.specs.Groups.{drawn};
 ghost use Rattle.map_model.specs.Keeping.{layer_level};
 
-use crate::trail::{Step, Trail};
 use link_chain::Chain;
 use link_tree::LinkTree;
 use map_model::limits::MAX_GROUPS;
 use map_model::{Body, Layer, MapParts, Object, Property, Tileset, names};
+use map_values::{Step, Trail};
 use std::alloc::{AllocError, Global};
 use std::collections::BTreeSet;
 

@@ -7,8 +7,8 @@ ghost use Rattle.map_model.specs.declared.names.TheConstants.{VERSION};
 ghost use Rattle.json_members.specs.Members.{without};
 ghost use Rattle.map_json.specs.Maps.{version_has_fraction, has_fraction};
 
-use crate::trail::{Step, Trail};
 use map_model::names;
+use map_values::{Step, Trail};
 use serde_json::{Map, Value};
 
 #[cycle(floats)]

@@ -9,21 +9,22 @@ ghost use Rattle.serde_json.specs.Written.{comma_if, has_float, members_have_flo
 ghost use Rattle.map_model.specs.declared.names.TheConstants.{DATA, LAYERS};
 ghost use Rattle.map_model.specs.Lists.{Each};
 ghost use Rattle.map_model.specs.WellFormed.{IsTileValue, IsWellFormed};
-ghost use Rattle.map_json.specs.Appending.{Appends, AreWritten, instead, replaced};
+ghost use Rattle.map_values.specs.Texts.{Appends};
+ghost use Rattle.map_json.specs.Appending.{AreWritten, instead, replaced};
 ghost use Rattle.map_json.specs.Details.{layer_in, layers_in, map_in};
 ghost use Rattle.map_json.specs.Maps.{IsTreeOf, map_of};
 ghost use Rattle.map_json.specs.Outlines.{outline_text};
 ghost use Rattle.map_json.specs.RoundTrip.{SavedIsOpened, WrittenIsRead};
-ghost use Rattle.map_json.specs.Trees.{array_by, text_of, tree_of, whole_tree};
+ghost use Rattle.map_values.specs.Arrays.{array_by, whole_tree};
+ghost use Rattle.map_json.specs.Trees.{text_of, tree_of};
 
 use crate::detail::{Detail, Writing};
-use crate::json_object::JsonObject;
-use crate::numbers::push_numbers;
 use crate::size::Size;
 use crate::writing::{frame_in, frame_of, numbers_in, text_tree, values_room};
 use link_chain::Chain;
 use map_model::limits::MAX_GROUPS;
 use map_model::{Layer, Map, names};
+use map_values::{JsonObject, push_numbers};
 use serde_json::Value;
 use std::alloc::{AllocError, Global};
 use tile_id::Gid;

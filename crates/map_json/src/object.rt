@@ -3,18 +3,18 @@ ghost use Rattle.std.specs.Prelude.{◌≡◌, IfOk};
 ghost use Rattle.serde_json.specs.Find.{get_member};
 ghost use Rattle.map_model.specs.declared.names.TheConstants.{X, Y, WIDTH, HEIGHT, GID};
 ghost use Rattle.json_members.specs.Members.{without};
-ghost use Rattle.map_json.specs.Steps.{optional};
-ghost use Rattle.map_json.specs.Scalars.{whole_at};
+ghost use Rattle.map_values.specs.Steps.{optional};
+ghost use Rattle.map_values.specs.Scalars.{whole_at};
 ghost use Rattle.map_json.specs.Reading.{object_at, placing_of};
 
 use crate::elements::Element;
-use crate::fault::MapFault;
-use crate::json_object::JsonObject;
 use crate::property::properties_or_none;
-use crate::scalar::{optional_pixels, optional_text, optional_truth, optional_whole, required_id};
 use crate::size::Size;
-use crate::trail::Trail;
 use map_model::{Object, Placing, names};
+use map_values::{
+    JsonObject, MapFault, Trail, optional_pixels, optional_text, optional_truth, optional_whole,
+    required_id,
+};
 use refusals::MapRefusal;
 use serde_json::Value;
 use std::alloc::Global;

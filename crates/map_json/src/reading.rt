@@ -1,21 +1,20 @@
 // A map from its text.
 ghost use Rattle.std.specs.Prelude.{◌≡◌, option_map};
 ghost use Rattle.serde_json.specs.View.{view as data_of};
-ghost use Rattle.map_json.specs.Steps.{Gives};
+ghost use Rattle.map_values.specs.Steps.{Gives};
 ghost use Rattle.map_json.specs.Maps.{is_map_type, parts_of, consistent, map_of, Says};
 
 use crate::doubles::{are_below_next, ids_are_unique, ids_of_map};
-use crate::fault::MapFault;
 use crate::fractions::has_fraction;
-use crate::json_object::JsonObject;
 use crate::layer::map_layers;
 use crate::property::properties_or_none;
-use crate::scalar::{required_next_id, required_whole, truth_or};
 use crate::size::Size;
 use crate::tileset::required_tilesets;
-use crate::trail::{NoTrail, Step, Trail};
 use map_model::limits::{MAX_CELLS, MAX_SIDE, MAX_TILE_SIDE};
 use map_model::{Map, MapParts, names};
+use map_values::{
+    JsonObject, MapFault, NoTrail, Step, Trail, required_next_id, required_whole, truth_or,
+};
 use refusals::MapRefusal;
 use serde_json::Value;
 use std::alloc::Global;

@@ -6,21 +6,19 @@ ghost use Rattle.serde_json.specs.View.{view as data_of};
 ghost use Rattle.serde_json.specs.Find.{of_integer};
 ghost use Rattle.map_json.specs.Members.{with_own};
 ghost use Rattle.map_model.specs.declared.parts.Body.TheVariants.{Tiles};
-ghost use Rattle.map_json.specs.Trees.{plain_own, lists_own, array_by, whole_tree, value_tree, property_own, property_tree, properties_member, object_tree, tileset_tree, bytes_of, cells_tree, encoding_member, body_own, type_word};
+ghost use Rattle.map_values.specs.Arrays.{array_by, whole_tree};
+ghost use Rattle.map_json.specs.Trees.{plain_own, lists_own, value_tree, property_own, property_tree, properties_member, object_tree, tileset_tree, cells_tree, encoding_member, body_own, type_word};
 ghost use Rattle.map_json.specs.Appending.{frame_of, framed_body, framed_cells, layer_frame};
 ghost use Rattle.map_json.specs.Details.{common_own, frame_in, numbers_in, numbers_of, outline_frame, shape_own};
 
 use crate::detail::{Detail, Writing};
-use crate::json_object::JsonObject;
-use crate::numbers::room_for;
 use crate::size::Size;
-use base64::encoded_len;
-use base64::engine::general_purpose::STANDARD;
 use link_chain::Chain;
 use link_tree::LinkTree;
 use map_model::{
     Body, Encoding, Layer, MapParts, MapText, Object, PropValue, Property, Tileset, names,
 };
+use map_values::{JsonObject, base64_room, base64_tree, room_for};
 use serde_json::Value;
 use std::alloc::{AllocError, Global};
 use tile_id::Gid;
@@ -178,29 +176,13 @@ impl Tree for Tileset {
     }
 }
 
-fn bytes_of(alloc: Global, cells: &[Gid]) -> Result<Vec<u8>, AllocError>
-    ensures { IfOk result (λ bytes. bytes.items ≡ bytes_of cells.now) }
-{
-    let mut bytes = Vec::with_capacity(alloc, cells.len().saturating_mul(4))?;
-    for cell in cells {
-        bytes.extend_from_slice(&cell.0.to_le_bytes())?;
-    }
-    Ok(bytes)
-}
-
 // The values of a tile layer, with an empty array for numbers.
 fn cells_tree(alloc: Global, encoding: Encoding, cells: &[Gid]) -> Result<Value, AllocError>
     ensures { IfOk result (λ value. data_of value ≡ cells_tree encoding (framed_cells encoding cells.now)) }
 {
     match encoding {
         Encoding::Array => Ok(Value::from(Vec::new(alloc))),
-        Encoding::Base64 => {
-            let bytes = bytes_of(alloc, cells)?;
-            let len = encoded_len(bytes.len(), true).unwrap_or(0);
-            let mut text = String::with_capacity(alloc, len)?;
-            STANDARD.encode_string(&bytes, &mut text)?;
-            Ok(Value::from(text))
-        }
+        Encoding::Base64 => base64_tree(alloc, cells),
     }
 }
 
@@ -393,9 +375,7 @@ pub fn values_room(detail: Detail, body: &Body) -> usize {
         return room_for(numbers);
     }
     match (detail, body) {
-        (Detail::Whole, Body::Tiles(Encoding::Base64, cells)) => {
-            encoded_len(cells.as_slice().len().saturating_mul(4), true).unwrap_or(0)
-        }
+        (Detail::Whole, Body::Tiles(Encoding::Base64, cells)) => base64_room(cells.as_slice()),
         _ => 0,
     }
 }

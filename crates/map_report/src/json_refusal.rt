@@ -2,21 +2,14 @@
 use crate::fractions::{Fractions, Owner, find_fractions, write_owner};
 use crate::json_fault::{LineColumn, place_of_fault};
 use crate::place::Place;
-use crate::refusals::TOO_LONG;
+use crate::refused::TOO_LONG;
 use json::Writer;
-use map_json::{MapFault, MapRefusal, read_map_along};
+use map_json::{MapFault, read_map_along};
+use refusals::{MapRefusal, Refusal, StoreFault};
 use serde_json::{Error, Value};
 use std::alloc::{AllocError, Global};
 use std::io::{self, ErrorKind};
 use tiled_maps::{Fault, LONGEST, set_aside};
-
-// The code and the words of a refusal for want of memory.
-const NO_MEMORY: &str = "90 no memory";
-
-// Those of a file that is not there, and of one that can't be read.
-const NO_SUCH_FILE: &str = "50 no such file";
-
-const STORE_FAILED: &str = "51 store failed";
 
 // Puts the code and the words of a refusal, which are told together.
 fn put_code(out: &mut Writer, told: &str) -> Result<(), AllocError> {
@@ -168,7 +161,7 @@ fn put_opens(out: &mut Writer, opens: bool) -> Result<(), AllocError> {
 fn put_not_set_aside(out: &mut Writer, why: &str) -> Result<(), AllocError> {
     put_opens(out, false)?;
     out.key("refused")?;
-    put_placeless(out, STORE_FAILED, Some(why))
+    put_placeless(out, StoreFault::Device.words(), Some(why))
 }
 
 // Puts what the editor answers with `--all-maps` to a map that is set aside.
@@ -232,9 +225,9 @@ pub fn put_refusal(
 /// Puts why a file could not be read.
 pub fn put_unread(alloc: Global, error: &io::Error, out: &mut Writer) -> io::Result<()> {
     let told = match error.kind() {
-        ErrorKind::NotFound => NO_SUCH_FILE,
-        ErrorKind::OutOfMemory => NO_MEMORY,
-        _ => STORE_FAILED,
+        ErrorKind::NotFound => StoreFault::Missing.words(),
+        ErrorKind::OutOfMemory => Refusal::NoMemory.words(),
+        _ => StoreFault::Device.words(),
     };
     let reason = format!(in alloc; "{error}")?;
     put_placeless(out, told, Some(reason.as_str()))?;
@@ -243,6 +236,6 @@ pub fn put_unread(alloc: Global, error: &io::Error, out: &mut Writer) -> io::Res
 
 /// Puts that there was no memory.
 pub fn put_no_memory(out: &mut Writer) -> io::Result<()> {
-    put_placeless(out, NO_MEMORY, None)?;
+    put_placeless(out, Refusal::NoMemory.words(), None)?;
     Ok(())
 }

@@ -112,7 +112,7 @@ impl Exchange for AddObject {
         Label::untagged("Add Object", "add object")
     }
 
-    fn is_settled(&self) -> bool {
+    fn is_obsolete(&self) -> bool {
         false
     }
 

@@ -123,7 +123,7 @@ impl Exchange for PlaceObject {
         }
     }
 
-    fn is_settled(&self) -> bool {
+    fn is_obsolete(&self) -> bool {
         self.is_same
     }
 
@@ -163,7 +163,7 @@ impl Command for PlaceObject {
     }
 
     fn obsolete(&self) -> bool {
-        self.is_settled()
+        self.is_obsolete()
     }
 
     fn is_free(&self) -> bool {

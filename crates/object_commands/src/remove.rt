@@ -41,7 +41,7 @@ impl Exchange for RemoveObject {
         Label::untagged("Remove Object", "remove object")
     }
 
-    fn is_settled(&self) -> bool {
+    fn is_obsolete(&self) -> bool {
         false
     }
 

@@ -127,7 +127,7 @@ impl Exchange for Frame {
         }
     }
 
-    fn is_settled(&self) -> bool {
+    fn is_obsolete(&self) -> bool {
         self.cells.as_slice().is_empty()
     }
 
@@ -156,7 +156,7 @@ impl Command for Frame {
     }
 
     fn obsolete(&self) -> bool {
-        self.is_settled()
+        self.is_obsolete()
     }
 
     // The documents on its two sides say when a frame is obsolete, and not the frame itself.

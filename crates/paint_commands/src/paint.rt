@@ -156,7 +156,7 @@ impl Exchange for PaintCommand {
         }
     }
 
-    fn is_settled(&self) -> bool {
+    fn is_obsolete(&self) -> bool {
         self.cells.as_slice().is_empty()
     }
 
@@ -200,7 +200,7 @@ impl Command for PaintCommand {
     }
 
     fn obsolete(&self) -> bool {
-        self.is_settled()
+        self.is_obsolete()
     }
 
     fn is_free(&self) -> bool {

@@ -47,7 +47,7 @@ impl Exchange for SelectCommand {
         Label::untagged("Select", "change selection")
     }
 
-    fn is_settled(&self) -> bool {
+    fn is_obsolete(&self) -> bool {
         self.is_same
     }
 

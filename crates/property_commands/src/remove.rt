@@ -48,7 +48,7 @@ impl Exchange for RemoveProperty {
         Label::untagged("Remove Property", "remove property")
     }
 
-    fn is_settled(&self) -> bool {
+    fn is_obsolete(&self) -> bool {
         false
     }
 

@@ -209,7 +209,7 @@ impl Exchange for PropertySet {
         }
     }
 
-    fn is_settled(&self) -> bool {
+    fn is_obsolete(&self) -> bool {
         match &self.kind {
             SetKind::Replace { is_same, .. } => *is_same,
             SetKind::Add(_) => false,
@@ -249,7 +249,7 @@ impl Command for PropertySet {
     }
 
     fn obsolete(&self) -> bool {
-        self.is_settled()
+        self.is_obsolete()
     }
 
     fn is_free(&self) -> bool {

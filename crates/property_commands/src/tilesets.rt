@@ -79,7 +79,7 @@ impl Exchange for AddTileset {
         Label::untagged("Add Tileset", "add tileset")
     }
 
-    fn is_settled(&self) -> bool {
+    fn is_obsolete(&self) -> bool {
         false
     }
 
@@ -126,7 +126,7 @@ impl Exchange for RemoveTileset {
         Label::untagged("Remove Tileset", "remove tileset")
     }
 
-    fn is_settled(&self) -> bool {
+    fn is_obsolete(&self) -> bool {
         false
     }
 

@@ -7,7 +7,8 @@ use Rattle.refusals.specs.declared.line_fault.LineFault.TheVariants as line_faul
 use Rattle.refusals.specs.declared.map_refusal.MapRefusal.{MapRefusal}
 use Rattle.refusals.specs.declared.map_refusal.MapRefusal.TheVariants as map_refusals
 use Rattle.refusals.specs.declared.refusal.Refusal.{Refusal}
-use Rattle.refusals.specs.declared.refusal.Refusal.TheVariants.{Line, NoActiveDocument, NameTaken, NoSuchDocument, UnsavedChanges, Stack, Edit, Store, Map, NoMemory}
+use Rattle.refusals.specs.declared.refusal.Refusal.TheVariants.{Line, NoActiveDocument, NameTaken, NoSuchDocument, UnsavedChanges}
+use Rattle.refusals.specs.declared.refusal.Refusal.TheVariants.{Stack, Edit, Store, Map, NoMemory}
 use Rattle.refusals.specs.declared.stack_fault.StackFault.{StackFault}
 use Rattle.refusals.specs.declared.stack_fault.StackFault.TheVariants as stack_faults
 use Rattle.refusals.specs.declared.store_fault.StoreFault.{StoreFault}

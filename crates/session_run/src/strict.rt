@@ -16,7 +16,7 @@ use crate::writing::{WriteFault, flush_if};
 use command_api::Command;
 use lines::LineReader;
 use map_store::MapStore;
-use session::{LineFault, Refusal};
+use refusals::{LineFault, Refusal};
 use std::alloc::Global;
 use std::io::{Read, Write};
 use thiserror::Error;

@@ -5,7 +5,7 @@ use crate::word_kinds::{
     is_type, is_value,
 };
 use map_model::limits::MAX_SIDE;
-use session::LineFault;
+use refusals::LineFault;
 use session::limits::{MAX_DOCUMENT_NAME, MAX_FILE_NAME};
 use std::alloc::{AllocError, Global};
 use std::fmt::Write;
@@ -165,7 +165,7 @@ pub fn hint_of(alloc: Global, line: &str, fault: LineFault) -> Result<String, Al
     let (fitting, forms) = match fault {
         LineFault::UnknownCommand => (0, meant(alloc, line)?),
         LineFault::BadWord => nearest(alloc, line)?,
-        LineFault::TooLong | LineFault::NotUtf8 => return Ok(String::new(alloc)),
+        _ => return Ok(String::new(alloc)),
     };
     let place = fitting.saturating_add(1);
     format!(in alloc; ": word {place}{forms}")

@@ -1,7 +1,7 @@
 // What standard error says beside the faults that end the program.
 use crate::forms::hint_of;
 use map_store::Reason;
-use session::Refusal;
+use refusals::Refusal;
 use session_run::{Report, Unsaved};
 use std::alloc::Global;
 use std::fmt::{Display, Formatter, Write};

@@ -21,10 +21,11 @@ ghost use Rattle.editor.specs.Steps.{Step};
 
 use crate::editor::Editor;
 use crate::steps::{state_of, text_reply};
-use command_api::{Command, EditFault};
+use command_api::Command;
 use map_model::{Document, Map, MapText, is_size, is_tile_size};
 use map_store::MapStore;
-use session::{Line, Refusal, Reply, Text};
+use refusals::{EditFault, Refusal};
+use session::{Line, Reply, Text};
 use std::alloc::{AllocError, Global};
 use undo_group::Group;
 use undo_stack::Stack;

@@ -1,6 +1,7 @@
 // What is read of a text: what is written for its map, or why there is none.
 use crate::table::texts::Texts;
-use map_json::{MapFault, MapRefusal, read_map, write_map};
+use map_json::{MapFault, read_map, write_map};
+use refusals::MapRefusal;
 use std::alloc::{AllocError, Global};
 use std::io::{self, Write};
 

@@ -13,12 +13,14 @@ use Rattle.map_model.specs.declared.names.TheConstants.{DATA, LAYERS}
 use Rattle.map_model.specs.declared.parts.Layer.{Layer}
 use Rattle.map_model.specs.Groups.{group_in}
 use Rattle.map_model.specs.Lists.{or_empty}
-use Rattle.map_json.specs.Appending.{Appends, AreWritten, instead, replaced}
+use Rattle.map_values.specs.Texts.{Appends}
+use Rattle.map_json.specs.Appending.{AreWritten, instead, replaced}
 use Rattle.map_json.specs.Details.{frame_in, layer_in, layers_in, numbers_in}
-use Rattle.map_json.specs.Trees.{array_by, items_by, whole_tree}
+use Rattle.map_values.specs.Arrays.{array_by, items_by, whole_tree}
 use Rattle.map_json.proofs.Outlines.{frame_in_plain, layer_in-frame, layer_in-group, layer_in-numbers, layer_in-room}
 use Rattle.map_json.proofs.PutMembers.{ArePut, ArePut-none, ArePut-more, ArePut-all}
-use Rattle.map_json.proofs.Returning.{ItemsReturn, ItemsReturn-none, ItemsReturn-item, Returns-array, regroup_item}
+use Rattle.map_values.proofs.Returning.{ItemsReturn, ItemsReturn-none, ItemsReturn-item, Returns-array}
+use Rattle.map_json.proofs.Returning.{regroup_item}
 use Rattle.map_json.proofs.Written.{AreWritten-first, AreWritten-rest, AreWritten-inside, AreWritten-lacks, AreWritten-values}
 use Rattle.map_json.proofs.map_text.+pushes.Goals.{push_layer-then-room-gt0+in_default, push_layer-else-room-gt0}
 use Rattle.map_json.proofs.map_text.+pushes.Goals as goal

@@ -3,9 +3,9 @@ use Rattle.serde_json.specs.Written.{items_text}
 use Rattle.map_model.specs.declared.names.TheConstants.{LAYERS}
 use Rattle.map_json.specs.Appending.{AreWritten}
 use Rattle.map_json.specs.Details.{layer_in, layers_in}
-use Rattle.map_json.specs.Trees.{items_by}
+use Rattle.map_values.specs.Arrays.{items_by}
 use Rattle.map_json.proofs.PutMembers.{ArePut}
-use Rattle.map_json.proofs.Returning.{ItemsReturn}
+use Rattle.map_values.proofs.Returning.{ItemsReturn}
 use Rattle.map_json.proofs.map_text.+pushes.Given as goal
 
 abbrev pub decreases-push_layer : goal.decreases-push_layer

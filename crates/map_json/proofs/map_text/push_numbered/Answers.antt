@@ -7,8 +7,9 @@ use Rattle.serde_json.specs.View.{view, members_view}
 use Rattle.serde_json.specs.Written.{comma_if}
 use Rattle.serde_json.proofs.Views.{Entry}
 use Rattle.map_model.specs.declared.names.TheConstants.{DATA}
-use Rattle.map_json.specs.Appending.{Appends, instead}
-use Rattle.map_json.specs.Trees.{array_by, whole_tree}
+use Rattle.map_values.specs.Texts.{Appends}
+use Rattle.map_json.specs.Appending.{instead}
+use Rattle.map_values.specs.Arrays.{array_by, whole_tree}
 use Rattle.map_json.proofs.PutMembers.{ArePut, ArePut-none, ArePut-more, ArePut-all}
 use Rattle.map_json.proofs.map_text.push_numbered.Goals as goal
 

@@ -1,5 +1,5 @@
 use Rattle.map_model.specs.declared.names.TheConstants.{DATA}
-use Rattle.map_json.specs.Trees.{array_by, whole_tree}
+use Rattle.map_values.specs.Arrays.{array_by, whole_tree}
 use Rattle.map_json.proofs.PutMembers.{ArePut}
 use Rattle.map_json.proofs.map_text.push_numbered.Given as goal
 

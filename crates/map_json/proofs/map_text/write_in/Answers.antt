@@ -7,10 +7,12 @@ use Rattle.map_model.specs.declared.parts.MapParts.{MapParts}
 use Rattle.map_model.specs.WellFormed.{IsWellFormed}
 use Rattle.map_json.specs.declared.detail.Detail.{Detail}
 use Rattle.map_json.specs.declared.detail.Detail.TheVariants.{Whole, Outline}
-use Rattle.map_json.specs.Appending.{AreWritten, Returns, frame_of, replaced}
+use Rattle.map_values.specs.Texts.{Returns}
+use Rattle.map_json.specs.Appending.{AreWritten, frame_of, replaced}
 use Rattle.map_json.specs.Details.{layers_in, map_in}
 use Rattle.map_json.specs.Outlines.{outline_layer, outline_of}
-use Rattle.map_json.specs.Trees.{array_by, layers_tree, tree_of}
+use Rattle.map_values.specs.Arrays.{array_by}
+use Rattle.map_json.specs.Trees.{layers_tree, tree_of}
 use Rattle.map_json.proofs.Frames.{replaced-frame_of}
 use Rattle.map_json.proofs.Plain.{frame_plain, layers_AreWritten}
 use Rattle.map_json.proofs.map_text.write_in.Goals as goal

@@ -1,6 +1,6 @@
 use Rattle.std.proofs.Common.{◌≡◌}
 use Rattle.serde_json.specs.View.{items_view}
-use Rattle.map_json.specs.Trees.{items_by}
+use Rattle.map_values.specs.Arrays.{items_by}
 use Rattle.map_json.proofs.Pushes.{joined}
 use Rattle.map_json.proofs.writing.array_by.Given as goal
 

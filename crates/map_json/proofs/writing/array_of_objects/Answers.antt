@@ -1,7 +1,8 @@
 use Rattle.std.proofs.Common.{sym, ap, ◌∙◌}
 use Rattle.serde_json.specs.Data.{item, array}
 use Rattle.serde_json.specs.View.{items_view}
-use Rattle.map_json.specs.Trees.{items_by, object_tree}
+use Rattle.map_values.specs.Arrays.{items_by}
+use Rattle.map_json.specs.Trees.{object_tree}
 use Rattle.map_json.proofs.Pushes.{joined, joined-none, joined-push}
 use Rattle.map_json.proofs.writing.array_of_objects.Goals as goal
 

@@ -20,7 +20,7 @@ pub returns-clause-step : goal.returns-clause-step
 returns-clause-step g c =
     let named = rw (none_from_is_some c.get.result (sym c.is_some.ensures ∙ c.if-is_some.false), c.as_str.ensures) at c.get.ensures.named in
     let P : List ℕ → Type 0 = λ bytes. Says bytes (Err c.in-Err-read_map.fault) in
-    rw c.of_map.ensures
+    rw c.from-in-Err-read_map.ensures
     (refused-NewName c.args.name.now c.args.file.now c.in-Ok.bytes.items (machine_of g.C.Command.change c.args.self.now) (g.S.MapStore.stored c.args.store.now)
     (g.S.MapStore.stored c.load.new.self)
     c.in-Err-read_map.fault (sym named) (λ honest. let loads = rw c.as_str-2.ensures at c.in-Ok.ensures.loads honest in sym loads.0)

@@ -1,0 +1,6 @@
+pub mod Steps
+pub mod Scalars
+pub mod Cells
+pub mod Arrays
+pub mod Texts
+pub mod Refusals
