@@ -2,7 +2,7 @@
 use crate::json_lines::{Outcome, line_of};
 use crate::listing::write_listing;
 use crate::place::Place;
-use crate::refusals::write_refusal;
+use crate::refusal_lines::write_refusal;
 use map_json::read_map_along;
 use std::alloc::Global;
 use std::fs;

@@ -2,7 +2,7 @@
 use crate::fractions::{Fractions, Owner, find_fractions, write_owner};
 use crate::json_fault::{LineColumn, place_of_fault};
 use crate::place::Place;
-use crate::refusals::TOO_LONG;
+use crate::refusal_lines::TOO_LONG;
 use json::Writer;
 use map_json::{MapFault, MapRefusal, read_map_along};
 use serde_json::{Error, Value};

@@ -10,7 +10,7 @@ mod json_refusal;
 mod listing;
 mod options;
 mod place;
-mod refusals;
+mod refusal_lines;
 mod shown;
 mod table;
 
