@@ -15,7 +15,6 @@ use Rattle.undo_stack.specs.History.{History, count, is_clean}
 use Rattle.undo_stack.specs.Moving.{Answer}
 use Rattle.undo_group.specs.Groups.{GroupParts, OpenDocument}
 use Rattle.session.specs.declared.reply.LocalTile.{LocalTile}
-use Rattle.refusals.specs.declared.refusal.Refusal.TheVariants as refusals
 use Rattle.refusals.specs.Layers.{out_of_range, refusal_of_edit, refusal_of_stack}
 use Rattle.session.specs.declared.reply.Reply.{Reply}
 use Rattle.session.specs.declared.reply.Reply.TheVariants as replies
