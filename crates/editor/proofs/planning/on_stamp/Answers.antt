@@ -5,8 +5,8 @@ use mir.Val.{SFits}
 use Rattle.undo_stack.specs.History.{current}
 use Rattle.editor.proofs.planning.on_stamp.Goals as goal
 
-pub returns-in-Stamp-clause-plans : goal.returns-in-Stamp-clause-plans
-returns-in-Stamp-clause-plans g c =
+pub returns-clause-plans : goal.returns-clause-plans
+returns-clause-plans g c =
     let x : SFits w32 c.in-Stamp.x = search rules in
     let y : SFits w32 c.in-Stamp.y = search rules in
     let is = c.document.ensures ∙ ap current c.seek_layer.ensures.same in
