@@ -1,10 +1,11 @@
--- The lines that are edits of the active document, by what they edit. A stamp is planned before all others.
+-- The lines that are edits of the active document, by what they edit.
 use Rattle.std.specs.Prelude.{⊤}
 use Rattle.session.specs.declared.line.Line.{Line}
 use Rattle.session.specs.declared.line.Line.TheVariants.{Stamp, Erase, Fill, Select, SelectNone, AddLayer, RemoveLayer, RenameLayer, ShowLayer, MoveLayer}
 use Rattle.session.specs.declared.line.Line.TheVariants.{Resize, AddObject, MoveObject, ResizeObject, RemoveObject, SetProperty, RemoveProperty, AddTileset}
 use Rattle.session.specs.declared.line.Line.TheVariants.{RemoveTileset}
 
+-- a stamp, which is planned before all others
 abbrev pub IsStamp : Line → Type 0
 IsStamp (Stamp layer x y width values follows) = ⊤
 IsStamp line = ⊥

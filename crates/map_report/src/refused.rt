@@ -103,8 +103,8 @@ fn write_all_fractions<W: Write>(alloc: Global, bytes: &[u8], output: &mut W) ->
 }
 
 /// Writes the line of a map that is refused, with the place at which the reader stopped. Where that is lost, there was no
-/// memory. If the map is refused for a fraction, a line for each of them follows; and for a fraction, or since it is infinite,
-/// what the editor answers with `--all-maps`.
+/// memory. If the map is refused for a fraction, a line for each of them follows. If it is refused for a fraction or as
+/// infinite, what the editor answers with `--all-maps` follows.
 pub fn write_refusal<W: Write>(
     alloc: Global,
     file: &str,

@@ -165,7 +165,7 @@ pub fn hint_of(alloc: Global, line: &str, fault: LineFault) -> Result<String, Al
     let (fitting, forms) = match fault {
         LineFault::UnknownCommand => (0, meant(alloc, line)?),
         LineFault::BadWord => nearest(alloc, line)?,
-        _ => return Ok(String::new(alloc)),
+        LineFault::TooLong | LineFault::NotUtf8 => return Ok(String::new(alloc)),
     };
     let place = fitting.saturating_add(1);
     format!(in alloc; ": word {place}{forms}")

@@ -10,7 +10,8 @@ returns-in-Erase-clause-plans g c =
     let x : SFits w32 c.in-Erase.x = search rules in
     let y : SFits w32 c.in-Erase.y = search rules in
     let is = c.document.ensures ∙ ap current c.seek_layer.ensures.same in
-    rw (c.in-Erase.is, sym is) (rw (c.area-area.ensures, to_z-of_z w32 c.in-Erase.x x, to_z-of_z w32 c.in-Erase.y y) at c.plan_erase.ensures, c.seek_layer.ensures.same)
+    let plans = rw (c.area-area.ensures, to_z-of_z w32 c.in-Erase.x x, to_z-of_z w32 c.in-Erase.y y) at c.plan_erase.ensures in
+    rw (c.in-Erase.is, sym is) (plans, c.seek_layer.ensures.same)
 
 pub returns-in-Fill-clause-plans : goal.returns-in-Fill-clause-plans
 returns-in-Fill-clause-plans g c =
