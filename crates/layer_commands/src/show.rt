@@ -48,12 +48,7 @@ impl Exchange for ShowLayer {
     }
 
     fn exchange(&mut self, document: &mut Document) {
-        let Some(layer) = document.map().layer(self.layer) else {
-            unreachable!();
-        };
-        let visible = layer.visible;
-        document.set_visible(self.layer, self.visible);
-        self.visible = visible;
+        self.visible = document.set_visible(self.layer, self.visible);
     }
 }
 

@@ -4,7 +4,7 @@ use Rattle.std.specs.List.{list_any}
 use Rattle.serde_json.specs.Data.{Members}
 use Rattle.serde_json.specs.Find.{get_member}
 use Rattle.map_model.specs.declared.names.TheConstants.{ID, X, Y, WIDTH, HEIGHT, LAYERS, ENCODING, COMPRESSION, DATA, OBJECTS}
-use Rattle.map_model.specs.Keeping.{common_names, body_names, layer_names}
+use Rattle.map_model.specs.Format.{common_names, body_names, layer_names}
 use Rattle.map_model.specs.declared.parts.Body.{Body}
 use Rattle.map_model.specs.declared.parts.Layer.{Layer}
 use Rattle.map_json.specs.declared.body.LayerType.{LayerType}

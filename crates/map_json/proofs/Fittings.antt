@@ -22,7 +22,8 @@ use Rattle.map_model.specs.declared.parts.Layer.{Layer}
 use Rattle.map_model.specs.declared.parts.MapParts.{MapParts}
 use Rattle.map_model.specs.Groups.{all_drawn}
 use Rattle.map_model.specs.Lists.{Each}
-use Rattle.map_model.specs.Keeping.{AreKept, map_level, object_level, map_names}
+use Rattle.map_model.specs.Keeping.{AreKept, map_level, object_level}
+use Rattle.map_model.specs.Format.{map_names}
 use Rattle.map_model.specs.WellFormed.{IsSize, IsTileSize, IsTileset, AreProperties, IsObject, IsBody, IsDrawn, IsLayer, IsWellFormed, names_of_property}
 use Rattle.map_model.specs.WellFormed.{ids_of, layer_ids, ids_of_object, object_ids_in, object_ids_of, object_ids, first_ids_of}
 use Rattle.json_members.specs.Members.{without, without_all}

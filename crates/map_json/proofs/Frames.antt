@@ -17,7 +17,7 @@ use Rattle.map_model.specs.declared.parts.Encoding.TheVariants.{Array, Base64}
 use Rattle.map_model.specs.declared.parts.Layer.{Layer}
 use Rattle.map_model.specs.declared.parts.MapParts.{MapParts}
 use Rattle.map_model.specs.Groups.{group_in, inside}
-use Rattle.map_model.specs.Keeping.{layer_names}
+use Rattle.map_model.specs.Format.{layer_names}
 use Rattle.map_model.specs.Lists.{Each, or_empty}
 use Rattle.map_json.specs.Appending.{frame_of, framed_body, instead, layer_frame, replaced}
 use Rattle.map_json.specs.Details.{numbers_of}

@@ -5,7 +5,7 @@ use Rattle.serde_json.specs.Data.{Data, Members}
 use Rattle.serde_json.specs.Find.{as_object}
 use Rattle.map_model.specs.declared.parts.Body.{Body}
 use Rattle.map_model.specs.declared.parts.Layer.{Layer}
-use Rattle.map_model.specs.Keeping.{common_names, body_names, layer_names}
+use Rattle.map_model.specs.Format.{common_names, body_names, layer_names}
 use Rattle.map_model.specs.Steps.{◌>>=◌}
 use Rattle.map_json.specs.declared.layer.Head.{Head}
 use Rattle.refusals.specs.declared.map_refusal.MapRefusal.{MapRefusal}

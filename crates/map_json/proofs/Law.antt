@@ -18,7 +18,8 @@ use Rattle.map_model.specs.declared.parts.Placing.{Placing}
 use Rattle.map_model.specs.declared.parts.Object.{Object}
 use Rattle.map_model.specs.declared.parts.Tileset.{Tileset}
 use Rattle.map_model.specs.Lists.{Each}
-use Rattle.map_model.specs.Keeping.{IsOfAnotherKind, property_names, object_names, tileset_names, property_level}
+use Rattle.map_model.specs.Keeping.{IsOfAnotherKind, property_level}
+use Rattle.map_model.specs.Format.{property_names, object_names, tileset_names}
 use Rattle.map_model.specs.WellFormed.{IsId, IsValue, IsProperty, AreProperties, IsPixels, IsPlacing, IsTileValue, IsObject, IsTileset}
 use Rattle.json_members.specs.Members.{without_all}
 use Rattle.map_json.specs.Members.{with_own}

@@ -15,7 +15,8 @@ use Rattle.map_model.specs.declared.parts.Body.TheVariants.{Tiles, Objects, Othe
 use Rattle.map_model.specs.declared.parts.Layer.{Layer}
 use Rattle.map_model.specs.Groups.{all_drawn, bare, drawn, group_in, inside, tree}
 use Rattle.map_model.specs.Lists.{Each, or_empty}
-use Rattle.map_model.specs.Keeping.{deepest_level, inner_level, layer_level, layer_names, object_level}
+use Rattle.map_model.specs.Keeping.{deepest_level, inner_level, layer_level, object_level}
+use Rattle.map_model.specs.Format.{layer_names}
 use Rattle.map_model.specs.WellFormed.{IsId, IsObject, IsBody, IsDrawn, ids_of, ids_of_object, layer_ids, object_ids, object_ids_in, object_ids_of}
 use Rattle.map_model.proofs.GroupBodies.{IsLayer-without, object_ids-with}
 use Rattle.map_model.proofs.Trees.{below}

@@ -15,7 +15,8 @@ use Rattle.map_model.specs.declared.parts.Body.TheVariants.{Tiles, Objects, Othe
 use Rattle.map_model.specs.declared.parts.Layer.{Layer}
 use Rattle.map_model.specs.Groups.{all_drawn, bare, body_with_layers, drawn, group_in, tree}
 use Rattle.map_model.specs.Lists.{Each}
-use Rattle.map_model.specs.Keeping.{AreKept, body_names, deepest_level, inner_level, layer_level, layer_names, object_level, property_level}
+use Rattle.map_model.specs.Keeping.{AreKept, deepest_level, inner_level, layer_level, object_level, property_level}
+use Rattle.map_model.specs.Format.{body_names, layer_names}
 use Rattle.map_model.specs.Steps.{◌>>=◌, ◌>>◌, check}
 use Rattle.map_model.specs.WellFormed.{IsTileValue}
 use Rattle.map_model.proofs.Trees.{below}

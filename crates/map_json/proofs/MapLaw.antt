@@ -20,7 +20,8 @@ use Rattle.map_model.specs.declared.parts.Layer.{Layer}
 use Rattle.map_model.specs.declared.parts.MapParts.{MapParts}
 use Rattle.map_model.specs.Groups.{all_drawn}
 use Rattle.map_model.specs.Lists.{Each}
-use Rattle.map_model.specs.Keeping.{map_level, object_level, map_names}
+use Rattle.map_model.specs.Keeping.{map_level, object_level}
+use Rattle.map_model.specs.Format.{map_names}
 use Rattle.map_model.specs.WellFormed.{IsObject, IsBody, IsDrawn, IsTileset, AreProperties, IsWellFormed, names_of_property, layer_ids, object_ids}
 use Rattle.map_model.specs.WellFormed.{first_ids_of}
 use Rattle.json_members.specs.Members.{without, without_all}

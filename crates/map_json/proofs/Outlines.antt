@@ -11,7 +11,7 @@ use Rattle.map_model.specs.declared.parts.Encoding.{Encoding}
 use Rattle.map_model.specs.declared.parts.Layer.{Layer}
 use Rattle.map_model.specs.Bodies.{IsTiles}
 use Rattle.map_model.specs.Groups.{group_in, inside, tree}
-use Rattle.map_model.specs.Keeping.{layer_names}
+use Rattle.map_model.specs.Format.{layer_names}
 use Rattle.map_model.specs.Lists.{Each, or_empty}
 use Rattle.map_model.specs.WellFormed.{IsDrawn}
 use Rattle.map_json.specs.declared.detail.Detail.{Detail}

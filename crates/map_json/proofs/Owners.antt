@@ -12,7 +12,8 @@ use Rattle.map_model.specs.declared.limits.TheConstants.{MAX_DEPTH, MAX_NEXT_ID,
 use Rattle.map_model.specs.declared.parts.Placing.{Placing}
 use Rattle.map_model.specs.declared.parts.Object.{Object}
 use Rattle.map_model.specs.declared.parts.Tileset.{Tileset}
-use Rattle.map_model.specs.Keeping.{AreKept, object_names, tileset_names, tileset_level, property_level}
+use Rattle.map_model.specs.Keeping.{AreKept, tileset_level, property_level}
+use Rattle.map_model.specs.Format.{object_names, tileset_names}
 use Rattle.map_model.specs.WellFormed.{IsPlacing, IsPixels, IsTileValue, IsTileset}
 use Rattle.json_members.specs.Members.{without_all}
 use Rattle.refusals.specs.declared.map_refusal.MapRefusal.{MapRefusal}

@@ -12,7 +12,7 @@ use Rattle.map_model.specs.declared.parts.MapParts.{MapParts}
 use Rattle.map_model.specs.declared.parts.Layer.{Layer}
 use Rattle.map_model.specs.declared.parts.Tileset.{Tileset}
 use Rattle.map_model.specs.declared.parts.Property.{Property}
-use Rattle.map_model.specs.Keeping.{map_names}
+use Rattle.map_model.specs.Format.{map_names}
 use Rattle.map_model.specs.Steps.{◌>>=◌}
 use Rattle.refusals.specs.declared.map_refusal.MapRefusal.{MapRefusal}
 use Rattle.map_values.specs.declared.fault.MapFault.{MapFault}

@@ -23,8 +23,9 @@ use Rattle.map_model.specs.declared.parts.Tileset.{Tileset}
 use Rattle.map_model.specs.declared.parts.MapParts.{MapParts}
 use Rattle.map_model.specs.Groups.{drawn, inside, tree}
 use Rattle.map_model.specs.Lists.{Each}
-use Rattle.map_model.specs.Keeping.{AreKept, deepest_level, inner_level, map_level, layer_level, tileset_level, object_level, property_level, tileset_names}
-use Rattle.map_model.specs.Keeping.{object_names, property_names, layer_names, map_names}
+use Rattle.map_model.specs.Keeping.{AreKept, deepest_level, inner_level, map_level, layer_level, tileset_level, object_level, property_level}
+use Rattle.map_model.specs.Format.{tileset_names}
+use Rattle.map_model.specs.Format.{object_names, property_names, layer_names, map_names}
 use Rattle.map_model.specs.WellFormed.{IsValue, IsProperty, AreProperties, IsObject, IsBody, IsDrawn, IsLayer, IsTileset, IsWellFormed}
 use Rattle.map_model.proofs.GroupBodies.{IsLayer-without}
 use Rattle.json_members.specs.Members.{put_some}

@@ -21,7 +21,8 @@ use Rattle.map_model.specs.declared.parts.Encoding.{Encoding}
 use Rattle.map_model.specs.declared.parts.Encoding.TheVariants.{Array, Base64}
 use Rattle.map_model.specs.declared.parts.Property.{Property}
 use Rattle.map_model.specs.Lists.{Each}
-use Rattle.map_model.specs.Keeping.{AreKept, IsKeptValue, IsOfAnotherKind, property_names, property_level}
+use Rattle.map_model.specs.Keeping.{AreKept, IsKeptValue, IsOfAnotherKind, property_level}
+use Rattle.map_model.specs.Format.{property_names}
 use Rattle.map_model.specs.WellFormed.{IsWhole, IsValue, IsProperty}
 use Rattle.map_model.specs.Steps.{◌>>=◌, ◌>>◌, check}
 use Rattle.json_members.specs.Members.{without_all}

@@ -6,7 +6,8 @@ use Rattle.map_model.specs.declared.parts.Body.TheVariants.{Tiles, Objects, Othe
 use Rattle.map_model.specs.declared.parts.Encoding.TheVariants.{Array, Base64}
 use Rattle.map_model.specs.declared.parts.Layer.{Layer}
 use Rattle.map_model.specs.Groups.{drawn, inside, tree}
-use Rattle.map_model.specs.Keeping.{inner_level, layer_names}
+use Rattle.map_model.specs.Keeping.{inner_level}
+use Rattle.map_model.specs.Format.{layer_names}
 use Rattle.map_model.specs.Lists.{Each}
 use Rattle.map_model.specs.WellFormed.{IsBody, IsDrawn, IsTileValue}
 use Rattle.map_model.proofs.GroupBodies.{IsLayer-without}

@@ -6,21 +6,20 @@ use Rattle.serde_json.specs.Data.{Data, null, boolean, number, string, array, ob
 use Rattle.serde_json.specs.Find.{as_object, as_str, get_member}
 use Rattle.serde_json.specs.Read.{read}
 use Rattle.serde_json.specs.Written.{has_float, members_have_float}
-use Rattle.map_model.specs.declared.names.TheConstants.{TYPE, WIDTH, HEIGHT, TILE_WIDTH, TILE_HEIGHT, INFINITE, NEXT_LAYER_ID, NEXT_OBJECT_ID, LAYERS, TILESETS}
-use Rattle.map_model.specs.declared.names.TheConstants.{VERSION}
-use Rattle.map_model.specs.declared.limits.TheConstants.{MAX_SIDE, MAX_CELLS, MAX_TILE_SIDE, MAX_TILESETS, MAX_NEXT_ID}
+use Rattle.map_model.specs.declared.names.TheConstants.{TYPE, VERSION}
+use Rattle.map_model.specs.declared.limits.TheConstants.{MAX_CELLS}
 use Rattle.map_model.specs.declared.parts.MapParts.{MapParts}
-use Rattle.map_model.specs.Keeping.{map_names}
+use Rattle.map_model.specs.Format.{map_width_member, map_height_member, tile_width_member, tile_height_member, infinite_member, next_layer_id_member}
+use Rattle.map_model.specs.Format.{next_object_id_member, layers_list, tilesets_list, map_names}
 use Rattle.map_model.specs.Steps.{◌>>=◌, ◌>>◌, check}
 use Rattle.refusals.specs.declared.map_refusal.MapRefusal.{MapRefusal}
 use Rattle.refusals.specs.declared.map_refusal.MapRefusal.TheVariants.{NotJson, Fraction, Infinite, IdUsedTwice, OverLimit, NotAMap}
 use Rattle.map_values.specs.declared.fault.MapFault.{MapFault}
 use Rattle.map_values.specs.declared.fault.MapFault.TheVariants.{Memory, Refused}
-use Rattle.map_values.specs.Steps.{required, absent_means}
-use Rattle.map_values.specs.Scalars.{whole_at, truth_at}
-use Rattle.map_json.specs.Elements.{elements_at}
+use Rattle.map_values.specs.Steps.{required}
+use Rattle.map_values.specs.Scalars.{required_member, member_or}
 use Rattle.json_members.specs.Members.{without, without_all}
-use Rattle.map_json.specs.Reading.{properties_of, tileset_at, map_layers_at}
+use Rattle.map_json.specs.Reading.{required_list, properties_of, tileset_at, map_layers_at}
 use Rattle.map_json.specs.Distinctness.{ids_are_unique, are_below_next}
 
 -- ---- fractions
@@ -56,17 +55,17 @@ is_map_type (Some d) = is_map_text (as_str d)
 -- the parts of a map, member by member in this order
 unfoldable pub parts_of : Members → Result MapParts MapRefusal
 parts_of ms = do
-  width ← required (whole_at 1 MAX_SIDE) (get_member WIDTH.now ms)
-  height ← required (whole_at 1 MAX_SIDE) (get_member HEIGHT.now ms)
+  width ← required_member map_width_member ms
+  height ← required_member map_height_member ms
   check (nat_le (width * height) MAX_CELLS) OverLimit
-  tile_width ← required (whole_at 1 MAX_TILE_SIDE) (get_member TILE_WIDTH.now ms)
-  tile_height ← required (whole_at 1 MAX_TILE_SIDE) (get_member TILE_HEIGHT.now ms)
-  infinite ← absent_means false truth_at (get_member INFINITE.now ms)
+  tile_width ← required_member tile_width_member ms
+  tile_height ← required_member tile_height_member ms
+  infinite ← member_or infinite_member false ms
   check (not infinite) Infinite
-  next_layer_id ← required (whole_at 1 MAX_NEXT_ID) (get_member NEXT_LAYER_ID.now ms)
-  next_object_id ← required (whole_at 1 MAX_NEXT_ID) (get_member NEXT_OBJECT_ID.now ms)
-  layers ← required (map_layers_at width height) (get_member LAYERS.now ms)
-  tilesets ← required (elements_at MAX_TILESETS tileset_at) (get_member TILESETS.now ms)
+  next_layer_id ← required_member next_layer_id_member ms
+  next_object_id ← required_member next_object_id_member ms
+  layers ← required (map_layers_at width height) (get_member layers_list.name ms)
+  tilesets ← required_list tilesets_list tileset_at ms
   properties ← properties_of ms
   Ok (record {
     width = width;

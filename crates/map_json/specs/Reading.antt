@@ -5,9 +5,8 @@ use Rattle.std.specs.Option.{ok_or}
 use Rattle.serde_json.specs.Data.{Num, Data, null, boolean, number, string, array, object, Members}
 use Rattle.serde_json.specs.Events.{items_len}
 use Rattle.serde_json.specs.Find.{as_object, as_array, as_number, as_u64, as_i64, as_str, get_member}
-use Rattle.map_model.specs.declared.names.TheConstants.{ID, NAME, TYPE, VISIBLE, PROPERTIES, WIDTH, HEIGHT, LAYERS, ENCODING, COMPRESSION, DATA, OBJECTS, X, Y}
-use Rattle.map_model.specs.declared.names.TheConstants.{GID, FIRST_ID, SOURCE, VALUE}
-use Rattle.map_model.specs.declared.limits.TheConstants.{MAX_LAYERS, MAX_GROUPS, MAX_PROPERTIES, MAX_OBJECTS, MAX_FIRST_ID}
+use Rattle.map_model.specs.declared.names.TheConstants.{TYPE, WIDTH, HEIGHT, ENCODING, COMPRESSION, DATA, VALUE}
+use Rattle.map_model.specs.declared.limits.TheConstants.{MAX_GROUPS}
 use Rattle.map_model.specs.declared.parts.Encoding.{Encoding}
 use Rattle.map_model.specs.declared.parts.Encoding.TheVariants.{Array, Base64}
 use Rattle.map_model.specs.declared.parts.PropValue.{PropValue}
@@ -19,15 +18,17 @@ use Rattle.map_model.specs.declared.parts.Body.{Body}
 use Rattle.map_model.specs.declared.parts.Body.TheVariants.{Tiles, Objects, Other, Group}
 use Rattle.map_model.specs.declared.parts.Layer.{Layer}
 use Rattle.map_model.specs.declared.parts.Tileset.{Tileset}
-use Rattle.map_model.specs.Keeping.{layer_names, object_names, tileset_names, property_names}
+use Rattle.map_model.specs.Format.{ListMember, id_member, name_member, visible_member, properties_list, layers_list, objects_list, x_member, y_member, width_member}
+use Rattle.map_model.specs.Format.{height_member, gid_member, first_id_member, source_member, property_type_member}
+use Rattle.map_model.specs.Format.{layer_names, object_names, tileset_names, property_names}
 use Rattle.map_model.specs.Steps.{◌>>=◌, ◌>>◌, check}
 use Rattle.map_json.specs.declared.body.LayerType.{LayerType}
 use Rattle.map_json.specs.declared.body.LayerType.TheVariants.{TileLayer, ObjectGroup, ImageLayer, GroupLayer}
 use Rattle.map_json.specs.declared.layer.Head.{Head}
 use Rattle.refusals.specs.declared.map_refusal.MapRefusal.{MapRefusal}
 use Rattle.refusals.specs.declared.map_refusal.MapRefusal.TheVariants.{MemberOfAnotherKind, Compressed, BadData, OverLimit}
-use Rattle.map_values.specs.Steps.{required, absent_means, optional}
-use Rattle.map_values.specs.Scalars.{whole_at, id_at, pixels_at, text_at, truth_at}
+use Rattle.map_values.specs.Steps.{required, absent_means}
+use Rattle.map_values.specs.Scalars.{required_member, optional_member, member_or}
 use Rattle.map_json.specs.Elements.{Counting, each_counted, elements_at}
 use Rattle.json_members.specs.Members.{without_all}
 use Rattle.map_values.specs.Cells.{array_cells_at, base64_cells_at}
@@ -52,32 +53,39 @@ value_at d = Ok (value_of d)
 unfoldable pub property_at : Data → Result Property MapRefusal
 property_at d = do
   ms ← ok_or (as_object d) MemberOfAnotherKind
-  name ← required text_at (get_member NAME.now ms)
-  kind ← absent_means (codes "string") text_at (get_member TYPE.now ms)
+  name ← required_member name_member ms
+  kind ← member_or property_type_member (codes "string") ms
   value ← required value_at (get_member VALUE.now ms)
   Ok (record { name = name; kind = kind; value = value; kept = without_all property_names ms })
 
--- the properties of an owner; none where the member is absent
+-- a list that must be there, and one that is empty where it is absent
+abbrev pub required_list : {A : Type 0} → (m : ListMember) → (Data → Result A MapRefusal) → Members → Result (List A) MapRefusal
+required_list m read ms = required (elements_at m.most read) (get_member m.name ms)
+
+abbrev pub list_or_none : {A : Type 0} → (m : ListMember) → (Data → Result A MapRefusal) → Members → Result (List A) MapRefusal
+list_or_none m read ms = absent_means [] (elements_at m.most read) (get_member m.name ms)
+
+-- the properties of an owner
 abbrev pub properties_of : Members → Result (List Property) MapRefusal
-properties_of ms = absent_means [] (elements_at MAX_PROPERTIES property_at) (get_member PROPERTIES.now ms)
+properties_of ms = list_or_none properties_list property_at ms
 
 -- ---- objects
 unfoldable pub placing_of : Members → Result Placing MapRefusal
 placing_of ms = do
-  x ← optional pixels_at (get_member X.now ms)
-  y ← optional pixels_at (get_member Y.now ms)
-  width ← optional pixels_at (get_member WIDTH.now ms)
-  height ← optional pixels_at (get_member HEIGHT.now ms)
+  x ← optional_member x_member ms
+  y ← optional_member y_member ms
+  width ← optional_member width_member ms
+  height ← optional_member height_member ms
   Ok (record { x = x; y = y; width = width; height = height })
 
 unfoldable pub object_at : Data → Result Object MapRefusal
 object_at d = do
   ms ← ok_or (as_object d) MemberOfAnotherKind
-  id ← required id_at (get_member ID.now ms)
+  id ← required_member id_member ms
   placing ← placing_of ms
-  name ← optional text_at (get_member NAME.now ms)
-  visible ← optional truth_at (get_member VISIBLE.now ms)
-  gid ← optional (whole_at 0 4294967295) (get_member GID.now ms)
+  name ← optional_member name_member ms
+  visible ← optional_member visible_member ms
+  gid ← optional_member gid_member ms
   properties ← properties_of ms
   Ok (record { id = id; placing = placing; name = name; visible = visible; gid = gid; properties = properties; kept = without_all object_names ms })
 
@@ -85,8 +93,8 @@ object_at d = do
 unfoldable pub tileset_at : Data → Result Tileset MapRefusal
 tileset_at d = do
   ms ← ok_or (as_object d) MemberOfAnotherKind
-  first_id ← required (whole_at 1 MAX_FIRST_ID) (get_member FIRST_ID.now ms)
-  source ← optional text_at (get_member SOURCE.now ms)
+  first_id ← required_member first_id_member ms
+  source ← optional_member source_member ms
   Ok (record { first_id = first_id; source = source; kept = without_all tileset_names ms })
 
 -- ---- layers
@@ -132,7 +140,7 @@ tiles_of width height ms = do
 
 unfoldable pub objects_of : Members → Result Body MapRefusal
 objects_of ms = do
-  objects ← required (elements_at MAX_OBJECTS object_at) (get_member OBJECTS.now ms)
+  objects ← required_list objects_list object_at ms
   Ok (Objects objects)
 
 -- what a layer of this type holds, on a map of this size; where it is a group, inner reads its layers
@@ -140,15 +148,15 @@ abbrev pub body_by : Counting (List Layer) → LayerType → ℕ → ℕ → ℕ
 body_by inner TileLayer width height count ms = tiles_of width height ms >>= λ body. Ok (count, body)
 body_by inner ObjectGroup width height count ms = objects_of ms >>= λ body. Ok (count, body)
 body_by inner ImageLayer width height count ms = Ok (count, Other)
-body_by inner GroupLayer width height count ms = required (inner count) (get_member LAYERS.now ms) >>= λ ls. Ok (ls.0, Group ls.1)
+body_by inner GroupLayer width height count ms = required (inner count) (get_member layers_list.name ms) >>= λ ls. Ok (ls.0, Group ls.1)
 
 -- the members of a layer of any kind
 unfoldable pub head_of : Members → Result Head MapRefusal
 head_of ms = do
   kind ← required type_at (get_member TYPE.now ms)
-  id ← required id_at (get_member ID.now ms)
-  name ← absent_means [] text_at (get_member NAME.now ms)
-  visible ← absent_means true truth_at (get_member VISIBLE.now ms)
+  id ← required_member id_member ms
+  name ← member_or name_member [] ms
+  visible ← member_or visible_member true ms
   properties ← properties_of ms
   Ok (record { kind = kind; id = id; name = name; visible = visible; properties = properties })
 
@@ -172,14 +180,14 @@ layer_by inner width height count d = do
 
 -- an array of layers, where so many such arrays may stand in one another, itself among them
 --
--- Its length is added to those of the arrays that were reached before it, and no map has more layers than MAX_LAYERS.
+-- Its length is added to those of the arrays that were reached before it: a map has at most so many layers in all.
 unfoldable pub layers_at : ℕ → ℕ → ℕ → Counting (List Layer)
 layers_at zero width height count d = do
   ds ← ok_or (as_array d) MemberOfAnotherKind
   Err OverLimit
 layers_at (suc room) width height count d = do
   ds ← ok_or (as_array d) MemberOfAnotherKind
-  check (nat_le (count + items_len ds) MAX_LAYERS) OverLimit
+  check (nat_le (count + items_len ds) layers_list.most) OverLimit
   each_counted (layer_by (layers_at room width height) width height) (count + items_len ds) ds
 
 -- the layers of a map: an array, and those of groups within as many groups as may stand in one another

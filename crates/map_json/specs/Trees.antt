@@ -6,9 +6,7 @@ use Rattle.base64.specs.GeneralPurpose.{encode_of}
 use Rattle.serde_json.specs.Data.{Data, boolean, number, string, array, object, no_items}
 use Rattle.serde_json.specs.Find.{of_integer}
 use Rattle.serde_json.specs.Written.{compact_text}
-use Rattle.map_model.specs.declared.names.TheConstants.{ID, NAME, TYPE, VISIBLE, PROPERTIES, WIDTH, HEIGHT, TILE_WIDTH, TILE_HEIGHT, INFINITE, NEXT_LAYER_ID}
-use Rattle.map_model.specs.declared.names.TheConstants.{NEXT_OBJECT_ID, LAYERS, TILESETS, VERSION, ENCODING, COMPRESSION, DATA, OBJECTS, X, Y, GID, FIRST_ID}
-use Rattle.map_model.specs.declared.names.TheConstants.{SOURCE, VALUE}
+use Rattle.map_model.specs.declared.names.TheConstants.{TYPE, WIDTH, HEIGHT, VERSION, ENCODING, COMPRESSION, DATA, VALUE}
 use Rattle.map_model.specs.declared.limits.TheConstants.{MAX_GROUPS}
 use Rattle.map_model.specs.declared.parts.Encoding.{Encoding}
 use Rattle.map_model.specs.declared.parts.Encoding.TheVariants.{Array, Base64}
@@ -21,10 +19,14 @@ use Rattle.map_model.specs.declared.parts.Body.TheVariants.{Tiles, Objects, Othe
 use Rattle.map_model.specs.declared.parts.Layer.{Layer}
 use Rattle.map_model.specs.declared.parts.Tileset.{Tileset}
 use Rattle.map_model.specs.declared.parts.MapParts.{MapParts}
+use Rattle.map_model.specs.Format.{id_member, name_member, visible_member, properties_list, map_width_member, map_height_member, tile_width_member, tile_height_member}
+use Rattle.map_model.specs.Format.{infinite_member, next_layer_id_member, next_object_id_member, layers_list, tilesets_list, objects_list, x_member, y_member}
+use Rattle.map_model.specs.Format.{width_member, height_member, gid_member, first_id_member, source_member, property_type_member}
 use Rattle.map_model.specs.Groups.{inside}
 use Rattle.map_json.specs.Members.{Own, with_own}
 use Rattle.map_values.specs.Arrays.{array_by, whole_tree}
 use Rattle.map_values.specs.Cells.{bytes_of}
+use Rattle.map_values.specs.Scalars.{own_value, own_some}
 
 -- ---- properties
 abbrev pub value_tree : PropValue → Data
@@ -34,7 +36,7 @@ value_tree (values.Truth b) = boolean b
 value_tree (values.Other d) = d
 
 abbrev pub property_own : Property → Own
-property_own p = (NAME.now, Some (string p.name)) ∷ (TYPE.now, Some (string p.kind)) ∷ (VALUE.now, Some (value_tree p.value)) ∷ []
+property_own p = own_value name_member p.name ∷ own_value property_type_member p.kind ∷ (VALUE.now, Some (value_tree p.value)) ∷ []
 
 unfoldable pub property_tree : Property → Data
 property_tree p = object (with_own (property_own p) p.kept)
@@ -47,15 +49,15 @@ properties_member (p ∷ ps) = Some (array_by property_tree (p ∷ ps))
 -- ---- objects
 abbrev pub object_own : Object → Own
 object_own o =
-    (ID.now, Some (whole_tree o.id))
-    ∷ (X.now, option_map (λ z. number (of_integer z)) o.placing.x)
-    ∷ (Y.now, option_map (λ z. number (of_integer z)) o.placing.y)
-    ∷ (WIDTH.now, option_map (λ z. number (of_integer z)) o.placing.width)
-    ∷ (HEIGHT.now, option_map (λ z. number (of_integer z)) o.placing.height)
-    ∷ (NAME.now, option_map string o.name)
-    ∷ (VISIBLE.now, option_map boolean o.visible)
-    ∷ (GID.now, option_map whole_tree o.gid)
-    ∷ (PROPERTIES.now, properties_member o.properties)
+    own_value id_member o.id
+    ∷ own_some x_member o.placing.x
+    ∷ own_some y_member o.placing.y
+    ∷ own_some width_member o.placing.width
+    ∷ own_some height_member o.placing.height
+    ∷ own_some name_member o.name
+    ∷ own_some visible_member o.visible
+    ∷ own_some gid_member o.gid
+    ∷ (properties_list.name, properties_member o.properties)
     ∷ []
 
 unfoldable pub object_tree : Object → Data
@@ -63,7 +65,7 @@ object_tree o = object (with_own (object_own o) o.kept)
 
 -- ---- tilesets
 abbrev pub tileset_own : Tileset → Own
-tileset_own t = (FIRST_ID.now, Some (whole_tree t.first_id)) ∷ (SOURCE.now, option_map string t.source) ∷ []
+tileset_own t = own_value first_id_member t.first_id ∷ own_some source_member t.source ∷ []
 
 unfoldable pub tileset_tree : Tileset → Data
 tileset_tree t = object (with_own (tileset_own t) t.kept)
@@ -88,14 +90,14 @@ abbrev pub body_own : ℕ → ℕ → Data → Body → Own
 body_own width height layers (Tiles e cells) =
     (ENCODING.now, encoding_member e) ∷ (COMPRESSION.now, None) ∷ (WIDTH.now, Some (whole_tree width)) ∷ (HEIGHT.now, Some (whole_tree height))
     ∷ (DATA.now, Some (cells_tree e cells)) ∷ []
-body_own width height layers (Objects os) = (OBJECTS.now, Some (array_by object_tree os)) ∷ []
+body_own width height layers (Objects os) = (objects_list.name, Some (array_by object_tree os)) ∷ []
 body_own width height layers Other = []
-body_own width height layers (Group' s r) = (LAYERS.now, Some layers) ∷ []
+body_own width height layers (Group' s r) = (layers_list.name, Some layers) ∷ []
 
 abbrev pub layer_own : ℕ → ℕ → Data → Layer → Own
 layer_own width height layers l =
-    ((TYPE.now, Some (string (type_word l.body))) ∷ (ID.now, Some (whole_tree l.id)) ∷ (NAME.now, Some (string l.name))
-    ∷ (VISIBLE.now, Some (boolean l.visible)) ∷ (PROPERTIES.now, properties_member l.properties) ∷ [])
+    ((TYPE.now, Some (string (type_word l.body))) ∷ own_value id_member l.id ∷ own_value name_member l.name
+    ∷ own_value visible_member l.visible ∷ (properties_list.name, properties_member l.properties) ∷ [])
     ++ body_own width height layers l.body
 
 -- a layer in which layers may stand in so many groups
@@ -110,21 +112,21 @@ layers_tree room width height ls = array_by (layer_tree room width height) ls
 -- the own members of a map that are no lists
 abbrev pub plain_own : MapParts → Own
 plain_own m =
-    (WIDTH.now, Some (whole_tree m.width))
-    ∷ (HEIGHT.now, Some (whole_tree m.height))
-    ∷ (TILE_WIDTH.now, Some (whole_tree m.tile_width))
-    ∷ (TILE_HEIGHT.now, Some (whole_tree m.tile_height))
-    ∷ (INFINITE.now, Some (boolean false))
-    ∷ (NEXT_LAYER_ID.now, Some (whole_tree m.next_layer_id))
-    ∷ (NEXT_OBJECT_ID.now, Some (whole_tree m.next_object_id))
+    own_value map_width_member m.width
+    ∷ own_value map_height_member m.height
+    ∷ own_value tile_width_member m.tile_width
+    ∷ own_value tile_height_member m.tile_height
+    ∷ own_value infinite_member false
+    ∷ own_value next_layer_id_member m.next_layer_id
+    ∷ own_value next_object_id_member m.next_object_id
     ∷ []
 
 -- its lists, with this for its layers, and what says that it is a map
 abbrev pub lists_own : Data → MapParts → Own
 lists_own layers m =
-    (LAYERS.now, Some layers)
-    ∷ (TILESETS.now, Some (array_by tileset_tree m.tilesets))
-    ∷ (PROPERTIES.now, properties_member m.properties)
+    (layers_list.name, Some layers)
+    ∷ (tilesets_list.name, Some (array_by tileset_tree m.tilesets))
+    ∷ (properties_list.name, properties_member m.properties)
     ∷ (TYPE.now, Some (string (codes "map")))
     ∷ (VERSION.now, Some (string (codes "1.10")))
     ∷ []

@@ -2,7 +2,7 @@
 ghost use Rattle.std.specs.Prelude.{◌≡◌, ◌*◌, ◌≤◌, IfOk};
 ghost use Rattle.serde_json.specs.Find.{get_member};
 ghost use Rattle.serde_json.specs.View.{view as data_of};
-ghost use Rattle.map_model.specs.Keeping.{body_names};
+ghost use Rattle.map_model.specs.Format.{body_names};
 ghost use Rattle.map_model.specs.declared.limits.TheConstants.{MAX_CELLS};
 ghost use Rattle.map_model.specs.declared.names.TheConstants.{TYPE, ENCODING, COMPRESSION, DATA};
 ghost use Rattle.map_model.specs.declared.parts.Encoding.TheVariants.{Array};

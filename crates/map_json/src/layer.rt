@@ -3,7 +3,7 @@ ghost use Rattle.std.specs.Prelude.{◌≡◌, ◌*◌, ◌≤◌, IfOk, length}
 ghost use Rattle.serde_json.specs.Find.{get_member};
 ghost use Rattle.serde_json.specs.View.{view as data_of, items_view};
 ghost use Rattle.map_model.specs.declared.names.TheConstants.{LAYERS};
-ghost use Rattle.map_model.specs.Keeping.{body_names, common_names};
+ghost use Rattle.map_model.specs.Format.{body_names, common_names};
 ghost use Rattle.map_model.specs.declared.limits.TheConstants.{MAX_CELLS, MAX_LAYERS};
 ghost use Rattle.json_members.specs.Members.{without, without_all};
 ghost use Rattle.map_values.specs.Steps.{Gives, GivesBy, required};

@@ -20,7 +20,8 @@ use Rattle.map_model.specs.Canvas.{AreCells, MayBeMoved, BodyMayBeMoved, MayBeDr
 use Rattle.map_model.specs.Objects.{object_moved}
 use Rattle.map_model.specs.Document.{DocumentParts, IsDocument}
 use Rattle.map_model.specs.Groups.{all_drawn}
-use Rattle.map_model.specs.Keeping.{body_names, layer_level, object_level}
+use Rattle.map_model.specs.Keeping.{layer_level, object_level}
+use Rattle.map_model.specs.Format.{body_names}
 use Rattle.map_model.specs.Lists.{Each}
 use Rattle.map_model.proofs.CanvasTrees.{Turns, back_layers, drawn_on, drawn-layers_on}
 use Rattle.map_model.proofs.Listings.{Each-append, Each-prefix, Each-rest}

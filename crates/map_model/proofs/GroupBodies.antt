@@ -6,7 +6,7 @@ use Rattle.map_model.specs.declared.parts.Body.TheViews.{out-Body, outs-Group, o
 use Rattle.map_model.specs.declared.parts.Layer.{Layer}
 use Rattle.map_model.specs.Canvas.{lists_in}
 use Rattle.map_model.specs.Groups.{layers_by, group_in, group_of, inside, bare, body_with_layers, layer_with_layers}
-use Rattle.map_model.specs.Keeping.{body_names}
+use Rattle.map_model.specs.Format.{body_names}
 use Rattle.map_model.specs.Lists.{or_empty}
 use Rattle.map_model.specs.Objects.{objects_in}
 use Rattle.map_model.specs.Tilesets.{values_in}

@@ -20,7 +20,8 @@ use Rattle.map_model.specs.Bodies.{IsTiles, tiles_of}
 use Rattle.map_model.specs.Lookups.{body_with_tiles, layer_of, HasTiles, tiles_of_layer, tiles_in, layer_with_tiles, IsWithin}
 use Rattle.map_model.specs.CellEdits.{IsBelow}
 use Rattle.map_model.specs.Groups.{all_drawn, bare, change_among, drawn, group_in, group_of, inside, layer_with_layers, tree}
-use Rattle.map_model.specs.Keeping.{body_names, deepest_level, inner_level, layer_level}
+use Rattle.map_model.specs.Keeping.{deepest_level, inner_level, layer_level}
+use Rattle.map_model.specs.Format.{body_names}
 use Rattle.map_model.specs.Layers.{layer_at, layer_with_name, layer_with_visible, siblings_of, with_next_ids, with_siblings, without_layer_at}
 use Rattle.map_model.specs.Properties.{level_by, level_of}
 use Rattle.map_model.specs.WellFormed.{IsId, AreIds, IsTileValue, IsBody, IsDrawn, IsLayer, AreDrawn, AreLayers, IsWellFormed, ids_of, object_ids_in}

@@ -15,7 +15,8 @@ use Rattle.map_model.specs.declared.parts.Body.TheVariants.{Tiles, Objects}
 use Rattle.map_model.specs.declared.parts.LayerKind.{LayerKind}
 use Rattle.map_model.specs.declared.parts.LayerKind.TheVariants as kinds
 use Rattle.map_model.specs.declared.parts.Placing.{Placing}
-use Rattle.map_model.specs.Keeping.{deepest_level, layer_level, object_level, map_level, map_names, layer_names, object_names, tileset_names}
+use Rattle.map_model.specs.Keeping.{deepest_level, layer_level, object_level, map_level}
+use Rattle.map_model.specs.Format.{map_names, layer_names, object_names, tileset_names}
 use Rattle.map_model.specs.Groups.{all_drawn, bare, inside, tree}
 use Rattle.map_model.specs.Lists.{Each}
 use Rattle.map_model.specs.Readable.{AreReadableMembers}

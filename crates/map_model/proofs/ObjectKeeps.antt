@@ -10,7 +10,8 @@ use Rattle.map_model.specs.declared.parts.MapParts.{MapParts}
 use Rattle.map_model.specs.declared.parts.Object.{Object}
 use Rattle.map_model.specs.declared.parts.Placing.{Placing}
 use Rattle.map_model.specs.declared.place.ObjectPlace.{ObjectPlace}
-use Rattle.map_model.specs.Keeping.{body_names, object_level}
+use Rattle.map_model.specs.Keeping.{object_level}
+use Rattle.map_model.specs.Format.{body_names}
 use Rattle.map_model.specs.Layers.{with_next_ids}
 use Rattle.map_model.specs.Groups.{group_in}
 use Rattle.map_model.specs.Lists.{Each, change_at, or_empty}

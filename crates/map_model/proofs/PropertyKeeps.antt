@@ -19,7 +19,8 @@ use Rattle.map_model.specs.declared.place.OwnerPlace.{OwnerPlace}
 use Rattle.map_model.specs.declared.place.OwnerPlace.TheVariants as places
 use Rattle.map_model.specs.declared.setting.Setting.{Setting}
 use Rattle.map_model.specs.Document.{IsSelectionOf}
-use Rattle.map_model.specs.Keeping.{map_level, object_level, property_level, property_names}
+use Rattle.map_model.specs.Keeping.{map_level, object_level, property_level}
+use Rattle.map_model.specs.Format.{property_names}
 use Rattle.map_model.specs.Lists.{Each, Distinct, change_at, or_empty}
 use Rattle.map_model.specs.Objects.{layer_with_objects, object_at}
 use Rattle.map_model.specs.Lookups.{layer_of}

@@ -3,16 +3,11 @@
 -- The tree that is written for a map nests at most 127 deep. The map's object is its first level. Each array of layers,
 -- objects, tilesets or properties takes one level more, and each object in it another. What is kept in an object may
 -- nest as deep as the levels below that object allow.
-use Rattle.std.specs.Prelude.{◌≡◌, ℕ, ◌+◌, ◌*◌, ◌≤◌, List, [], ◌∷◌, ◌++◌, None, false}
+use Rattle.std.specs.Prelude.{◌≡◌, ℕ, ◌+◌, ◌*◌, ◌≤◌, List, None, false}
 use Rattle.serde_json.specs.Data.{Data, null, boolean, number, string, array, object, Members, depth, members_depth}
 use Rattle.serde_json.specs.Find.{get_member, as_i64}
 use Rattle.serde_json.specs.Written.{has_float, members_have_float}
-use Rattle.map_model.specs.declared.names.TheConstants.{ID, NAME, TYPE, VISIBLE, PROPERTIES, WIDTH, HEIGHT, TILE_WIDTH, TILE_HEIGHT, INFINITE, NEXT_LAYER_ID}
-use Rattle.map_model.specs.declared.names.TheConstants.{NEXT_OBJECT_ID, LAYERS, TILESETS, VERSION, ENCODING, COMPRESSION, DATA, OBJECTS, X, Y, GID, FIRST_ID}
-use Rattle.map_model.specs.declared.names.TheConstants.{SOURCE, VALUE}
 use Rattle.map_model.specs.declared.limits.TheConstants.{MAX_DEPTH, MAX_GROUPS}
-use Rattle.map_model.specs.declared.parts.Body.{Body}
-use Rattle.map_model.specs.declared.parts.Body.TheVariants.{Tiles, Objects, Other, Group'}
 use Rattle.map_model.specs.Lists.{Each}
 use Rattle.map_model.specs.Readable.{IsReadable, AreReadableMembers}
 
@@ -42,36 +37,6 @@ tileset_level = map_level + 2
 -- a property of an owner at this level
 abbrev pub property_level : ℕ → ℕ
 property_level level = level + 2
-
--- ---- the names that are read or written for an owner
-abbrev pub map_names : List (List ℕ)
-map_names =
-    WIDTH.now ∷ HEIGHT.now ∷ TILE_WIDTH.now ∷ TILE_HEIGHT.now ∷ INFINITE.now ∷ NEXT_LAYER_ID.now ∷ NEXT_OBJECT_ID.now
-    ∷ LAYERS.now ∷ TILESETS.now ∷ PROPERTIES.now ∷ TYPE.now ∷ VERSION.now ∷ []
-
--- those of a layer of any kind
-abbrev pub common_names : List (List ℕ)
-common_names = TYPE.now ∷ ID.now ∷ NAME.now ∷ VISIBLE.now ∷ PROPERTIES.now ∷ []
-
--- those of a layer's kind
-abbrev pub body_names : Body → List (List ℕ)
-body_names (Tiles e cells) = ENCODING.now ∷ COMPRESSION.now ∷ WIDTH.now ∷ HEIGHT.now ∷ DATA.now ∷ []
-body_names (Objects os) = OBJECTS.now ∷ []
-body_names Other = []
-body_names (Group' s r) = LAYERS.now ∷ []
-
-abbrev pub layer_names : Body → List (List ℕ)
-layer_names body = common_names ++ body_names body
-
-abbrev pub object_names : List (List ℕ)
-object_names =
-    ID.now ∷ X.now ∷ Y.now ∷ WIDTH.now ∷ HEIGHT.now ∷ NAME.now ∷ VISIBLE.now ∷ GID.now ∷ PROPERTIES.now ∷ []
-
-abbrev pub tileset_names : List (List ℕ)
-tileset_names = FIRST_ID.now ∷ SOURCE.now ∷ []
-
-abbrev pub property_names : List (List ℕ)
-property_names = NAME.now ∷ TYPE.now ∷ VALUE.now ∷ []
 
 -- ---- kept members and values
 -- members that an owner at this level keeps: they have none of its names, each number is whole, no value is too deep, and a

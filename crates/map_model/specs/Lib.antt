@@ -6,6 +6,7 @@ pub mod Changing
 pub mod DataCode
 pub mod Difference
 pub mod Document
+pub mod Format
 pub mod Keeping
 pub mod Layers
 pub mod Lists

@@ -15,8 +15,9 @@ use Rattle.map_model.specs.declared.parts.Tileset.{Tileset}
 use Rattle.map_model.specs.declared.parts.MapParts.{MapParts}
 use Rattle.map_model.specs.Groups.{all_drawn}
 use Rattle.map_model.specs.Lists.{Each, Distinct}
-use Rattle.map_model.specs.Keeping.{AreKept, IsKeptValue, map_level, deepest_level, object_level, tileset_level, property_level, map_names, layer_names}
-use Rattle.map_model.specs.Keeping.{object_names, tileset_names, property_names}
+use Rattle.map_model.specs.Keeping.{AreKept, IsKeptValue, map_level, deepest_level, object_level, tileset_level, property_level}
+use Rattle.map_model.specs.Format.{map_names, layer_names}
+use Rattle.map_model.specs.Format.{object_names, tileset_names, property_names}
 
 -- ---- sizes
 -- a map is at least 1 cell wide and high

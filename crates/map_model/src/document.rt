@@ -2,7 +2,7 @@ ghost use Rattle.std.specs.Prelude.{◌≡◌, ◌<◌, Some, IsSome, IsSomeAnd,
 ghost use Rattle.map_model.specs.Alike.{AreAlike};
 ghost use Rattle.map_model.specs.CellEdits.{AreInRowOrder};
 ghost use Rattle.map_model.specs.Document.{document_of, painted, with_map, with_selection, IsDocument, IsSelectionOf};
-ghost use Rattle.map_model.specs.Layers.{IsPlaceIn, layer_at, layer_name, layer_with_name, layer_with_visible, with_layer_at, with_next_ids, without_layer_at};
+ghost use Rattle.map_model.specs.Layers.{IsPlaceIn, layer_at, layer_name, layer_visible, layer_with_name, layer_with_visible, with_layer_at, with_next_ids, without_layer_at};
 ghost use Rattle.map_model.specs.Lists.{Each};
 ghost use Rattle.map_model.specs.Lookups.{HasTiles, IsWithin, layer_of, with_cell, with_layer};
 ghost use Rattle.map_model.specs.WellFormed.{IsWellFormed};
@@ -171,13 +171,14 @@ impl Document {
         rename_in(&mut self.map.parts.layers, layer, name);
     }
 
-    /// Shows or hides the layer with an id.
-    pub fn set_visible(&mut self, layer: u32, visible: bool)
+    /// Shows or hides the layer with an id, and hands back whether it was shown before.
+    pub fn set_visible(&mut self, layer: u32, visible: bool) -> bool
         requires { IsSome (layer_of self.old.map layer) }
+        ensures given { option_map layer_visible (layer_of self.old.map layer) ≡ Some result }
         ensures document { self.new ≡ with_map (with_layer layer (layer_with_visible visible)) self.old }
         ensures well_formed { IsDocument self.new }
     {
-        show_in(&mut self.map.parts.layers, layer, visible);
+        show_in(&mut self.map.parts.layers, layer, visible)
     }
 
     /// Sets the next ids, of a layer and of an object. The map is well formed with them.

@@ -6,7 +6,7 @@ ghost use Rattle.map_model.specs.Bodies.{IsTiles};
 ghost use Rattle.map_model.specs.Alike.{AreAlike};
 ghost use Rattle.map_model.specs.CellEdits.{AreInRowOrder, HaveRange, IsBelow, put_values, with_value};
 ghost use Rattle.map_model.specs.Groups.{body_with_layers, change_among, group_in, layer_among};
-ghost use Rattle.map_model.specs.Layers.{IsPlaceIn, layer_at, layer_name, layer_with_name, layer_with_visible, siblings_of, with_layer_at, without_layer_at};
+ghost use Rattle.map_model.specs.Layers.{IsPlaceIn, layer_at, layer_name, layer_visible, layer_with_name, layer_with_visible, siblings_of, with_layer_at, without_layer_at};
 ghost use Rattle.map_model.specs.Lists.{Distinct, Each};
 ghost use Rattle.map_model.specs.Lookups.{tiles_of_layer, layer_with_tiles};
 ghost use Rattle.map_model.specs.WellFormed.{layer_ids};
@@ -73,13 +73,16 @@ pub fn rename_in(layers: &mut Chain<Layer>, id: u32, name: &mut MapText)
     *name = change_layer(layers, id, |layer| mem::replace(&mut layer.name, new));
 }
 
-/// Shows or hides the layer with an id.
-pub fn show_in(layers: &mut Chain<Layer>, id: u32, visible: bool)
+/// Shows or hides the layer with an id, and hands back whether it was shown before.
+pub fn show_in(layers: &mut Chain<Layer>, id: u32, visible: bool) -> bool
     requires distinct { Distinct (layer_ids layers.old) }
     requires there { IsSome (layer_among id MAX_GROUPS layers.old) }
-    ensures { layers.new ≡ change_among id MAX_GROUPS (layer_with_visible visible) layers.old }
+    ensures given { option_map layer_visible (layer_among id MAX_GROUPS layers.old) ≡ Some result }
+    ensures layers { layers.new ≡ change_among id MAX_GROUPS (layer_with_visible visible) layers.old }
 {
-    change_layer(layers, id, |layer| layer.visible = visible);
+    change_layer(layers, id, |layer| {
+        mem::replace(&mut layer.visible, visible)
+    })
 }
 
 /// Puts a layer in at a place.

@@ -3,7 +3,7 @@ ghost use Rattle.refusals.specs.Words.{edit_words};
 
 use crate::refusal::NO_MEMORY;
 
-/// Why an edit is refused. The document is then as it was.
+/// Why an edit is refused, or a line that names a layer, a cell, a step or a size without being one. The document is then as it was.
 #[derive(Clone, Copy, PartialEq, Eq, Debug)]
 pub enum EditFault {
     /// The map has no layer with the id.
@@ -24,7 +24,7 @@ pub enum EditFault {
     TilesetInUse,
     /// The first id of a new tileset is not above all others.
     FirstIdNotAbove,
-    /// A place, a size, a coordinate or a first id is not within its limits.
+    /// A place, a size, a coordinate, a first id, the number of a step or an undo limit is not within its limits.
     OutOfRange,
     /// There are as many as there may be, or there is no further id.
     TooMany,

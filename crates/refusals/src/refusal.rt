@@ -21,9 +21,10 @@ pub enum Refusal {
     NameTaken,
     NoSuchDocument,
     UnsavedChanges,
-    /// The active document's stack refused its call.
+    /// A call of the active document's stack was refused, or would have been: a `save` while a macro is open, and a `limit` where
+    /// there are steps, call no stack.
     Stack(StackFault),
-    /// The edit was refused, or a number of another line is out of range.
+    /// An edit was refused. A `tile`, a `text`, a `limit` and a `new` are no edits, and are refused by the same faults.
     Edit(EditFault),
     /// The store has no such file, or failed.
     Store(StoreFault),

@@ -16,7 +16,7 @@ pub enum StackFault {
     NoMacroOpen,
     /// As many macros are open as can be, and a further one was to begin. No memory was asked for.
     TooDeep,
-    /// There are steps, or a macro is open: a limit can be set only before either.
+    /// There are steps, or a macro is open: a limit can be set only where there is neither, as after `clear`.
     NotEmpty,
     /// There was no memory for a macro that was to begin. The steps above the index are kept too.
     NoMemory,

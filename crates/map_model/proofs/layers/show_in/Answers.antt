@@ -4,7 +4,10 @@ use Rattle.map_model.specs.Layers.{layer_with_visible}
 use Rattle.map_model.proofs.TreeChanges.{changed_by}
 use Rattle.map_model.proofs.layers.show_in.Goals as goal
 
-pub returns : goal.returns
-returns c =
+pub returns-clause-layers : goal.returns-clause-layers
+returns-clause-layers c =
     let e = c.change_layer.ensures in
     changed_by c.args.id MAX_GROUPS (layer_with_visible c.args.visible) c.args.layers.now c.change_layer.new.layers e.layer e.left e.found e.is (search rules)
+
+pub returns-clause-given : goal.returns-clause-given
+returns-clause-given c = rw c.change_layer.ensures.found (search rules)

@@ -5,7 +5,7 @@ use Rattle.map_model.proofs.document.Document.set_visible.Goals as goal
 
 pub invariant_of-self-inside : goal.invariant_of-self-inside
 invariant_of-self-inside c =
-    with_layer-keeps c.args.layer (layer_with_visible c.args.visible) c.self-inside.inside.0.0.parts c.show_in.new.layers c.show_in.ensures
+    with_layer-keeps c.args.layer (layer_with_visible c.args.visible) c.self-inside.inside.0.0.parts c.show_in.new.layers c.show_in.ensures.layers
     (layer_with_visible-keeps c.args.visible) c.self-inside.invariant
 
 pub invariant_of-self : goal.invariant_of-self
