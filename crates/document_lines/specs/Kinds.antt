@@ -8,7 +8,6 @@ use Rattle.undo_stack.specs.Pushing.{IsPushed, without_last}
 use Rattle.session.specs.declared.line.Line.{Line}
 use Rattle.session.specs.declared.line.Line.TheVariants as lines
 use Rattle.refusals.specs.declared.refusal.Refusal.{Refusal}
-use Rattle.session.specs.declared.reply.Reply.{Reply}
 use Rattle.session.specs.declared.reply.Reply.TheVariants.{Refused}
 use Rattle.document_lines.specs.Acts.{answer_of}
 use Rattle.document_lines.specs.Steps.{Edits, Rule}

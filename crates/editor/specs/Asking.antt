@@ -1,5 +1,5 @@
 -- How often a store is asked for a line, and for what.
-use Rattle.std.specs.Prelude.{◌≡◌, ◌⊎◌, ℕ, List, ◌∷◌, Option, None, Some, Result, Ok, Err}
+use Rattle.std.specs.Prelude.{◌≡◌, ◌⊎◌, ℕ, List, ◌∷◌, Option, None, Some, Ok, Err}
 use Rattle.map_store.specs.Asking.{Asked, loading, storing}
 use Rattle.undo_stack.specs.History.{History}
 use Rattle.undo_stack.specs.Moving.{Answer, clean_answer}
