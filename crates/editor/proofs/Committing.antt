@@ -11,11 +11,11 @@ use Rattle.refusals.specs.declared.refusal.Refusal.{Refusal}
 use Rattle.refusals.specs.declared.refusal.Refusal.TheVariants.{NoMemory}
 use Rattle.session.specs.declared.reply.Reply.{Reply}
 use Rattle.session.specs.declared.reply.Reply.TheVariants.{Refused}
-use Rattle.editor.specs.Acts.{Pushes}
-use Rattle.editor.specs.Answers.{state_reply}
-use Rattle.editor.specs.Machine.{Machine, active_of, with_active, workspace}
+use Rattle.document_lines.specs.Acts.{Pushes}
+use Rattle.document_lines.specs.Answers.{state_reply}
+use Rattle.document_lines.specs.Machine.{Machine, active_of, with_active, workspace}
+use Rattle.document_lines.specs.Steps.{Allows, Edits, OnActive, OnDocuments, OnFiles, Rule, Step, rule_of}
 use Rattle.editor.specs.Planning.{Commits, IsEditOf}
-use Rattle.editor.specs.Steps.{Allows, Edits, OnActive, OnDocuments, OnFiles, Rule, Step, rule_of}
 
 -- commands that do the same make the same step
 pub step_of-same : (c w : Change) (d : DocumentParts) → IsSame c w → step_of w d ≡ step_of c d

@@ -20,18 +20,19 @@ use Rattle.session.specs.declared.line.Line.{Line}
 use Rattle.refusals.specs.declared.refusal.Refusal.{Refusal}
 use Rattle.session.specs.declared.reply.Reply.{Reply}
 use Rattle.session.specs.declared.reply.Reply.TheVariants.{Refused}
+use Rattle.document_lines.specs.declared.planned.Planned.{Planned}
+use Rattle.document_lines.specs.declared.planned.Planned.TheVariants as planned
+use Rattle.document_lines.specs.Acts.{answer_of}
+use Rattle.document_lines.specs.Answers.{status_reply}
+use Rattle.document_lines.specs.Kinds.{DocumentKinds, EditsKinds, PushesKind, RuleKinds}
+use Rattle.document_lines.specs.Machine.{Machine, active_of, with_active}
+use Rattle.document_lines.specs.Planning.{PlansEdit, PlansOn}
+use Rattle.document_lines.specs.Steps.{Edits, OnActive, OnDocuments, OnFiles, Rule, rule_of}
 use Rattle.editor.specs.declared.editor.Editor.{Editor}
-use Rattle.editor.specs.declared.planned.Planned.{Planned}
-use Rattle.editor.specs.declared.planned.Planned.TheVariants as planned
-use Rattle.editor.specs.Acts.{answer_of}
-use Rattle.editor.specs.Answers.{status_reply}
 use Rattle.editor.specs.Editors.{machine_of, stacks_in}
-use Rattle.editor.specs.Kinds.{ActiveKinds, AddsKinds, ChangesKinds, CommitKinds, DocumentKinds, EditsKinds, Kinds, LineKinds, LosesKinds, PlanKinds}
-use Rattle.editor.specs.Kinds.{PushesKind, RuleKinds, StepKinds, UnlessRefused}
+use Rattle.editor.specs.Kinds.{ActiveKinds, AddsKinds, ChangesKinds, CommitKinds, Kinds, LineKinds, LosesKinds, PlanKinds, StepKinds, UnlessRefused}
 use Rattle.editor.specs.Kinds.{kinds, kinds_in, macros_at, macros_named}
-use Rattle.editor.specs.Machine.{Machine, active_of, with_active}
-use Rattle.editor.specs.Planning.{IsEditOf, PlansEdit, PlansOn}
-use Rattle.editor.specs.Steps.{Edits, OnActive, OnDocuments, OnFiles, Rule, rule_of}
+use Rattle.editor.specs.Planning.{IsEditOf}
 use Rattle.editor.proofs.Committing.{step_of-same}
 use Rattle.editor.proofs.Lent.{left-machine}
 

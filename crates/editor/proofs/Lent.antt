@@ -4,16 +4,15 @@ use Rattle.command_api.specs.Law.{Change}
 use Rattle.undo_stack.specs.History.{History}
 use Rattle.undo_stack.specs.Stacks.{history, Holds}
 use Rattle.undo_stack.specs.Turning.{IsSteady}
-use Rattle.undo_stack.specs.declared.limits.TheConstants.{MAX_LIMIT}
 use Rattle.undo_stack.specs.declared.stack.Stack.{Stack}
 use Rattle.undo_stack.proofs.Views.{length-own}
 use Rattle.undo_group.specs.Groups.{GroupParts}
 use Rattle.undo_group.specs.Groups as groups
 use Rattle.undo_group.specs.Lending.{IsLeft}
-use Rattle.undo_group.specs.Stacks.{AreHeld, group_of, stack_at}
+use Rattle.undo_group.specs.Stacks.{group_of, stack_at}
+use Rattle.document_lines.specs.Machine.{active_of, with_active}
 use Rattle.editor.specs.declared.editor.Editor.{Editor}
 use Rattle.editor.specs.Editors.{AreSteady, IsHeld, IsSound, machine_of, stacks_in}
-use Rattle.editor.specs.Machine.{active_of, with_active}
 use Rattle.editor.specs.Turns.{PutsActive}
 use Rattle.editor.proofs.Steady.{active-steady, with_active-AreSteady}
 

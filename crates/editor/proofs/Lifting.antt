@@ -1,21 +1,21 @@
 -- From what a line does with the active history to what it does with the machine.
-use Rattle.std.proofs.Common.{◌≡◌, ℕ, Option, Some, None, Result, refl, sym, ap, ◌∙◌, subst, inl, inr}
+use Rattle.std.proofs.Common.{◌≡◌, ℕ, Option, Some, Result, refl, sym, ap, ◌∙◌, subst, inl, inr}
 use Rattle.map_store.specs.Files.{StoreParts}
 use Rattle.undo_stack.specs.History.{History, Step, current}
-use Rattle.undo_group.specs.Groups.{GroupParts, IsGroup, active_history}
+use Rattle.undo_group.specs.Groups.{GroupParts, IsGroup}
 use Rattle.undo_group.specs.Groups as groups
 use Rattle.undo_group.proofs.Documents.{with_active-same}
 use Rattle.refusals.specs.declared.refusal.Refusal.{Refusal}
-use Rattle.refusals.specs.declared.refusal.Refusal.TheVariants.{NoActiveDocument}
 use Rattle.session.specs.declared.reply.Reply.{Reply}
 use Rattle.session.specs.declared.reply.Reply.TheVariants.{Refused}
-use Rattle.editor.specs.declared.planned.Edit.{Edit}
-use Rattle.editor.specs.declared.planned.Planned.{Planned}
-use Rattle.editor.specs.declared.planned.Planned.TheVariants as planned
-use Rattle.editor.specs.Acts.{Act, FileAct, IfActive, OfActive, OrNoMemory, Pushes, WithActive, answer_of, moved_to}
-use Rattle.editor.specs.Machine.{Machine, active_of, with_active, workspace}
-use Rattle.editor.specs.Planning.{FitsActive, FitsPlan, IsEditOf, IsOfActive, KeepsPlan, KeepsReply, PlansBy, PlansEdit, PlansOn, edit_change, refused}
-use Rattle.editor.specs.Steps.{Allows, Edits, OnActive, OnDocuments, OnFiles, Rule}
+use Rattle.document_lines.specs.declared.planned.Edit.{Edit}
+use Rattle.document_lines.specs.declared.planned.Planned.{Planned}
+use Rattle.document_lines.specs.declared.planned.Planned.TheVariants as planned
+use Rattle.document_lines.specs.Acts.{Act, FileAct, IfActive, OfActive, OrNoMemory, Pushes, WithActive, answer_of, moved_to}
+use Rattle.document_lines.specs.Machine.{Machine, active_of, with_active, workspace}
+use Rattle.document_lines.specs.Planning.{KeepsReply, PlansEdit, PlansOn, edit_change}
+use Rattle.document_lines.specs.Steps.{Allows, Edits, OnActive, OnDocuments, OnFiles, Rule}
+use Rattle.editor.specs.Planning.{FitsActive, FitsPlan, IsEditOf, KeepsPlan, PlansBy}
 
 -- a machine with this group
 abbrev pub machine_at : ℕ → GroupParts → Machine
@@ -107,18 +107,6 @@ module _ (h n : History) (old : Machine) (whole : IsGroup old.group) (active : a
       let Q : Machine → Type 0 = λ m. FitsActive (active_of m) (edit_change e) in
       let R : Option History → Type 0 = λ o. FitsActive o (edit_change e) in
       subst Q (sym (with_active-unchanged h n old whole active is.0)) (subst R (sym active) is.2)
-
--- a line about the active document, where none is active
-none-Allows : (rule : Rule) (old : Machine) (stored : StoreParts) → IsOfActive rule → active_of old ≡ None
-    → Allows rule (workspace old stored) (Some (Refused NoActiveDocument)) (workspace old stored)
-none-Allows (OnFiles act) old stored s e = absurd s
-none-Allows (OnDocuments act) old stored s e = absurd s
-none-Allows (OnActive act) old stored s e = rw e ((refl, refl), refl)
-none-Allows (Edits names edit) old stored s e = rw e ((refl, refl), refl)
-
-pub none-PlansBy : (rule : Rule) (old : Machine) (stored : StoreParts) → IsOfActive rule → active_of old ≡ None
-    → PlansBy rule (workspace old stored) (refused NoActiveDocument) (workspace old stored)
-none-PlansBy rule old stored s e = none-Allows rule old stored s e
 
 -- a document was saved, or not
 pub saves : (act : FileAct History) (h n : History) (reply : Reply) (old new : Machine) (before after : StoreParts) → IsGroup old.group → active_of old ≡ Some h

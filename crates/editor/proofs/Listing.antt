@@ -3,7 +3,7 @@ use Rattle.std.proofs.Common.{◌≡◌, ℕ, Bool, true, false, cond, List, [],
 use Rattle.std.specs.List.{join_with_byte}
 use Rattle.std.proofs.lemmas.List.{append-nil, map-append}
 use Rattle.undo_group.specs.Groups.{GroupParts, OpenDocument}
-use Rattle.editor.specs.Answers.{documents_text, is_active, listed, starred}
+use Rattle.document_lines.specs.Answers.{documents_text, is_active, listed, starred}
 
 -- whether there is nothing in it
 abbrev pub is_nothing : {A : Type 0} → List A → Bool

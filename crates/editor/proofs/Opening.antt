@@ -11,8 +11,8 @@ use Rattle.undo_stack.specs.History.{new_history}
 use Rattle.undo_group.specs.Groups.{history_named}
 use Rattle.session.specs.declared.reply.Reply.{Reply}
 use Rattle.session.specs.declared.reply.Reply.TheVariants as replies
-use Rattle.editor.specs.Acts.{FilesStay, Loads, NewName, Opens, OrNoMemory, OrNoMemoryForFile, OrStoreFails}
-use Rattle.editor.specs.Machine.{Machine}
+use Rattle.document_lines.specs.Acts.{FilesStay, Loads, NewName, Opens, OrNoMemory, OrNoMemoryForFile, OrStoreFails}
+use Rattle.document_lines.specs.Machine.{Machine}
 use Rattle.map_values.specs.Refusals.{refusal_of_map}
 
 -- a file whose bytes say no map

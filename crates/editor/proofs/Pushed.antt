@@ -10,13 +10,14 @@ use Rattle.undo_stack.specs.declared.stack.Stack.{Stack}
 use Rattle.undo_group.specs.Groups.{IsGroup}
 use Rattle.undo_group.specs.Lending.{IsLeft}
 use Rattle.undo_group.specs.Stacks.{group_of, stack_at}
+use Rattle.document_lines.specs.Answers.{state_reply}
+use Rattle.document_lines.specs.Kinds.{PushesKind}
+use Rattle.document_lines.specs.Machine.{active_of}
+use Rattle.document_lines.proofs.Macros.{edited, levels-alike}
 use Rattle.editor.specs.declared.editor.Editor.{Editor}
-use Rattle.editor.specs.Answers.{state_reply}
 use Rattle.editor.specs.Editors.{machine_of, stacks_in}
-use Rattle.editor.specs.Kinds.{CommitKinds, PushesKind, kinds_in}
-use Rattle.editor.specs.Machine.{active_of}
+use Rattle.editor.specs.Kinds.{CommitKinds, kinds_in}
 use Rattle.editor.proofs.KindLists.{active_kinds}
-use Rattle.editor.proofs.Macros.{edited, levels-alike}
 
 -- over one document
 push-macros : {C : Type 0} (f : C → Change) (x : C) (s t : Stack C) → IsReported f x s t

@@ -1,5 +1,5 @@
 -- How often a store is asked for a line, and for what.
-use Rattle.std.specs.Prelude.{◌≡◌, ◌⊎◌, ℕ, List, ◌∷◌, Option, None, Some, Result, Ok, Err}
+use Rattle.std.specs.Prelude.{◌≡◌, ◌⊎◌, ℕ, List, ◌∷◌, Option, None, Some, Ok, Err}
 use Rattle.map_store.specs.Asking.{Asked, loading, storing}
 use Rattle.undo_stack.specs.History.{History}
 use Rattle.undo_stack.specs.Moving.{Answer, clean_answer}
@@ -9,9 +9,9 @@ use Rattle.session.specs.declared.line.Line.TheVariants.{Open, Save}
 use Rattle.refusals.specs.declared.refusal.Refusal.TheVariants.{NoMemory}
 use Rattle.session.specs.declared.reply.Reply.{Reply}
 use Rattle.session.specs.declared.reply.Reply.TheVariants.{Refused}
-use Rattle.editor.specs.declared.planned.Planned.{Planned}
-use Rattle.editor.specs.declared.planned.Planned.TheVariants as planned
-use Rattle.editor.specs.Machine.{Machine, active_of}
+use Rattle.document_lines.specs.declared.planned.Planned.{Planned}
+use Rattle.document_lines.specs.declared.planned.Planned.TheVariants as planned
+use Rattle.document_lines.specs.Machine.{Machine, active_of}
 
 -- a file is opened: the store is asked once, where the name is free, and else not at all
 abbrev pub asked_to_open : List ℕ → Option History → List Asked → List Asked

@@ -5,8 +5,8 @@ use Rattle.undo_stack.specs.Turning.{IsSteady}
 use Rattle.undo_stack.specs.declared.limits.TheConstants.{MAX_LIMIT}
 use Rattle.undo_group.specs.Groups.{OpenDocument}
 use Rattle.undo_group.specs.Stacks.{NamedStack, group_of, stacks_of, AreHeld}
+use Rattle.document_lines.specs.Machine.{Machine}
 use Rattle.editor.specs.declared.editor.Editor.{Editor}
-use Rattle.editor.specs.Machine.{Machine}
 
 -- the machine that an editor stands for
 abbrev pub machine_of : {C : Type 0} → (C → Change) → Editor C → Machine

@@ -1,28 +1,26 @@
--- Of each step whether it is a macro, and what a line makes of that.
+-- Of each step of all open documents whether it is a macro, and what a line makes of that.
 --
 -- Beside the history of each open document stands a list: of each of its steps whether it is a macro. While a macro is open, it
 -- stands last in the list.
-use Rattle.std.specs.Prelude.{◌≡◌, ℕ, List, [], ◌∷◌, ◌++◌, Bool, true, false, Option, Some, None, Result, Ok, Err, map, take, if◌then◌else◌}
+use Rattle.std.specs.Prelude.{◌≡◌, ℕ, List, [], ◌∷◌, ◌++◌, Bool, Option, Some, None, Result, Ok, Err, map, if◌then◌else◌}
 use Rattle.std.specs.Str.{bytes_eq}
-use Rattle.undo_stack.specs.History.{History, Open, Step, current}
-use Rattle.undo_stack.specs.Nestings.{within_limit}
+use Rattle.undo_stack.specs.History.{History, current}
 use Rattle.command_api.specs.Law.{Change}
-use Rattle.undo_stack.specs.Pushing.{IsPushed, step_of, without_last}
+use Rattle.undo_stack.specs.Pushing.{step_of}
 use Rattle.undo_stack.specs.Stacks.{macros}
 use Rattle.session.specs.declared.line.Line.{Line}
 use Rattle.session.specs.declared.line.Line.TheVariants as lines
 use Rattle.refusals.specs.declared.line_fault.LineFault.{LineFault}
-use Rattle.refusals.specs.declared.refusal.Refusal.{Refusal}
 use Rattle.session.specs.declared.reply.Reply.{Reply}
 use Rattle.session.specs.declared.reply.Reply.TheVariants.{Refused}
 use Rattle.session.specs.Grammar.{line_of}
-use Rattle.editor.specs.Acts.{answer_of}
+use Rattle.document_lines.specs.Kinds.{PushesKind, RuleKinds}
+use Rattle.document_lines.specs.Machine.{Machine, active_of}
+use Rattle.document_lines.specs.Steps.{OnDocuments, OnFiles, Rule, rule_of}
+use Rattle.document_lines.specs.declared.planned.Planned.{Planned}
+use Rattle.document_lines.specs.declared.planned.Planned.TheVariants as planned
 use Rattle.editor.specs.Editors.{stacks_in}
-use Rattle.editor.specs.Machine.{Machine, active_of}
-use Rattle.editor.specs.Steps.{Edits, OnDocuments, OnFiles, Rule, rule_of}
 use Rattle.editor.specs.declared.editor.Editor.{Editor}
-use Rattle.editor.specs.declared.planned.Planned.{Planned}
-use Rattle.editor.specs.declared.planned.Planned.TheVariants as planned
 
 -- the list of the document with this name
 pub record Kinds : Type 0 where
@@ -45,52 +43,6 @@ macros_named name (k ∷ ks) = if bytes_eq name k.name then k.macros else macros
 abbrev pub macros_at : Option (List ℕ) → List Kinds → List Bool
 macros_at None ks = []
 macros_at (Some name) ks = macros_named name ks
-
--- ---- the list of one document, with these open levels
--- begin: with no level open the steps past the position go, and an open macro is added
-abbrev pub macros_begun : List Open → ℕ → List Bool → List Bool
-macros_begun [] position ks = take position ks ++ true ∷ []
-macros_begun (l ∷ ls) position ks = ks
-
--- end: the outermost macro ends, and is a step like the others, within the limit
-abbrev pub macros_ended : List Open → ℕ → List Bool → List Bool
-macros_ended [] limit ks = ks
-macros_ended (l ∷ []) limit ks = within_limit limit ks
-macros_ended (l ∷ m ∷ ls) limit ks = ks
-
--- what an edit, merged or not, and gone or not, makes of a list that was cut
-abbrev pub macros_next : Bool → Bool → ℕ → List Bool → List Bool
-macros_next true true limit ks = without_last ks
-macros_next true false limit ks = ks
-macros_next false true limit ks = ks
-macros_next false false limit ks = within_limit limit (ks ++ false ∷ [])
-
--- with no level open the steps past the position go first; an open macro takes the edit in
-abbrev pub macros_edited : List Open → Bool → Bool → ℕ → ℕ → List Bool → List Bool
-macros_edited [] merged gone limit position ks = macros_next merged gone limit (take position ks)
-macros_edited (l ∷ ls) merged gone limit position ks = ks
-
--- pushing the edit s onto h gives n, and its list, ks, becomes ns
-pub record PushesKind (h : History) (s : Step) (n : History) (ks ns : List Bool) : Type 0 where
-  pub pushed : IsPushed h s n
-  pub edited : ns ≡ macros_edited h.levels pushed.merged pushed.gone h.limit h.position ks
-
--- an edit with this answer
-abbrev pub EditsKinds : Result Step Refusal → History → History → List Bool → List Bool → Type 0
-EditsKinds (Ok s) h n ks ns = PushesKind h s n ks ns
-EditsKinds (Err refusal) h n ks ns = ns ≡ ks
-
--- any other line about the active document
-abbrev pub macros_after : Line → History → List Bool → List Bool
-macros_after (lines.Begin text action) h ks = macros_begun h.levels h.position ks
-macros_after lines.End h ks = macros_ended h.levels h.limit ks
-macros_after lines.Clear h ks = []
-macros_after line h ks = ks
-
--- a line of this rule, where the history h becomes n
-abbrev pub RuleKinds : Line → Rule → History → History → List Bool → List Bool → Type 0
-RuleKinds line (Edits names edit) h n ks ns = EditsKinds (answer_of names (edit (current h))) h n ks ns
-RuleKinds line rule h n ks ns = ns ≡ macros_after line h ks
 
 -- ---- the lists of all documents
 -- that of this name has changed so, and all others are as they were
@@ -164,13 +116,3 @@ abbrev pub PlanKinds : Line → Machine → Planned → Machine → List Kinds �
 PlanKinds line m planned.Quiet n old new = new ≡ old
 PlanKinds line m (planned.Reply reply) n old new = StepKinds line m (Some reply) n old new
 PlanKinds line m (planned.Push edit) n old new = new ≡ old
-
--- a plan over one document: of a line that is done, and of any line by its rule
-abbrev pub DoneKinds : Line → History → Planned → List Bool → List Bool → Type 0
-DoneKinds line h (planned.Reply (Refused refusal)) ks ns = ns ≡ ks
-DoneKinds line h (planned.Reply reply) ks ns = ns ≡ macros_after line h ks
-DoneKinds line h plan ks ns = ns ≡ ks
-
-abbrev pub DocumentKinds : Line → Rule → History → Planned → List Bool → List Bool → Type 0
-DocumentKinds line (Edits names edit) h plan ks ns = ns ≡ ks
-DocumentKinds line rule h plan ks ns = DoneKinds line h plan ks ns

@@ -1,8 +1,3 @@
-pub mod Machine
-pub mod Answers
-pub mod Acts
-pub mod Steps
-pub mod EditLines
 pub mod Editors
 pub mod Planning
 pub mod Turns

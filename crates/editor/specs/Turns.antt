@@ -2,27 +2,17 @@
 use Rattle.std.specs.Prelude.{◌≡◌, Some}
 use Rattle.command_api.specs.Law.{Change}
 use Rattle.undo_stack.specs.Stacks.{history, nestings, Holds, IsReported}
-use Rattle.undo_stack.specs.Turning.{Redoes, SetsIndex, Undoes}
 use Rattle.undo_stack.specs.declared.stack.Stack.{Stack}
 use Rattle.undo_group.specs.Stacks.{stack_at, IsReplacedAt}
 use Rattle.session.specs.declared.line.Line.{Line}
-use Rattle.session.specs.declared.line.Line.TheVariants.{Undo, Redo, Goto}
 use Rattle.session.specs.declared.reply.Reply.{Reply}
 use Rattle.session.specs.declared.reply.Reply.TheVariants.{Refused}
-use Rattle.editor.specs.Acts.{Calls}
+use Rattle.document_lines.specs.Machine.{Workspace, active_of, with_active}
+use Rattle.document_lines.specs.Turns.{turning_rule_of}
+use Rattle.document_lines.specs.declared.planned.Planned.{Planned}
 use Rattle.editor.specs.Editors.{machine_of, stacks_in}
-use Rattle.editor.specs.Machine.{Workspace, active_of, with_active}
 use Rattle.editor.specs.Planning.{PlansBy}
-use Rattle.editor.specs.Steps.{OnActive, Rule, rule_of}
 use Rattle.editor.specs.declared.editor.Editor.{Editor}
-use Rattle.editor.specs.declared.planned.Planned.{Planned}
-
--- the rule of a line, where it turns steps that may go
-abbrev pub turning_rule_of : Line → Rule
-turning_rule_of Undo = OnActive (Calls Undoes)
-turning_rule_of Redo = OnActive (Calls Redoes)
-turning_rule_of (Goto index) = OnActive (Calls (SetsIndex index))
-turning_rule_of line = rule_of line
 
 -- what a plan says of such a line
 abbrev pub PlansTurns : Line → Workspace → Planned → Workspace → Type 0

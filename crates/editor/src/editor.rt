@@ -6,20 +6,18 @@ ghost use Rattle.undo_stack.specs.History.{History};
 ghost use Rattle.undo_stack.specs.Moving.{Answer, GoesTo, StepsBack, StepsOn};
 ghost use Rattle.undo_stack.specs.Turning.{IsSteady, Redoes, SetsIndex, Undoes};
 ghost use Rattle.undo_group.specs.Stacks.{group_of, stacks_of, AreHeld};
+ghost use Rattle.document_lines.specs.Machine.{active_of, started_machine, workspace};
 ghost use Rattle.editor.specs.Asking.{PlanAsks};
 ghost use Rattle.editor.specs.Editors.{machine_of, stacks_in, IsHeld, IsSound};
 ghost use Rattle.editor.specs.Kinds.{CommitKinds, PlanKinds, kinds_in};
-ghost use Rattle.editor.specs.Machine.{active_of, started_machine, workspace};
 ghost use Rattle.editor.specs.Planning.{Commits, FitsActive, FitsPlan, KeepsPlan, Plans};
 ghost use Rattle.editor.specs.Turns.{PlansTurns, ReportsPush};
 
 mod documents;
 mod files;
 
-use crate::planned::Planned;
-use crate::planning::{on_document, refused};
-use crate::steps::state_of;
 use command_api::Command;
+use document_lines::{Planned, on_document, refused, state_of};
 use map_store::MapStore;
 use refusals::Refusal;
 use session::{Line, Reply};

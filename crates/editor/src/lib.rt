@@ -2,13 +2,8 @@
 //! document's stack.
 #![tactic(auto)]
 
-mod edit_command;
 mod editor;
-mod planned;
-mod planning;
 mod saving;
-mod steps;
-mod tile;
 
+pub use document_lines::{Edit, Planned};
 pub use editor::{Editor, turns_are_moves};
-pub use planned::{Edit, Planned};

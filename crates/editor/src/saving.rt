@@ -2,10 +2,10 @@ ghost use Rattle.std.specs.Prelude.{◌≡◌, ◌≤◌, length, Some};
 ghost use Rattle.undo_stack.specs.Stacks.{history, nestings, Holds};
 ghost use Rattle.session.specs.declared.limits.TheConstants.{MAX_FILE_NAME};
 ghost use Rattle.map_store.specs.Files.{SameOthers};
-ghost use Rattle.editor.specs.Acts.{OrNoMemoryForFile, OrStoreFails, OutsideMacros, Saves};
+ghost use Rattle.document_lines.specs.Acts.{OrNoMemoryForFile, OrStoreFails, OutsideMacros, Saves};
 ghost use Rattle.undo_stack.specs.Moving.{clean_answer};
+ghost use Rattle.document_lines.specs.Planning.{KeepsReply};
 ghost use Rattle.editor.specs.Asking.{AsksOutside};
-ghost use Rattle.editor.specs.Planning.{KeepsReply};
 
 use command_api::Command;
 use map_json::write_map;

@@ -10,7 +10,7 @@ use Rattle.session.specs.Replies.{reply_text}
 use Rattle.session.specs.Words.{is_name}
 use Rattle.session.specs.declared.limits.TheConstants.{MAX_FILE_NAME}
 use Rattle.undo_stack.specs.declared.limits.TheConstants.{MAX_LIMIT}
-use Rattle.editor.specs.Machine.{active_of, started_machine}
+use Rattle.document_lines.specs.Machine.{active_of, started_machine}
 use Rattle.roskevad_session.specs.Buffers.{filled, written}
 use Rattle.roskevad_session.specs.Hearing.{Hears}
 use Rattle.roskevad_session.specs.Parts.{SessionParts, StepsTo, action_text_of, active_map, is_macro_at, AreRunsOf}

@@ -19,7 +19,7 @@ ghost use Rattle.std.specs.Prelude.{◌≡◌, nat_le, None, Some, codes, length
 ghost use Rattle.std.specs.FinMap.{keys, len};
 ghost use Rattle.std.specs.Option.{option_map};
 ghost use Rattle.undo_stack.specs.declared.limits.TheConstants.{MAX_LIMIT};
-ghost use Rattle.editor.specs.Machine.{active_of};
+ghost use Rattle.document_lines.specs.Machine.{active_of};
 ghost use Rattle.roskevad_session.specs.Buffers.{filled};
 ghost use Rattle.roskevad_session.specs.Parts.{active_map, clean_index_of, has_step};
 ghost use Rattle.roskevad_c.specs.Asides.{TellsAside, TellsBack};

@@ -12,9 +12,9 @@ use Rattle.undo_stack.specs.History.{History, current}
 use Rattle.map_model.specs.declared.parts.MapParts.{MapParts}
 use Rattle.undo_stack.specs.Reading.{action_at, text_at}
 use Rattle.session.specs.declared.reply.Reply.{Reply}
+use Rattle.document_lines.specs.Steps.{StepIn}
+use Rattle.document_lines.specs.Machine.{Machine, Workspace, active_of, workspace}
 use Rattle.editor.specs.Kinds.{Kinds, StepKindsIn, macros_at}
-use Rattle.editor.specs.Steps.{StepIn}
-use Rattle.editor.specs.Machine.{Machine, Workspace, active_of, workspace}
 use Rattle.map_store.specs.Files.{Files}
 
 -- how files are coded

@@ -31,9 +31,9 @@ impl Model for Session {
 
     ghost coded = { Prim.hlevel (codes, document_code, files_code) };
 
+    ghost use Rattle.document_lines.specs.Planning.{edit_change};
     ghost use Rattle.editor.specs.Editors.{IsSound, machine_of};
     ghost use Rattle.editor.specs.Kinds.{kinds_in};
-    ghost use Rattle.editor.specs.Planning.{edit_change};
     ghost use Rattle.map_store.specs.Stored.{files_of};
 
     ghost view = { λ s. record { machine = machine_of edit_change s.editor; kinds = kinds_in s.editor; files = files_of s.store.files; reply = s.reply } };
@@ -46,7 +46,7 @@ impl Session {
     ghost use Rattle.std.specs.FinMap.{contains_key, empty, get, insert, keys, len, remove};
     ghost use Rattle.std.specs.Option.{option_copied};
     ghost use Rattle.undo_stack.specs.declared.limits.TheConstants.{MAX_LIMIT};
-    ghost use Rattle.editor.specs.Machine.{started_machine};
+    ghost use Rattle.document_lines.specs.Machine.{started_machine};
     ghost use Rattle.roskevad_session.specs.Parts.{StepsTo};
 
     /// A session with no documents and no files. The limit is the undo limit of each document when it is made, at most
@@ -126,9 +126,9 @@ impl Session {
     ghost use Rattle.std.specs.Option.{option_copied, option_map};
     ghost use Rattle.map_json.specs.Outlines.{outline_text};
     ghost use Rattle.undo_stack.specs.Stacks.{history, macros, Holds};
+    ghost use Rattle.document_lines.specs.Machine.{active_of};
+    ghost use Rattle.document_lines.specs.Planning.{edit_change};
     ghost use Rattle.editor.specs.Kinds.{macros_at};
-    ghost use Rattle.editor.specs.Machine.{active_of};
-    ghost use Rattle.editor.specs.Planning.{edit_change};
     ghost use Rattle.region.specs.declared.runs.Run.{Run as RunOf};
     ghost use Rattle.roskevad_session.specs.Buffers.{filled};
     ghost use Rattle.roskevad_session.specs.Parts.{action_text_of, active_map, clean_index_of, has_step, is_macro_at, AreRunsOf};

@@ -6,7 +6,7 @@ use Rattle.refusals.specs.declared.refusal.Refusal.{Refusal}
 use Rattle.undo_group.specs.Groups.{GroupParts}
 use Rattle.session.specs.declared.reply.Reply.TheVariants.{Refused}
 use Rattle.map_store.specs.Files.{StoreParts}
-use Rattle.editor.specs.Machine.{Machine, Workspace, workspace}
+use Rattle.document_lines.specs.Machine.{Machine, Workspace, workspace}
 use Rattle.session_run.specs.Runs.{RunsAll, RunsToUnread, RunsToWrite, reply_line}
 use Rattle.session_run.specs.StrictRuns.{RefusedLine, RunsClean, RunsStrictlyToUnread, RunsStrictlyToWrite, RunsToRefused, Tells, TellsRefused, TellsUnsaved}
 use Rattle.session_run.specs.StrictRuns.{Told, refused_text}

@@ -7,12 +7,13 @@ use Rattle.session.specs.declared.line.Line.{Line}
 use Rattle.refusals.specs.declared.refusal.Refusal.TheVariants.{NoMemory}
 use Rattle.session.specs.declared.reply.Reply.{Reply}
 use Rattle.session.specs.declared.reply.Reply.TheVariants.{Refused}
-use Rattle.editor.specs.declared.planned.Edit.{Edit}
-use Rattle.editor.specs.declared.planned.Planned.TheVariants as planned
+use Rattle.document_lines.specs.declared.planned.Edit.{Edit}
+use Rattle.document_lines.specs.declared.planned.Planned.TheVariants as planned
+use Rattle.document_lines.specs.Machine.{Machine, Workspace, active_of, workspace}
+use Rattle.document_lines.specs.Steps.{Edits, OnActive, OnDocuments, OnFiles, Rule, Step, rule_of}
+use Rattle.document_lines.specs.Planning.{IsOfActive, edit_change}
 use Rattle.editor.specs.Kinds.{CommitKinds, Kinds, StepKinds}
-use Rattle.editor.specs.Machine.{Machine, Workspace, active_of, workspace}
-use Rattle.editor.specs.Steps.{Edits, OnActive, OnDocuments, OnFiles, Rule, Step, rule_of}
-use Rattle.editor.specs.Planning.{Commits, IsEditOf, IsOfActive, Plans, edit_change}
+use Rattle.editor.specs.Planning.{Commits, IsEditOf, Plans}
 use Rattle.editor.proofs.Asking.{unasked}
 use Rattle.editor.proofs.Committing.{commit_step, uncommitted}
 use Rattle.editor.proofs.KindLists.{commit_line}

@@ -19,8 +19,8 @@ use Rattle.session.specs.declared.reply.Reply.{Reply}
 use Rattle.session.specs.declared.reply.Reply.TheVariants.{Refused}
 use Rattle.session.specs.Grammar.{line_of}
 use Rattle.session.specs.Replies.{refusal_of}
-use Rattle.editor.specs.Machine.{Workspace}
-use Rattle.editor.specs.Steps.{StepIn}
+use Rattle.document_lines.specs.Machine.{Workspace}
+use Rattle.document_lines.specs.Steps.{StepIn}
 use Rattle.session_run.specs.Runs.{Run, TakesBeginning, IsAccepted, output, reply_line}
 use Rattle.session_run.specs.StrictRuns.{refused_text}
 use Rattle.session_run.specs.WithinRuns.{Going, Goes, StepFound, StopsInWrite, StopsRefused, StopsUnread, StopsUnwritten}

@@ -5,8 +5,8 @@ use Rattle.session.specs.declared.line.Line.{Line}
 use Rattle.refusals.specs.declared.line_fault.LineFault.{LineFault}
 use Rattle.session.specs.declared.reply.Reply.{Reply}
 use Rattle.session.specs.Grammar.{line_of}
+use Rattle.document_lines.specs.Machine.{Machine}
 use Rattle.editor.specs.Asking.{Asks}
-use Rattle.editor.specs.Machine.{Machine}
 
 -- a line that is replied to asks as its reply says, and a quiet one asks for nothing
 abbrev pub LineAsks : Line → Machine → Option Reply → List Asked → List Asked → Type 0

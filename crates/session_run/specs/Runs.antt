@@ -5,9 +5,9 @@ use Rattle.std.specs.Io.KnownBytes.{Appends}
 use Rattle.lines.specs.Lines.{lines_of, HasNoNewline}
 use Rattle.session.specs.declared.reply.Reply.{Reply}
 use Rattle.session.specs.Replies.{refusal_of, reply_text}
-use Rattle.editor.specs.Machine.{Machine, Workspace, workspace}
+use Rattle.document_lines.specs.Machine.{Machine, Workspace, workspace}
 use Rattle.map_store.specs.Files.{StoreParts}
-use Rattle.editor.specs.Steps.{StepIn}
+use Rattle.document_lines.specs.Steps.{StepIn}
 
 -- what may be replied to lines, one after another, and where they lead
 abbrev pub Run : Workspace → List (List ℕ) → List Reply → Workspace → Type 0

@@ -12,8 +12,8 @@ use Rattle.session.specs.declared.reply.Reply.TheVariants.{Refused}
 use Rattle.undo_stack.specs.History.{History, is_clean}
 use Rattle.undo_group.specs.Groups.{OpenDocument}
 use Rattle.map_store.specs.Files.{StoreParts}
-use Rattle.editor.specs.Machine.{Machine, Workspace, workspace}
-use Rattle.editor.specs.Steps.{StepIn}
+use Rattle.document_lines.specs.Machine.{Machine, Workspace, workspace}
+use Rattle.document_lines.specs.Steps.{StepIn}
 use Rattle.session_run.specs.Runs.{IsAccepted, Progress, RunsAll, RunsToUnread, RunsToWrite, reply_line}
 use Rattle.session_run.specs.declared.strict.Unsaved.{Unsaved}
 use Rattle.session_run.specs.declared.strict.Unsaved.TheVariants.{Changes, OpenMacro}

@@ -9,10 +9,10 @@ use Rattle.refusals.specs.declared.refusal.Refusal.{Refusal}
 use Rattle.session.specs.declared.reply.Reply.{Reply}
 use Rattle.undo_group.specs.Groups.{OpenDocument}
 use Rattle.map_store.specs.Files.{StoreParts}
-use Rattle.editor.specs.declared.planned.Edit.{Edit}
-use Rattle.editor.specs.Machine.{Workspace}
-use Rattle.editor.specs.Planning.{edit_change}
-use Rattle.editor.specs.Steps.{StepIn}
+use Rattle.document_lines.specs.declared.planned.Edit.{Edit}
+use Rattle.document_lines.specs.Machine.{Workspace}
+use Rattle.document_lines.specs.Planning.{edit_change}
+use Rattle.document_lines.specs.Steps.{StepIn}
 use Rattle.session_run.specs.Runs.{Progress, RunsAll, RunsToUnread, RunsToWrite}
 use Rattle.session_run.specs.StrictRuns.{AreAccepted, AreClean, RunsToRefused, Tells, TellsDocuments, TellsOneLine, TellsRefused, TellsUnsaved, Told}
 use Rattle.session_run.specs.StrictRuns.{refused_text, unsaved_told}

@@ -1,10 +1,10 @@
 ghost use Rattle.std.specs.Prelude.{◌≡◌, ◌≤◌, [], Option, IsErrOf, IsTrue, IfOk, IfSome, OnErr, OnOk, ◌⊎◌};
 ghost use Rattle.undo_stack.specs.declared.limits.TheConstants.{MAX_LIMIT};
-ghost use Rattle.editor.specs.declared.planned.Edit.{Edit};
+ghost use Rattle.document_lines.specs.declared.planned.Edit.{Edit};
+ghost use Rattle.document_lines.specs.Machine.{started_machine, workspace};
+ghost use Rattle.document_lines.specs.Steps.{Step, StepIn};
 ghost use Rattle.editor.specs.Editors.{IsSound, machine_of};
 ghost use Rattle.editor.specs.Kinds.{StepKinds, StepKindsIn, kinds_in};
-ghost use Rattle.editor.specs.Machine.{started_machine, workspace};
-ghost use Rattle.editor.specs.Steps.{Step, StepIn};
 ghost use Rattle.session.specs.Spelling.{CanBeSpelled};
 ghost use Rattle.session_run.specs.Asking.{AsksIn, LineAsks};
 ghost use Rattle.session_run.specs.Runs.{RunsAll, RunsToUnread, RunsToWrite};

@@ -6,7 +6,7 @@ ghost use Rattle.undo_stack.specs.History.{is_clean};
 ghost use Rattle.undo_stack.specs.Stacks.{history, Holds};
 ghost use Rattle.undo_stack.specs.declared.limits.TheConstants.{MAX_LIMIT};
 ghost use Rattle.undo_group.specs.Stacks.{group_of, AreHeld};
-ghost use Rattle.editor.specs.Machine.{started_machine, workspace};
+ghost use Rattle.document_lines.specs.Machine.{started_machine, workspace};
 ghost use Rattle.session_run.specs.StrictRuns.{AreClean, RunsClean, RunsStrictlyToUnread, RunsStrictlyToWrite, RunsToRefused, Tells, TellsRefused, TellsUnsaved, Told, RefusedLine, UnsavedDocument, refused_text, unsaved_of, unsaved_told, utf8_text_of};
 ghost use Rattle.session_run.specs.StrictEnds.{TellsFault};
 ghost use Rattle.session_run.specs.WithinRuns.{EndsOver};

@@ -3,12 +3,12 @@ ghost use Rattle.std.specs.Prelude.{◌≡◌, ◌≤◌, length, Some};
 ghost use Rattle.session.specs.declared.limits.TheConstants.{MAX_FILE_NAME};
 ghost use Rattle.editor.specs.Editors.{machine_of, IsHeld, IsSound};
 ghost use Rattle.map_store.specs.Files.{SameOthers};
-ghost use Rattle.editor.specs.Acts.{FilesStay, Loads, NewName, OfActive, OrNoMemoryForFile, OrStoreFails, OutsideMacros, Saves};
+ghost use Rattle.document_lines.specs.Acts.{FilesStay, Loads, NewName, OfActive, OrNoMemoryForFile, OrStoreFails, OutsideMacros, Saves};
 ghost use Rattle.undo_group.specs.Groups.{history_named};
+ghost use Rattle.document_lines.specs.Machine.{active_of};
+ghost use Rattle.document_lines.specs.Planning.{KeepsReply};
 ghost use Rattle.editor.specs.Asking.{AsksToSave, asked_to_open};
 ghost use Rattle.editor.specs.Kinds.{AddsKinds, UnlessRefused, kinds_in};
-ghost use Rattle.editor.specs.Machine.{active_of};
-ghost use Rattle.editor.specs.Planning.{KeepsReply};
 
 use crate::editor::Editor;
 use crate::saving::save_document;

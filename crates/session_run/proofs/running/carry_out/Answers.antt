@@ -2,9 +2,9 @@ use Rattle.std.proofs.Common.{Some}
 use Rattle.editor.specs.Editors.{machine_of}
 use Rattle.refusals.specs.declared.refusal.Refusal.TheVariants.{NoMemory}
 use Rattle.session.specs.declared.reply.Reply.TheVariants.{Refused}
-use Rattle.editor.specs.Machine.{workspace}
-use Rattle.editor.specs.Planning.{edit_change}
-use Rattle.editor.proofs.Bound.{same-bound}
+use Rattle.document_lines.specs.Machine.{workspace}
+use Rattle.document_lines.specs.Planning.{edit_change}
+use Rattle.document_lines.proofs.Bound.{same-bound}
 use Rattle.session_run.proofs.Planned.{push_kinds, push_step, unasked_edit, unput_step}
 use Rattle.session_run.proofs.running.carry_out.Goals as goal
 

@@ -1,8 +1,8 @@
 use Rattle.std.proofs.Common.{◌+◌, ◌^◌, ◌≤◌, IsTrue}
 use Rattle.std.specs.Io.KnownBytes.{IsAtEnd}
 use Rattle.lines.specs.Reading.{budget, input_left}
+use Rattle.document_lines.specs.Machine.{workspace}
 use Rattle.editor.specs.Editors.{IsSound, machine_of}
-use Rattle.editor.specs.Machine.{workspace}
 use Rattle.session_run.specs.WithinRuns.{Goes}
 use Rattle.session_run.proofs.running.step_all.Given as goal
 

@@ -1,16 +1,15 @@
-use Rattle.std.proofs.Common.{refl, rules, sym, subst}
+use Rattle.std.proofs.Common.{refl, sym, subst}
 use Rattle.undo_stack.specs.Stacks.{history}
+use Rattle.document_lines.specs.Machine.{Machine, workspace}
+use Rattle.document_lines.specs.Steps.{rule_of}
+use Rattle.document_lines.specs.Turns.{turning_rule_of}
+use Rattle.document_lines.proofs.Moving.{steady-PlansOn}
+use Rattle.document_lines.proofs.SteadyPlans.{plans-steady}
 use Rattle.editor.specs.Editors.{machine_of}
-use Rattle.editor.specs.Machine.{Machine, workspace}
-use Rattle.editor.specs.Planning.{FitsPlan, IsOfActive, KeepsPlan, PlansBy}
-use Rattle.editor.specs.Steps.{rule_of}
-use Rattle.editor.specs.Turns.{turning_rule_of}
-use Rattle.editor.proofs.Asking.{unasked}
+use Rattle.editor.specs.Planning.{FitsPlan, KeepsPlan, PlansBy}
 use Rattle.editor.proofs.KindLists.{plan_kinds}
 use Rattle.editor.proofs.Lent.{active-IsSteady, left-IsHeld, left-IsSound, left-machine, position-within}
 use Rattle.editor.proofs.Lifting.{on-FitsPlan, on-KeepsPlan, on-PlansBy}
-use Rattle.editor.proofs.Moving.{steady-PlansOn}
-use Rattle.editor.proofs.SteadyPlans.{plans-steady}
 use Rattle.editor.proofs.editor.Editor.plan.Goals as goal
 
 pub returns-in-Some-clause-held : goal.returns-in-Some-clause-held

@@ -1,13 +1,13 @@
 use Rattle.std.proofs.Common.{Some, ap, refl, sym, subst}
 use Rattle.undo_stack.specs.Nestings.{macros_of}
 use Rattle.undo_stack.specs.Stacks.{history}
+use Rattle.document_lines.specs.Machine.{Machine}
+use Rattle.document_lines.specs.Planning.{KeepsReply}
+use Rattle.document_lines.proofs.SteadyPlans.{saves-steady}
 use Rattle.editor.specs.Editors.{machine_of}
-use Rattle.editor.specs.Machine.{Machine}
-use Rattle.editor.specs.Planning.{KeepsReply}
 use Rattle.editor.proofs.KindLists.{kept_kinds}
 use Rattle.editor.proofs.Lent.{active-IsSteady, left-IsHeld, left-IsSound, left-machine}
 use Rattle.editor.proofs.Lifting.{on-KeepsReply, saves}
-use Rattle.editor.proofs.SteadyPlans.{saves-steady}
 use Rattle.editor.proofs.editor.Editor.save.Goals as goal
 
 pub returns-in-Some-clause-held : goal.returns-in-Some-clause-held

@@ -4,10 +4,10 @@ use Rattle.std.specs.Prelude.{MatchOption}
 use Rattle.undo_stack.specs.Stacks.{macros}
 use Rattle.undo_group.specs.Groups.{GroupParts}
 use Rattle.undo_group.specs.Stacks.{NamedStack, stack_at, stacks_of}
-use Rattle.editor.specs.declared.planned.Edit.{Edit}
+use Rattle.document_lines.specs.declared.planned.Edit.{Edit}
+use Rattle.document_lines.specs.Planning.{edit_change}
 use Rattle.editor.specs.Editors.{machine_of, stacks_in}
 use Rattle.editor.specs.Kinds.{macros_at}
-use Rattle.editor.specs.Planning.{edit_change}
 use Rattle.editor.proofs.KindLists.{active-macros}
 use Rattle.roskevad_session.specs.Parts.{SessionParts}
 use Rattle.roskevad_session.proofs.memory_session.Session.active.Goals as goal

@@ -1,6 +1,6 @@
 use Rattle.std.proofs.Common.{◌∙◌, List, Bool, ap, sym}
 use Rattle.std.specs.Prelude.{slice_get}
-use Rattle.editor.specs.Planning.{edit_change}
+use Rattle.document_lines.specs.Planning.{edit_change}
 use Rattle.roskevad_session.proofs.Counting.{as_many}
 use Rattle.roskevad_session.proofs.memory_session.Session.is_macro.Goals as goal
 

@@ -1,0 +1,5 @@
+pub mod Edits
+pub mod SteadyPlans
+pub mod Bound
+pub mod Moving
+pub mod Macros

@@ -1,0 +1,28 @@
+use Rattle.document_lines.proofs.edit_command.EditCommand.merge.Goals as goal
+
+pub returns-in-AddLayer-clause-unchanged : goal.returns-in-AddLayer-clause-unchanged
+returns-in-AddLayer-clause-unchanged c = rw c.in-AddLayer.is c.merge-in-AddLayer.ensures.unchanged
+
+pub returns-in-RemoveLayer-clause-unchanged : goal.returns-in-RemoveLayer-clause-unchanged
+returns-in-RemoveLayer-clause-unchanged c = rw c.in-RemoveLayer.is c.merge-in-RemoveLayer.ensures.unchanged
+
+pub returns-in-MoveLayer-clause-unchanged : goal.returns-in-MoveLayer-clause-unchanged
+returns-in-MoveLayer-clause-unchanged c = rw c.in-MoveLayer.is c.merge-in-MoveLayer.ensures.unchanged
+
+pub returns-in-AddObject-clause-unchanged : goal.returns-in-AddObject-clause-unchanged
+returns-in-AddObject-clause-unchanged c = rw c.in-AddObject.is c.merge-in-AddObject.ensures.unchanged
+
+pub returns-in-RemoveObject-clause-unchanged : goal.returns-in-RemoveObject-clause-unchanged
+returns-in-RemoveObject-clause-unchanged c = rw c.in-RemoveObject.is c.merge-in-RemoveObject.ensures.unchanged
+
+pub returns-in-PlaceObject-clause-unchanged : goal.returns-in-PlaceObject-clause-unchanged
+returns-in-PlaceObject-clause-unchanged c = rw c.in-PlaceObject.is c.merge-in-PlaceObject.ensures.unchanged
+
+pub returns-in-RemoveProperty-clause-unchanged : goal.returns-in-RemoveProperty-clause-unchanged
+returns-in-RemoveProperty-clause-unchanged c = rw c.in-RemoveProperty.is c.merge-in-RemoveProperty.ensures.unchanged
+
+pub returns-in-AddTileset-clause-unchanged : goal.returns-in-AddTileset-clause-unchanged
+returns-in-AddTileset-clause-unchanged c = rw c.in-AddTileset.is c.merge-in-AddTileset.ensures.unchanged
+
+pub returns-in-RemoveTileset-clause-unchanged : goal.returns-in-RemoveTileset-clause-unchanged
+returns-in-RemoveTileset-clause-unchanged c = rw c.in-RemoveTileset.is c.merge-in-RemoveTileset.ensures.unchanged

@@ -1,0 +1,96 @@
+-- What planning a line says of one document.
+use Rattle.std.specs.Prelude.{◌≡◌, Some, Result, Ok, Err, ◌⊎◌, ⊤}
+use Rattle.map_model.specs.Document.{DocumentParts}
+use Rattle.refusals.specs.declared.edit_fault.EditFault.{EditFault}
+use Rattle.command_api.specs.Law.{Change}
+use Rattle.command_api.specs.Offers.{Shown, Nothing}
+use Rattle.layer_commands.specs.Changes.{add_change, remove_change, rename_change, show_change, move_change, resize_change}
+use Rattle.object_commands.specs.Changes.{add_object_change, remove_object_change, place_object_change, place_object_shown}
+use Rattle.property_commands.specs.PropertyChanges.{set_property_change, set_property_shown, remove_property_change}
+use Rattle.property_commands.specs.TilesetChanges.{add_tileset_change, remove_tileset_change}
+use Rattle.paint_commands.specs.Painting.{paint_change, paint_shown}
+use Rattle.paint_commands.specs.Selection.{select_change}
+use Rattle.undo_stack.specs.History.{History, current}
+use Rattle.undo_stack.specs.History as histories
+use Rattle.undo_stack.specs.Pushing.{step_of}
+use Rattle.refusals.specs.declared.refusal.Refusal.{Refusal}
+use Rattle.refusals.specs.declared.refusal.Refusal.TheVariants as refusals
+use Rattle.refusals.specs.Layers.{refusal_of_edit}
+use Rattle.session.specs.declared.reply.Reply.{Reply}
+use Rattle.session.specs.declared.reply.Reply.TheVariants as replies
+use Rattle.document_lines.specs.declared.planned.Edit.{Edit}
+use Rattle.document_lines.specs.declared.planned.Edit.TheVariants.{Paint, AddLayer, RemoveLayer, RenameLayer, ShowLayer, MoveLayer, Select, ResizeMap}
+use Rattle.document_lines.specs.declared.planned.Edit.TheVariants.{AddObject, RemoveObject, PlaceObject, SetProperty, RemoveProperty, AddTileset, RemoveTileset}
+use Rattle.document_lines.specs.declared.planned.Planned.{Planned}
+use Rattle.document_lines.specs.declared.planned.Planned.TheVariants as planned
+use Rattle.document_lines.specs.Acts.{Act, answer_of}
+use Rattle.document_lines.specs.Steps.{Rule, OnFiles, OnDocuments, OnActive, Edits}
+
+-- what a planned edit does
+abbrev pub edit_change : Edit → Change
+edit_change (Paint command) = paint_change command
+edit_change (AddLayer command) = add_change command
+edit_change (RemoveLayer command) = remove_change command
+edit_change (RenameLayer command) = rename_change command
+edit_change (ShowLayer command) = show_change command
+edit_change (MoveLayer command) = move_change command
+edit_change (Select command) = select_change command
+edit_change (ResizeMap command) = resize_change command
+edit_change (AddObject command) = add_object_change command
+edit_change (RemoveObject command) = remove_object_change command
+edit_change (PlaceObject command) = place_object_change command
+edit_change (SetProperty command) = set_property_change command
+edit_change (RemoveProperty command) = remove_property_change command
+edit_change (AddTileset command) = add_tileset_change command
+edit_change (RemoveTileset command) = remove_tileset_change command
+
+-- what a planned edit shows to the step before it
+abbrev pub edit_shown : Edit → Shown
+edit_shown (Paint command) = paint_shown command
+edit_shown (PlaceObject command) = place_object_shown command
+edit_shown (SetProperty command) = set_property_shown command
+edit_shown edit = Nothing
+
+-- a refusal has left all as it was
+abbrev pub KeepsReply : {S : Type 0} → Reply → S → S → Type 0
+KeepsReply (replies.Refused refusal) old new = new ≡ old
+KeepsReply reply old new = ⊤
+
+-- the plan of a line that is refused
+abbrev pub refused : Refusal → Planned
+refused refusal = planned.Reply (replies.Refused refusal)
+
+-- the plan of an edit, or of its refusal
+abbrev pub plan_of : Result Edit EditFault → Planned
+plan_of (Ok edit) = planned.Push edit
+plan_of (Err fault) = refused (refusal_of_edit fault)
+
+-- the plan of an edit: its command, whose step is the answer, or its refusal, or out of memory
+abbrev pub PlansEdit : Result histories.Step Refusal → DocumentParts → Planned → Type 0
+PlansEdit answer d planned.Quiet = ⊥
+PlansEdit answer d (planned.Reply reply) =
+    (reply ≡ replies.Refused refusals.NoMemory) ⊎ ((refusal : Refusal) × (answer ≡ Err refusal) × (reply ≡ replies.Refused refusal))
+PlansEdit answer d (planned.Push edit) = (answer ≡ Ok (step_of (edit_change edit) d)) × (edit_change edit).fits_redo d
+
+-- a line about the active document
+abbrev pub IsOfActive : Rule → Type 0
+IsOfActive (OnFiles act) = ⊥
+IsOfActive (OnDocuments act) = ⊥
+IsOfActive (OnActive act) = ⊤
+IsOfActive (Edits names edit) = ⊤
+
+-- one about the active document that is no edit
+abbrev pub IsOfHistory : Rule → Type 0
+IsOfHistory (OnActive act) = ⊤
+IsOfHistory rule = ⊥
+
+-- the plan of a line that is done: its reply
+abbrev pub IsDone : Act History → History → Planned → History → Type 0
+IsDone act h (planned.Reply reply) n = act h (Some reply) n × KeepsReply reply h n
+IsDone act h plan n = ⊥
+
+-- what a plan says of the active document: its line is done, or it is an edit, with nothing changed yet
+abbrev pub PlansOn : Rule → History → Planned → History → Type 0
+PlansOn (OnActive act) h plan n = IsDone act h plan n
+PlansOn (Edits names edit) h plan n = PlansEdit (answer_of names (edit (current h))) (current h) plan × (n ≡ h)
+PlansOn rule h plan n = ⊥

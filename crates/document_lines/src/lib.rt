@@ -1,0 +1,12 @@
+//! What a line does to one document: plans its edit, or does what it asks of the history.
+#![tactic(auto)]
+
+mod edit_command;
+mod planned;
+mod planning;
+mod steps;
+mod tile;
+
+pub use planned::{Edit, Planned};
+pub use planning::{on_document, refused};
+pub use steps::{state_of, text_reply};
