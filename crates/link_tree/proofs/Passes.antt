@@ -1,10 +1,10 @@
 -- Items that pass a test before an item, at it and behind it.
 use Rattle.std.proofs.Common.{◌≡◌, inl, inr, ℕ, zero, suc, ◌+◌, ◌-◌, ◌<◌, ◌≤◌, Bool, true, false, MatchBool, List, [], ◌∷◌, ◌++◌, length, take}
-use Rattle.std.proofs.Common.{Some, slice_get, length-append, refl, sym, ap, ◌∙◌, subst, arith}
+use Rattle.std.proofs.Common.{Option, None, Some, slice_get, refl, sym, ap, ◌∙◌, subst, arith}
 use Rattle.std.specs.Borrow.{Bor}
 use Rattle.std.specs.Fn.{Shared}
-use Rattle.link_tree.specs.Passing.{Answers, SomePasses, NonePasses, IsFirst, Precede}
-use Rattle.link_tree.proofs.Edits.{get-before, get-at, get-past}
+use Rattle.link_tree.specs.Passing.{Answers, SomePasses, NonePasses, IsFirst, FindsFirst}
+use Rattle.link_tree.proofs.Edits.{get-before, get-at, get-past, get-bound}
 
 module _ {X : Type 0} where
   take-left : (xs ys : List X) (k : ℕ) → k ≤ length xs → take k (xs ++ ys) ≡ take k xs
@@ -53,75 +53,63 @@ module _ {F T : Type 0} (g : Shared F (Bor T × Unit {0}) Bool) (f : F) where
   some-behind false false true xs ys x before none at fails some = cc
   some-behind false false false xs ys x before none at fails some = none-around xs ys x before at some
 
-  -- how many stand before the first one, and so many others
-  pub none-of : (xs : List T) (p at : ℕ) → Precede g f xs p at → p + length xs ≤ at → NonePasses g f xs
-  none-of xs p at precede h =
-      let high = precede.high in
-      let e : at - p ≡ length xs = omega (arith, high, h) in rw (e, take-all xs) at precede.before
+  none-at : (b : Bool) (xs ys : List T) (x : T) → NonePasses g f xs → Answers g f b x → b ≡ false → NonePasses g f ys → NonePasses g f (xs ++ x ∷ ys)
+  none-at b xs ys x before at fails behind = none-around xs ys x before (subst (λ c. Answers g f c x) fails at) behind
 
-  pub none-in_none : (xs : List T) → length xs ≡ 0 → NonePasses g f xs
-  none-in_none [] h = tt
-  none-in_none (x ∷ xs) h = absurd (omega (arith, h))
+  -- what is found before the item, where it is found there
+  pub first-before : (o : Option ℕ) (xs ys : List T) (p at : ℕ) → FindsFirst g f xs p o → o ≡ Some at → FindsFirst g f (xs ++ ys) p (Some at)
+  first-before None xs ys p at found is = cc
+  first-before (Some k) xs ys p at found is =
+      let same : k ≡ at = cc in
+      let low : p ≤ at = rw same at found.0 in
+      let first : IsFirst g f xs (at - p) = rw same at found.1 in
+      let inside : at - p < length xs = get-bound xs (at - p) first.item first.found in (
+        low,
+        record {
+          item = first.item;
+          found = get-before xs ys (at - p) inside ∙ first.found;
+          passes = first.passes;
+          before = rw (take-left xs ys (at - p) (omega (arith, inside))) first.before;
+        },
+      )
 
-  pub precede-left : (xs ys : List T) (p at : ℕ) → Precede g f xs p at → at < p + length xs → Precede g f (xs ++ ys) p at
-  precede-left xs ys p at precede h =
-      let low = precede.low in
-      let inside : at - p < length xs = omega (arith, low, h) in
-      let longer : length (xs ++ ys) ≡ length xs + length ys = simp length-append refl in
-      record {
-        low = low;
-        high = omega (arith, h, longer);
-        before = rw (take-left xs ys (at - p) (omega (arith, inside))) precede.before;
-        passes = λ z e. precede.passes z (sym (get-before xs ys (at - p) inside) ∙ e);
-      }
+  -- the item itself
+  pub first-at : (b : Bool) (xs ys : List T) (x : T) (p at : ℕ) → at ≡ p + length xs → NonePasses g f xs → Answers g f b x → b ≡ true
+      → FindsFirst g f (xs ++ x ∷ ys) p (Some at)
+  first-at b xs ys x p at is none answers passes =
+      let e : at - p ≡ length xs = omega (arith, is) in (
+        omega (arith, is),
+        record {
+          item = x;
+          found = get-at xs ys x (at - p) (sym e);
+          passes = subst (λ c. Answers g f c x) passes answers;
+          before = rw (e, take-whole xs (x ∷ ys)) none;
+        },
+      )
 
-  pub precede-at : (b : Bool) (xs ys : List T) (x : T) (p at : ℕ) → at ≡ p + length xs → NonePasses g f xs → Answers g f b x → b ≡ true
-      → Precede g f (xs ++ x ∷ ys) p at
-  precede-at b xs ys x p at is none answers passes =
-      let e : at - p ≡ length xs = omega (arith, is) in
-      let longer : length (xs ++ x ∷ ys) ≡ length xs + (length ys + 1) = simp length-append (omega arith) in
-      record {
-        low = omega (arith, is);
-        high = omega (arith, is, longer);
-        before = rw (e, take-whole xs (x ∷ ys)) none;
-        passes = λ z found. subst (Answers g f true) (same z found) (subst (λ c. Answers g f c x) passes answers);
-      }
-    where
-      same : (z : T) → slice_get (xs ++ x ∷ ys) (at - p) ≡ Some z → x ≡ z
-      same z found =
-          let e : length xs ≡ at - p = omega (arith, is) in
-          let both : Some x ≡ Some z = sym (get-at xs ys x (at - p) e) ∙ found in cc
+  -- what is found behind it
+  pub first-behind : (o : Option ℕ) (b : Bool) (xs ys : List T) (x : T) (p q : ℕ) → q ≡ p + length xs + 1 → NonePasses g f xs → Answers g f b x → b ≡ false
+      → FindsFirst g f ys q o → FindsFirst g f (xs ++ x ∷ ys) p o
+  first-behind None b xs ys x p q is none answers fails found = none-at b xs ys x none answers fails found
+  first-behind (Some at) b xs ys x p q is none answers fails found =
+      let low = found.0 in
+      let first = found.1 in
+      let e : at - p ≡ length xs + 1 + (at - q) = omega (arith, low, is) in (
+        omega (arith, low, is),
+        record {
+          item = first.item;
+          found = ap (slice_get (xs ++ x ∷ ys)) e ∙ (get-past xs ys x (at - q) ∙ first.found);
+          passes = first.passes;
+          before = rw (e, take-past xs ys x (at - q)) (none-around xs _ x none (subst (λ c. Answers g f c x) fails answers) first.before);
+        },
+      )
 
-  pub precede-right : (b : Bool) (xs ys : List T) (x : T) (p q at : ℕ) → q ≡ p + length xs + 1 → NonePasses g f xs → Answers g f b x → b ≡ false
-      → Precede g f ys q at → Precede g f (xs ++ x ∷ ys) p at
-  precede-right b xs ys x p q at is none answers fails precede =
-      let low = precede.low in
-      let high = precede.high in
-      let e : at - p ≡ length xs + 1 + (at - q) = omega (arith, low, is) in
-      let longer : length (xs ++ x ∷ ys) ≡ length xs + (length ys + 1) = simp length-append (omega arith) in
-      record {
-        low = omega (arith, low, is);
-        high = omega (arith, high, is, longer);
-        before = rw (e, take-past xs ys x (at - q)) (none-around xs _ x none (subst (λ c. Answers g f c x) fails answers) precede.before);
-        passes = λ z found. precede.passes z (sym (get-past xs ys x (at - q)) ∙ (ap (slice_get (xs ++ x ∷ ys)) (sym e) ∙ found));
-      }
+  -- that nothing is found before the item
+  pub none-of : (o : Option ℕ) (xs : List T) (p : ℕ) → FindsFirst g f xs p o → o ≡ None → NonePasses g f xs
+  none-of None xs p found is = found
+  none-of (Some at) xs p found is = cc
 
-  pub precede-none : (q : ℕ) → Precede g f [] q q
-  precede-none q =
-      let e : q - q ≡ 0 = omega arith in
-      record {
-        low = omega arith;
-        high = omega arith;
-        before = rw e tt;
-        passes = λ z found. cc;
-      }
-
-  pub first-of : (xs : List T) (at : ℕ) (x : T) → Precede g f xs 0 at → slice_get xs at ≡ Some x → IsFirst g f xs at
-  first-of xs at x precede found =
-      let e : at - 0 ≡ at = omega arith in
-      record {
-        item = x;
-        found = found;
-        passes = precede.passes x (ap (slice_get xs) e ∙ found);
-        before = rw e at precede.before;
-      }
+  pub first-of : (o : Option ℕ) (xs : List T) (at : ℕ) → FindsFirst g f xs 0 o → o ≡ Some at → IsFirst g f xs at
+  first-of None xs at found is = cc
+  first-of (Some k) xs at found is =
+      let same : k - 0 ≡ at = (let e : k ≡ at = cc in omega (arith, e)) in rw same at found.1

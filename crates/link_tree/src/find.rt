@@ -1,11 +1,12 @@
 // Items that pass a test.
 //
 // The links on the way call themselves. The last step of each such call is the one for the links behind its own, and a link
-// with no others needs none: so there is a call for about one link in four.
+// with no others needs none: so for `any` there is a call for about one link in four. For `first` there is none for up to
+// three links either, so there is a call for about one link in eight.
 ghost use Rattle.std.specs.Prelude.{◌≡◌, ◌+◌, ◌<◌, ◌^◌, length, MatchBool};
 ghost use Rattle.std.specs.Fn.{FnReturnsAt};
-ghost use Rattle.link_tree.specs.Trees.{items, IsSized};
-ghost use Rattle.link_tree.specs.Passing.{link_items, IsSizedLink, NonePasses, Precede, SomePasses};
+ghost use Rattle.link_tree.specs.Trees.{items, link_items, IsSized, IsSizedLink};
+ghost use Rattle.link_tree.specs.Passing.{FindsFirst, NonePasses, SomePasses};
 
 use crate::tree::{Link, Tree};
 
@@ -39,25 +40,45 @@ impl<T> Tree<T> {
         }
     }
 
-    /// How many items stand before the first one that passes a test, or how many there are where none passes; and so many
-    /// others are counted with them.
+    /// The place of the first item that passes a test, behind so many others.
     #[inline(always)]
-    #[cycle(failing)]
-    pub(crate) fn failing<F: Fn(&T) -> bool>(&self, test: &F, passed: usize) -> usize
+    #[cycle(first)]
+    pub(crate) fn first<F: Fn(&T) -> bool>(&self, test: &F, passed: usize) -> Option<usize>
         requires sized { IsSized self.now }
         requires fits { passed + length (items self.now) < 2 ^ 64 }
         requires callable { F.IsAlwaysCallable test.now }
-        ensures { Precede F.Fn test.now (items self.now) passed result }
+        ensures { FindsFirst F.Fn test.now (items self.now) passed result }
     {
         match self {
-            Tree::Empty => passed,
+            Tree::Empty => None,
+            Tree::Filled(link) => {
+                if link.size > 3 {
+                    link.first(test, passed)
+                } else {
+                    link.first_of_few(test, passed)
+                }
+            }
+        }
+    }
+
+    // The same, where there is hardly more than one item.
+    #[inline(always)]
+    #[cycle(first)]
+    fn first_of_one<F: Fn(&T) -> bool>(&self, test: &F, passed: usize) -> Option<usize>
+        requires sized { IsSized self.now }
+        requires fits { passed + length (items self.now) < 2 ^ 64 }
+        requires callable { F.IsAlwaysCallable test.now }
+        ensures { FindsFirst F.Fn test.now (items self.now) passed result }
+    {
+        match self {
+            Tree::Empty => None,
             Tree::Filled(link) => {
                 if link.size > 1 {
-                    link.failing(test, passed)
+                    link.first(test, passed)
                 } else if passes(&link.item, test) {
-                    passed
+                    Some(passed)
                 } else {
-                    passed + 1
+                    None
                 }
             }
         }
@@ -83,24 +104,42 @@ impl<T> Link<T> {
         }
     }
 
-    #[cycle(failing)]
-    fn failing<F: Fn(&T) -> bool>(&self, test: &F, passed: usize) -> usize
+    #[cycle(first)]
+    fn first<F: Fn(&T) -> bool>(&self, test: &F, passed: usize) -> Option<usize>
         requires sized { IsSizedLink self.now }
         requires fits { passed + length (link_items self.now) < 2 ^ 64 }
         requires callable { F.IsAlwaysCallable test.now }
-        ensures { Precede F.Fn test.now (link_items self.now) passed result }
+        ensures { FindsFirst F.Fn test.now (link_items self.now) passed result }
     {
-        let here = passed + self.before;
-        let found = self.left.failing(test, passed);
-        if found < here {
-            return found;
+        if let Some(at) = self.left.first(test, passed) {
+            return Some(at);
         }
+        let here = passed + self.before;
         if passes(&self.item, test) {
-            return here;
+            return Some(here);
         }
         match &self.right {
-            Tree::Empty => here + 1,
-            Tree::Filled(right) => right.failing(test, here + 1),
+            Tree::Empty => None,
+            Tree::Filled(right) => right.first(test, here + 1),
         }
+    }
+
+    // The same, where there are hardly more than three items.
+    #[inline(always)]
+    #[cycle(first)]
+    fn first_of_few<F: Fn(&T) -> bool>(&self, test: &F, passed: usize) -> Option<usize>
+        requires sized { IsSizedLink self.now }
+        requires fits { passed + length (link_items self.now) < 2 ^ 64 }
+        requires callable { F.IsAlwaysCallable test.now }
+        ensures { FindsFirst F.Fn test.now (link_items self.now) passed result }
+    {
+        if let Some(at) = self.left.first_of_one(test, passed) {
+            return Some(at);
+        }
+        let here = passed + self.before;
+        if passes(&self.item, test) {
+            return Some(here);
+        }
+        self.right.first_of_one(test, here + 1)
     }
 }

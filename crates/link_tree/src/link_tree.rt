@@ -196,11 +196,9 @@ impl<T: Drop> LinkTree<T> {
         ensures first { MatchOption result (NonePasses F.Fn test self.now) (λ found. IsFirst F.Fn test self.now found.0) }
         ensures item { IfSome result (λ found. slice_get self.now found.0 ≡ Some found.1.now) }
     {
-        let at = self.tree.failing(&test, 0);
-        if at < self.len() {
-            Some((at, self.get(at)))
-        } else {
-            None
+        match self.tree.first(&test, 0) {
+            Some(at) => Some((at, self.get(at))),
+            None => None,
         }
     }
 
