@@ -74,7 +74,7 @@ abbrev pub resized_layer : MapParts → ℕ → ℕ → ℤ → ℤ → Layer �
 resized_layer m width height dx dy l =
     layer_with_objects (map (object_moved (pixels_right m dx) (pixels_down m dy))) (layer_with_tiles (resized_values m width height dx dy) l)
 
--- f of a layer, and of those that stand in it, in as many groups as there is room for
+-- f of a layer, and of those that stand in it, in as many groups as may stand in one another
 unfoldable pub each_under : ℕ → (Layer → Layer) → Layer → Layer
 each_under zero f l = f l
 each_under (suc room) f l = layer_with_layers (map (each_under room f)) (f l)

@@ -118,7 +118,7 @@ fn layer<T: Trail>(
     })
 }
 
-// The layers of an array, one after the other, with room for so many arrays in one another in each.
+// The layers of an array, one after the other, where so many arrays may stand in one another in each.
 #[cycle(layers)]
 fn each_layer<T: Trail>(
     alloc: Global,

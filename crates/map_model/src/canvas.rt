@@ -127,7 +127,7 @@ impl Body {
     }
 }
 
-/// Puts layers on a canvas, which gets their cells, and so those that stand in them, in as many groups as there is room for.
+/// Puts layers on a canvas, which gets their cells, and so those that stand in them, in so many groups in one another.
 /// So many tile layers stand before them; the answer is how many stand before the next layer.
 #[cycle(exchange)]
 pub fn exchange_layers(
