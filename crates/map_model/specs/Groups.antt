@@ -1,7 +1,7 @@
 -- Groups: layers that stand in layers.
 --
--- Each definition goes down through groups within groups, as many as may still stand inside one another: that is its first
--- number, or the one behind the id. Where it is 0, nothing is looked at but the layer itself.
+-- Each definition goes down through groups within groups: `groups` tells how many may still stand inside one another. Where
+-- it is 0, nothing is looked at but the layer itself.
 use Rattle.std.specs.Prelude.{ℕ, zero, suc, List, [], ◌∷◌, Bool, nat_eq, if◌then◌else◌, Option, Some, None, is_some}
 use Rattle.std.specs.List.{flat_map}
 use Rattle.map_model.specs.declared.limits.TheConstants.{MAX_GROUPS}
