@@ -1,9 +1,9 @@
 -- Items that pass a test before an item, at it and behind it.
 use Rattle.std.proofs.Common.{◌≡◌, inl, inr, ℕ, zero, suc, ◌+◌, ◌-◌, ◌<◌, ◌≤◌, Bool, true, false, MatchBool, List, [], ◌∷◌, ◌++◌, length, take}
-use Rattle.std.proofs.Common.{Option, None, Some, slice_get, refl, sym, ap, ◌∙◌, subst, arith}
+use Rattle.std.proofs.Common.{slice_get, length-append, refl, sym, ap, ◌∙◌, subst, arith}
 use Rattle.std.specs.Borrow.{Bor}
 use Rattle.std.specs.Fn.{Shared}
-use Rattle.link_tree.specs.Passing.{Answers, SomePasses, NonePasses, IsFirst, FindsFirst}
+use Rattle.link_tree.specs.Passing.{Answers, SomePasses, NonePasses, IsFirst, CountsToFirst}
 use Rattle.link_tree.proofs.Edits.{get-before, get-at, get-past, get-bound}
 
 module _ {X : Type 0} where
@@ -56,60 +56,60 @@ module _ {F T : Type 0} (g : Shared F (Bor T × Unit {0}) Bool) (f : F) where
   none-at : (b : Bool) (xs ys : List T) (x : T) → NonePasses g f xs → Answers g f b x → b ≡ false → NonePasses g f ys → NonePasses g f (xs ++ x ∷ ys)
   none-at b xs ys x before at fails behind = none-around xs ys x before (subst (λ c. Answers g f c x) fails at) behind
 
-  -- what is found before the item, where it is found there
-  pub first-before : (o : Option ℕ) (xs ys : List T) (p at : ℕ) → FindsFirst g f xs p o → o ≡ Some at → FindsFirst g f (xs ++ ys) p (Some at)
-  first-before None xs ys p at found is = cc
-  first-before (Some k) xs ys p at found is =
-      let same : k ≡ at = cc in
-      let low : p ≤ at = rw same at found.0 in
-      let first : IsFirst g f xs (at - p) = rw same at found.1 in
-      let inside : at - p < length xs = get-bound xs (at - p) first.item first.found in (
-        low,
+  -- what is counted up to an item before x
+  pub counts-before : (b : Bool) (xs ys : List T) (p q : ℕ) → CountsToFirst g f xs p b q → b ≡ true → CountsToFirst g f (xs ++ ys) p true q
+  counts-before false xs ys p q counts is = cc
+  counts-before true xs ys p q counts is =
+      let first = counts.1 in
+      let inside : q - p < length xs = get-bound xs (q - p) first.item first.found in (
+        counts.0,
         record {
           item = first.item;
-          found = get-before xs ys (at - p) inside ∙ first.found;
+          found = get-before xs ys (q - p) inside ∙ first.found;
           passes = first.passes;
-          before = rw (take-left xs ys (at - p) (omega (arith, inside))) first.before;
+          before = rw (take-left xs ys (q - p) (omega (arith, inside))) first.before;
         },
       )
 
-  -- the item itself
-  pub first-at : (b : Bool) (xs ys : List T) (x : T) (p at : ℕ) → at ≡ p + length xs → NonePasses g f xs → Answers g f b x → b ≡ true
-      → FindsFirst g f (xs ++ x ∷ ys) p (Some at)
-  first-at b xs ys x p at is none answers passes =
-      let e : at - p ≡ length xs = omega (arith, is) in (
-        omega (arith, is),
+  -- up to x, where none before it passes
+  pub counts-at : (b c : Bool) (xs ys : List T) (x : T) (p q : ℕ) → CountsToFirst g f xs p b q → b ≡ false → Answers g f c x → c ≡ true
+      → CountsToFirst g f (xs ++ x ∷ ys) p true q
+  counts-at true c xs ys x p q counts is answers passes = cc
+  counts-at false c xs ys x p q counts is answers passes =
+      let all = counts.1 in
+      let e : q - p ≡ length xs = omega (arith, all) in (
+        omega (arith, all),
         record {
           item = x;
-          found = get-at xs ys x (at - p) (sym e);
-          passes = subst (λ c. Answers g f c x) passes answers;
-          before = rw (e, take-whole xs (x ∷ ys)) none;
+          found = get-at xs ys x (q - p) (sym e);
+          passes = subst (λ d. Answers g f d x) passes answers;
+          before = rw (e, take-whole xs (x ∷ ys)) counts.0;
         },
       )
 
-  -- what is found behind it
-  pub first-behind : (o : Option ℕ) (b : Bool) (xs ys : List T) (x : T) (p q : ℕ) → q ≡ p + length xs + 1 → NonePasses g f xs → Answers g f b x → b ≡ false
-      → FindsFirst g f ys q o → FindsFirst g f (xs ++ x ∷ ys) p o
-  first-behind None b xs ys x p q is none answers fails found = none-at b xs ys x none answers fails found
-  first-behind (Some at) b xs ys x p q is none answers fails found =
-      let low = found.0 in
-      let first = found.1 in
-      let e : at - p ≡ length xs + 1 + (at - q) = omega (arith, low, is) in (
-        omega (arith, low, is),
+  -- up to an item behind x, or all
+  pub counts-behind : (a b c : Bool) (xs ys : List T) (x : T) (p q s t : ℕ) → CountsToFirst g f xs p b q → b ≡ false → Answers g f c x → c ≡ false
+      → s ≡ q + 1 → CountsToFirst g f ys s a t → CountsToFirst g f (xs ++ x ∷ ys) p a t
+  counts-behind a true c xs ys x p q s t counts is answers fails next rest = cc
+  counts-behind false false c xs ys x p q s t counts is answers fails next rest =
+      let all = counts.1 in
+      let behind = rest.1 in
+      let longer : length (xs ++ x ∷ ys) ≡ length xs + (length ys + 1) = simp length-append (omega arith) in
+      (none-at c xs ys x counts.0 answers fails rest.0, omega (arith, all, behind, next, longer))
+  counts-behind true false c xs ys x p q s t counts is answers fails next rest =
+      let all = counts.1 in
+      let low = rest.0 in
+      let first = rest.1 in
+      let e : t - p ≡ length xs + 1 + (t - s) = omega (arith, low, all, next) in (
+        omega (arith, low, all, next),
         record {
           item = first.item;
-          found = ap (slice_get (xs ++ x ∷ ys)) e ∙ (get-past xs ys x (at - q) ∙ first.found);
+          found = ap (slice_get (xs ++ x ∷ ys)) e ∙ (get-past xs ys x (t - s) ∙ first.found);
           passes = first.passes;
-          before = rw (e, take-past xs ys x (at - q)) (none-around xs _ x none (subst (λ c. Answers g f c x) fails answers) first.before);
+          before = rw (e, take-past xs ys x (t - s)) (none-around xs _ x counts.0 (subst (λ d. Answers g f d x) fails answers) first.before);
         },
       )
 
-  -- that nothing is found before the item
-  pub none-of : (o : Option ℕ) (xs : List T) (p : ℕ) → FindsFirst g f xs p o → o ≡ None → NonePasses g f xs
-  none-of None xs p found is = found
-  none-of (Some at) xs p found is = cc
-
-  pub first-of : (o : Option ℕ) (xs : List T) (at : ℕ) → FindsFirst g f xs 0 o → o ≡ Some at → IsFirst g f xs at
-  first-of None xs at found is = cc
-  first-of (Some k) xs at found is =
-      let same : k - 0 ≡ at = (let e : k ≡ at = cc in omega (arith, e)) in rw same at found.1
+  pub first-of : (b : Bool) (xs : List T) (at : ℕ) → CountsToFirst g f xs 0 b at → b ≡ true → IsFirst g f xs at
+  first-of false xs at counts is = cc
+  first-of true xs at counts is = let same : at - 0 ≡ at = omega arith in rw same at counts.1

@@ -1,8 +1,10 @@
 -- Items that pass a test, as a closure that may be called again and again answers for them.
-use Rattle.std.specs.Prelude.{◌≡◌, ◌≤◌, ◌-◌, ℕ, Bool, true, false, List, [], ◌∷◌, ◌⊎◌, Option, None, Some, slice_get, take}
+use Rattle.std.specs.Prelude.{◌≡◌, ◌≤◌, ◌+◌, ◌-◌, ℕ, Bool, true, false, List, [], ◌∷◌, ◌++◌, ◌⊎◌, length, Some, slice_get, take}
 use Rattle.std.specs.List.{AllByRecursion}
 use Rattle.std.specs.Borrow.{Bor}
 use Rattle.std.specs.Fn.{Shared, FnReturnsAt}
+use Rattle.link_tree.specs.declared.tree.Link.{Link}
+use Rattle.link_tree.specs.Trees.{items, IsSized}
 
 -- a call of the test f may answer so at x
 abbrev pub Answers : {F T : Type 0} → Shared F (Bor T × Unit {0}) Bool → F → Bool → T → Type 0
@@ -24,7 +26,14 @@ pub record IsFirst {F T : Type 0} (g : Shared F (Bor T × Unit {0}) Bool) (f : F
   pub passes : Answers g f true item
   pub before : NonePasses g f (take at xs)
 
--- behind so many others, what is found is the place of the first item that passes, or that none passes
-abbrev pub FindsFirst : {F T : Type 0} → Shared F (Bor T × Unit {0}) Bool → F → List T → ℕ → Option ℕ → Type 0
-FindsFirst g f xs passed None = NonePasses g f xs
-FindsFirst g f xs passed (Some at) = (passed ≤ at) × IsFirst g f xs (at - passed)
+-- behind so many others, an item passes and so many stand before the first one, or none passes and so many are all of them
+abbrev pub CountsToFirst : {F T : Type 0} → Shared F (Bor T × Unit {0}) Bool → F → List T → ℕ → Bool → ℕ → Type 0
+CountsToFirst g f xs passed true at = (passed ≤ at) × IsFirst g f xs (at - passed)
+CountsToFirst g f xs passed false at = NonePasses g f xs × (at ≡ passed + length xs)
+
+-- the items of a link: those before it, its own, and those behind it
+abbrev pub link_items : {T : Type 0} → Link T → List T
+link_items k = items k.left ++ k.item ∷ items k.right
+
+abbrev pub IsSizedLink : {T : Type 0} → Link T → Type 0
+IsSizedLink k = (k.before ≡ length (items k.left)) × ((k.size ≡ length (items k.left) + length (items k.right) + 1) × (IsSized k.left × IsSized k.right))

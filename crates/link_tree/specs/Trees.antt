@@ -20,10 +20,3 @@ before_top (Filled' p x l r b n) = length (items l)
 -- a link with no others
 abbrev pub IsAlone : {T : Type 0} → Link T → Type 0
 IsAlone k = (k.left ≡ Empty) × ((k.right ≡ Empty) × ((k.before ≡ 0) × (k.size ≡ 1)))
-
--- the items of a link: those before it, its own, and those behind it
-abbrev pub link_items : {T : Type 0} → Link T → List T
-link_items k = items k.left ++ k.item ∷ items k.right
-
-abbrev pub IsSizedLink : {T : Type 0} → Link T → Type 0
-IsSizedLink k = (k.before ≡ length (items k.left)) × ((k.size ≡ length (items k.left) + length (items k.right) + 1) × (IsSized k.left × IsSized k.right))

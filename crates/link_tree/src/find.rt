@@ -1,12 +1,12 @@
 // Items that pass a test.
 //
 // The links on the way call themselves. The last step of each such call is the one for the links behind its own, and a link
-// with no others needs none: so for `any` there is a call for about one link in four. For `first` there is none for up to
-// three links either, so there is a call for about one link in eight.
+// with no others needs none: so for `any` there is a call for about one link in four. For `count_to_first` there is none for
+// up to three links either, so there is a call for about one link in eight.
 ghost use Rattle.std.specs.Prelude.{◌≡◌, ◌+◌, ◌<◌, ◌^◌, length, MatchBool};
 ghost use Rattle.std.specs.Fn.{FnReturnsAt};
-ghost use Rattle.link_tree.specs.Trees.{items, link_items, IsSized, IsSizedLink};
-ghost use Rattle.link_tree.specs.Passing.{FindsFirst, NonePasses, SomePasses};
+ghost use Rattle.link_tree.specs.Trees.{items, IsSized};
+ghost use Rattle.link_tree.specs.Passing.{link_items, CountsToFirst, IsSizedLink, NonePasses, SomePasses};
 
 use crate::tree::{Link, Tree};
 
@@ -40,22 +40,22 @@ impl<T> Tree<T> {
         }
     }
 
-    /// The place of the first item that passes a test, behind so many others.
+    /// Whether some item passes a test; the items before the first one that does, or all of them, are counted as passed.
     #[inline(always)]
     #[cycle(first)]
-    pub(crate) fn first<F: Fn(&T) -> bool>(&self, test: &F, passed: usize) -> Option<usize>
+    pub(crate) fn count_to_first<F: Fn(&T) -> bool>(&self, test: &F, passed: &mut usize) -> bool
         requires sized { IsSized self.now }
-        requires fits { passed + length (items self.now) < 2 ^ 64 }
+        requires fits { passed.old + length (items self.now) < 2 ^ 64 }
         requires callable { F.IsAlwaysCallable test.now }
-        ensures { FindsFirst F.Fn test.now (items self.now) passed result }
+        ensures { CountsToFirst F.Fn test.now (items self.now) passed.old result passed.new }
     {
         match self {
-            Tree::Empty => None,
+            Tree::Empty => false,
             Tree::Filled(link) => {
                 if link.size > 3 {
-                    link.first(test, passed)
+                    link.count_to_first(test, passed)
                 } else {
-                    link.first_of_few(test, passed)
+                    link.count_few(test, passed)
                 }
             }
         }
@@ -64,22 +64,23 @@ impl<T> Tree<T> {
     // The same, where there is hardly more than one item.
     #[inline(always)]
     #[cycle(first)]
-    fn first_of_one<F: Fn(&T) -> bool>(&self, test: &F, passed: usize) -> Option<usize>
+    fn count_one<F: Fn(&T) -> bool>(&self, test: &F, passed: &mut usize) -> bool
         requires sized { IsSized self.now }
-        requires fits { passed + length (items self.now) < 2 ^ 64 }
+        requires fits { passed.old + length (items self.now) < 2 ^ 64 }
         requires callable { F.IsAlwaysCallable test.now }
-        ensures { FindsFirst F.Fn test.now (items self.now) passed result }
+        ensures { CountsToFirst F.Fn test.now (items self.now) passed.old result passed.new }
     {
         match self {
-            Tree::Empty => None,
+            Tree::Empty => false,
             Tree::Filled(link) => {
                 if link.size > 1 {
-                    link.first(test, passed)
-                } else if passes(&link.item, test) {
-                    Some(passed)
-                } else {
-                    None
+                    return link.count_to_first(test, passed);
                 }
+                if passes(&link.item, test) {
+                    return true;
+                }
+                *passed += 1;
+                false
             }
         }
     }
@@ -105,41 +106,41 @@ impl<T> Link<T> {
     }
 
     #[cycle(first)]
-    fn first<F: Fn(&T) -> bool>(&self, test: &F, passed: usize) -> Option<usize>
+    fn count_to_first<F: Fn(&T) -> bool>(&self, test: &F, passed: &mut usize) -> bool
         requires sized { IsSizedLink self.now }
-        requires fits { passed + length (link_items self.now) < 2 ^ 64 }
+        requires fits { passed.old + length (link_items self.now) < 2 ^ 64 }
         requires callable { F.IsAlwaysCallable test.now }
-        ensures { FindsFirst F.Fn test.now (link_items self.now) passed result }
+        ensures { CountsToFirst F.Fn test.now (link_items self.now) passed.old result passed.new }
     {
-        if let Some(at) = self.left.first(test, passed) {
-            return Some(at);
+        if self.left.count_to_first(test, passed) {
+            return true;
         }
-        let here = passed + self.before;
         if passes(&self.item, test) {
-            return Some(here);
+            return true;
         }
+        *passed += 1;
         match &self.right {
-            Tree::Empty => None,
-            Tree::Filled(right) => right.first(test, here + 1),
+            Tree::Empty => false,
+            Tree::Filled(right) => right.count_to_first(test, passed),
         }
     }
 
     // The same, where there are hardly more than three items.
     #[inline(always)]
     #[cycle(first)]
-    fn first_of_few<F: Fn(&T) -> bool>(&self, test: &F, passed: usize) -> Option<usize>
+    fn count_few<F: Fn(&T) -> bool>(&self, test: &F, passed: &mut usize) -> bool
         requires sized { IsSizedLink self.now }
-        requires fits { passed + length (link_items self.now) < 2 ^ 64 }
+        requires fits { passed.old + length (link_items self.now) < 2 ^ 64 }
         requires callable { F.IsAlwaysCallable test.now }
-        ensures { FindsFirst F.Fn test.now (link_items self.now) passed result }
+        ensures { CountsToFirst F.Fn test.now (link_items self.now) passed.old result passed.new }
     {
-        if let Some(at) = self.left.first_of_one(test, passed) {
-            return Some(at);
+        if self.left.count_one(test, passed) {
+            return true;
         }
-        let here = passed + self.before;
         if passes(&self.item, test) {
-            return Some(here);
+            return true;
         }
-        self.right.first_of_one(test, here + 1)
+        *passed += 1;
+        self.right.count_one(test, passed)
     }
 }

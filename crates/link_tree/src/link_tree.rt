@@ -196,9 +196,11 @@ impl<T: Drop> LinkTree<T> {
         ensures first { MatchOption result (NonePasses F.Fn test self.now) (λ found. IsFirst F.Fn test self.now found.0) }
         ensures item { IfSome result (λ found. slice_get self.now found.0 ≡ Some found.1.now) }
     {
-        match self.tree.first(&test, 0) {
-            Some(at) => Some((at, self.get(at))),
-            None => None,
+        let mut at = 0;
+        if self.tree.count_to_first(&test, &mut at) {
+            Some((at, self.get(at)))
+        } else {
+            None
         }
     }
 

@@ -2,7 +2,7 @@ ghost use Rattle.std.specs.Prelude.{◌≡◌, ◌+◌, ◌<◌, ◌≤◌, ◌^
 ghost use Rattle.std.specs.List.{insert, remove};
 ghost use Rattle.link_tree.specs.declared.tree.Tree.{Empty};
 ghost use Rattle.std.specs.Fn.{FnOnceTakesAtMut, FnOnceReturnsAtMut};
-ghost use Rattle.link_tree.specs.Trees.{before_top, items, link_items, IsAlone, IsSized, IsSizedLink};
+ghost use Rattle.link_tree.specs.Trees.{before_top, items, IsAlone, IsSized};
 ghost use Rattle.link_tree.specs.Changing.{ChangesAt, ChangesEach, Leaves, Takes, TakesEach};
 
 use std::mem;
@@ -95,61 +95,6 @@ fn change_item<T, R, F: FnOnce(&mut T) -> R>(
     }
 }
 
-impl<T> Link<T> {
-    // The item at a place below the length. A step from link to link reads less than one from tree to tree.
-    fn get(&self, at: usize) -> &T
-        requires sized { IsSizedLink self.now }
-        requires place { at < length (link_items self.now) }
-        ensures { slice_get (link_items self.now) at ≡ Some result.now }
-    {
-        let before = self.before;
-        if before < at {
-            match &self.right {
-                Tree::Empty => unreachable!(),
-                Tree::Filled(right) => right.get(at - before - 1),
-            }
-        } else if before == at {
-            &self.item
-        } else {
-            match &self.left {
-                Tree::Empty => unreachable!(),
-                Tree::Filled(left) => left.get(at),
-            }
-        }
-    }
-
-    // Changes the item at a place below the length where it stands.
-    fn change_at<R, F: FnOnce(&mut T) -> R>(
-        &mut self,
-        at: usize,
-        change: &mut Option<F>,
-        answer: &mut Option<R>,
-    )
-        requires sized { IsSizedLink self.old }
-        requires place { at < length (link_items self.old) }
-        requires open { answer.old ≡ None }
-        requires callable { IsSomeAnd change.old (λ f. (x : _) → slice_get (link_items self.old) at ≡ Some x → FnOnceTakesAtMut F.FnOnce f x) }
-        ensures sized { IsSizedLink self.new }
-        ensures called { change.new ≡ None }
-        ensures changed { IsSomeAnd change.old (λ f. IsSomeAnd answer.new (λ r. ChangesAt F.FnOnce f at (link_items self.old) r (link_items self.new))) }
-    {
-        let before = self.before;
-        if before < at {
-            match &mut self.right {
-                Tree::Empty => unreachable!(),
-                Tree::Filled(right) => right.change_at(at - before - 1, change, answer),
-            }
-        } else if before == at {
-            change_item(&mut self.item, change, answer)
-        } else {
-            match &mut self.left {
-                Tree::Empty => unreachable!(),
-                Tree::Filled(left) => left.change_at(at, change, answer),
-            }
-        }
-    }
-}
-
 impl<T> Tree<T> {
     pub(crate) fn len(&self) -> usize
         requires { IsSized self.now }
@@ -161,6 +106,8 @@ impl<T> Tree<T> {
         }
     }
 
+    /// The item at a place below the length. The links behind are compared first: their step is the longer one, and items that
+    /// were put in one behind the other stand that way.
     pub(crate) fn get(&self, at: usize) -> &T
         requires sized { IsSized self.now }
         requires place { at < length (items self.now) }
@@ -168,7 +115,16 @@ impl<T> Tree<T> {
     {
         match self {
             Tree::Empty => unreachable!(),
-            Tree::Filled(link) => link.get(at),
+            Tree::Filled(link) => {
+                let before = link.before;
+                if before < at {
+                    link.right.get(at - before - 1)
+                } else if before == at {
+                    &link.item
+                } else {
+                    link.left.get(at)
+                }
+            }
         }
     }
 
@@ -190,7 +146,16 @@ impl<T> Tree<T> {
     {
         match self {
             Tree::Empty => unreachable!(),
-            Tree::Filled(link) => link.change_at(at, change, answer),
+            Tree::Filled(link) => {
+                let before = link.before;
+                if before < at {
+                    link.right.change_at(at - before - 1, change, answer)
+                } else if before == at {
+                    change_item(&mut link.item, change, answer)
+                } else {
+                    link.left.change_at(at, change, answer)
+                }
+            }
         }
     }
 

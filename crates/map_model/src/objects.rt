@@ -130,7 +130,6 @@ pub fn change_object<R, F: FnOnce(&mut Object) -> R>(
 }
 
 /// Gives the object at a place another placing, and hands the old one back.
-#[inline(never)]
 pub fn place_object_in(layers: &mut Chain<Layer>, place: ObjectPlace, placing: Placing) -> Placing
     requires distinct { Distinct (layer_ids layers.old) }
     requires there { IsSomeAnd (option_and_then objects_of (layer_among place.layer MAX_GROUPS layers.old)) (λ os. place.at < length os) }

@@ -1,5 +1,6 @@
 use Rattle.std.proofs.Common.{◌≡◌, rules}
-use Rattle.link_tree.specs.Trees.{items, link_items}
+use Rattle.link_tree.specs.Trees.{items}
+use Rattle.link_tree.specs.Passing.{link_items}
 use Rattle.link_tree.proofs.Passes.{some-before, some-at, some-behind}
 use Rattle.link_tree.proofs.tree.+any.Goals as goal
 
