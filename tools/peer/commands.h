@@ -64,7 +64,8 @@ struct CellRun {
 class FillTileLayer : public MapCommand
 {
 public:
-    FillTileLayer(const Map &map, Layer &layer, std::vector<CellRun> &&runs, Cell before, Cell after);
+    FillTileLayer(const Map &map, Layer &layer, std::vector<CellRun> &&runs, Cell before,
+                  Cell after);
 
     const char *commandText() const override { return "Fill"; }
     const char *commandActionText() const override { return "fill area"; }

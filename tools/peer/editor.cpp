@@ -229,8 +229,9 @@ void Editor::doNew(LineReader &reader)
     const bool isSize = width - 1 < 4096 && height - 1 < 4096 && width * height <= 1048576;
     if (!isSize || tileWidth - 1 >= 65535 || tileHeight - 1 >= 65535)
         return refuse(39);
-    add(std::make_unique<MapDocument>(copied(name), createMap(int(width), int(height), int(tileWidth),
-                                                              int(tileHeight), copied(source))));
+    std::unique_ptr<Map> map = createMap(int(width), int(height), int(tileWidth), int(tileHeight),
+                                         copied(source));
+    add(std::make_unique<MapDocument>(copied(name), std::move(map)));
 }
 
 void Editor::doOpen(LineReader &reader)

@@ -1,4 +1,4 @@
-/* Reads and writes Tiled's JSON maps. Only the cells do not go through a tree when they are written.
+/* Reads and writes Tiled's JSON maps. Cells are written without a tree.
  *
  * SPDX-License-Identifier: MIT OR Apache-2.0
  * Copyright (c) 2026 the Roskevad authors */

@@ -25,7 +25,8 @@ public:
             if (mEnd == mBuffer.size())
                 mBuffer.resize(2 * mBuffer.size());
             mEditor.flush();
-            const ssize_t count = ::read(STDIN_FILENO, mBuffer.data() + mEnd, mBuffer.size() - mEnd);
+            char *const end = mBuffer.data() + mEnd;
+            const ssize_t count = ::read(STDIN_FILENO, end, mBuffer.size() - mEnd);
             if (count < 0 && errno == EINTR)
                 continue;
             if (count <= 0) {
