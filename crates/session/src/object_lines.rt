@@ -61,7 +61,8 @@ fn remove_object<'a>(fields: &mut Fields<'a>) -> Result<Line<'a>, LineFault>
     Ok(Line::RemoveObject { object })
 }
 
-/// The line of objects that the words behind `object` are.
+/// The line of objects that the words behind `object` are. It has a frame of its own, as the rare commands have.
+#[inline(never)]
 pub fn object<'a>(fields: &mut Fields<'a>) -> Result<Line<'a>, LineFault>
     ensures { Gives (λ x. x) result (read (choose object_lines BadWord) fields.old) }
 {
