@@ -28,7 +28,7 @@ use Rattle.session.specs.declared.reply.Reply.TheVariants.{Refused}
 use Rattle.document_lines.specs.declared.planned.Planned.{Planned}
 use Rattle.document_lines.specs.declared.planned.Planned.TheVariants as planned
 use Rattle.document_lines.specs.Answers.{call_reply}
-use Rattle.document_lines.specs.Steps.{rule_of}
+use Rattle.document_lines.specs.Rules.{rule_of}
 use Rattle.document_lines.specs.Kinds.{DocumentKinds, DoneKinds, macros_after, macros_begun, macros_edited, macros_ended}
 
 -- ---- lists

@@ -12,7 +12,7 @@ use Rattle.document_lines.specs.declared.planned.Planned.TheVariants as planned
 use Rattle.document_lines.specs.Acts.{Calls}
 use Rattle.document_lines.specs.Answers.{call_reply}
 use Rattle.document_lines.specs.Planning.{IsDone, KeepsReply, PlansOn}
-use Rattle.document_lines.specs.Steps.{rule_of}
+use Rattle.document_lines.specs.Rules.{rule_of}
 use Rattle.document_lines.specs.Turns.{turning_rule_of}
 
 -- a call that is refused leaves the history as it was

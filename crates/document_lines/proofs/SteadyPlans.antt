@@ -14,7 +14,7 @@ use Rattle.document_lines.specs.declared.planned.Planned.{Planned}
 use Rattle.document_lines.specs.declared.planned.Planned.TheVariants as planned
 use Rattle.document_lines.specs.Acts.{LimitsAt, IfOutside, OrNoMemoryForFile, OrStoreFails, OutsideMacros, Saves, action_or}
 use Rattle.document_lines.specs.Planning.{PlansOn}
-use Rattle.document_lines.specs.Steps.{Edits, OnActive, OnDocuments, OnFiles, Rule, rule_of}
+use Rattle.document_lines.specs.Rules.{Edits, OnActive, OnDocuments, OnFiles, Rule, rule_of}
 
 -- ---- a line about the active document that is no edit
 same : (h n : History) (P : Type 0) → IsSteady h → P × (n ≡ h) → IsSteady n

@@ -9,7 +9,7 @@ use Rattle.map_model.specs.Lookups.{layer_of}
 use Rattle.map_model.specs.Tilesets.{tileset_of}
 use Rattle.refusals.specs.declared.edit_fault.EditFault.{EditFault}
 use Rattle.refusals.specs.declared.edit_fault.EditFault.TheVariants.{OutsideTheMap}
-use Rattle.map_model.specs.Steps.{◌>>=◌}
+use Rattle.map_model.specs.Refusing.{◌>>=◌}
 use Rattle.edits.specs.Refusals.{tiles_or_fault}
 use Rattle.undo_stack.specs.History.{History, count, is_clean}
 use Rattle.undo_stack.specs.Moving.{Answer}

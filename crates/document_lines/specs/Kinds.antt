@@ -10,7 +10,7 @@ use Rattle.session.specs.declared.line.Line.TheVariants as lines
 use Rattle.refusals.specs.declared.refusal.Refusal.{Refusal}
 use Rattle.session.specs.declared.reply.Reply.TheVariants.{Refused}
 use Rattle.document_lines.specs.Acts.{answer_of}
-use Rattle.document_lines.specs.Steps.{Edits, Rule}
+use Rattle.document_lines.specs.Rules.{Edits, Rule}
 use Rattle.document_lines.specs.declared.planned.Planned.{Planned}
 use Rattle.document_lines.specs.declared.planned.Planned.TheVariants as planned
 

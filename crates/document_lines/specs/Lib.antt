@@ -1,7 +1,7 @@
 pub mod Machine
 pub mod Answers
 pub mod Acts
-pub mod Steps
+pub mod Rules
 pub mod EditLines
 pub mod Planning
 pub mod Turns

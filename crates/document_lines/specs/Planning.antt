@@ -24,7 +24,7 @@ use Rattle.document_lines.specs.declared.planned.Edit.TheVariants.{AddObject, Re
 use Rattle.document_lines.specs.declared.planned.Planned.{Planned}
 use Rattle.document_lines.specs.declared.planned.Planned.TheVariants as planned
 use Rattle.document_lines.specs.Acts.{Act, answer_of}
-use Rattle.document_lines.specs.Steps.{Rule, OnFiles, OnDocuments, OnActive, Edits}
+use Rattle.document_lines.specs.Rules.{Rule, OnFiles, OnDocuments, OnActive, Edits}
 
 -- what a planned edit does
 abbrev pub edit_change : Edit → Change

@@ -3,7 +3,7 @@ use Rattle.undo_stack.specs.Turning.{Redoes, SetsIndex, Undoes}
 use Rattle.session.specs.declared.line.Line.{Line}
 use Rattle.session.specs.declared.line.Line.TheVariants.{Undo, Redo, Goto}
 use Rattle.document_lines.specs.Acts.{Calls}
-use Rattle.document_lines.specs.Steps.{OnActive, Rule, rule_of}
+use Rattle.document_lines.specs.Rules.{OnActive, Rule, rule_of}
 
 -- the rule of a line, where it turns steps that may go
 abbrev pub turning_rule_of : Line → Rule

@@ -3,7 +3,7 @@ ghost use Rattle.std.specs.Prelude.{◌≡◌};
 ghost use Rattle.undo_stack.specs.Stacks.{history, macros, nestings, Holds};
 ghost use Rattle.undo_stack.specs.Turning.{IsSteady};
 ghost use Rattle.session.specs.Spelling.{CanBeSpelled};
-ghost use Rattle.document_lines.specs.Steps.{rule_of};
+ghost use Rattle.document_lines.specs.Rules.{rule_of};
 ghost use Rattle.document_lines.specs.Turns.{turning_rule_of};
 ghost use Rattle.document_lines.specs.Kinds.{DocumentKinds};
 ghost use Rattle.document_lines.specs.EditLines.{IsOfCells, IsOfLayers, IsOfObjects, IsOfProperties, IsStamp};

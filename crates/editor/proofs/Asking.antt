@@ -8,7 +8,7 @@ use Rattle.document_lines.specs.declared.planned.Planned.{Planned}
 use Rattle.document_lines.specs.declared.planned.Planned.TheVariants as planned
 use Rattle.document_lines.specs.Machine.{Machine}
 use Rattle.document_lines.specs.Planning.{IsOfActive}
-use Rattle.document_lines.specs.Steps.{rule_of}
+use Rattle.document_lines.specs.Rules.{rule_of}
 use Rattle.editor.specs.Asking.{Asks, PlanAsks}
 
 -- a line about the active document

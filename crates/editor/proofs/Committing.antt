@@ -14,7 +14,7 @@ use Rattle.session.specs.declared.reply.Reply.TheVariants.{Refused}
 use Rattle.document_lines.specs.Acts.{Pushes}
 use Rattle.document_lines.specs.Answers.{state_reply}
 use Rattle.document_lines.specs.Machine.{Machine, active_of, with_active, workspace}
-use Rattle.document_lines.specs.Steps.{Allows, Edits, OnActive, OnDocuments, OnFiles, Rule, Step, rule_of}
+use Rattle.document_lines.specs.Rules.{Allows, Edits, OnActive, OnDocuments, OnFiles, Rule, MachineStep, rule_of}
 use Rattle.editor.specs.Planning.{Commits, IsEditOf}
 
 -- commands that do the same make the same step
@@ -52,7 +52,7 @@ Commits-refused c h old new e left =
 
 pub commit_step : (line : Line) (old new : Machine) (stored : StoreParts) (c w : Change) (reply : Reply) → IsEditOf (rule_of line) (active_of old) c
     → IsSame c w → Commits (active_of old) w reply old new
-    → Step line (workspace old stored) (Some reply) (workspace new stored)
+    → MachineStep line (workspace old stored) (Some reply) (workspace new stored)
 commit_step line old new stored c w reply asks same p = commit_by (rule_of line) (active_of old) old new stored c w reply refl asks same p
 
 -- an edit for which there was no memory
@@ -65,5 +65,5 @@ no_memory (Edits names edit) None old stored c e asks = absurd asks
 no_memory (Edits names edit) (Some h) old stored c e asks = rw e ((h, inr (refl, refl), refl), refl)
 
 pub uncommitted : (line : Line) (old : Machine) (stored : StoreParts) (c : Change) → IsEditOf (rule_of line) (active_of old) c
-    → Step line (workspace old stored) (Some (Refused NoMemory)) (workspace old stored)
+    → MachineStep line (workspace old stored) (Some (Refused NoMemory)) (workspace old stored)
 uncommitted line old stored c asks = no_memory (rule_of line) (active_of old) old stored c refl asks

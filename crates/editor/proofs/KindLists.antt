@@ -27,7 +27,7 @@ use Rattle.document_lines.specs.Answers.{status_reply}
 use Rattle.document_lines.specs.Kinds.{DocumentKinds, EditsKinds, PushesKind, RuleKinds}
 use Rattle.document_lines.specs.Machine.{Machine, active_of, with_active}
 use Rattle.document_lines.specs.Planning.{PlansEdit, PlansOn}
-use Rattle.document_lines.specs.Steps.{Edits, OnActive, OnDocuments, OnFiles, Rule, rule_of}
+use Rattle.document_lines.specs.Rules.{Edits, OnActive, OnDocuments, OnFiles, Rule, rule_of}
 use Rattle.editor.specs.declared.editor.Editor.{Editor}
 use Rattle.editor.specs.Editors.{machine_of, stacks_in}
 use Rattle.editor.specs.Kinds.{ActiveKinds, AddsKinds, ChangesKinds, CommitKinds, Kinds, LineKinds, LosesKinds, PlanKinds, StepKinds, UnlessRefused}

@@ -14,7 +14,7 @@ use Rattle.document_lines.specs.declared.planned.Planned.TheVariants as planned
 use Rattle.document_lines.specs.Acts.{Act, FileAct, IfActive, OfActive, OrNoMemory, Pushes, WithActive, answer_of, moved_to}
 use Rattle.document_lines.specs.Machine.{Machine, active_of, with_active, workspace}
 use Rattle.document_lines.specs.Planning.{KeepsReply, PlansEdit, PlansOn, edit_change}
-use Rattle.document_lines.specs.Steps.{Allows, Edits, OnActive, OnDocuments, OnFiles, Rule}
+use Rattle.document_lines.specs.Rules.{Allows, Edits, OnActive, OnDocuments, OnFiles, Rule}
 use Rattle.editor.specs.Planning.{FitsActive, FitsPlan, IsEditOf, KeepsPlan, PlansBy}
 
 -- a machine with this group

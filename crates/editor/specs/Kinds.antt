@@ -16,7 +16,7 @@ use Rattle.session.specs.declared.reply.Reply.TheVariants.{Refused}
 use Rattle.session.specs.Grammar.{line_of}
 use Rattle.document_lines.specs.Kinds.{PushesKind, RuleKinds}
 use Rattle.document_lines.specs.Machine.{Machine, active_of}
-use Rattle.document_lines.specs.Steps.{OnDocuments, OnFiles, Rule, rule_of}
+use Rattle.document_lines.specs.Rules.{OnDocuments, OnFiles, Rule, rule_of}
 use Rattle.document_lines.specs.declared.planned.Planned.{Planned}
 use Rattle.document_lines.specs.declared.planned.Planned.TheVariants as planned
 use Rattle.editor.specs.Editors.{stacks_in}

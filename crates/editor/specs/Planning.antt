@@ -13,7 +13,7 @@ use Rattle.document_lines.specs.Acts.{Refuses, answer_of}
 use Rattle.document_lines.specs.Answers.{state_reply}
 use Rattle.document_lines.specs.Machine.{Machine, Workspace, active_of, with_active}
 use Rattle.document_lines.specs.Planning.{KeepsReply, edit_change}
-use Rattle.document_lines.specs.Steps.{Rule, OnFiles, OnDocuments, Edits, Allows, rule_of}
+use Rattle.document_lines.specs.Rules.{Rule, OnFiles, OnDocuments, Edits, Allows, rule_of}
 
 -- the command fits the active document
 abbrev pub FitsActive : Option History → Change → Type 0

@@ -49,9 +49,9 @@ module _ (g : Ground) (s : Spread) (value : ℕ) (some : 0 < g.width) (free : (q
       (change_at-same g.width k (get_or g.tiles.now k 0) (get_or (covered g.width (taken_over g s value) g.tiles.now) k 0)
       (unmarked-same g s value some k none))) tt
   changed k true taken =
-      let is_free = taken-free_at k taken in
-      let old : get_or g.tiles.now k 0 ≡ g.value = old-value g s value some k is_free in
-      let new = get_or-filled g s value k some (free_at-within g some k is_free) ∙ ap (λ b. cond b value (get_or g.tiles.now k 0)) taken in
+      let is_free_cell = taken-free_at k taken in
+      let old : get_or g.tiles.now k 0 ≡ g.value = old-value g s value some k is_free_cell in
+      let new = get_or-filled g s value k some (free_at-within g some k is_free_cell) ∙ ap (λ b. cond b value (get_or g.tiles.now k 0)) taken in
       let same = ap (λ v. change_at g.width k v (get_or (covered g.width (taken_over g s value) g.tiles.now) k 0)) old ∙ ap (change_at g.width k g.value) new in
       subst (Each (HasValues g.value value)) (sym same) (one-values g.width k g.value value)
 

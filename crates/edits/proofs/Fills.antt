@@ -84,11 +84,11 @@ module _ (g : Ground) (s : Spread) (value : ℕ) where
       let p = y * g.width + x in
       let next : y * g.width + suc x ≡ suc p = omega arith in
       let some : 0 < g.width = omega arith in
-      let is_free = sym (free_in-at g x y column) ∙ free (x, y) (is_taken-at g s x y column ∙ taken) in
-      let new = get_or-filled p some (free_at-within g some p is_free) ∙ ap (λ b. cond b value (get_or g.tiles.now p 0)) taken in
+      let is_free_cell = sym (free_in-at g x y column) ∙ free (x, y) (is_taken-at g s x y column ∙ taken) in
+      let new = get_or-filled p some (free_at-within g some p is_free_cell) ∙ ap (λ b. cond b value (get_or g.tiles.now p 0)) taken in
       ap (difference g.width g.tiles.now ys) next
       ∙ ap (λ es. difference g.width g.tiles.now ys p ++ es)
-      (ap (λ v. change_at g.width p v (get_or ys p 0)) (old-value some p is_free) ∙ ap (change_at g.width p g.value) new
+      (ap (λ v. change_at g.width p v (get_or ys p 0)) (old-value some p is_free_cell) ∙ ap (change_at g.width p g.value) new
       ∙ change_at-cell g.width x y g.value value column other)
 
   -- taken cells of a row side by side change

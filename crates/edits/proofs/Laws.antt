@@ -9,12 +9,12 @@ use Rattle.map_model.specs.Lookups.{tiles_in}
 use Rattle.map_model.proofs.Keeps.{length-tiles_in}
 use Rattle.edits.specs.Covering.{lets_change}
 use Rattle.edits.specs.Filling.{free_from, ReachedIsJoined}
-use Rattle.edits.specs.Joining.{is_free, is_value}
+use Rattle.edits.specs.Joining.{is_free_cell, is_value}
 use Rattle.edits.proofs.Joined.{is_reached-AreJoined}
 
 -- a free cell lies in the layer
 free-within : (w h : ℕ) (tiles : List ℕ) (selection : set.FinSet cell_cmp) (value : ℕ) → length tiles ≡ h * w → (q : ℕ × ℕ)
-    → is_free w tiles selection value q ≡ true → (q.0 < w) × (q.1 < h)
+    → is_free_cell w tiles selection value q ≡ true → (q.0 < w) × (q.1 < h)
 free-within w h tiles selection value size q free = by_tests (nat_lt q.0 w) (nat_lt (q.1 * w + q.0) (length tiles)) refl refl free
   where
     row_of : q.1 * w + q.0 < h * w → q.1 < h

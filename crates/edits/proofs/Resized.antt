@@ -26,7 +26,7 @@ use Rattle.map_model.specs.declared.parts.Object.{Object}
 use Rattle.map_model.specs.Canvas.{lists_in, lists_of, tile_layers, with_canvas, IsShift, AreCells, MayBeDrawn, MayBeMoved, BodyMayBeMoved, IsCanvasOf}
 use Rattle.map_model.specs.Document.{DocumentParts, IsDocument}
 use Rattle.map_model.specs.Groups.{all_drawn}
-use Rattle.map_model.specs.Keeping.{object_level}
+use Rattle.map_model.specs.Keeping.{object_tier}
 use Rattle.map_model.specs.Lists.{Each}
 use Rattle.map_model.specs.Objects.{objects_in}
 use Rattle.map_model.specs.WellFormed.{IsSize, IsTileValue, IsPixels, IsObject, IsBody, IsDrawn}
@@ -74,13 +74,13 @@ value-range block x y h = by_columns (offset block.x x) (offset block.y y)
     by_columns (Some r) (Some d) = by_test (nat_lt r block.width) (d * block.width + r)
 
 -- ---- what fits
-layer-cells : (level size more : ℕ) (f : List ℕ → List ℕ) → ((cells : List ℕ) → Each IsTileValue cells → AreCells more (f cells)) → (b : Body)
-    → IsBody level size b
+layer-cells : (tier size more : ℕ) (f : List ℕ → List ℕ) → ((cells : List ℕ) → Each IsTileValue cells → AreCells more (f cells)) → (b : Body)
+    → IsBody tier size b
     → Each (AreCells more) (map f (lists_in b))
-layer-cells level size more f good (Tiles e own) h = (good own h.1, tt)
-layer-cells level size more f good (Objects os) h = tt
-layer-cells level size more f good Other h = tt
-layer-cells level size more f good (Group' s r) h = tt
+layer-cells tier size more f good (Tiles e own) h = (good own h.1, tt)
+layer-cells tier size more f good (Objects os) h = tt
+layer-cells tier size more f good Other h = tt
+layer-cells tier size more f good (Group' s r) h = tt
 
 layers-cells : (size more : ℕ) (f : List ℕ → List ℕ) → ((cells : List ℕ) → Each IsTileValue cells → AreCells more (f cells)) → (ds : List (ℕ × Layer))
     → Each (IsDrawn size) ds
@@ -110,10 +110,10 @@ pixels-within (Some z) e =
       high = int_le-true z MAX_PIXELS (and-right (int_le (neg_ℤ MAX_PIXELS) z) (int_le z MAX_PIXELS) e);
     }
 
-objects-may : (right down : ℤ) (level : ℕ) (os : List Object) → Each (IsObject level) os → list_all (stays right down) os ≡ true
+objects-may : (right down : ℤ) (tier : ℕ) (os : List Object) → Each (IsObject tier) os → list_all (stays right down) os ≡ true
     → Each (MayBeMoved right down) os
-objects-may right down level [] h e = tt
-objects-may right down level (o ∷ os) h e =
+objects-may right down tier [] h e = tt
+objects-may right down tier (o ∷ os) h e =
     let first = and-left (stays right down o) (list_all (stays right down) os) e in (
       record {
         x = pixels-within _ (and-left _ _ first);
@@ -121,14 +121,14 @@ objects-may right down level (o ∷ os) h e =
         width = h.0.placing.width;
         height = h.0.placing.height;
       },
-      objects-may right down level os h.1 (and-right (stays right down o) (list_all (stays right down) os) e),
+      objects-may right down tier os h.1 (and-right (stays right down o) (list_all (stays right down) os) e),
     )
 
-body-may : (right down : ℤ) (level size : ℕ) (b : Body) → IsBody level size b → all_stay right down (objects_in b) ≡ true → BodyMayBeMoved right down b
-body-may right down level size (Tiles e own) h stay = tt
-body-may right down level size (Objects os) h stay = objects-may right down (object_level level) os h.1 stay
-body-may right down level size Other h stay = tt
-body-may right down level size (Group' s r) h stay = tt
+body-may : (right down : ℤ) (tier size : ℕ) (b : Body) → IsBody tier size b → all_stay right down (objects_in b) ≡ true → BodyMayBeMoved right down b
+body-may right down tier size (Tiles e own) h stay = tt
+body-may right down tier size (Objects os) h stay = objects-may right down (object_tier tier) os h.1 stay
+body-may right down tier size Other h stay = tt
+body-may right down tier size (Group' s r) h stay = tt
 
 layers-may : (right down : ℤ) (size : ℕ) (ds : List (ℕ × Layer)) → Each (IsDrawn size) ds → list_all (drawn_stays right down) ds ≡ true
     → Each (MayBeDrawn right down) ds

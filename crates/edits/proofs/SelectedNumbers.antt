@@ -18,7 +18,7 @@ use Rattle.edits.specs.Covering.{covered, covered_value, lets_change}
 use Rattle.map_model.specs.Difference.{difference}
 use Rattle.edits.specs.Filling.{fill_over, free_from, is_joined}
 use Rattle.edits.specs.Flooding.{AreAllowed, AreSelected, HasCell, IsGround, IsGroundOf, cell_of, free_in, start_of}
-use Rattle.edits.specs.Joining.{AreJoined, is_free, is_reached, is_value}
+use Rattle.edits.specs.Joining.{AreJoined, is_free_cell, is_reached, is_value}
 use Rattle.edits.specs.Marks.{is_marked, is_between}
 use Rattle.edits.proofs.Differences.{difference-skip, get_or-each_at}
 use Rattle.edits.proofs.Joined.{end_free, is_reached-AreJoined, reached-free}
@@ -108,7 +108,7 @@ module _ (g : Ground) (x y : ℕ) (h : HasCell g.width g.tiles.now x y) where
         column = column;
         row = row;
         value = own;
-        cells = λ q. ap (λ v. is_free g.width g.tiles.now g.selection.now v q) own;
+        cells = λ q. ap (λ v. is_free_cell g.width g.tiles.now g.selection.now v q) own;
       }
 
 -- the selected cells may be changed, or all where there are none

@@ -10,15 +10,15 @@ use Rattle.map_model.specs.Lookups.{layer_of, tiles_in, HasTiles}
 use Rattle.map_model.specs.WellFormed.{IsWellFormed}
 use Rattle.refusals.specs.declared.edit_fault.EditFault.{EditFault}
 use Rattle.refusals.specs.declared.edit_fault.EditFault.TheVariants.{OutsideTheMap, UnknownTile}
-use Rattle.map_model.specs.Steps.{◌>>=◌, ◌>>◌, check}
+use Rattle.map_model.specs.Refusing.{◌>>=◌, ◌>>◌, check}
 use Rattle.edits.specs.Covering.{covered_map}
-use Rattle.edits.specs.Joining.{AreJoined, is_free, is_reached}
+use Rattle.edits.specs.Joining.{AreJoined, is_free_cell, is_reached}
 use Rattle.edits.specs.Refusals.{tiles_or_fault, is_known}
 
 -- ---- the cells that a fill takes
 -- the cells that are free to a fill from a cell: those of its whole value
 abbrev pub free_from : ℕ → List ℕ → set.FinSet cell_cmp → ℕ × ℕ → ℕ × ℕ → Bool
-free_from width tiles selection start = is_free width tiles selection (slice_index tiles (start.1 * width + start.0))
+free_from width tiles selection start = is_free_cell width tiles selection (slice_index tiles (start.1 * width + start.0))
 
 -- whether a cell is joined to the start
 abbrev pub is_joined : ℕ → List ℕ → set.FinSet cell_cmp → ℕ × ℕ → ℕ × ℕ → Bool

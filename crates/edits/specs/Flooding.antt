@@ -17,7 +17,7 @@ use Rattle.map_model.specs.declared.edit.CellEdit.{CellEdit}
 use Rattle.edits.specs.Covering.{covered, lets_change}
 use Rattle.map_model.specs.Difference.{difference}
 use Rattle.edits.specs.Filling.{free_from}
-use Rattle.edits.specs.Joining.{AreJoined, is_free, is_value}
+use Rattle.edits.specs.Joining.{AreJoined, is_free_cell, is_value}
 use Rattle.edits.specs.Marks.{is_marked, room}
 
 -- how many numbers below one pass the test
@@ -28,7 +28,7 @@ count test (suc n) = (if test n then 1 else 0) + count test n
 -- ---- free cells
 -- whether a cell lies in the layer, has the value, and may be changed
 abbrev pub free_in : Ground → ℕ × ℕ → Bool
-free_in ground = is_free ground.width ground.tiles.now ground.selection.now ground.value
+free_in ground = is_free_cell ground.width ground.tiles.now ground.selection.now ground.value
 
 -- the cell with a number
 abbrev pub cell_of : Ground → ℕ → ℕ × ℕ

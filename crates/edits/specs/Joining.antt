@@ -49,5 +49,5 @@ is_value None value = false
 is_value (Some own) value = nat_eq own value
 
 -- whether a cell lies in a layer of this width, has the value there, and may be changed
-abbrev pub is_free : ℕ → List ℕ → set.FinSet cell_cmp → ℕ → ℕ × ℕ → Bool
-is_free width tiles selection value q = nat_lt q.0 width && (is_value (slice_get tiles (q.1 * width + q.0)) value && lets_change selection q)
+abbrev pub is_free_cell : ℕ → List ℕ → set.FinSet cell_cmp → ℕ → ℕ × ℕ → Bool
+is_free_cell width tiles selection value q = nat_lt q.0 width && (is_value (slice_get tiles (q.1 * width + q.0)) value && lets_change selection q)

@@ -12,7 +12,7 @@ use Rattle.map_model.specs.Layers.{layer_place, layer_at, last_place, sibling_co
 use Rattle.map_model.specs.Layers.{layer_with_visible, with_next_ids}
 use Rattle.map_model.specs.NewMap.{new_layer}
 use Rattle.map_model.specs.Lookups.{layer_of, with_layer}
-use Rattle.map_model.specs.Steps.{◌>>=◌, ◌>>◌, check}
+use Rattle.map_model.specs.Refusing.{◌>>=◌, ◌>>◌, check}
 use Rattle.refusals.specs.declared.edit_fault.EditFault.{EditFault}
 use Rattle.refusals.specs.declared.edit_fault.EditFault.TheVariants.{NoSuchLayer, OutOfRange, TooMany}
 

@@ -13,7 +13,7 @@ use Rattle.map_model.specs.Layers.{with_next_ids}
 use Rattle.map_model.specs.NewMap.{new_object}
 use Rattle.map_model.specs.Objects.{objects_of, object_place, object_with_placing, with_object, with_objects, without_object_at}
 use Rattle.map_model.specs.Lookups.{layer_of}
-use Rattle.map_model.specs.Steps.{◌>>=◌, ◌>>◌, check}
+use Rattle.map_model.specs.Refusing.{◌>>=◌, ◌>>◌, check}
 use Rattle.refusals.specs.declared.edit_fault.EditFault.{EditFault}
 use Rattle.refusals.specs.declared.edit_fault.EditFault.TheVariants.{NoSuchLayer, LayerOfAnotherKind, NoSuchObject, OutOfRange, TooMany}
 

@@ -9,7 +9,7 @@ use Rattle.map_model.specs.Tilesets.{tileset_of}
 use Rattle.tile_id.specs.Gid.{base_of}
 use Rattle.refusals.specs.declared.edit_fault.EditFault.{EditFault}
 use Rattle.refusals.specs.declared.edit_fault.EditFault.TheVariants.{NoSuchLayer, LayerOfAnotherKind}
-use Rattle.map_model.specs.Steps.{◌>>=◌}
+use Rattle.map_model.specs.Refusing.{◌>>=◌}
 
 abbrev pub body_tiles_or_fault : Body → Result (List ℕ) EditFault
 body_tiles_or_fault (Tiles e cells) = Ok cells

@@ -17,7 +17,7 @@ use Rattle.map_model.specs.Lookups.{layer_with_tiles}
 use Rattle.map_model.specs.Sizes.{is_size}
 use Rattle.refusals.specs.declared.edit_fault.EditFault.{EditFault}
 use Rattle.refusals.specs.declared.edit_fault.EditFault.TheVariants.{OutOfRange}
-use Rattle.map_model.specs.Steps.{◌>>◌, check}
+use Rattle.map_model.specs.Refusing.{◌>>◌, check}
 use Rattle.edits.specs.Blocks.{ValueBlock, value_over}
 
 -- ---- cells
@@ -61,7 +61,7 @@ abbrev pub all_stay : ℤ → ℤ → Option (List Object) → Bool
 all_stay right down None = true
 all_stay right down (Some os) = list_all (stays right down) os
 
--- each object of a layer, with its level
+-- each object of a layer, with its tier
 abbrev pub drawn_stays : ℤ → ℤ → ℕ × Layer → Bool
 drawn_stays right down d = all_stay right down (objects_of d.1)
 

@@ -6,7 +6,7 @@ use Rattle.map_model.specs.Document.{DocumentParts, with_map}
 use Rattle.map_model.specs.Lookups.{layer_of}
 use Rattle.refusals.specs.declared.edit_fault.EditFault.{EditFault}
 use Rattle.refusals.specs.declared.edit_fault.EditFault.TheVariants.{UnknownTile}
-use Rattle.map_model.specs.Steps.{◌>>◌, check}
+use Rattle.map_model.specs.Refusing.{◌>>◌, check}
 use Rattle.edits.specs.declared.area.Area.{Area}
 use Rattle.edits.specs.Blocks.{ValueBlock, stamp_over, erase_over}
 use Rattle.edits.specs.Covering.{covered_map, where_selected}

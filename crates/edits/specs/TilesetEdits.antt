@@ -8,7 +8,7 @@ use Rattle.map_model.specs.declared.parts.Tileset.{Tileset}
 use Rattle.map_model.specs.Document.{DocumentParts, with_map}
 use Rattle.map_model.specs.NewMap.{external_tileset}
 use Rattle.map_model.specs.Tilesets.{tileset_place, has_uses, with_tileset_at, without_tileset_at}
-use Rattle.map_model.specs.Steps.{◌>>=◌, ◌>>◌, check}
+use Rattle.map_model.specs.Refusing.{◌>>=◌, ◌>>◌, check}
 use Rattle.refusals.specs.declared.edit_fault.EditFault.{EditFault}
 use Rattle.refusals.specs.declared.edit_fault.EditFault.TheVariants.{NoSuchTileset, TilesetInUse, FirstIdNotAbove, OutOfRange, TooMany}
 

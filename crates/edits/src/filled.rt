@@ -201,7 +201,7 @@ fn change_of_start(
 {
     let (x, y) = ground.start;
     let mut cells = Vec::new(alloc);
-    if ground.is_free(x, y) {
+    if ground.is_free_cell(x, y) {
         cells.push(CellEdit {
             x: x as u16,
             y: y as u16,

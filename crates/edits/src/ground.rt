@@ -83,7 +83,7 @@ impl<'a> Ground<'a> {
 
 impl Ground<'_> {
     /// Whether a fill may take a cell.
-    pub(crate) fn is_free(&self, x: u32, y: u32) -> bool
+    pub(crate) fn is_free_cell(&self, x: u32, y: u32) -> bool
         requires { IsGround self.now }
         ensures { result ≡ free_in self.now (x, y) }
     {
@@ -104,16 +104,16 @@ impl Ground<'_> {
     {
         let (x, y) = self.start;
         // No map has a column or a row as high as those that wrap.
-        if self.is_free(x.wrapping_sub(1), y) {
+        if self.is_free_cell(x.wrapping_sub(1), y) {
             return true;
         }
-        if self.is_free(x + 1, y) {
+        if self.is_free_cell(x + 1, y) {
             return true;
         }
-        if self.is_free(x, y.wrapping_sub(1)) {
+        if self.is_free_cell(x, y.wrapping_sub(1)) {
             return true;
         }
-        self.is_free(x, y + 1)
+        self.is_free_cell(x, y + 1)
     }
 
     /// Marks of the numbers that may be changed.

@@ -6,7 +6,7 @@ ghost use Rattle.command_api.specs.Making.{IsRefusalOf};
 ghost use Rattle.map_model.specs.declared.limits.TheConstants.{MAX_SIDE};
 ghost use Rattle.map_model.specs.Canvas.{lists_in, lists_of, lists_under, tile_layers, with_canvas, AreCells, IsCanvasOf, IsShift};
 ghost use Rattle.map_model.specs.Groups.{drawn, tree};
-ghost use Rattle.map_model.specs.Keeping.{layer_level};
+ghost use Rattle.map_model.specs.Keeping.{layer_tier};
 ghost use Rattle.map_model.specs.Lists.{Each};
 ghost use Rattle.map_model.specs.Objects.{objects_in};
 ghost use Rattle.map_model.specs.WellFormed.{IsSize, IsTileSize};
@@ -84,13 +84,13 @@ fn all_stay(body: &Body, shift: &Shift) -> bool
 // Whether a shift leaves within its limits each object of some layers, and of those that stand in them in as many groups as
 // there is room for.
 #[cycle(stay)]
-fn layers_stay(layers: &Chain<Layer>, shift: &Shift, room: usize) -> bool
+fn layers_stay(layers: &Chain<Layer>, shift: &Shift, groups: usize) -> bool
     requires right { IsShift shift.now.right }
     requires down { IsShift shift.now.down }
-    ensures { result ≡ list_all (drawn_stays shift.now.right shift.now.down) (drawn room layer_level layers.now) }
+    ensures { result ≡ list_all (drawn_stays shift.now.right shift.now.down) (drawn groups layer_tier layers.now) }
 {
     for layer in layers.iter() {
-        if !layer_stays(layer, shift, room) {
+        if !layer_stays(layer, shift, groups) {
             return false;
         }
     }
@@ -99,19 +99,19 @@ fn layers_stay(layers: &Chain<Layer>, shift: &Shift, room: usize) -> bool
 
 // Whether a shift leaves within its limits each object of one layer, and of those that stand in it.
 #[cycle(stay)]
-fn layer_stays(layer: &Layer, shift: &Shift, room: usize) -> bool
+fn layer_stays(layer: &Layer, shift: &Shift, groups: usize) -> bool
     requires right { IsShift shift.now.right }
     requires down { IsShift shift.now.down }
-    ensures { result ≡ list_all (drawn_stays shift.now.right shift.now.down) (tree room layer_level layer.now) }
+    ensures { result ≡ list_all (drawn_stays shift.now.right shift.now.down) (tree groups layer_tier layer.now) }
 {
     if !all_stay(&layer.body, shift) {
         return false;
     }
-    if room == 0 {
+    if groups == 0 {
         return true;
     }
     match layer.body.layers() {
-        Some(inside) => layers_stay(inside, shift, room - 1),
+        Some(inside) => layers_stay(inside, shift, groups - 1),
         None => true,
     }
 }
@@ -175,15 +175,15 @@ fn push_layers(
     layers: &Chain<Layer>,
     parts: &MapParts,
     to: Resizing,
-    room: usize,
+    groups: usize,
 ) -> Result<(), AllocError>
-    requires cells { Each (AreCells (parts.now.width * parts.now.height)) (flat_map lists_of (drawn room layer_level layers.now)) }
+    requires cells { Each (AreCells (parts.now.width * parts.now.height)) (flat_map lists_of (drawn groups layer_tier layers.now)) }
     requires width { to.width ≤ MAX_SIDE }
     requires height { to.height ≤ MAX_SIDE }
-    ensures { OnOk result (lists.new.items ≡ lists.old.items ++ map (resized_values parts.now to.width to.height to.dx to.dy) (flat_map lists_of (drawn room layer_level layers.now))) }
+    ensures { OnOk result (lists.new.items ≡ lists.old.items ++ map (resized_values parts.now to.width to.height to.dx to.dy) (flat_map lists_of (drawn groups layer_tier layers.now))) }
 {
     for layer in layers.iter() {
-        push_layer(alloc, lists, layer, parts, to, room)?;
+        push_layer(alloc, lists, layer, parts, to, groups)?;
     }
     Ok(())
 }
@@ -196,19 +196,19 @@ fn push_layer(
     layer: &Layer,
     parts: &MapParts,
     to: Resizing,
-    room: usize,
+    groups: usize,
 ) -> Result<(), AllocError>
-    requires cells { Each (AreCells (parts.now.width * parts.now.height)) (lists_under room layer.now) }
+    requires cells { Each (AreCells (parts.now.width * parts.now.height)) (lists_under groups layer.now) }
     requires width { to.width ≤ MAX_SIDE }
     requires height { to.height ≤ MAX_SIDE }
-    ensures { OnOk result (lists.new.items ≡ lists.old.items ++ map (resized_values parts.now to.width to.height to.dx to.dy) (lists_under room layer.now)) }
+    ensures { OnOk result (lists.new.items ≡ lists.old.items ++ map (resized_values parts.now to.width to.height to.dx to.dy) (lists_under groups layer.now)) }
 {
     push_cells(alloc, lists, &layer.body, parts, to)?;
-    if room == 0 {
+    if groups == 0 {
         return Ok(());
     }
     match layer.body.layers() {
-        Some(inside) => push_layers(alloc, lists, inside, parts, to, room - 1),
+        Some(inside) => push_layers(alloc, lists, inside, parts, to, groups - 1),
         None => Ok(()),
     }
 }

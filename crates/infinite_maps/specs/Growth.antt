@@ -27,8 +27,8 @@ abbrev pub is_new : List ℕ → List Bool → ℕ → Bool
 is_new cells cover at = nat_lt 0 (slice_index cells at) && not (slice_index_or cover at true)
 
 -- no rectangle covers a cell of this one
-abbrev pub is_free : ℕ → List Bool → Rectangle → Bool
-is_free columns cover r = not (any_below (λ k. slice_index_or cover (place columns r k) true) (area r))
+abbrev pub is_uncovered : ℕ → List Bool → Rectangle → Bool
+is_uncovered columns cover r = not (any_below (λ k. slice_index_or cover (place columns r k) true) (area r))
 
 -- the new ones of the first n cells of a rectangle
 abbrev pub new_cells : ℕ → List ℕ → List Bool → Rectangle → ℕ → List Rectangle
@@ -38,7 +38,7 @@ new_cells columns cells cover r (suc n) = new_cells columns cells cover r n ++ (
 -- for the new cells of a block: the block, where it is free, or else the smallest rectangle around them, where that is free, or else each
 abbrev pub pieces_by : ℕ → List Bool → Rectangle → List Rectangle → Option Rectangle → List Rectangle
 pieces_by columns cover r news None = []
-pieces_by columns cover r news (Some b) = if is_free columns cover r then r ∷ [] else (if is_free columns cover b then b ∷ [] else news)
+pieces_by columns cover r news (Some b) = if is_uncovered columns cover r then r ∷ [] else (if is_uncovered columns cover b then b ∷ [] else news)
 
 unfoldable pub pieces : ℕ → List ℕ → List Bool → Rectangle → List Rectangle
 pieces columns cells cover r = let news = new_cells columns cells cover r (area r) in pieces_by columns cover r news (bounds news)

@@ -1,7 +1,7 @@
 // Rectangles for the cells that are not 0 and that no rectangle covers.
 ghost use Rattle.std.specs.Prelude.{◌≡◌, ◌++◌, ◌<◌, ◌^◌, IfOk, OnOk};
 ghost use Rattle.infinite_maps.specs.Rectangles.{area, bounds};
-ghost use Rattle.infinite_maps.specs.Growth.{edge, block_count, block_at, is_new, is_free, new_cells, pieces_by, pieces, row_pieces, rows_pieces, grown};
+ghost use Rattle.infinite_maps.specs.Growth.{edge, block_count, block_at, is_new, is_uncovered, new_cells, pieces_by, pieces, row_pieces, rows_pieces, grown};
 
 use crate::cells::cell_at;
 use crate::cover::is_covered;
@@ -44,8 +44,8 @@ fn is_new(cells: &[u64], cover: &[bool], at: usize) -> bool
     0 < cell_at(cells, at) && !is_covered(cover, at)
 }
 
-fn is_free(columns: u16, cover: &[bool], rectangle: Rectangle) -> bool
-    ensures { result ≡ is_free columns cover.now rectangle }
+fn is_uncovered(columns: u16, cover: &[bool], rectangle: Rectangle) -> bool
+    ensures { result ≡ is_uncovered columns cover.now rectangle }
 {
     let mut found = false;
     for k in 0..rectangle.area() {
@@ -85,9 +85,9 @@ fn add_by(
 {
     match bounds(news) {
         Some(around) => {
-            if is_free(columns, cover, rectangle) {
+            if is_uncovered(columns, cover, rectangle) {
                 found.push(rectangle)?;
-            } else if is_free(columns, cover, around) {
+            } else if is_uncovered(columns, cover, around) {
                 found.push(around)?;
             } else {
                 found.extend_from_slice(news)?;

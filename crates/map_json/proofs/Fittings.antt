@@ -22,13 +22,13 @@ use Rattle.map_model.specs.declared.parts.Layer.{Layer}
 use Rattle.map_model.specs.declared.parts.MapParts.{MapParts}
 use Rattle.map_model.specs.Groups.{all_drawn}
 use Rattle.map_model.specs.Lists.{Each}
-use Rattle.map_model.specs.Keeping.{AreKept, map_level, object_level}
+use Rattle.map_model.specs.Keeping.{AreKept, map_tier, object_tier}
 use Rattle.map_model.specs.Format.{map_names}
 use Rattle.map_model.specs.WellFormed.{IsSize, IsTileSize, IsTileset, AreProperties, IsObject, IsBody, IsDrawn, IsLayer, IsWellFormed, names_of_property}
 use Rattle.map_model.specs.WellFormed.{ids_of, layer_ids, ids_of_object, object_ids_in, object_ids_of, object_ids, first_ids_of}
 use Rattle.json_members.specs.Members.{without, without_all}
 use Rattle.refusals.specs.declared.map_refusal.MapRefusal.TheVariants.{Fraction, Infinite, IdUsedTwice, OverLimit, NotAMap}
-use Rattle.map_values.specs.Steps.{required, absent_means}
+use Rattle.map_values.specs.Presence.{required, absent_means}
 use Rattle.map_values.specs.Scalars.{whole_at, truth_at}
 use Rattle.map_json.specs.Elements.{elements_at}
 use Rattle.map_json.specs.Reading.{property_at, properties_of, tileset_at, map_layers_at}
@@ -46,32 +46,32 @@ use Rattle.map_json.proofs.Layers.{WasReadBody, WasReadDrawn, WasReadLayer, map_
 use Rattle.map_json.proofs.Apart.{Distinct-numbers, Distinct-texts, Each-flat_map, AreIds-read}
 
 -- ---- names that differ within each owner
-AreProperties-read : (level : ℕ) (ps : List Property) → WereRead level ps → are_named_apart ps ≡ true → AreProperties level ps
-AreProperties-read level ps h e = record { few = h.few; each = h.each; distinct = Distinct-texts (flat_map names_of_property ps) e }
+AreProperties-read : (tier : ℕ) (ps : List Property) → WereRead tier ps → are_named_apart ps ≡ true → AreProperties tier ps
+AreProperties-read tier ps h e = record { few = h.few; each = h.each; distinct = Distinct-texts (flat_map names_of_property ps) e }
 
-Each-IsObject : (level : ℕ) (os : List Object) → Each (WasReadObject level) os → list_all are_named_apart (map (λ (o : Object). o.properties) os) ≡ true
-    → Each (IsObject level) os
-Each-IsObject level [] h e = tt
-Each-IsObject level (o ∷ os) h e =
+Each-IsObject : (tier : ℕ) (os : List Object) → Each (WasReadObject tier) os → list_all are_named_apart (map (λ (o : Object). o.properties) os) ≡ true
+    → Each (IsObject tier) os
+Each-IsObject tier [] h e = tt
+Each-IsObject tier (o ∷ os) h e =
     let f = and_parts (are_named_apart o.properties) (list_all are_named_apart (map (λ (p : Object). p.properties) os)) e in (
-      record { placing = h.0.placing; name = h.0.name; gid = h.0.gid; properties = AreProperties-read level o.properties h.0.properties f.0; kept = h.0.kept },
-      Each-IsObject level os h.1 f.1,
+      record { placing = h.0.placing; name = h.0.name; gid = h.0.gid; properties = AreProperties-read tier o.properties h.0.properties f.0; kept = h.0.kept },
+      Each-IsObject tier os h.1 f.1,
     )
 
-IsBody-read : (level size : ℕ) (b : Body) → WasReadBody level size b → list_all are_named_apart (lists_in b) ≡ true → IsBody level size b
-IsBody-read level size (Tiles e cells) h f = h
-IsBody-read level size (Objects os) h f = (h.0, Each-IsObject (object_level level) os h.1 f)
-IsBody-read level size Other h f = tt
-IsBody-read level size (Group' s r) h f = h
+IsBody-read : (tier size : ℕ) (b : Body) → WasReadBody tier size b → list_all are_named_apart (lists_in b) ≡ true → IsBody tier size b
+IsBody-read tier size (Tiles e cells) h f = h
+IsBody-read tier size (Objects os) h f = (h.0, Each-IsObject (object_tier tier) os h.1 f)
+IsBody-read tier size Other h f = tt
+IsBody-read tier size (Group' s r) h f = h
 
-IsLayer-read : (level size : ℕ) (l : Layer) → WasReadLayer level size l → list_all are_named_apart (lists_of_layer l) ≡ true → IsLayer level size l
-IsLayer-read level size l h e =
+IsLayer-read : (tier size : ℕ) (l : Layer) → WasReadLayer tier size l → list_all are_named_apart (lists_of_layer l) ≡ true → IsLayer tier size l
+IsLayer-read tier size l h e =
     let f = and_parts (are_named_apart l.properties) (list_all are_named_apart (lists_in l.body)) e in
     record {
       name = h.name;
-      properties = AreProperties-read level l.properties h.properties f.0;
+      properties = AreProperties-read tier l.properties h.properties f.0;
       kept = h.kept;
-      body = IsBody-read level size l.body h.body f.1;
+      body = IsBody-read tier size l.body h.body f.1;
     }
 
 Each-IsDrawn : (size : ℕ) (ds : List (ℕ × Layer)) → Each (WasReadDrawn size) ds → list_all are_named_apart (flat_map lists_of_drawn ds) ≡ true
@@ -83,11 +83,11 @@ Each-IsDrawn size (d ∷ ds) h e =
     (IsLayer-read d.0 size d.1 h.0 f.0, Each-IsDrawn size ds h.1 f.1)
 
 -- ---- ids from 1 on
-low_in : (level size : ℕ) (b : Body) → WasReadBody level size b → Each (λ id. 1 ≤ id) (object_ids_in b)
-low_in level size (Tiles e cells) h = tt
-low_in level size (Objects os) h = Each-flat_map (λ id. 1 ≤ id) (WasReadObject (object_level level)) ids_of_object (λ o g. (g.low, tt)) os h.1
-low_in level size Other h = tt
-low_in level size (Group' s r) h = tt
+low_in : (tier size : ℕ) (b : Body) → WasReadBody tier size b → Each (λ id. 1 ≤ id) (object_ids_in b)
+low_in tier size (Tiles e cells) h = tt
+low_in tier size (Objects os) h = Each-flat_map (λ id. 1 ≤ id) (WasReadObject (object_tier tier)) ids_of_object (λ o g. (g.low, tt)) os h.1
+low_in tier size Other h = tt
+low_in tier size (Group' s r) h = tt
 
 -- ---- the members but the version
 -- a member left out before others, or behind them
@@ -127,7 +127,7 @@ fine_without_all : (n : ℕ) (v : List ℕ) (ks : List (List ℕ)) (ms : Members
 fine_without_all n v [] ms h = h
 fine_without_all n v (k ∷ ks) ms h = fine_without_all n v ks (without k ms) (fine_without n v k ms h)
 
-kept_of_map : (ms : Members) → AreFineMembers 126 (without VERSION.now ms) → AreKept map_level map_names (without_all map_names ms)
+kept_of_map : (ms : Members) → AreFineMembers 126 (without VERSION.now ms) → AreKept map_tier map_names (without_all map_names ms)
 kept_of_map ms h =
     let lacks = LacksAll-without_all map_names ms in
     let fine = subst (λ (x : Members). AreFineMembers 126 x) (without-absent VERSION.now (without_all map_names ms) lacks.1.1.1.1.1.1.1.1.1.1.1.0)
@@ -153,8 +153,8 @@ record WasReadMap (m : MapParts) : Type 0 where
   layers : Each (WasReadDrawn (m.width * m.height)) (all_drawn m.layers)
   tilesets_few : length m.tilesets ≤ MAX_TILESETS
   tilesets : Each IsTileset m.tilesets
-  properties : WereRead map_level m.properties
-  kept : AreKept map_level map_names m.kept
+  properties : WereRead map_tier m.properties
+  kept : AreKept map_tier map_names m.kept
 
 parts_sound : (ms : Members) (m : MapParts) → AreFineMembers 126 (without VERSION.now ms) → parts_of ms ≡ Ok m → WasReadMap m
 unfolding parts_of
@@ -210,7 +210,7 @@ parts_sound ms m fine e =
       layers = layers_read.1;
       tilesets_few = tilesets_read.0;
       tilesets = tilesets_read.1;
-      properties = properties_sound map_level 124 (omega arith) others properties fine properties_in;
+      properties = properties_sound map_tier 124 (omega arith) others properties fine properties_in;
       kept = kept_of_map ms fine;
     } in
     subst WasReadMap (ok_is (record {
@@ -258,7 +258,7 @@ IsWellFormed-read m h apart below =
             (Each-flat_map (λ id. 1 ≤ id) (WasReadDrawn size) object_ids_of (λ x g. low_in x.0 size x.1.body g.body) (all_drawn m.layers) h.layers) c.1 f.1;
       };
       tilesets = record { few = h.tilesets_few; each = h.tilesets; distinct = Distinct-numbers (flat_map first_ids_of m.tilesets) b.1 };
-      properties = AreProperties-read map_level m.properties h.properties d.0;
+      properties = AreProperties-read map_tier m.properties h.properties d.0;
       kept = h.kept;
     }
 

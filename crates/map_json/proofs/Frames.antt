@@ -184,37 +184,37 @@ replaced-numbers width height d l ns g h =
 
 -- ---- the tree of a layer
 -- it is its frame's with its numbers
-pub layer_tree-numbers : (room width height : ℕ) (l : Layer) (ns : List ℕ) → numbers_of l.body ≡ Some ns
+pub layer_tree-numbers : (groups width height : ℕ) (l : Layer) (ns : List ℕ) → numbers_of l.body ≡ Some ns
     → Each (λ name. get_member name l.kept ≡ None) (layer_names l.body)
-    → object (replaced DATA.now (array_by whole_tree ns) (layer_frame width height l)) ≡ layer_tree room width height l
+    → object (replaced DATA.now (array_by whole_tree ns) (layer_frame width height l)) ≡ layer_tree groups width height l
 unfolding layer_tree
 layer_tree-numbers zero width height l ns g h = ap object (replaced-numbers width height (array no_items) l ns g h)
-layer_tree-numbers (suc room) width height l ns g h = ap object (replaced-numbers width height (layers_tree room width height (inside l)) l ns g h)
+layer_tree-numbers (suc groups) width height l ns g h = ap object (replaced-numbers width height (layers_tree groups width height (inside l)) l ns g h)
 
 layer_frame-whole : (width height : ℕ) (l : Layer) → numbers_of l.body ≡ None
     → object (layer_frame width height l) ≡ object (with_own (layer_own width height (array no_items) l) l.kept)
 layer_frame-whole width height l none = ap (λ (k : Layer). object (with_own (layer_own width height (array no_items) k) l.kept)) (framed-whole l none)
 
 -- it is its frame's, where it has no numbers, and is no group or has no room for layers in it
-pub layer_tree-frame : (room width height : ℕ) (l : Layer) → numbers_of l.body ≡ None → group_in l.body ≡ None
-    → object (layer_frame width height l) ≡ layer_tree room width height l
+pub layer_tree-frame : (groups width height : ℕ) (l : Layer) → numbers_of l.body ≡ None → group_in l.body ≡ None
+    → object (layer_frame width height l) ≡ layer_tree groups width height l
 unfolding layer_tree
 layer_tree-frame zero width height l none g = layer_frame-whole width height l none
-layer_tree-frame (suc room) width height l none g =
+layer_tree-frame (suc groups) width height l none g =
     layer_frame-whole width height l none ∙ ap (λ own. object (with_own own l.kept))
-    (layer_own-other width height (array no_items) (layers_tree room width height (inside l)) l l.body g)
+    (layer_own-other width height (array no_items) (layers_tree groups width height (inside l)) l l.body g)
 
-pub layer_tree-room : (room width height : ℕ) (l : Layer) → numbers_of l.body ≡ None → room ≡ 0
-    → object (layer_frame width height l) ≡ layer_tree room width height l
+pub layer_tree-groups : (groups width height : ℕ) (l : Layer) → numbers_of l.body ≡ None → groups ≡ 0
+    → object (layer_frame width height l) ≡ layer_tree groups width height l
 unfolding layer_tree
-layer_tree-room room width height l none no_room = rw no_room (layer_frame-whole width height l none)
+layer_tree-groups groups width height l none no_groups = rw no_groups (layer_frame-whole width height l none)
 
 -- the tree of a group
-pub layer_tree-group : (room less width height : ℕ) (l : Layer) (ls : List Layer) → room ≡ suc less → group_in l.body ≡ Some ls
+pub layer_tree-group : (groups less width height : ℕ) (l : Layer) (ls : List Layer) → groups ≡ suc less → group_in l.body ≡ Some ls
     → Each (λ name. get_member name l.kept ≡ None) (layer_names l.body)
-    → object (replaced LAYERS.now (layers_tree less width height ls) (layer_frame width height l)) ≡ layer_tree room width height l
+    → object (replaced LAYERS.now (layers_tree less width height ls) (layer_frame width height l)) ≡ layer_tree groups width height l
 unfolding layer_tree
-layer_tree-group room less width height l ls more g h =
+layer_tree-group groups less width height l ls more g h =
     ap object (replaced-layer_frame width height (layers_tree less width height ls) l ls g h)
     ∙ (ap (λ o. object (with_own (layer_own width height (layers_tree less width height (or_empty o)) l) l.kept)) (sym g)
     ∙ ap (λ n. layer_tree n width height l) (sym more))

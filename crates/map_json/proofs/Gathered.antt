@@ -4,96 +4,97 @@ use Rattle.std.specs.List.{list_all, flat_map}
 use Rattle.std.proofs.lemmas.Grind.{flat_map-append}
 use Rattle.map_model.specs.declared.parts.Layer.{Layer}
 use Rattle.map_model.specs.Groups.{tree, drawn, bare, inside}
-use Rattle.map_model.specs.Keeping.{inner_level, layer_level}
+use Rattle.map_model.specs.Keeping.{inner_tier, layer_tier}
 use Rattle.map_model.proofs.Trees.{tree-is}
 use Rattle.map_json.proofs.Walks.{all_pass, one_fails}
 
 module _ {B : Type 0} (f : Layer → List B) where
-  -- what is gathered of layers with their levels
+  -- what is gathered of layers with their tiers
   abbrev pub of_drawn : ℕ × Layer → List B
   of_drawn d = f d.1
 
   abbrev pub gathered : ℕ → ℕ → List Layer → List B
-  gathered room level ls = flat_map of_drawn (drawn room level ls)
+  gathered groups tier ls = flat_map of_drawn (drawn groups tier ls)
 
   -- what is gathered of a layer: its own, and that of those in it
   abbrev pub gathered_below : ℕ → ℕ → Layer → List B
-  gathered_below zero level l = []
-  gathered_below (suc room) level l = gathered room (inner_level level) (inside l)
+  gathered_below zero tier l = []
+  gathered_below (suc groups) tier l = gathered groups (inner_tier tier) (inside l)
 
-  one-gathered : (room level : ℕ) (l : Layer) → flat_map of_drawn (tree room level l) ≡ f (bare l) ++ gathered_below room level l
-  one-gathered zero level l = ap (flat_map of_drawn) (tree-is zero level l)
-  one-gathered (suc room) level l = ap (flat_map of_drawn) (tree-is (suc room) level l)
+  one-gathered : (groups tier : ℕ) (l : Layer) → flat_map of_drawn (tree groups tier l) ≡ f (bare l) ++ gathered_below groups tier l
+  one-gathered zero tier l = ap (flat_map of_drawn) (tree-is zero tier l)
+  one-gathered (suc groups) tier l = ap (flat_map of_drawn) (tree-is (suc groups) tier l)
 
-  gathered-cons : (room level : ℕ) (l : Layer) (ls : List Layer)
-      → gathered room level (l ∷ ls) ≡ (f (bare l) ++ gathered_below room level l) ++ gathered room level ls
-  gathered-cons room level l ls = flat_map-append of_drawn (tree room level l) (drawn room level ls)
-      ∙ ap (λ (xs : List B). xs ++ gathered room level ls) (one-gathered room level l)
+  gathered-cons : (groups tier : ℕ) (l : Layer) (ls : List Layer)
+      → gathered groups tier (l ∷ ls) ≡ (f (bare l) ++ gathered_below groups tier l) ++ gathered groups tier ls
+  gathered-cons groups tier l ls = flat_map-append of_drawn (tree groups tier l) (drawn groups tier ls)
+      ∙ ap (λ (xs : List B). xs ++ gathered groups tier ls) (one-gathered groups tier l)
 
-  -- at whatever level
-  level_list : (room a b : ℕ) → ((l : Layer) → gathered_below room a l ≡ gathered_below room b l) → (ls : List Layer) → gathered room a ls ≡ gathered room b ls
-  level_list room a b same [] = refl
-  level_list room a b same (l ∷ ls) =
-      gathered-cons room a l ls ∙ ap₂ (λ (x y : List B). (f (bare l) ++ x) ++ y) (same l) (level_list room a b same ls) ∙ sym (gathered-cons room b l ls)
+  -- at whatever tier
+  tier_list : (groups a b : ℕ) → ((l : Layer) → gathered_below groups a l ≡ gathered_below groups b l) → (ls : List Layer)
+      → gathered groups a ls ≡ gathered groups b ls
+  tier_list groups a b same [] = refl
+  tier_list groups a b same (l ∷ ls) =
+      gathered-cons groups a l ls ∙ ap₂ (λ (x y : List B). (f (bare l) ++ x) ++ y) (same l) (tier_list groups a b same ls) ∙ sym (gathered-cons groups b l ls)
 
-  level_below : (room a b : ℕ) (l : Layer) → gathered_below room a l ≡ gathered_below room b l
-  level_below zero a b l = refl
-  level_below (suc room) a b l = level_list room (inner_level a) (inner_level b) (level_below room (inner_level a) (inner_level b)) (inside l)
+  tier_below : (groups a b : ℕ) (l : Layer) → gathered_below groups a l ≡ gathered_below groups b l
+  tier_below zero a b l = refl
+  tier_below (suc groups) a b l = tier_list groups (inner_tier a) (inner_tier b) (tier_below groups (inner_tier a) (inner_tier b)) (inside l)
 
-  pub any_level : (room a b : ℕ) (ls : List Layer) → gathered room a ls ≡ gathered room b ls
-  any_level room a b ls = level_list room a b (level_below room a b) ls
+  pub any_tier : (groups a b : ℕ) (ls : List Layer) → gathered groups a ls ≡ gathered groups b ls
+  any_tier groups a b ls = tier_list groups a b (tier_below groups a b) ls
 
   module _ (own : (l : Layer) → f (bare l) ≡ f l) where
     -- one layer more: with no room for layers in it, or with these in it
-    pub gathered-alone : (room : ℕ) (l : Layer) (ls : List Layer) → room ≡ 0 → gathered room layer_level (l ∷ ls) ≡ f l ++ gathered room layer_level ls
-    gathered-alone room l ls none =
-        gathered-cons room layer_level l ls
-        ∙ (ap (λ n. (f (bare l) ++ gathered_below n layer_level l) ++ gathered room layer_level ls) none
-        ∙ ap (λ (xs : List B). xs ++ gathered room layer_level ls) (append-nil (f (bare l)) ∙ own l))
+    pub gathered-alone : (groups : ℕ) (l : Layer) (ls : List Layer) → groups ≡ 0 → gathered groups layer_tier (l ∷ ls) ≡ f l ++ gathered groups layer_tier ls
+    gathered-alone groups l ls none =
+        gathered-cons groups layer_tier l ls
+        ∙ (ap (λ n. (f (bare l) ++ gathered_below n layer_tier l) ++ gathered groups layer_tier ls) none
+        ∙ ap (λ (xs : List B). xs ++ gathered groups layer_tier ls) (append-nil (f (bare l)) ∙ own l))
 
-    pub gathered-inside : (room less : ℕ) (l : Layer) (ls ks : List Layer) → room ≡ suc less → inside l ≡ ks
-        → gathered room layer_level (l ∷ ls) ≡ (f l ++ gathered less layer_level ks) ++ gathered room layer_level ls
-    gathered-inside room less l ls ks more are =
-        gathered-cons room layer_level l ls
-        ∙ (ap (λ n. (f (bare l) ++ gathered_below n layer_level l) ++ gathered room layer_level ls) more
-        ∙ ap₂ (λ (x y : List B). (x ++ y) ++ gathered room layer_level ls) (own l)
-        (any_level less (inner_level layer_level) layer_level (inside l) ∙ ap (gathered less layer_level) are))
+    pub gathered-inside : (groups less : ℕ) (l : Layer) (ls ks : List Layer) → groups ≡ suc less → inside l ≡ ks
+        → gathered groups layer_tier (l ∷ ls) ≡ (f l ++ gathered less layer_tier ks) ++ gathered groups layer_tier ls
+    gathered-inside groups less l ls ks more are =
+        gathered-cons groups layer_tier l ls
+        ∙ (ap (λ n. (f (bare l) ++ gathered_below n layer_tier l) ++ gathered groups layer_tier ls) more
+        ∙ ap₂ (λ (x y : List B). (x ++ y) ++ gathered groups layer_tier ls) (own l)
+        (any_tier less (inner_tier layer_tier) layer_tier (inside l) ∙ ap (gathered less layer_tier) are))
 
     -- the same where none stand in it
-    pub gathered-empty : (room less : ℕ) (l : Layer) (ls : List Layer) → room ≡ suc less → inside l ≡ []
-        → gathered room layer_level (l ∷ ls) ≡ f l ++ gathered room layer_level ls
-    gathered-empty room less l ls more are =
-        gathered-inside room less l ls [] more are ∙ ap (λ (xs : List B). xs ++ gathered room layer_level ls) (append-nil (f l))
+    pub gathered-empty : (groups less : ℕ) (l : Layer) (ls : List Layer) → groups ≡ suc less → inside l ≡ []
+        → gathered groups layer_tier (l ∷ ls) ≡ f l ++ gathered groups layer_tier ls
+    gathered-empty groups less l ls more are =
+        gathered-inside groups less l ls [] more are ∙ ap (λ (xs : List B). xs ++ gathered groups layer_tier ls) (append-nil (f l))
 
     -- a test of all that is gathered
     module _ (p : B → Bool) where
-      pub failed-own : (room : ℕ) (l : Layer) (ls : List Layer) → list_all p (f l) ≡ false → list_all p (gathered room layer_level (l ∷ ls)) ≡ false
-      failed-own room l ls h =
-          ap (list_all p) (gathered-cons room layer_level l ls)
-          ∙ one_fails p (f (bare l) ++ gathered_below room layer_level l) (gathered room layer_level ls)
-          (one_fails p (f (bare l)) (gathered_below room layer_level l) (ap (list_all p) (own l) ∙ h))
+      pub failed-own : (groups : ℕ) (l : Layer) (ls : List Layer) → list_all p (f l) ≡ false → list_all p (gathered groups layer_tier (l ∷ ls)) ≡ false
+      failed-own groups l ls h =
+          ap (list_all p) (gathered-cons groups layer_tier l ls)
+          ∙ one_fails p (f (bare l) ++ gathered_below groups layer_tier l) (gathered groups layer_tier ls)
+          (one_fails p (f (bare l)) (gathered_below groups layer_tier l) (ap (list_all p) (own l) ∙ h))
 
-      pub failed-inside : (room less : ℕ) (l : Layer) (ls ks : List Layer) → room ≡ suc less → inside l ≡ ks → list_all p (f l) ≡ true
-          → list_all p (gathered less layer_level ks) ≡ false
-          → list_all p (gathered room layer_level (l ∷ ls)) ≡ false
-      failed-inside room less l ls ks more are passed h =
-          ap (list_all p) (gathered-inside room less l ls ks more are)
-          ∙ one_fails p (f l ++ gathered less layer_level ks) (gathered room layer_level ls)
-          (all_pass p (f l) (gathered less layer_level ks) passed ∙ h)
+      pub failed-inside : (groups less : ℕ) (l : Layer) (ls ks : List Layer) → groups ≡ suc less → inside l ≡ ks → list_all p (f l) ≡ true
+          → list_all p (gathered less layer_tier ks) ≡ false
+          → list_all p (gathered groups layer_tier (l ∷ ls)) ≡ false
+      failed-inside groups less l ls ks more are passed h =
+          ap (list_all p) (gathered-inside groups less l ls ks more are)
+          ∙ one_fails p (f l ++ gathered less layer_tier ks) (gathered groups layer_tier ls)
+          (all_pass p (f l) (gathered less layer_tier ks) passed ∙ h)
 
-      pub passed-inside : (room less : ℕ) (l : Layer) (ls ks : List Layer) → room ≡ suc less → inside l ≡ ks → list_all p (f l) ≡ true
-          → list_all p (gathered less layer_level ks) ≡ true
-          → list_all p (gathered room layer_level (l ∷ ls)) ≡ list_all p (gathered room layer_level ls)
-      passed-inside room less l ls ks more are passed h =
-          ap (list_all p) (gathered-inside room less l ls ks more are)
-          ∙ all_pass p (f l ++ gathered less layer_level ks) (gathered room layer_level ls)
-          (all_pass p (f l) (gathered less layer_level ks) passed ∙ h)
+      pub passed-inside : (groups less : ℕ) (l : Layer) (ls ks : List Layer) → groups ≡ suc less → inside l ≡ ks → list_all p (f l) ≡ true
+          → list_all p (gathered less layer_tier ks) ≡ true
+          → list_all p (gathered groups layer_tier (l ∷ ls)) ≡ list_all p (gathered groups layer_tier ls)
+      passed-inside groups less l ls ks more are passed h =
+          ap (list_all p) (gathered-inside groups less l ls ks more are)
+          ∙ all_pass p (f l ++ gathered less layer_tier ks) (gathered groups layer_tier ls)
+          (all_pass p (f l) (gathered less layer_tier ks) passed ∙ h)
 
-      pub passed-empty : (room less : ℕ) (l : Layer) (ls : List Layer) → room ≡ suc less → inside l ≡ [] → list_all p (f l) ≡ true
-          → list_all p (gathered room layer_level (l ∷ ls)) ≡ list_all p (gathered room layer_level ls)
-      passed-empty room less l ls more are passed = passed-inside room less l ls [] more are passed refl
+      pub passed-empty : (groups less : ℕ) (l : Layer) (ls : List Layer) → groups ≡ suc less → inside l ≡ [] → list_all p (f l) ≡ true
+          → list_all p (gathered groups layer_tier (l ∷ ls)) ≡ list_all p (gathered groups layer_tier ls)
+      passed-empty groups less l ls more are passed = passed-inside groups less l ls [] more are passed refl
 
-      pub passed-alone : (room : ℕ) (l : Layer) (ls : List Layer) → room ≡ 0 → list_all p (f l) ≡ true
-          → list_all p (gathered room layer_level (l ∷ ls)) ≡ list_all p (gathered room layer_level ls)
-      passed-alone room l ls none passed =
-          ap (list_all p) (gathered-alone room l ls none) ∙ all_pass p (f l) (gathered room layer_level ls) passed
+      pub passed-alone : (groups : ℕ) (l : Layer) (ls : List Layer) → groups ≡ 0 → list_all p (f l) ≡ true
+          → list_all p (gathered groups layer_tier (l ∷ ls)) ≡ list_all p (gathered groups layer_tier ls)
+      passed-alone groups l ls none passed =
+          ap (list_all p) (gathered-alone groups l ls none) ∙ all_pass p (f l) (gathered groups layer_tier ls) passed

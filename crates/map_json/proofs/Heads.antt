@@ -6,12 +6,12 @@ use Rattle.serde_json.specs.Find.{as_object}
 use Rattle.map_model.specs.declared.parts.Body.{Body}
 use Rattle.map_model.specs.declared.parts.Layer.{Layer}
 use Rattle.map_model.specs.Format.{common_names, body_names, layer_names}
-use Rattle.map_model.specs.Steps.{◌>>=◌}
+use Rattle.map_model.specs.Refusing.{◌>>=◌}
 use Rattle.map_json.specs.declared.layer.Head.{Head}
 use Rattle.refusals.specs.declared.map_refusal.MapRefusal.{MapRefusal}
 use Rattle.refusals.specs.declared.map_refusal.MapRefusal.TheVariants.{MemberOfAnotherKind}
 use Rattle.map_values.specs.declared.fault.MapFault.{MapFault}
-use Rattle.map_values.specs.Steps.{Fails}
+use Rattle.map_values.specs.Presence.{Fails}
 use Rattle.map_json.specs.Elements.{Counting}
 use Rattle.json_members.specs.Members.{without_all}
 use Rattle.map_json.specs.Reading.{head_of, body_by, layer_by}

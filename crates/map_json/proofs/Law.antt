@@ -18,13 +18,13 @@ use Rattle.map_model.specs.declared.parts.Placing.{Placing}
 use Rattle.map_model.specs.declared.parts.Object.{Object}
 use Rattle.map_model.specs.declared.parts.Tileset.{Tileset}
 use Rattle.map_model.specs.Lists.{Each}
-use Rattle.map_model.specs.Keeping.{IsOfAnotherKind, property_level}
+use Rattle.map_model.specs.Keeping.{IsOfAnotherKind, property_tier}
 use Rattle.map_model.specs.Format.{property_names, object_names, tileset_names}
 use Rattle.map_model.specs.WellFormed.{IsId, IsValue, IsProperty, AreProperties, IsPixels, IsPlacing, IsTileValue, IsObject, IsTileset}
 use Rattle.json_members.specs.Members.{without_all}
 use Rattle.map_json.specs.Members.{with_own}
 use Rattle.refusals.specs.declared.map_refusal.MapRefusal.{MapRefusal}
-use Rattle.map_values.specs.Steps.{optional, absent_means}
+use Rattle.map_values.specs.Presence.{optional, absent_means}
 use Rattle.map_values.specs.Scalars.{whole_at, signed_at, text_at, truth_at, id_at, pixels_at}
 use Rattle.map_json.specs.Elements.{elements_at}
 use Rattle.map_json.specs.Reading.{value_of, property_at, placing_of, object_at, tileset_at, encoding_at, same_at, cells_at}
@@ -88,12 +88,12 @@ other_again (string s) h = absurd h
 other_again (array ds) h = refl
 other_again (object ms) h = refl
 
-value_again : (level : ℕ) (v : PropValue) → IsValue level v → value_of (value_tree v) ≡ v
-value_again level (values.Text s) h = refl
-value_again level (values.Whole (pos n)) h = rw (held_number (2 ^ 63 - 1) n (to_true (int_le (pos n) (pos (2 ^ 63 - 1))) h.high.le) (omega arith)) refl
-value_again level (values.Whole (negsuc n)) h = refl
-value_again level (values.Truth b) h = refl
-value_again level (values.Other d) h = other_again d h.kind
+value_again : (tier : ℕ) (v : PropValue) → IsValue tier v → value_of (value_tree v) ≡ v
+value_again tier (values.Text s) h = refl
+value_again tier (values.Whole (pos n)) h = rw (held_number (2 ^ 63 - 1) n (to_true (int_le (pos n) (pos (2 ^ 63 - 1))) h.high.le) (omega arith)) refl
+value_again tier (values.Whole (negsuc n)) h = refl
+value_again tier (values.Truth b) h = refl
+value_again tier (values.Other d) h = other_again d h.kind
 
 property_read : (p : Property) (ms : Members) → get_member NAME.now ms ≡ Some (string p.name) → get_member TYPE.now ms ≡ Some (string p.kind)
     → get_member VALUE.now ms ≡ Some (value_tree p.value)
@@ -101,20 +101,20 @@ property_read : (p : Property) (ms : Members) → get_member NAME.now ms ≡ Som
 unfolding property_at text_at
 property_read p ms name kind value held kept = rw (name, kind, value, held, kept) refl
 
-property_again : (level : ℕ) (p : Property) → IsProperty level p → property_at (property_tree p) ≡ Ok p
+property_again : (tier : ℕ) (p : Property) → IsProperty tier p → property_at (property_tree p) ≡ Ok p
 unfolding property_tree
-property_again level p h =
+property_again tier p h =
     let own = property_own p in
     property_read p (with_own own p.kept) (get_member-with_own NAME.now own p.kept) (get_member-with_own TYPE.now own p.kept)
     (get_member-with_own VALUE.now own p.kept)
-    (value_again level p.value h.value) (without_all-with_own own p.kept refl h.kept.unread)
+    (value_again tier p.value h.value) (without_all-with_own own p.kept refl h.kept.unread)
 
-pub properties_again : (level : ℕ) (ps : List Property) → AreProperties level ps
+pub properties_again : (tier : ℕ) (ps : List Property) → AreProperties tier ps
     → absent_means [] (elements_at MAX_PROPERTIES property_at) (properties_member ps) ≡ Ok ps
-properties_again level [] h = refl
-properties_again level (p ∷ ps) h =
+properties_again tier [] h = refl
+properties_again tier (p ∷ ps) h =
     elements_again property_tree property_at MAX_PROPERTIES (p ∷ ps) h.few
-    (Each-along (IsProperty (property_level level)) (λ q. property_at (property_tree q) ≡ Ok q) (property_again (property_level level)) (p ∷ ps) h.each)
+    (Each-along (IsProperty (property_tier tier)) (λ q. property_at (property_tree q) ≡ Ok q) (property_again (property_tier tier)) (p ∷ ps) h.each)
 
 -- ---- tilesets
 tileset_read : (t : Tileset) (ms : Members) → get_member FIRST_ID.now ms ≡ Some (whole_tree t.first_id) → get_member SOURCE.now ms ≡ option_map string t.source
@@ -152,9 +152,9 @@ unfolding object_at
 object_read o ms id placing name visible gid properties id_ok gid_ok properties_ok kept =
     rw (id, id_ok, placing, name, text_again o.name, visible, truth_again o.visible, gid, gid_ok, properties, properties_ok, kept) refl
 
-pub object_again : (level : ℕ) (o : Object) → id_at (whole_tree o.id) ≡ Ok o.id → IsObject level o → object_at (object_tree o) ≡ Ok o
+pub object_again : (tier : ℕ) (o : Object) → id_at (whole_tree o.id) ≡ Ok o.id → IsObject tier o → object_at (object_tree o) ≡ Ok o
 unfolding object_tree
-object_again level o id_ok h =
+object_again tier o id_ok h =
     let own = object_own o in
     let kept = o.kept in
     let ms = with_own own kept in
@@ -170,7 +170,7 @@ object_again level o id_ok h =
     (get_member-with_own VISIBLE.now own kept ∙ or_none (option_map boolean o.visible) (get_member VISIBLE.now kept) lacks.1.1.1.1.1.1.0)
     (get_member-with_own GID.now own kept ∙ or_none (option_map whole_tree o.gid) (get_member GID.now kept) lacks.1.1.1.1.1.1.1.0)
     (get_member-with_own PROPERTIES.now own kept ∙ or_none (properties_member o.properties) (get_member PROPERTIES.now kept) lacks.1.1.1.1.1.1.1.1.0)
-    id_ok (optional_again IsTileValue whole_tree (whole_at 0 4294967295) gid_again o.gid h.gid) (properties_again level o.properties h.properties)
+    id_ok (optional_again IsTileValue whole_tree (whole_at 0 4294967295) gid_again o.gid h.gid) (properties_again tier o.properties h.properties)
     (without_all-with_own own kept refl lacks)
 
 -- ---- cells

@@ -15,9 +15,9 @@ use Rattle.map_model.specs.declared.parts.Body.TheVariants.{Tiles, Objects, Othe
 use Rattle.map_model.specs.declared.parts.Layer.{Layer}
 use Rattle.map_model.specs.Groups.{all_drawn, bare, body_with_layers, drawn, group_in, tree}
 use Rattle.map_model.specs.Lists.{Each}
-use Rattle.map_model.specs.Keeping.{AreKept, deepest_level, inner_level, layer_level, object_level, property_level}
+use Rattle.map_model.specs.Keeping.{AreKept, deepest_tier, inner_tier, layer_tier, object_tier, property_tier}
 use Rattle.map_model.specs.Format.{body_names, layer_names}
-use Rattle.map_model.specs.Steps.{◌>>=◌, ◌>>◌, check}
+use Rattle.map_model.specs.Refusing.{◌>>=◌, ◌>>◌, check}
 use Rattle.map_model.specs.WellFormed.{IsTileValue}
 use Rattle.map_model.proofs.Trees.{below}
 use Rattle.json_members.specs.Members.{without_all}
@@ -25,7 +25,7 @@ use Rattle.map_json.specs.declared.body.LayerType.{LayerType}
 use Rattle.map_json.specs.declared.body.LayerType.TheVariants.{TileLayer, ObjectGroup, ImageLayer, GroupLayer}
 use Rattle.map_json.specs.declared.layer.Head.{Head}
 use Rattle.refusals.specs.declared.map_refusal.MapRefusal.TheVariants.{MemberOfAnotherKind, OverLimit}
-use Rattle.map_values.specs.Steps.{required, absent_means}
+use Rattle.map_values.specs.Presence.{required, absent_means}
 use Rattle.map_values.specs.Scalars.{text_at, truth_at, id_at}
 use Rattle.map_json.specs.Elements.{Counting, each_counted, elements_at}
 use Rattle.map_json.specs.Reading.{properties_of, object_at, type_at, encoding_at, compression_at, same_at, cells_at, tiles_of, objects_of, body_by}
@@ -38,21 +38,21 @@ use Rattle.map_json.proofs.Sound.{text_or_sound, by_bind, by_check, by_step, ok_
 use Rattle.map_json.proofs.Sound.{required_whole_sound, elements_sound, cells_tree_sound, WereRead, properties_sound}
 use Rattle.map_json.proofs.Owners.{WasReadObject, object_sound}
 
--- what a layer at this level holds itself, on a map of so many cells; whether names of properties differ is told apart
+-- what a layer at this tier holds itself, on a map of so many cells; whether names of properties differ is told apart
 abbrev pub WasReadBody : ℕ → ℕ → Body → Type 0
-WasReadBody level size (Tiles e cells) = (length cells ≡ size) × Each IsTileValue cells
-WasReadBody level size (Objects os) = (length os ≤ MAX_OBJECTS) × Each (WasReadObject (object_level level)) os
-WasReadBody level size Other = Unit {0}
-WasReadBody level size (Group' s r) = level < deepest_level
+WasReadBody tier size (Tiles e cells) = (length cells ≡ size) × Each IsTileValue cells
+WasReadBody tier size (Objects os) = (length os ≤ MAX_OBJECTS) × Each (WasReadObject (object_tier tier)) os
+WasReadBody tier size Other = Unit {0}
+WasReadBody tier size (Group' s r) = tier < deepest_tier
 
-pub record WasReadLayer (level size : ℕ) (l : Layer) : Type 0 where
+pub record WasReadLayer (tier size : ℕ) (l : Layer) : Type 0 where
   pub low : 1 ≤ l.id
   pub name : IsUtf8 l.name
-  pub properties : WereRead level l.properties
-  pub kept : AreKept level (layer_names l.body) l.kept
-  pub body : WasReadBody level size l.body
+  pub properties : WereRead tier l.properties
+  pub kept : AreKept tier (layer_names l.body) l.kept
+  pub body : WasReadBody tier size l.body
 
--- a layer with its level
+-- a layer with its tier
 abbrev pub WasReadDrawn : ℕ → ℕ × Layer → Type 0
 WasReadDrawn size d = WasReadLayer d.0 size d.1
 
@@ -73,42 +73,42 @@ module _ (f : List Layer → List Layer) where
   body_names-with Other = refl
   body_names-with (Group' s r) = refl
 
-  WasReadBody-with : (level size : ℕ) (b : Body) → WasReadBody level size (body_with_layers f b) ≡ WasReadBody level size b
-  WasReadBody-with level size (Tiles e cells) = refl
-  WasReadBody-with level size (Objects os) = refl
-  WasReadBody-with level size Other = refl
-  WasReadBody-with level size (Group' s r) = refl
+  WasReadBody-with : (tier size : ℕ) (b : Body) → WasReadBody tier size (body_with_layers f b) ≡ WasReadBody tier size b
+  WasReadBody-with tier size (Tiles e cells) = refl
+  WasReadBody-with tier size (Objects os) = refl
+  WasReadBody-with tier size Other = refl
+  WasReadBody-with tier size (Group' s r) = refl
 
-WasReadLayer-bare : (level size : ℕ) (l : Layer) → WasReadLayer level size l → WasReadLayer level size (bare l)
-WasReadLayer-bare level size l h = record {
+WasReadLayer-bare : (tier size : ℕ) (l : Layer) → WasReadLayer tier size l → WasReadLayer tier size (bare l)
+WasReadLayer-bare tier size l h = record {
   low = h.low;
   name = h.name;
   properties = h.properties;
   kept = rw (body_names-with (λ ls. []) l.body) h.kept;
-  body = rw (WasReadBody-with (λ ls. []) level size l.body) h.body;
+  body = rw (WasReadBody-with (λ ls. []) tier size l.body) h.body;
 }
 
 -- ---- layers one after another
 -- a layer that was read with so many counted before it, and those in it
 abbrev LayerRead : ℕ → ℕ → ℕ → ℕ → ℕ × Layer → Type 0
-LayerRead room level size count r = WasReadLayer level size r.1 × WereCounted size count r.0 (below room level r.1)
+LayerRead groups tier size count r = WasReadLayer tier size r.1 × WereCounted size count r.0 (below groups tier r.1)
 
-module _ (room level n size : ℕ) (read : Counting Layer) (sound : (count : ℕ) (d : Data) (r : ℕ × Layer) → IsFine n d → read count d ≡ Ok r → LayerRead room
-    level size count r) where
+module _ (groups tier n size : ℕ) (read : Counting Layer) (sound : (count : ℕ) (d : Data) (r : ℕ × Layer) → IsFine n d → read count d ≡ Ok r → LayerRead groups
+    tier size count r) where
   -- what was read of an array: after stands before its length was added
   record EachRead (ds : Items) (count : ℕ) (r : ℕ × List Layer) : Type 0 where
     long : length r.1 ≡ items_len ds
-    sum : r.0 + length r.1 ≡ count + length (drawn room level r.1)
-    each : Each (WasReadDrawn size) (drawn room level r.1)
+    sum : r.0 + length r.1 ≡ count + length (drawn groups tier r.1)
+    each : Each (WasReadDrawn size) (drawn groups tier r.1)
     few : count ≤ MAX_LAYERS → r.0 ≤ MAX_LAYERS
 
-  each_more : (d : Data) (ds : Items) (count : ℕ) (x : ℕ × Layer) (xs : ℕ × List Layer) → LayerRead room level size count x → EachRead ds x.0 xs
+  each_more : (d : Data) (ds : Items) (count : ℕ) (x : ℕ × Layer) (xs : ℕ × List Layer) → LayerRead groups tier size count x → EachRead ds x.0 xs
       → EachRead (item d ds) count (xs.0, x.1 ∷ xs.1)
   each_more d ds count x xs h more = record {
     long = ap suc more.long;
-    sum = omega (arith, length-drawn room level x.1 xs.1, h.1.sum, more.sum);
-    each = Each-both (WasReadDrawn size) (tree room level x.1) (drawn room level xs.1)
-        (Each-tree (WasReadDrawn size) room level x.1 (WasReadLayer-bare level size x.1 h.0) h.1.each) more.each;
+    sum = omega (arith, length-drawn groups tier x.1 xs.1, h.1.sum, more.sum);
+    each = Each-both (WasReadDrawn size) (tree groups tier x.1) (drawn groups tier xs.1)
+        (Each-tree (WasReadDrawn size) groups tier x.1 (WasReadLayer-bare tier size x.1 h.0) h.1.each) more.each;
     few = λ le. more.few (h.1.few le);
   }
 
@@ -124,7 +124,7 @@ module _ (room level n size : ℕ) (read : Counting Layer) (sound : (count : ℕ
   array_sound : (d : Data) (count : ℕ) (r : ℕ × List Layer) → IsFine (suc n) d
       → (ok_or (as_array d) MemberOfAnotherKind >>= λ ds. check (nat_le (count + items_len ds) MAX_LAYERS) OverLimit >> each_counted read
       (count + items_len ds) ds) ≡ Ok r
-      → WereCounted size count r.0 (drawn room level r.1)
+      → WereCounted size count r.0 (drawn groups tier r.1)
   array_sound d count r fine e =
       by_bind (ok_or (as_array d) MemberOfAnotherKind) _ r e (λ ds ds_is e1.
       by_check (nat_le (count + items_len ds) MAX_LAYERS) OverLimit _ r e1 (λ fits e2.
@@ -135,22 +135,22 @@ module _ (room level n size : ℕ) (read : Counting Layer) (sound : (count : ℕ
 -- ---- layers within layers
 -- what a body holds that was read, and the layers in it
 abbrev BodyRead : ℕ → ℕ → ℕ → ℕ → ℕ × Body → Type 0
-BodyRead room level size count r = WasReadBody level size r.1 × WereCounted size count r.0 (drawn_in room level r.1)
+BodyRead groups tier size count r = WasReadBody tier size r.1 × WereCounted size count r.0 (drawn_in groups tier r.1)
 
 -- the layers of a group, by a reader with this room
 abbrev IsInner : ℕ → ℕ → ℕ → ℕ → Counting (List Layer) → Type 0
-IsInner room level n size inner = (d : Data) (count : ℕ) (ls : ℕ × List Layer) → IsFine n d → inner count d ≡ Ok ls
-    → BodyRead room level size count (ls.0, Group ls.1)
+IsInner groups tier n size inner = (d : Data) (count : ℕ) (ls : ℕ × List Layer) → IsFine n d → inner count d ≡ Ok ls
+    → BodyRead groups tier size count (ls.0, Group ls.1)
 
-alone : (room level size count : ℕ) (b : Body) → group_in b ≡ None → WasReadBody level size b → BodyRead room level size count (count, b)
-alone room level size count b none h = (h, subst (WereCounted size count count) (sym (drawn_in-none room level b none)) (none_counted size count))
+alone : (groups tier size count : ℕ) (b : Body) → group_in b ≡ None → WasReadBody tier size b → BodyRead groups tier size count (count, b)
+alone groups tier size count b none h = (h, subst (WereCounted size count count) (sym (drawn_in-none groups tier b none)) (none_counted size count))
 
-body_sound : (room level n : ℕ) → property_level (object_level level) + n ≤ MAX_DEPTH
+body_sound : (groups tier n : ℕ) → property_tier (object_tier tier) + n ≤ MAX_DEPTH
     → (inner : Counting (List Layer)) (kind : LayerType) (width height count : ℕ) (ms : Members) (r : ℕ × Body)
-    → IsInner room level (suc (suc (suc (suc n)))) (width * height) inner → AreFineMembers (suc (suc (suc (suc n)))) ms
-    → body_by inner kind width height count ms ≡ Ok r → BodyRead room level (width * height) count r
+    → IsInner groups tier (suc (suc (suc (suc n)))) (width * height) inner → AreFineMembers (suc (suc (suc (suc n)))) ms
+    → body_by inner kind width height count ms ≡ Ok r → BodyRead groups tier (width * height) count r
 unfolding tiles_of objects_of
-body_sound room level n deep inner TileLayer width height count ms r sound h e =
+body_sound groups tier n deep inner TileLayer width height count ms r sound h e =
     by_bind (tiles_of width height ms) _ r e (λ b b_is last.
     by_bind (absent_means Array encoding_at (get_member ENCODING.now ms)) _ b b_is (λ encoding encoding_is e1.
     by_step (absent_means tt compression_at (get_member COMPRESSION.now ms)) _ b e1 (λ e2.
@@ -158,24 +158,24 @@ body_sound room level n deep inner TileLayer width height count ms r sound h e =
     by_step (absent_means tt (same_at height) (get_member HEIGHT.now ms)) _ b e3 (λ e4.
     by_bind (required (cells_at encoding (width * height)) (get_member DATA.now ms)) _ b e4 (λ cells cells_is e5.
     let found = required_ok (cells_at encoding (width * height)) (get_member DATA.now ms) cells cells_is in
-    let made = alone room level (width * height) count (Tiles encoding cells) refl (cells_tree_sound encoding (width * height) found.0 cells found.2) in
-    subst (BodyRead room level (width * height) count) (ap (λ c. (count, c)) (ok_is (Tiles encoding cells) b e5) ∙ ok_is (count, b) r last) made))))))
-body_sound room level n deep inner ObjectGroup width height count ms r sound h e =
+    let made = alone groups tier (width * height) count (Tiles encoding cells) refl (cells_tree_sound encoding (width * height) found.0 cells found.2) in
+    subst (BodyRead groups tier (width * height) count) (ap (λ c. (count, c)) (ok_is (Tiles encoding cells) b e5) ∙ ok_is (count, b) r last) made))))))
+body_sound groups tier n deep inner ObjectGroup width height count ms r sound h e =
     by_bind (objects_of ms) _ r e (λ b b_is last.
     by_bind (required (elements_at MAX_OBJECTS object_at) (get_member OBJECTS.now ms)) _ b b_is (λ objects objects_is e1.
     let found = required_ok (elements_at MAX_OBJECTS object_at) (get_member OBJECTS.now ms) objects objects_is in
     let fine = IsFine-get_member (suc (suc (suc (suc n)))) OBJECTS.now ms found.0 h found.1 in
-    let made = alone room level (width * height) count (Objects objects) refl
-    (elements_sound (WasReadObject (object_level level)) object_at (suc (suc (suc n)))
-    (object_sound (object_level level) n deep) MAX_OBJECTS found.0 objects fine found.2) in
-    subst (BodyRead room level (width * height) count) (ap (λ c. (count, c)) (ok_is (Objects objects) b e1) ∙ ok_is (count, b) r last) made))
-body_sound room level n deep inner ImageLayer width height count ms r sound h e =
-    subst (BodyRead room level (width * height) count) (ok_is (count, Other) r e) (alone room level (width * height) count Other refl tt)
-body_sound room level n deep inner GroupLayer width height count ms r sound h e =
+    let made = alone groups tier (width * height) count (Objects objects) refl
+    (elements_sound (WasReadObject (object_tier tier)) object_at (suc (suc (suc n)))
+    (object_sound (object_tier tier) n deep) MAX_OBJECTS found.0 objects fine found.2) in
+    subst (BodyRead groups tier (width * height) count) (ap (λ c. (count, c)) (ok_is (Objects objects) b e1) ∙ ok_is (count, b) r last) made))
+body_sound groups tier n deep inner ImageLayer width height count ms r sound h e =
+    subst (BodyRead groups tier (width * height) count) (ok_is (count, Other) r e) (alone groups tier (width * height) count Other refl tt)
+body_sound groups tier n deep inner GroupLayer width height count ms r sound h e =
     by_bind (required (inner count) (get_member LAYERS.now ms)) _ r e (λ ls ls_is e1.
     let found = required_ok (inner count) (get_member LAYERS.now ms) ls ls_is in
     let fine = IsFine-get_member (suc (suc (suc (suc n)))) LAYERS.now ms found.0 h found.1 in
-    subst (BodyRead room level (width * height) count) (ok_is (ls.0, Group ls.1) r e1) (sound found.0 count ls fine found.2))
+    subst (BodyRead groups tier (width * height) count) (ok_is (ls.0, Group ls.1) r e1) (sound found.0 count ls fine found.2))
 
 -- what was read of the members of a layer of any kind
 record HeadRead (ms : Members) (head : Head) : Type 0 where
@@ -194,19 +194,19 @@ head_read ms head e =
     let found : Head = record { kind = kind; id = id; name = name; visible = visible; properties = properties } in
     subst (HeadRead ms) (ok_is found head e5) (record { id = id_is; name = name_is; properties = properties_is }))))))
 
-one_sound : (room level n : ℕ) → property_level (object_level level) + n ≤ MAX_DEPTH
+one_sound : (groups tier n : ℕ) → property_tier (object_tier tier) + n ≤ MAX_DEPTH
     → (inner : Counting (List Layer)) (width height count : ℕ) (d : Data) (r : ℕ × Layer)
-    → IsInner room level (suc (suc (suc (suc n)))) (width * height) inner → IsFine (suc (suc (suc (suc (suc n))))) d
-    → layer_by inner width height count d ≡ Ok r → LayerRead room level (width * height) count r
+    → IsInner groups tier (suc (suc (suc (suc n)))) (width * height) inner → IsFine (suc (suc (suc (suc (suc n))))) d
+    → layer_by inner width height count d ≡ Ok r → LayerRead groups tier (width * height) count r
 unfolding layer_by
-one_sound room level n deep inner width height count d r sound fine e =
+one_sound groups tier n deep inner width height count d r sound fine e =
     by_bind (ok_or (as_object d) MemberOfAnotherKind) _ r e (λ ms object e1.
     by_bind (head_of ms) _ r e1 (λ head head_is e2.
     by_bind (body_by inner head.kind width height count ms) _ r e2 (λ body body_is e3.
     let read = head_read ms head head_is in
     let members = object_fine (suc (suc (suc (suc n)))) d ms fine (ok_or_ok (as_object d) MemberOfAnotherKind ms object) in
     let range = required_whole_sound 1 (MAX_NEXT_ID - 1) (get_member ID.now ms) head.id read.id in
-    let held = body_sound room level n deep inner head.kind width height count ms body sound members body_is in
+    let held = body_sound groups tier n deep inner head.kind width height count ms body sound members body_is in
     let l : Layer = record {
       id = head.id;
       name = head.name;
@@ -215,45 +215,45 @@ one_sound room level n deep inner width height count d r sound fine e =
       kept = without_all (layer_names body.1) ms;
       body = body.1;
     } in
-    let made : WasReadLayer level (width * height) l = record {
+    let made : WasReadLayer tier (width * height) l = record {
       low = range.0;
       name = text_or_sound (suc (suc (suc (suc n)))) NAME.now ms members [] head.name IsUtf8-nil read.name;
-      properties = properties_sound level (suc (suc n)) (omega arith) ms head.properties members read.properties;
-      kept = kept_sound level (suc (suc (suc (suc n)))) (layer_names body.1) ms (omega arith) members;
+      properties = properties_sound tier (suc (suc n)) (omega arith) ms head.properties members read.properties;
+      kept = kept_sound tier (suc (suc (suc (suc n)))) (layer_names body.1) ms (omega arith) members;
       body = held.0;
     } in
-    subst (LayerRead room level (width * height) count) (ok_is (body.0, l) r e3)
-    (made, subst (WereCounted (width * height) count body.0) (sym (below-drawn_in room level l)) held.1))))
+    subst (LayerRead groups tier (width * height) count) (ok_is (body.0, l) r e3)
+    (made, subst (WereCounted (width * height) count body.0) (sym (below-drawn_in groups tier l)) held.1))))
 
 -- a group with room for layers, which a reader of one room less reads
-inner_sound : (room level n width height : ℕ) → level + 2 * suc room ≡ deepest_level
-    → ((count : ℕ) (d : Data) (r : ℕ × Layer) → IsFine n d → layer_by (layers_at room width height) width height count d ≡ Ok r
-    → LayerRead room (inner_level level) (width * height) count r)
-    → IsInner (suc room) level (suc n) (width * height) (layers_at (suc room) width height)
+inner_sound : (groups tier n width height : ℕ) → tier + 2 * suc groups ≡ deepest_tier
+    → ((count : ℕ) (d : Data) (r : ℕ × Layer) → IsFine n d → layer_by (layers_at groups width height) width height count d ≡ Ok r
+    → LayerRead groups (inner_tier tier) (width * height) count r)
+    → IsInner (suc groups) tier (suc n) (width * height) (layers_at (suc groups) width height)
 unfolding layers_at
-inner_sound room level n width height balance one d count ls fine e =
-    let all = array_sound room (inner_level level) n (width * height) (layer_by (layers_at room width height) width height) one d count ls fine e in
-    (omega (arith, balance), subst (WereCounted (width * height) count ls.0) (sym (drawn_in-Group room level ls.1)) all)
+inner_sound groups tier n width height balance one d count ls fine e =
+    let all = array_sound groups (inner_tier tier) n (width * height) (layer_by (layers_at groups width height) width height) one d count ls fine e in
+    (omega (arith, balance), subst (WereCounted (width * height) count ls.0) (sym (drawn_in-Group groups tier ls.1)) all)
 
-no_room_sound : (level n width height : ℕ) → IsInner 0 level n (width * height) (layers_at 0 width height)
+no_groups_sound : (tier n width height : ℕ) → IsInner 0 tier n (width * height) (layers_at 0 width height)
 unfolding layers_at
-no_room_sound level n width height d count ls fine e =
+no_groups_sound tier n width height d count ls fine e =
     by_bind (ok_or (as_array d) MemberOfAnotherKind) _ ls e (λ ds ds_is e1. absurd cc)
 
-layer_sound : (room level n width height : ℕ) → level + 2 * room ≡ deepest_level → property_level (object_level level) + n ≡ MAX_DEPTH
+layer_sound : (groups tier n width height : ℕ) → tier + 2 * groups ≡ deepest_tier → property_tier (object_tier tier) + n ≡ MAX_DEPTH
     → (count : ℕ) (d : Data) (r : ℕ × Layer)
-    → IsFine (suc (suc (suc (suc (suc n))))) d → layer_by (layers_at room width height) width height count d ≡ Ok r
-    → LayerRead room level (width * height) count r
-layer_sound zero level n width height balance deep count d r fine e =
-    one_sound 0 level n (omega (arith, deep)) (layers_at 0 width height) width height count d r
-    (no_room_sound level (suc (suc (suc (suc n)))) width height) fine e
-layer_sound (suc room) level n width height balance deep count d r fine e =
+    → IsFine (suc (suc (suc (suc (suc n))))) d → layer_by (layers_at groups width height) width height count d ≡ Ok r
+    → LayerRead groups tier (width * height) count r
+layer_sound zero tier n width height balance deep count d r fine e =
+    one_sound 0 tier n (omega (arith, deep)) (layers_at 0 width height) width height count d r
+    (no_groups_sound tier (suc (suc (suc (suc n)))) width height) fine e
+layer_sound (suc groups) tier n width height balance deep count d r fine e =
     let m = n - 2 in
     let long : suc (suc (suc n)) ≡ suc (suc (suc (suc (suc m)))) = omega (arith, balance, deep) in
-    let one = λ (k : ℕ) (x : Data) (y : ℕ × Layer) (f : IsFine (suc (suc (suc n))) x) (g : layer_by (layers_at room width height) width height k x ≡ Ok y).
-    layer_sound room (inner_level level) m width height (omega (arith, balance)) (omega (arith, balance, deep)) k x y (subst (λ i. IsFine i x) long f) g in
-    one_sound (suc room) level n (omega (arith, deep)) (layers_at (suc room) width height) width height count d r
-    (inner_sound room level (suc (suc (suc n))) width height balance one) fine e
+    let one = λ (k : ℕ) (x : Data) (y : ℕ × Layer) (f : IsFine (suc (suc (suc n))) x) (g : layer_by (layers_at groups width height) width height k x ≡ Ok y).
+    layer_sound groups (inner_tier tier) m width height (omega (arith, balance)) (omega (arith, balance, deep)) k x y (subst (λ i. IsFine i x) long f) g in
+    one_sound (suc groups) tier n (omega (arith, deep)) (layers_at (suc groups) width height) width height count d r
+    (inner_sound groups tier (suc (suc (suc n))) width height balance one) fine e
 
 -- the layers of a map
 pub map_layers_sound : (width height : ℕ) (d : Data) (ls : List Layer) → IsFine 126 d → map_layers_at width height d ≡ Ok ls
@@ -261,8 +261,8 @@ pub map_layers_sound : (width height : ℕ) (d : Data) (ls : List Layer) → IsF
 unfolding layers_at
 map_layers_sound width height d ls fine e =
     by_bind (layers_at (suc MAX_GROUPS) width height 0 d) _ ls e (λ r r_is e1.
-    let all = array_sound MAX_GROUPS layer_level 125 (width * height) (layer_by (layers_at MAX_GROUPS width height) width height)
-    (λ count x y f g. layer_sound MAX_GROUPS layer_level 120 width height refl refl count x y f g) d 0 r fine r_is in
+    let all = array_sound MAX_GROUPS layer_tier 125 (width * height) (layer_by (layers_at MAX_GROUPS width height) width height)
+    (λ count x y f g. layer_sound MAX_GROUPS layer_tier 120 width height refl refl count x y f g) d 0 r fine r_is in
     let few = all.few (omega arith) in
     subst (λ ks. (length (all_drawn ks) ≤ MAX_LAYERS) × Each (WasReadDrawn (width * height)) (all_drawn ks)) (ok_is r.1 ls e1)
     (omega (arith, all.sum, few), all.each))

@@ -4,11 +4,11 @@ use Rattle.std.proofs.Common.{◌+◌}
 use Rattle.std.proofs.lemmas.List.{append-nil}
 use Rattle.serde_json.proofs.Views.{items_len-items_view}
 use Rattle.serde_json.specs.Data.{Data, Items, no_items, item}
-use Rattle.map_model.specs.Steps.{◌>>=◌}
+use Rattle.map_model.specs.Refusing.{◌>>=◌}
 use Rattle.refusals.specs.declared.map_refusal.MapRefusal.{MapRefusal}
 use Rattle.map_values.specs.declared.fault.MapFault.{MapFault}
 use Rattle.map_values.specs.declared.fault.MapFault.TheVariants.{Memory, Refused}
-use Rattle.map_values.specs.Steps.{Fails}
+use Rattle.map_values.specs.Presence.{Fails}
 use Rattle.map_json.specs.Elements.{each, each_counted}
 
 module _ {A : Type 0} where

@@ -20,13 +20,13 @@ use Rattle.map_model.specs.declared.parts.Layer.{Layer}
 use Rattle.map_model.specs.declared.parts.MapParts.{MapParts}
 use Rattle.map_model.specs.Groups.{all_drawn}
 use Rattle.map_model.specs.Lists.{Each}
-use Rattle.map_model.specs.Keeping.{map_level, object_level}
+use Rattle.map_model.specs.Keeping.{map_tier, object_tier}
 use Rattle.map_model.specs.Format.{map_names}
 use Rattle.map_model.specs.WellFormed.{IsObject, IsBody, IsDrawn, IsTileset, AreProperties, IsWellFormed, names_of_property, layer_ids, object_ids}
 use Rattle.map_model.specs.WellFormed.{first_ids_of}
 use Rattle.json_members.specs.Members.{without, without_all}
 use Rattle.map_json.specs.Members.{with_own}
-use Rattle.map_values.specs.Steps.{absent_means}
+use Rattle.map_values.specs.Presence.{absent_means}
 use Rattle.map_values.specs.Scalars.{whole_at, truth_at}
 use Rattle.map_json.specs.Elements.{elements_at}
 use Rattle.map_json.specs.Reading.{property_at, tileset_at, map_layers_at}
@@ -42,18 +42,18 @@ use Rattle.map_json.proofs.Law.{or_none, properties_again, tileset_again}
 use Rattle.map_json.proofs.LayerLaw.{map_layers_again}
 use Rattle.map_model.proofs.TilesetChanges.{Each-along}
 
-named_apart : (level : ℕ) (ps : List Property) → AreProperties level ps → are_named_apart ps ≡ true
-named_apart level ps h = texts-Distinct (flat_map names_of_property ps) h.distinct
+named_apart : (tier : ℕ) (ps : List Property) → AreProperties tier ps → are_named_apart ps ≡ true
+named_apart tier ps h = texts-Distinct (flat_map names_of_property ps) h.distinct
 
-objects_apart : (level : ℕ) (os : List Object) → Each (IsObject level) os → list_all are_named_apart (map (λ (o : Object). o.properties) os) ≡ true
-objects_apart level [] h = refl
-objects_apart level (o ∷ os) h = and_from (are_named_apart o.properties) _ (named_apart level o.properties h.0.properties) (objects_apart level os h.1)
+objects_apart : (tier : ℕ) (os : List Object) → Each (IsObject tier) os → list_all are_named_apart (map (λ (o : Object). o.properties) os) ≡ true
+objects_apart tier [] h = refl
+objects_apart tier (o ∷ os) h = and_from (are_named_apart o.properties) _ (named_apart tier o.properties h.0.properties) (objects_apart tier os h.1)
 
-body_apart : (level size : ℕ) (b : Body) → IsBody level size b → list_all are_named_apart (lists_in b) ≡ true
-body_apart level size (Tiles e cells) h = refl
-body_apart level size (Objects os) h = objects_apart (object_level level) os h.1
-body_apart level size Other h = refl
-body_apart level size (Group' s r) h = refl
+body_apart : (tier size : ℕ) (b : Body) → IsBody tier size b → list_all are_named_apart (lists_in b) ≡ true
+body_apart tier size (Tiles e cells) h = refl
+body_apart tier size (Objects os) h = objects_apart (object_tier tier) os h.1
+body_apart tier size Other h = refl
+body_apart tier size (Group' s r) h = refl
 
 layers_apart : (size : ℕ) (ds : List (ℕ × Layer)) → Each (IsDrawn size) ds → list_all are_named_apart (flat_map lists_of_drawn ds) ≡ true
 layers_apart size [] h = refl
@@ -69,7 +69,7 @@ unfolding consistent
 consistent_again m h =
     let names : list_all are_named_apart (property_lists m) ≡ true =
     and_from (are_named_apart m.properties) (list_all are_named_apart (flat_map lists_of_drawn (all_drawn m.layers)))
-    (named_apart map_level m.properties h.properties) (layers_apart (m.width * m.height) (all_drawn m.layers) h.layers.each) in
+    (named_apart map_tier m.properties h.properties) (layers_apart (m.width * m.height) (all_drawn m.layers) h.layers.each) in
     rw (
       numbers-Distinct (layer_ids m.layers) h.layers.layer_ids.distinct,
       numbers-Distinct (object_ids m.layers) h.layers.object_ids.distinct,
@@ -142,7 +142,7 @@ parts_again m h =
     object.each)
     (elements_again tileset_tree tileset_at MAX_TILESETS m.tilesets h.tilesets.few
     (Each-along IsTileset (λ t. tileset_at (tileset_tree t) ≡ Ok t) tileset_again m.tilesets h.tilesets.each))
-    (properties_again map_level m.properties h.properties) (without_all-with_own own kept refl lacks)
+    (properties_again map_tier m.properties h.properties) (without_all-with_own own kept refl lacks)
 
 -- ---- fractions
 whole_without_at : (o : Ordering) (l : List ℕ) (d : Data) (rest : Members) → has_float d ≡ false → members_have_float rest ≡ false

@@ -23,7 +23,8 @@ use Rattle.map_json.specs.Outlines.{outline_layer, outline_own}
 use Rattle.map_values.specs.Arrays.{array_by, whole_tree}
 use Rattle.map_json.specs.Trees.{layer_own}
 use Rattle.map_values.proofs.Lists.{Each-left}
-use Rattle.map_json.proofs.Frames.{framed-whole, layer_own-other, layer_tree-frame, layer_tree-group, layer_tree-numbers, layer_tree-room, replaced-layer_frame}
+use Rattle.map_json.proofs.Frames.{framed-whole, layer_own-other, layer_tree-frame, layer_tree-group, layer_tree-numbers, layer_tree-groups}
+use Rattle.map_json.proofs.Frames.{replaced-layer_frame}
 use Rattle.map_json.proofs.Plain.{ArePlainOwn, IsPlain, IsPlainOwn, kept_plain, layer_frame_plain, object_plain, own_are_plain, own_IsLayer}
 
 -- ---- the own members in an outline
@@ -72,58 +73,59 @@ filter_plain : (n : ℕ) (p : (List ℕ × Option Data) → Bool) (t : Own) → 
 filter_plain n p [] h = tt
 filter_plain n p (x ∷ t) h = filter_plain_at (p x) n x (filter p t) h.0 (filter_plain n p t h.1)
 
-outline_frame_plain : (room width height : ℕ) (l : Layer) → AreWritten room (width * height) (l ∷ []) → IsPlain 127 (object (outline_frame width height l))
-outline_frame_plain room width height l h =
-    let n = 123 - h.level in
+outline_frame_plain : (groups width height : ℕ) (l : Layer) → AreWritten groups (width * height) (l ∷ []) → IsPlain 127 (object (outline_frame width height l))
+outline_frame_plain groups width height l h =
+    let n = 123 - h.tier in
     let m = suc (suc (suc (suc n))) in
-    let own = own_IsLayer room h.level (width * height) l (Each-left (IsDrawn (width * height)) (tree room h.level l) [] h.each) in
-    let all = own_are_plain h.level n (width * height) width height (omega (arith, h.balance)) (array no_items) (refl, omega arith) l own in
+    let own = own_IsLayer groups h.tier (width * height) l (Each-left (IsDrawn (width * height)) (tree groups h.tier l) [] h.each) in
+    let all = own_are_plain h.tier n (width * height) width height (omega (arith, h.balance)) (array no_items) (refl, omega arith) l own in
     let some = filter_plain m (λ p. not (bytes_eq p.0 DATA.now)) (layer_own width height (array no_items) l) all in
     let frame = object_plain m (outline_own width height (array no_items) l) l.kept some
-    (kept_plain h.level m (layer_names l.body) l.kept (omega (arith, h.balance)) own.kept) in
+    (kept_plain h.tier m (layer_names l.body) l.kept (omega (arith, h.balance)) own.kept) in
     let deep = frame.1 in
     (frame.0, omega (arith, h.balance, h.high, deep))
 
 -- ---- in either detail
-pub frame_in_plain : (detail : Detail) (room width height : ℕ) (l : Layer) → AreWritten room (width * height) (l ∷ [])
+pub frame_in_plain : (detail : Detail) (groups width height : ℕ) (l : Layer) → AreWritten groups (width * height) (l ∷ [])
     → IsPlain 127 (object (frame_in detail width height l))
-frame_in_plain Whole room width height l h = layer_frame_plain room width height l h
-frame_in_plain Outline room width height l h = outline_frame_plain room width height l h
+frame_in_plain Whole groups width height l h = layer_frame_plain groups width height l h
+frame_in_plain Outline groups width height l h = outline_frame_plain groups width height l h
 
-outline_layer-frame : (room width height : ℕ) (l : Layer) → group_in l.body ≡ None → object (outline_frame width height l) ≡ outline_layer room width height l
+outline_layer-frame : (groups width height : ℕ) (l : Layer) → group_in l.body ≡ None
+    → object (outline_frame width height l) ≡ outline_layer groups width height l
 unfolding outline_layer
 outline_layer-frame zero width height l g = refl
-outline_layer-frame (suc room) width height l g =
+outline_layer-frame (suc groups) width height l g =
     ap (λ (own : Own). object (with_own (filter (λ p. not (bytes_eq p.0 DATA.now)) own) l.kept))
-    (layer_own-other width height (array no_items) (array_by (outline_layer room width height) (inside l)) l l.body g)
+    (layer_own-other width height (array no_items) (array_by (outline_layer groups width height) (inside l)) l l.body g)
 
 -- the tree of a layer is its frame's, where it has no numbers, and is no group or has no room for layers in it
-pub layer_in-frame : (detail : Detail) (room width height : ℕ) (l : Layer) → numbers_in detail l.body ≡ None → group_in l.body ≡ None
-    → object (frame_in detail width height l) ≡ layer_in detail room width height l
-layer_in-frame Whole room width height l none g = layer_tree-frame room width height l none g
-layer_in-frame Outline room width height l none g = outline_layer-frame room width height l g
+pub layer_in-frame : (detail : Detail) (groups width height : ℕ) (l : Layer) → numbers_in detail l.body ≡ None → group_in l.body ≡ None
+    → object (frame_in detail width height l) ≡ layer_in detail groups width height l
+layer_in-frame Whole groups width height l none g = layer_tree-frame groups width height l none g
+layer_in-frame Outline groups width height l none g = outline_layer-frame groups width height l g
 
 -- the tree of a layer is its frame's with its numbers
-pub layer_in-numbers : (detail : Detail) (room width height : ℕ) (l : Layer) (ns : List ℕ) → numbers_in detail l.body ≡ Some ns
+pub layer_in-numbers : (detail : Detail) (groups width height : ℕ) (l : Layer) (ns : List ℕ) → numbers_in detail l.body ≡ Some ns
     → Each (λ name. get_member name l.kept ≡ None) (layer_names l.body)
-    → object (replaced DATA.now (array_by whole_tree ns) (frame_in detail width height l)) ≡ layer_in detail room width height l
-layer_in-numbers Whole room width height l ns some h = layer_tree-numbers room width height l ns some h
-layer_in-numbers Outline room width height l ns some h = absurd (let worse : ⊥ = cc in worse)
+    → object (replaced DATA.now (array_by whole_tree ns) (frame_in detail width height l)) ≡ layer_in detail groups width height l
+layer_in-numbers Whole groups width height l ns some h = layer_tree-numbers groups width height l ns some h
+layer_in-numbers Outline groups width height l ns some h = absurd (let worse : ⊥ = cc in worse)
 
-outline_layer-room : (room width height : ℕ) (l : Layer) → room ≡ 0 → object (outline_frame width height l) ≡ outline_layer room width height l
+outline_layer-groups : (groups width height : ℕ) (l : Layer) → groups ≡ 0 → object (outline_frame width height l) ≡ outline_layer groups width height l
 unfolding outline_layer
-outline_layer-room room width height l none = rw none refl
+outline_layer-groups groups width height l none = rw none refl
 
-pub layer_in-room : (detail : Detail) (room width height : ℕ) (l : Layer) → numbers_in detail l.body ≡ None → room ≡ 0
-    → object (frame_in detail width height l) ≡ layer_in detail room width height l
-layer_in-room Whole room width height l none no_room = layer_tree-room room width height l none no_room
-layer_in-room Outline room width height l none no_room = outline_layer-room room width height l no_room
+pub layer_in-groups : (detail : Detail) (groups width height : ℕ) (l : Layer) → numbers_in detail l.body ≡ None → groups ≡ 0
+    → object (frame_in detail width height l) ≡ layer_in detail groups width height l
+layer_in-groups Whole groups width height l none no_groups = layer_tree-groups groups width height l none no_groups
+layer_in-groups Outline groups width height l none no_groups = outline_layer-groups groups width height l no_groups
 
-outline_layer-group : (room less width height : ℕ) (l : Layer) (ls : List Layer) → room ≡ suc less → group_in l.body ≡ Some ls
+outline_layer-group : (groups less width height : ℕ) (l : Layer) (ls : List Layer) → groups ≡ suc less → group_in l.body ≡ Some ls
     → Each (λ name. get_member name l.kept ≡ None) (layer_names l.body)
-    → object (replaced LAYERS.now (array_by (outline_layer less width height) ls) (outline_frame width height l)) ≡ outline_layer room width height l
+    → object (replaced LAYERS.now (array_by (outline_layer less width height) ls) (outline_frame width height l)) ≡ outline_layer groups width height l
 unfolding outline_layer
-outline_layer-group room less width height l ls more g h =
+outline_layer-group groups less width height l ls more g h =
     let d = array_by (outline_layer less width height) ls in
     let other = no_tiles l.body ls g in
     ap (λ (ms : Members). object (replaced LAYERS.now d ms)) (sym (outline_frame-other width height l other))
@@ -133,8 +135,8 @@ outline_layer-group room less width height l ls more g h =
     ∙ ap (λ n. outline_layer n width height l) (sym more))))
 
 -- the tree of a group
-pub layer_in-group : (detail : Detail) (room less width height : ℕ) (l : Layer) (ls : List Layer) → room ≡ suc less → group_in l.body ≡ Some ls
+pub layer_in-group : (detail : Detail) (groups less width height : ℕ) (l : Layer) (ls : List Layer) → groups ≡ suc less → group_in l.body ≡ Some ls
     → Each (λ name. get_member name l.kept ≡ None) (layer_names l.body)
-    → object (replaced LAYERS.now (layers_in detail less width height ls) (frame_in detail width height l)) ≡ layer_in detail room width height l
-layer_in-group Whole room less width height l ls more g h = layer_tree-group room less width height l ls more g h
-layer_in-group Outline room less width height l ls more g h = outline_layer-group room less width height l ls more g h
+    → object (replaced LAYERS.now (layers_in detail less width height ls) (frame_in detail width height l)) ≡ layer_in detail groups width height l
+layer_in-group Whole groups less width height l ls more g h = layer_tree-group groups less width height l ls more g h
+layer_in-group Outline groups less width height l ls more g h = outline_layer-group groups less width height l ls more g h

@@ -12,13 +12,13 @@ use Rattle.map_model.specs.declared.limits.TheConstants.{MAX_DEPTH, MAX_NEXT_ID,
 use Rattle.map_model.specs.declared.parts.Placing.{Placing}
 use Rattle.map_model.specs.declared.parts.Object.{Object}
 use Rattle.map_model.specs.declared.parts.Tileset.{Tileset}
-use Rattle.map_model.specs.Keeping.{AreKept, tileset_level, property_level}
+use Rattle.map_model.specs.Keeping.{AreKept, tileset_tier, property_tier}
 use Rattle.map_model.specs.Format.{object_names, tileset_names}
 use Rattle.map_model.specs.WellFormed.{IsPlacing, IsPixels, IsTileValue, IsTileset}
 use Rattle.json_members.specs.Members.{without_all}
 use Rattle.refusals.specs.declared.map_refusal.MapRefusal.{MapRefusal}
 use Rattle.refusals.specs.declared.map_refusal.MapRefusal.TheVariants.{MemberOfAnotherKind, OverLimit}
-use Rattle.map_values.specs.Steps.{required, optional}
+use Rattle.map_values.specs.Presence.{required, optional}
 use Rattle.map_values.specs.Scalars.{whole_at, signed_at, text_at, truth_at, id_at, pixels_at}
 use Rattle.map_json.specs.Reading.{placing_of, object_at, properties_of, tileset_at}
 use Rattle.map_json.proofs.Fine.{IsFine}
@@ -26,7 +26,7 @@ use Rattle.map_json.proofs.Sound.{by_bind, ok_is, chosen, ok_or_ok, object_fine,
 use Rattle.map_json.proofs.Sound.{properties_sound}
 
 -- ---- tilesets
-pub tileset_sound : (n : ℕ) → tileset_level + n ≤ MAX_DEPTH → (d : Data) (t : Tileset) → IsFine (suc n) d → tileset_at d ≡ Ok t → IsTileset t
+pub tileset_sound : (n : ℕ) → tileset_tier + n ≤ MAX_DEPTH → (d : Data) (t : Tileset) → IsFine (suc n) d → tileset_at d ≡ Ok t → IsTileset t
 unfolding tileset_at
 tileset_sound n room d t fine e =
     by_bind (ok_or (as_object d) MemberOfAnotherKind) _ t e (λ ms object e1.
@@ -38,19 +38,19 @@ tileset_sound n room d t fine e =
       low = range.0;
       high = range.1;
       source = optional_text_sound n SOURCE.now ms members source source_is;
-      kept = kept_sound tileset_level n tileset_names ms room members;
+      kept = kept_sound tileset_tier n tileset_names ms room members;
     } in
     subst IsTileset (ok_is (record { first_id = first_id; source = source; kept = without_all tileset_names ms }) t e3) made)))
 
 -- ---- objects
--- an object that was read, at this level; whether its properties' names differ is told apart
-pub record WasReadObject (level : ℕ) (o : Object) : Type 0 where
+-- an object that was read, at this tier; whether its properties' names differ is told apart
+pub record WasReadObject (tier : ℕ) (o : Object) : Type 0 where
   pub low : 1 ≤ o.id
   pub placing : IsPlacing o.placing
   pub name : IfSome o.name IsUtf8
   pub gid : IfSome o.gid IsTileValue
-  pub properties : WereRead level o.properties
-  pub kept : AreKept level object_names o.kept
+  pub properties : WereRead tier o.properties
+  pub kept : AreKept tier object_names o.kept
 
 pub optional_sound : {A : Type 0} (P : A → Type 0) (read : Data → Result A MapRefusal) → ((d : Data) (x : A) → read d ≡ Ok x → P x)
     → (o : Option Data) (x : Option A) → optional read o ≡ Ok x → IfSome x P
@@ -90,10 +90,10 @@ placing_sound ms p e =
 gid_sound : (d : Data) (n : ℕ) → whole_at 0 4294967295 d ≡ Ok n → IsTileValue n
 gid_sound d n e = let s = whole_sound 0 4294967295 d n e in let high : n ≤ 4294967295 = s.1 in omega arith
 
-pub object_sound : (level n : ℕ) → property_level level + n ≤ MAX_DEPTH → (d : Data) (o : Object) → IsFine (suc (suc (suc n))) d → object_at d ≡ Ok o
-    → WasReadObject level o
+pub object_sound : (tier n : ℕ) → property_tier tier + n ≤ MAX_DEPTH → (d : Data) (o : Object) → IsFine (suc (suc (suc n))) d → object_at d ≡ Ok o
+    → WasReadObject tier o
 unfolding object_at
-object_sound level n room d o fine e =
+object_sound tier n room d o fine e =
     by_bind (ok_or (as_object d) MemberOfAnotherKind) _ o e (λ ms object e1.
     by_bind (required id_at (get_member ID.now ms)) _ o e1 (λ id id_is e2.
     by_bind (placing_of ms) _ o e2 (λ placing placing_is e3.
@@ -103,15 +103,15 @@ object_sound level n room d o fine e =
     by_bind (properties_of ms) _ o e6 (λ properties properties_is e7.
     let members = object_fine (suc (suc n)) d ms fine (ok_or_ok (as_object d) MemberOfAnotherKind ms object) in
     let range = required_whole_sound 1 (MAX_NEXT_ID - 1) (get_member ID.now ms) id id_is in
-    let made : WasReadObject level (record
+    let made : WasReadObject tier (record
     { id = id; placing = placing; name = name; visible = visible; gid = gid; properties = properties; kept = without_all object_names ms }) = record {
       low = range.0;
       placing = placing_sound ms placing placing_is;
       name = optional_text_sound (suc (suc n)) NAME.now ms members name name_is;
       gid = optional_sound IsTileValue (whole_at 0 4294967295) gid_sound (get_member GID.now ms) gid gid_is;
-      properties = properties_sound level n room ms properties members properties_is;
-      kept = kept_sound level (suc (suc n)) object_names ms (omega arith) members;
+      properties = properties_sound tier n room ms properties members properties_is;
+      kept = kept_sound tier (suc (suc n)) object_names ms (omega arith) members;
     } in
-    subst (WasReadObject level) (ok_is
+    subst (WasReadObject tier) (ok_is
     (record { id = id; placing = placing; name = name; visible = visible; gid = gid; properties = properties; kept = without_all object_names ms }) o e7)
     made)))))))

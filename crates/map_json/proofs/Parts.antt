@@ -13,11 +13,11 @@ use Rattle.map_model.specs.declared.parts.Layer.{Layer}
 use Rattle.map_model.specs.declared.parts.Tileset.{Tileset}
 use Rattle.map_model.specs.declared.parts.Property.{Property}
 use Rattle.map_model.specs.Format.{map_names}
-use Rattle.map_model.specs.Steps.{◌>>=◌}
+use Rattle.map_model.specs.Refusing.{◌>>=◌}
 use Rattle.refusals.specs.declared.map_refusal.MapRefusal.{MapRefusal}
 use Rattle.map_values.specs.declared.fault.MapFault.{MapFault}
 use Rattle.map_values.specs.declared.fault.MapFault.TheVariants.{Memory, Refused}
-use Rattle.map_values.specs.Steps.{Fails, required, absent_means}
+use Rattle.map_values.specs.Presence.{Fails, required, absent_means}
 use Rattle.map_values.specs.Scalars.{whole_at, truth_at}
 use Rattle.map_json.specs.Elements.{elements_at}
 use Rattle.json_members.specs.Members.{without, without_all}

@@ -23,7 +23,7 @@ use Rattle.map_model.specs.declared.parts.Tileset.{Tileset}
 use Rattle.map_model.specs.declared.parts.MapParts.{MapParts}
 use Rattle.map_model.specs.Groups.{drawn, inside, tree}
 use Rattle.map_model.specs.Lists.{Each}
-use Rattle.map_model.specs.Keeping.{AreKept, deepest_level, inner_level, map_level, layer_level, tileset_level, object_level, property_level}
+use Rattle.map_model.specs.Keeping.{AreKept, deepest_tier, inner_tier, map_tier, layer_tier, tileset_tier, object_tier, property_tier}
 use Rattle.map_model.specs.Format.{tileset_names}
 use Rattle.map_model.specs.Format.{object_names, property_names, layer_names, map_names}
 use Rattle.map_model.specs.WellFormed.{IsValue, IsProperty, AreProperties, IsObject, IsBody, IsDrawn, IsLayer, IsTileset, IsWellFormed}
@@ -81,8 +81,8 @@ with_own_plain n (p ∷ ps) kept h g = put_plain n p.0 p.1 (with_own ps kept) h.
 pub object_plain : (n : ℕ) (t : List (List ℕ × Option Data)) (kept : Members) → ArePlainOwn n t → ArePlain n kept → IsPlain (suc n) (object (with_own t kept))
 object_plain n t kept h g = let all = with_own_plain n t kept h g in (all.0, omega arith)
 
-pub kept_plain : (level n : ℕ) (names : List (List ℕ)) (ms : Members) → level + n ≡ MAX_DEPTH → AreKept level names ms → ArePlain n ms
-kept_plain level n names ms room h = let deep = h.shallow in (h.whole, omega arith)
+pub kept_plain : (tier n : ℕ) (names : List (List ℕ)) (ms : Members) → tier + n ≡ MAX_DEPTH → AreKept tier names ms → ArePlain n ms
+kept_plain tier n names ms room h = let deep = h.shallow in (h.whole, omega arith)
 
 -- ---- scalars and lists
 text_plain : (n : ℕ) (s : List ℕ) → IsPlain n (string s)
@@ -116,27 +116,27 @@ module _ {A : Type 0} (P : A → Type 0) (n : ℕ) (f : A → Data) (plain : (x 
   array_plain xs h = let all = items_plain xs h in let deep = all.1 in (all.0, omega arith)
 
 -- ---- owners
-value_plain : (level n : ℕ) (v : PropValue) → level + n ≡ MAX_DEPTH → IsValue level v → IsPlain n (value_tree v)
-value_plain level n (values.Text s) room h = text_plain n s
-value_plain level n (values.Whole z) room h = integer_plain n z
-value_plain level n (values.Truth b) room h = truth_plain n b
-value_plain level n (values.Other d) room h = let deep = h.shallow in (h.whole, omega arith)
+value_plain : (tier n : ℕ) (v : PropValue) → tier + n ≡ MAX_DEPTH → IsValue tier v → IsPlain n (value_tree v)
+value_plain tier n (values.Text s) room h = text_plain n s
+value_plain tier n (values.Whole z) room h = integer_plain n z
+value_plain tier n (values.Truth b) room h = truth_plain n b
+value_plain tier n (values.Other d) room h = let deep = h.shallow in (h.whole, omega arith)
 
-property_plain : (level n : ℕ) → level + n ≡ MAX_DEPTH → (p : Property) → IsProperty level p → IsPlain (suc n) (property_tree p)
+property_plain : (tier n : ℕ) → tier + n ≡ MAX_DEPTH → (p : Property) → IsProperty tier p → IsPlain (suc n) (property_tree p)
 unfolding property_tree
-property_plain level n room p h =
-    object_plain n (property_own p) p.kept (text_plain n p.name, (text_plain n p.kind, (value_plain level n p.value room h.value, tt)))
-    (kept_plain level n property_names p.kept room h.kept)
+property_plain tier n room p h =
+    object_plain n (property_own p) p.kept (text_plain n p.name, (text_plain n p.kind, (value_plain tier n p.value room h.value, tt)))
+    (kept_plain tier n property_names p.kept room h.kept)
 
-properties_plain : (level n : ℕ) → property_level level + n ≡ MAX_DEPTH → (ps : List Property) → AreProperties level ps
+properties_plain : (tier n : ℕ) → property_tier tier + n ≡ MAX_DEPTH → (ps : List Property) → AreProperties tier ps
     → IsPlainOwn (suc (suc n)) (properties_member ps)
-properties_plain level n room [] h = tt
-properties_plain level n room (p ∷ ps) h = array_plain (IsProperty (property_level level)) (suc n) property_tree (property_plain (property_level level) n room)
+properties_plain tier n room [] h = tt
+properties_plain tier n room (p ∷ ps) h = array_plain (IsProperty (property_tier tier)) (suc n) property_tree (property_plain (property_tier tier) n room)
     (p ∷ ps) h.each
 
-object_tree_plain : (level n : ℕ) → property_level level + n ≡ MAX_DEPTH → (o : Object) → IsObject level o → IsPlain (suc (suc (suc n))) (object_tree o)
+object_tree_plain : (tier n : ℕ) → property_tier tier + n ≡ MAX_DEPTH → (o : Object) → IsObject tier o → IsPlain (suc (suc (suc n))) (object_tree o)
 unfolding object_tree
-object_tree_plain level n room o h =
+object_tree_plain tier n room o h =
     let m = suc (suc n) in
     let pixels = optional_plain m (λ z. number (of_integer z)) (integer_plain m) in
     object_plain m (object_own o) o.kept (
@@ -153,7 +153,7 @@ object_tree_plain level n room o h =
                 optional_plain m string (text_plain m) o.name,
                 (
                   optional_plain m boolean (truth_plain m) o.visible,
-                  (optional_plain m whole_tree (whole_plain m) o.gid, (properties_plain level n room o.properties h.properties, tt)),
+                  (optional_plain m whole_tree (whole_plain m) o.gid, (properties_plain tier n room o.properties h.properties, tt)),
                 ),
               ),
             ),
@@ -161,12 +161,12 @@ object_tree_plain level n room o h =
         ),
       ),
     )
-    (kept_plain level m object_names o.kept (omega arith) h.kept)
+    (kept_plain tier m object_names o.kept (omega arith) h.kept)
 
 tileset_plain : (t : Tileset) → IsTileset t → IsPlain 125 (tileset_tree t)
 unfolding tileset_tree
 tileset_plain t h = object_plain 124 (tileset_own t) t.kept (whole_plain 124 t.first_id, (optional_plain 124 string (text_plain 124) t.source, tt))
-    (kept_plain tileset_level 124 tileset_names t.kept refl h.kept)
+    (kept_plain tileset_tier 124 tileset_names t.kept refl h.kept)
 
 numbers_plain : (n : ℕ) (ns : List ℕ) → ArePlainItems n (items_by whole_tree ns)
 numbers_plain n [] = (refl, omega arith)
@@ -180,32 +180,32 @@ encoding_plain : (n : ℕ) (e : Encoding) → IsPlainOwn n (encoding_member e)
 encoding_plain n Array = tt
 encoding_plain n Base64 = text_plain n (codes "base64")
 
-body_plain : (level n size width height : ℕ) → property_level (object_level level) + n ≡ MAX_DEPTH → (d : Data) → IsPlain (suc (suc (suc (suc n)))) d
-    → (b : Body) → IsBody level size b
+body_plain : (tier n size width height : ℕ) → property_tier (object_tier tier) + n ≡ MAX_DEPTH → (d : Data) → IsPlain (suc (suc (suc (suc n)))) d
+    → (b : Body) → IsBody tier size b
     → ArePlainOwn (suc (suc (suc (suc n)))) (body_own width height d b)
-body_plain level n size width height room d layers (Tiles e cells) h =
+body_plain tier n size width height room d layers (Tiles e cells) h =
     let m = suc (suc (suc (suc n))) in
     (encoding_plain m e, (tt, (whole_plain m width, (whole_plain m height, (cells_plain (suc (suc (suc n))) e cells, tt)))))
-body_plain level n size width height room d layers (Objects os) h =
-    (array_plain (IsObject (object_level level)) (suc (suc (suc n))) object_tree (object_tree_plain (object_level level) n room) os h.1, tt)
-body_plain level n size width height room d layers Other h = tt
-body_plain level n size width height room d layers (Group' s r) h = (layers, tt)
+body_plain tier n size width height room d layers (Objects os) h =
+    (array_plain (IsObject (object_tier tier)) (suc (suc (suc n))) object_tree (object_tree_plain (object_tier tier) n room) os h.1, tt)
+body_plain tier n size width height room d layers Other h = tt
+body_plain tier n size width height room d layers (Group' s r) h = (layers, tt)
 
 -- what stands in a layer's frame, with this for the layers of a group
-framed_plain : (level n size width height : ℕ) → property_level (object_level level) + n ≡ MAX_DEPTH → (d : Data) → IsPlain (suc (suc (suc (suc n)))) d
-    → (b : Body) → IsBody level size b
+framed_plain : (tier n size width height : ℕ) → property_tier (object_tier tier) + n ≡ MAX_DEPTH → (d : Data) → IsPlain (suc (suc (suc (suc n)))) d
+    → (b : Body) → IsBody tier size b
     → ArePlainOwn (suc (suc (suc (suc n)))) (body_own width height d (framed_body b))
-framed_plain level n size width height room d layers (Tiles Array cells) h = body_plain level n 0 width height room d layers (Tiles Array []) (refl, tt)
-framed_plain level n size width height room d layers (Tiles Base64 cells) h = body_plain level n size width height room d layers (Tiles Base64 cells) h
-framed_plain level n size width height room d layers (Objects os) h = body_plain level n size width height room d layers (Objects os) h
-framed_plain level n size width height room d layers Other h = body_plain level n size width height room d layers Other h
-framed_plain level n size width height room d layers (Group' s r) h = body_plain level n size width height room d layers (Group' s r) h
+framed_plain tier n size width height room d layers (Tiles Array cells) h = body_plain tier n 0 width height room d layers (Tiles Array []) (refl, tt)
+framed_plain tier n size width height room d layers (Tiles Base64 cells) h = body_plain tier n size width height room d layers (Tiles Base64 cells) h
+framed_plain tier n size width height room d layers (Objects os) h = body_plain tier n size width height room d layers (Objects os) h
+framed_plain tier n size width height room d layers Other h = body_plain tier n size width height room d layers Other h
+framed_plain tier n size width height room d layers (Group' s r) h = body_plain tier n size width height room d layers (Group' s r) h
 
 -- the own members of a layer, with this for the layers of a group
-pub own_are_plain : (level n size width height : ℕ) → property_level (object_level level) + n ≡ MAX_DEPTH → (d : Data) → IsPlain (suc (suc (suc (suc n)))) d
-    → (l : Layer) → IsLayer level size l
+pub own_are_plain : (tier n size width height : ℕ) → property_tier (object_tier tier) + n ≡ MAX_DEPTH → (d : Data) → IsPlain (suc (suc (suc (suc n)))) d
+    → (l : Layer) → IsLayer tier size l
     → ArePlainOwn (suc (suc (suc (suc n)))) (layer_own width height d l)
-own_are_plain level n size width height room d layers l h =
+own_are_plain tier n size width height room d layers l h =
     let m = suc (suc (suc (suc n))) in (
       (refl, omega arith),
       (
@@ -214,67 +214,67 @@ own_are_plain level n size width height room d layers l h =
           text_plain m l.name,
           (
             truth_plain m l.visible,
-            (properties_plain level (suc (suc n)) (omega arith) l.properties h.properties, body_plain level n size width height room d layers l.body h.body),
+            (properties_plain tier (suc (suc n)) (omega arith) l.properties h.properties, body_plain tier n size width height room d layers l.body h.body),
           ),
         ),
       ),
     )
 
 -- a layer, with this for the layers of a group
-own_plain : (level n size width height : ℕ) → property_level (object_level level) + n ≡ MAX_DEPTH → (d : Data) → IsPlain (suc (suc (suc (suc n)))) d
-    → (l : Layer) → IsLayer level size l
+own_plain : (tier n size width height : ℕ) → property_tier (object_tier tier) + n ≡ MAX_DEPTH → (d : Data) → IsPlain (suc (suc (suc (suc n)))) d
+    → (l : Layer) → IsLayer tier size l
     → IsPlain (suc (suc (suc (suc (suc n))))) (object (with_own (layer_own width height d l) l.kept))
-own_plain level n size width height room d layers l h =
+own_plain tier n size width height room d layers l h =
     let m = suc (suc (suc (suc n))) in
-    object_plain m (layer_own width height d l) l.kept (own_are_plain level n size width height room d layers l h)
-    (kept_plain level m (layer_names l.body) l.kept (omega arith) h.kept)
+    object_plain m (layer_own width height d l) l.kept (own_are_plain tier n size width height room d layers l h)
+    (kept_plain tier m (layer_names l.body) l.kept (omega arith) h.kept)
 
 -- ---- layers within layers
-module _ (room level n width height : ℕ) (one : (l : Layer) → Each (IsDrawn (width * height)) (tree room level l) → IsPlain n (layer_tree room width height l))
+module _ (room tier n width height : ℕ) (one : (l : Layer) → Each (IsDrawn (width * height)) (tree room tier l) → IsPlain n (layer_tree room width height l))
   where
-    layers_plain : (ls : List Layer) → Each (IsDrawn (width * height)) (drawn room level ls) → ArePlainItems n (items_by (layer_tree room width height) ls)
+    layers_plain : (ls : List Layer) → Each (IsDrawn (width * height)) (drawn room tier ls) → ArePlainItems n (items_by (layer_tree room width height) ls)
     layers_plain [] h = (refl, omega arith)
     layers_plain (l ∷ ls) h =
-        let own = one l (Each-left (IsDrawn (width * height)) (tree room level l) (drawn room level ls) h) in
-        let more = layers_plain ls (Each-right (IsDrawn (width * height)) (tree room level l) (drawn room level ls) h) in
+        let own = one l (Each-left (IsDrawn (width * height)) (tree room tier l) (drawn room tier ls) h) in
+        let more = layers_plain ls (Each-right (IsDrawn (width * height)) (tree room tier l) (drawn room tier ls) h) in
         let a = own.1 in
         let b = more.1 in
         (rw (own.0, more.0) refl, omega arith)
 
-pub own_IsLayer : (room level size : ℕ) (l : Layer) → Each (IsDrawn size) (tree room level l) → IsLayer level size l
-own_IsLayer room level size l h = IsLayer-without (λ ls. []) level size l (tree-Each (IsDrawn size) room level l h).0
+pub own_IsLayer : (room tier size : ℕ) (l : Layer) → Each (IsDrawn size) (tree room tier l) → IsLayer tier size l
+own_IsLayer room tier size l h = IsLayer-without (λ ls. []) tier size l (tree-Each (IsDrawn size) room tier l h).0
 
-layer_plain : (room level n width height : ℕ) → level + 2 * room ≡ deepest_level → property_level (object_level level) + n ≡ MAX_DEPTH → (l : Layer)
-    → Each (IsDrawn (width * height)) (tree room level l)
+layer_plain : (room tier n width height : ℕ) → tier + 2 * room ≡ deepest_tier → property_tier (object_tier tier) + n ≡ MAX_DEPTH → (l : Layer)
+    → Each (IsDrawn (width * height)) (tree room tier l)
     → IsPlain (suc (suc (suc (suc (suc n))))) (layer_tree room width height l)
 unfolding layer_tree
-layer_plain zero level n width height balance deep l h = own_plain level n (width * height) width height deep (array no_items) (refl, omega arith) l
-    (own_IsLayer 0 level (width * height) l h)
-layer_plain (suc room) level n width height balance deep l h =
+layer_plain zero tier n width height balance deep l h = own_plain tier n (width * height) width height deep (array no_items) (refl, omega arith) l
+    (own_IsLayer 0 tier (width * height) l h)
+layer_plain (suc room) tier n width height balance deep l h =
     let m = n - 2 in
     let long : suc (suc (suc (suc (suc m)))) ≡ suc (suc (suc n)) = omega (arith, balance, deep) in
-    let one = λ (k : Layer) (g : Each (IsDrawn (width * height)) (tree room (inner_level level) k)).
+    let one = λ (k : Layer) (g : Each (IsDrawn (width * height)) (tree room (inner_tier tier) k)).
     subst (λ i. IsPlain i (layer_tree room width height k)) long
-    (layer_plain room (inner_level level) m width height (omega (arith, balance)) (omega (arith, balance, deep)) k g) in
-    let items = layers_plain room (inner_level level) (suc (suc (suc n))) width height one (inside l)
-    (tree-Each (IsDrawn (width * height)) (suc room) level l h).1 in
+    (layer_plain room (inner_tier tier) m width height (omega (arith, balance)) (omega (arith, balance, deep)) k g) in
+    let items = layers_plain room (inner_tier tier) (suc (suc (suc n))) width height one (inside l)
+    (tree-Each (IsDrawn (width * height)) (suc room) tier l h).1 in
     let below = items.1 in
-    own_plain level n (width * height) width height deep (layers_tree room width height (inside l)) (items.0, omega (arith, below)) l
-    (own_IsLayer (suc room) level (width * height) l h)
+    own_plain tier n (width * height) width height deep (layers_tree room width height (inside l)) (items.0, omega (arith, below)) l
+    (own_IsLayer (suc room) tier (width * height) l h)
 
 -- layers of a map, where so many groups may still stand in one another
 AreWritten-plain : (room width height : ℕ) (ls : List Layer) → AreWritten room (width * height) ls → IsPlain 126 (layers_tree room width height ls)
 AreWritten-plain room width height ls h =
-    let n = 123 - h.level in
-    let items = layers_plain room h.level (suc (suc (suc (suc (suc n))))) width height
-    (layer_plain room h.level n width height h.balance (omega (arith, h.balance))) ls h.each in
+    let n = 123 - h.tier in
+    let items = layers_plain room h.tier (suc (suc (suc (suc (suc n))))) width height
+    (layer_plain room h.tier n width height h.balance (omega (arith, h.balance))) ls h.each in
     let deep = items.1 in
     (items.0, omega (arith, h.balance, h.high, deep))
 
 -- the frame of one of them
-framed_own_plain : (level n size width height : ℕ) → property_level (object_level level) + n ≡ MAX_DEPTH → (l : Layer) → IsLayer level size l
+framed_own_plain : (tier n size width height : ℕ) → property_tier (object_tier tier) + n ≡ MAX_DEPTH → (l : Layer) → IsLayer tier size l
     → ArePlainOwn (suc (suc (suc (suc n)))) (layer_own width height (array no_items) (record l { body = framed_body l.body }))
-framed_own_plain level n size width height room l h =
+framed_own_plain tier n size width height room l h =
     let m = suc (suc (suc (suc n))) in (
       text_plain m (type_word (framed_body l.body)),
       (
@@ -284,8 +284,8 @@ framed_own_plain level n size width height room l h =
           (
             truth_plain m l.visible,
             (
-              properties_plain level (suc (suc n)) (omega arith) l.properties h.properties,
-              framed_plain level n size width height room (array no_items) (refl, omega arith) l.body h.body,
+              properties_plain tier (suc (suc n)) (omega arith) l.properties h.properties,
+              framed_plain tier n size width height room (array no_items) (refl, omega arith) l.body h.body,
             ),
           ),
         ),
@@ -294,18 +294,18 @@ framed_own_plain level n size width height room l h =
 
 pub layer_frame_plain : (room width height : ℕ) (l : Layer) → AreWritten room (width * height) (l ∷ []) → IsPlain 127 (object (layer_frame width height l))
 layer_frame_plain room width height l h =
-    let n = 123 - h.level in
+    let n = 123 - h.tier in
     let m = suc (suc (suc (suc n))) in
-    let own = own_IsLayer room h.level (width * height) l (Each-left (IsDrawn (width * height)) (tree room h.level l) [] h.each) in
-    let all = framed_own_plain h.level n (width * height) width height (omega (arith, h.balance)) l own in
+    let own = own_IsLayer room h.tier (width * height) l (Each-left (IsDrawn (width * height)) (tree room h.tier l) [] h.each) in
+    let all = framed_own_plain h.tier n (width * height) width height (omega (arith, h.balance)) l own in
     let frame = object_plain m (layer_own width height (array no_items) (record l { body = framed_body l.body })) l.kept all
-    (kept_plain h.level m (layer_names l.body) l.kept (omega (arith, h.balance)) own.kept) in
+    (kept_plain h.tier m (layer_names l.body) l.kept (omega (arith, h.balance)) own.kept) in
     let deep = frame.1 in
     (frame.0, omega (arith, h.balance, h.high, deep))
 
 -- the layers of a well-formed map
 pub layers_AreWritten : (m : MapParts) → IsWellFormed m → AreWritten MAX_GROUPS (m.width * m.height) m.layers
-layers_AreWritten m h = record { level = layer_level; high = omega arith; balance = refl; each = h.layers.each }
+layers_AreWritten m h = record { tier = layer_tier; high = omega arith; balance = refl; each = h.layers.each }
 
 map_layers_plain : (m : MapParts) → IsWellFormed m → IsPlain 126 (layers_tree MAX_GROUPS m.width m.height m.layers)
 map_layers_plain m h = AreWritten-plain MAX_GROUPS m.width m.height m.layers (layers_AreWritten m h)
@@ -333,7 +333,7 @@ around_plain d m layers h =
                     layers,
                     (
                       tilesets,
-                      (properties_plain map_level 124 refl m.properties h.properties, (text_plain 126 (codes "map"), (text_plain 126 (codes "1.10"), tt))),
+                      (properties_plain map_tier 124 refl m.properties h.properties, (text_plain 126 (codes "map"), (text_plain 126 (codes "1.10"), tt))),
                     ),
                   ),
                 ),
@@ -343,7 +343,7 @@ around_plain d m layers h =
         ),
       ),
     )
-    (kept_plain map_level 126 map_names m.kept refl h.kept)
+    (kept_plain map_tier 126 map_names m.kept refl h.kept)
 
 -- the tree of a well-formed map
 pub tree_plain : (m : MapParts) → IsWellFormed m → IsPlain 127 (tree_of m)

@@ -21,14 +21,14 @@ use Rattle.map_model.specs.declared.parts.Encoding.{Encoding}
 use Rattle.map_model.specs.declared.parts.Encoding.TheVariants.{Array, Base64}
 use Rattle.map_model.specs.declared.parts.Property.{Property}
 use Rattle.map_model.specs.Lists.{Each}
-use Rattle.map_model.specs.Keeping.{AreKept, IsKeptValue, IsOfAnotherKind, property_level}
+use Rattle.map_model.specs.Keeping.{AreKept, IsKeptValue, IsOfAnotherKind, property_tier}
 use Rattle.map_model.specs.Format.{property_names}
 use Rattle.map_model.specs.WellFormed.{IsWhole, IsValue, IsProperty}
-use Rattle.map_model.specs.Steps.{◌>>=◌, ◌>>◌, check}
+use Rattle.map_model.specs.Refusing.{◌>>=◌, ◌>>◌, check}
 use Rattle.json_members.specs.Members.{without_all}
 use Rattle.refusals.specs.declared.map_refusal.MapRefusal.{MapRefusal}
 use Rattle.refusals.specs.declared.map_refusal.MapRefusal.TheVariants.{MemberOfAnotherKind, OverLimit, BadData}
-use Rattle.map_values.specs.Steps.{required, absent_means, optional}
+use Rattle.map_values.specs.Presence.{required, absent_means, optional}
 use Rattle.map_values.specs.Scalars.{whole_at, text_at}
 use Rattle.map_json.specs.Elements.{each, elements_at}
 use Rattle.map_values.specs.Cells.{cell_of, cells_of, packed, words_of, is_byte, array_cells_at, base64_cells_at}
@@ -78,30 +78,30 @@ by_check false f rest y e next = absurd cc
 negative_whole : (z w : ℤ) → IsFineNum (negative z) → z ≡ w → IsWhole w
 negative_whole z w h e = subst IsWhole e (record { low = h.0; high = let below = h.1 in omega (arith, ints) })
 
--- a value that is kept, with room for its levels
-kept_value : (level n : ℕ) (d : Data) → level + n ≤ MAX_DEPTH → IsFine n d → IsOfAnotherKind d → IsKeptValue level d
-kept_value level n d room h kind =
+-- a value that is kept, with room for its tiers
+kept_value : (tier n : ℕ) (d : Data) → tier + n ≤ MAX_DEPTH → IsFine n d → IsOfAnotherKind d → IsKeptValue tier d
+kept_value tier n d room h kind =
     let deep = depth-fine n d h in
     record { kind = kind; whole = has_float-fine n d h; shallow = omega arith; readable = IsReadable-fine n d h }
 
-unsigned_held : (b : Bool) (level n m : ℕ) → level + n ≤ MAX_DEPTH → nat_lt m (2 ^ 63) ≡ b → m < 2 ^ 64 → IsValue level (value_of (number (unsigned m)))
-unsigned_held true level n m room e h = let lt : m < 2 ^ 63 = ltb-true m (2 ^ 63) e in
+unsigned_held : (b : Bool) (tier n m : ℕ) → tier + n ≤ MAX_DEPTH → nat_lt m (2 ^ 63) ≡ b → m < 2 ^ 64 → IsValue tier (value_of (number (unsigned m)))
+unsigned_held true tier n m room e h = let lt : m < 2 ^ 63 = ltb-true m (2 ^ 63) e in
     let le : m ≤ 2 ^ 63 - 1 = omega arith in
     rw e (record { low = le_z_yes tt; high = le_z_yes (T_from_true (nat_le m (2 ^ 63 - 1)) (le-leb m (2 ^ 63 - 1) le)) })
-unsigned_held false level n m room e h = rw e (kept_value level n (number (unsigned m)) room h (rw e refl))
+unsigned_held false tier n m room e h = rw e (kept_value tier n (number (unsigned m)) room h (rw e refl))
 
-pub value_sound : (level n : ℕ) (d : Data) → level + n ≤ MAX_DEPTH → IsFine n d → IsValue level (value_of d)
-value_sound level n null room h = kept_value level n null room h tt
-value_sound level n (boolean b) room h = tt
-value_sound level n (number (unsigned m)) room h = unsigned_held (nat_lt m (2 ^ 63)) level n m room refl h
-value_sound level n (number (negative z)) room h = negative_whole z z h refl
-value_sound level n (number (float x)) room h = absurd h
-value_sound level n (string s) room h = h
-value_sound level n (array ds) room h = kept_value level n (array ds) room h tt
-value_sound level n (object ms) room h = kept_value level n (object ms) room h tt
+pub value_sound : (tier n : ℕ) (d : Data) → tier + n ≤ MAX_DEPTH → IsFine n d → IsValue tier (value_of d)
+value_sound tier n null room h = kept_value tier n null room h tt
+value_sound tier n (boolean b) room h = tt
+value_sound tier n (number (unsigned m)) room h = unsigned_held (nat_lt m (2 ^ 63)) tier n m room refl h
+value_sound tier n (number (negative z)) room h = negative_whole z z h refl
+value_sound tier n (number (float x)) room h = absurd h
+value_sound tier n (string s) room h = h
+value_sound tier n (array ds) room h = kept_value tier n (array ds) room h tt
+value_sound tier n (object ms) room h = kept_value tier n (object ms) room h tt
 
-pub kept_sound : (level n : ℕ) (names : List (List ℕ)) (ms : Members) → level + n ≤ MAX_DEPTH → AreFineMembers n ms → AreKept level names (without_all names ms)
-kept_sound level n names ms room h =
+pub kept_sound : (tier n : ℕ) (names : List (List ℕ)) (ms : Members) → tier + n ≤ MAX_DEPTH → AreFineMembers n ms → AreKept tier names (without_all names ms)
+kept_sound tier n names ms room h =
     let fine = AreFineMembers-without_all n names ms h in
     let deep = members_depth-fine n (without_all names ms) fine in
     record {
@@ -151,24 +151,24 @@ object_fine n (number x) ms h e = absurd cc
 object_fine n (string x) ms h e = absurd cc
 object_fine n (array x) ms h e = absurd cc
 
-pub property_sound : (level n : ℕ) → level + n ≤ MAX_DEPTH → (d : Data) (p : Property) → IsFine (suc n) d → property_at d ≡ Ok p → IsProperty level p
+pub property_sound : (tier n : ℕ) → tier + n ≤ MAX_DEPTH → (d : Data) (p : Property) → IsFine (suc n) d → property_at d ≡ Ok p → IsProperty tier p
 unfolding property_at
-property_sound level n room d p fine e =
+property_sound tier n room d p fine e =
     by_bind (ok_or (as_object d) MemberOfAnotherKind) _ p e (λ ms object e1.
     by_bind (required text_at (get_member NAME.now ms)) _ p e1 (λ name name_is e2.
     by_bind (absent_means (codes "string") text_at (get_member TYPE.now ms)) _ p e2 (λ kind kind_is e3.
     by_bind (required value_at (get_member VALUE.now ms)) _ p e3 (λ value value_is e4.
     let members = object_fine n d ms fine (ok_or_ok (as_object d) MemberOfAnotherKind ms object) in
     let found = required_ok value_at (get_member VALUE.now ms) value value_is in
-    let held : IsValue level value = subst (IsValue level) (ok_is (value_of found.0) value found.2)
-    (value_sound level n found.0 room (IsFine-get_member n VALUE.now ms found.0 members found.1)) in
-    let made : IsProperty level (record { name = name; kind = kind; value = value; kept = without_all property_names ms }) = record {
+    let held : IsValue tier value = subst (IsValue tier) (ok_is (value_of found.0) value found.2)
+    (value_sound tier n found.0 room (IsFine-get_member n VALUE.now ms found.0 members found.1)) in
+    let made : IsProperty tier (record { name = name; kind = kind; value = value; kept = without_all property_names ms }) = record {
       name = required_text_sound n NAME.now ms members name name_is;
       kind = text_or_sound n TYPE.now ms members (codes "string") kind (IsUtf8-are_ascii (codes "string") refl) kind_is;
       value = held;
-      kept = kept_sound level n property_names ms room members;
+      kept = kept_sound tier n property_names ms room members;
     } in
-    subst (IsProperty level) (ok_is (record { name = name; kind = kind; value = value; kept = without_all property_names ms }) p e4) made))))
+    subst (IsProperty tier) (ok_is (record { name = name; kind = kind; value = value; kept = without_all property_names ms }) p e4) made))))
 
 -- a test that did not refuse
 pub chosen : {A : Type 0} (b : Bool) (r : Result A MapRefusal) (f : MapRefusal) (x : A) → cond b r (Err f) ≡ Ok x → (b ≡ true) × (r ≡ Ok x)
@@ -202,17 +202,17 @@ module _ {A : Type 0} (P : A → Type 0) (read : Data → Result A MapRefusal) (
       (subst (λ (k : ℕ). k ≤ most) (sym all.0) (leb-true (items_len ds) most fits.0), all.1))
 
 -- properties that were read; whether their names differ is told apart
-pub record WereRead (level : ℕ) (ps : List Property) : Type 0 where
+pub record WereRead (tier : ℕ) (ps : List Property) : Type 0 where
   pub few : length ps ≤ MAX_PROPERTIES
-  pub each : Each (IsProperty (property_level level)) ps
+  pub each : Each (IsProperty (property_tier tier)) ps
 
-pub properties_sound : (level n : ℕ) → property_level level + n ≤ MAX_DEPTH → (ms : Members) (ps : List Property) → AreFineMembers (suc (suc n)) ms
-    → properties_of ms ≡ Ok ps → WereRead level ps
-properties_sound level n room ms ps h e = at_member (get_member PROPERTIES.now ms) refl e where
-  at_member : (o : Option Data) → get_member PROPERTIES.now ms ≡ o → absent_means [] (elements_at MAX_PROPERTIES property_at) o ≡ Ok ps → WereRead level ps
-  at_member None is f = subst (WereRead level) (ok_is [] ps f) (record { few = omega arith; each = tt })
+pub properties_sound : (tier n : ℕ) → property_tier tier + n ≤ MAX_DEPTH → (ms : Members) (ps : List Property) → AreFineMembers (suc (suc n)) ms
+    → properties_of ms ≡ Ok ps → WereRead tier ps
+properties_sound tier n room ms ps h e = at_member (get_member PROPERTIES.now ms) refl e where
+  at_member : (o : Option Data) → get_member PROPERTIES.now ms ≡ o → absent_means [] (elements_at MAX_PROPERTIES property_at) o ≡ Ok ps → WereRead tier ps
+  at_member None is f = subst (WereRead tier) (ok_is [] ps f) (record { few = omega arith; each = tt })
   at_member (Some d) is f =
-      let s = elements_sound (IsProperty (property_level level)) property_at (suc n) (property_sound (property_level level) n room) MAX_PROPERTIES d ps
+      let s = elements_sound (IsProperty (property_tier tier)) property_at (suc n) (property_sound (property_tier tier) n room) MAX_PROPERTIES d ps
       (IsFine-get_member (suc (suc n)) PROPERTIES.now ms d h is) f in
       record { few = s.0; each = s.1 }
 

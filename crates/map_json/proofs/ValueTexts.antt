@@ -44,16 +44,16 @@ members-HaveTexts : (ms : List Entry) → MembersHaveTexts (members_of
 members-HaveTexts [] = tt
 members-HaveTexts (m ∷ ms) = (IsUtf8-string_bytes m.0, m.1.1, members-HaveTexts ms)
 
--- one level, with each value inside known
-level-HasTexts : (y : Value-F Known) → HasTexts (view_step (map-Value Value Data view (map-Value Known Value (λ e. e.0) y)))
-level-HasTexts Value-F.Null = tt
-level-HasTexts (Value-F.Bool b) = tt
-level-HasTexts (Value-F.Number n) = tt
-level-HasTexts (Value-F.String s) = IsUtf8-string_bytes s
-level-HasTexts (Value-F.Array v) = items-HaveTexts v.items
-level-HasTexts (Value-F.Object m) = members-HaveTexts m.entries
+-- one tier, with each value inside known
+tier-HasTexts : (y : Value-F Known) → HasTexts (view_step (map-Value Value Data view (map-Value Known Value (λ e. e.0) y)))
+tier-HasTexts Value-F.Null = tt
+tier-HasTexts (Value-F.Bool b) = tt
+tier-HasTexts (Value-F.Number n) = tt
+tier-HasTexts (Value-F.String s) = IsUtf8-string_bytes s
+tier-HasTexts (Value-F.Array v) = items-HaveTexts v.items
+tier-HasTexts (Value-F.Object m) = members-HaveTexts m.entries
 
 pub HasTexts-view : (v : Value) → HasTextsSeen v
 HasTexts-view = ind-Value HasTextsSeen (λ x y is.
-    let own = subst (λ (z : Value-F Value). HasTexts (view_step (map-Value Value Data view z))) is (level-HasTexts y) in
+    let own = subst (λ (z : Value-F Value). HasTexts (view_step (map-Value Value Data view z))) is (tier-HasTexts y) in
     subst HasTexts (sym (fold-roll-Value Data view_step x)) own)

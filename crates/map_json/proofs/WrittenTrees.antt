@@ -25,7 +25,7 @@ use Rattle.map_model.specs.declared.parts.Layer.{Layer}
 use Rattle.map_model.specs.declared.parts.Tileset.{Tileset}
 use Rattle.map_model.specs.declared.parts.MapParts.{MapParts}
 use Rattle.map_model.specs.Groups.{all_drawn, drawn, inside, tree}
-use Rattle.map_model.specs.Keeping.{inner_level, layer_level, map_level, object_level, property_level}
+use Rattle.map_model.specs.Keeping.{inner_tier, layer_tier, map_tier, object_tier, property_tier}
 use Rattle.map_model.specs.Lists.{Each}
 use Rattle.map_model.specs.Readable.{IsReadable, AreReadableItems, AreReadableMembers}
 use Rattle.map_model.specs.WellFormed.{IsId, IsWhole, IsPixels, IsTileValue, IsValue, IsProperty, AreProperties, IsObject, IsBody, IsDrawn, IsLayer, IsTileset}
@@ -105,30 +105,30 @@ Each-of_flat_map P g [] h = tt
 Each-of_flat_map P g (x ∷ xs) h = (Each-left P (g x) (flat_map g xs) h, Each-of_flat_map P g xs (Each-right P (g x) (flat_map g xs) h))
 
 -- ---- properties
-value_readable : (level : ℕ) (v : PropValue) → IsValue level v → IsReadable (value_tree v)
-value_readable level (values.Text s) h = h
-value_readable level (values.Whole z) h = integer_readable z h
-value_readable level (values.Truth b) h = tt
-value_readable level (values.Other d) h = h.readable
+value_readable : (tier : ℕ) (v : PropValue) → IsValue tier v → IsReadable (value_tree v)
+value_readable tier (values.Text s) h = h
+value_readable tier (values.Whole z) h = integer_readable z h
+value_readable tier (values.Truth b) h = tt
+value_readable tier (values.Other d) h = h.readable
 
-property_readable : (level : ℕ) (p : Property) → IsProperty level p → IsReadable (property_tree p)
+property_readable : (tier : ℕ) (p : Property) → IsProperty tier p → IsReadable (property_tree p)
 unfolding property_tree
-property_readable level p h =
-    own_readable (property_own p) p.kept (refl, h.name, (refl, h.kind, (refl, value_readable level p.value h.value, tt))) h.kept.readable
+property_readable tier p h =
+    own_readable (property_own p) p.kept (refl, h.name, (refl, h.kind, (refl, value_readable tier p.value h.value, tt))) h.kept.readable
 
-properties_readable : (level : ℕ) (ps : List Property) → AreProperties level ps → IfSome (properties_member ps) IsReadable
-properties_readable level [] h = tt
-properties_readable level (p ∷ ps) h =
-    items_readable (IsProperty (property_level level)) property_tree (property_readable (property_level level)) (p ∷ ps) h.each
+properties_readable : (tier : ℕ) (ps : List Property) → AreProperties tier ps → IfSome (properties_member ps) IsReadable
+properties_readable tier [] h = tt
+properties_readable tier (p ∷ ps) h =
+    items_readable (IsProperty (property_tier tier)) property_tree (property_readable (property_tier tier)) (p ∷ ps) h.each
 
 -- ---- objects and tilesets
 -- an id that fits a number of a file
 abbrev IsSmall : ℕ → Type 0
 IsSmall n = n < 2 ^ 64
 
-object_readable : (level : ℕ) (o : Object) → IsObject level o × Each IsSmall (ids_of_object o) → IsReadable (object_tree o)
+object_readable : (tier : ℕ) (o : Object) → IsObject tier o × Each IsSmall (ids_of_object o) → IsReadable (object_tree o)
 unfolding object_tree
-object_readable level o h =
+object_readable tier o h =
     let p = o.placing in
     let placing = h.0.placing in
     own_readable (object_own o) o.kept (
@@ -149,7 +149,7 @@ object_readable level o h =
               (
                 refl,
                 text_readable o.name h.0.name,
-                (refl, truth_readable o.visible, (refl, gid_readable o.gid h.0.gid, (refl, properties_readable level o.properties h.0.properties, tt))),
+                (refl, truth_readable o.visible, (refl, gid_readable o.gid h.0.gid, (refl, properties_readable tier o.properties h.0.properties, tt))),
               ),
             ),
           ),
@@ -184,23 +184,23 @@ abbrev IsDrawnSmall : ℕ → ℕ × Layer → Type 0
 IsDrawnSmall size d = IsDrawn size d × (Each IsSmall (ids_of d) × Each IsSmall (object_ids_of d))
 
 module _ (width height : ℕ) (wide : IsSmall width) (high : IsSmall height) where
-  body_readable : (level size : ℕ) (d : Data) → IsReadable d → (b : Body) → IsBody level size b → Each IsSmall (object_ids_in b)
+  body_readable : (tier size : ℕ) (d : Data) → IsReadable d → (b : Body) → IsBody tier size b → Each IsSmall (object_ids_in b)
       → AreReadableOwn (body_own width height d b)
-  body_readable level size d layers (Tiles e cells) h ids =
+  body_readable tier size d layers (Tiles e cells) h ids =
       (refl, encoding_readable e, (refl, tt, (refl, wide, (refl, high, (refl, cells_readable e cells h.1, tt)))))
-  body_readable level size d layers (Objects os) h ids = (
+  body_readable tier size d layers (Objects os) h ids = (
     refl,
-    items_readable (λ (o : Object). IsObject (object_level level) o × Each IsSmall (ids_of_object o)) object_tree (object_readable (object_level level)) os
-        (Each-pair (IsObject (object_level level)) (λ (o : Object). Each IsSmall (ids_of_object o)) os h.1 (Each-of_flat_map IsSmall ids_of_object os ids)),
+    items_readable (λ (o : Object). IsObject (object_tier tier) o × Each IsSmall (ids_of_object o)) object_tree (object_readable (object_tier tier)) os
+        (Each-pair (IsObject (object_tier tier)) (λ (o : Object). Each IsSmall (ids_of_object o)) os h.1 (Each-of_flat_map IsSmall ids_of_object os ids)),
     tt,
   )
-  body_readable level size d layers Other h ids = tt
-  body_readable level size d layers (Group' s r) h ids = (refl, layers, tt)
+  body_readable tier size d layers Other h ids = tt
+  body_readable tier size d layers (Group' s r) h ids = (refl, layers, tt)
 
   -- a layer, with this for the layers of a group
-  one_readable : (level size : ℕ) (d : Data) → IsReadable d → (l : Layer) → IsLayer level size l → IsSmall l.id → Each IsSmall (object_ids_in l.body)
+  one_readable : (tier size : ℕ) (d : Data) → IsReadable d → (l : Layer) → IsLayer tier size l → IsSmall l.id → Each IsSmall (object_ids_in l.body)
       → IsReadable (object (with_own (layer_own width height d l) l.kept))
-  one_readable level size d layers l h id ids =
+  one_readable tier size d layers l h id ids =
       own_readable (layer_own width height d l) l.kept (
         refl,
         type_readable l.body,
@@ -213,7 +213,7 @@ module _ (width height : ℕ) (wide : IsSmall width) (high : IsSmall height) whe
             (
               refl,
               tt,
-              (refl, properties_readable level l.properties h.properties, body_readable level size d layers l.body h.body ids),
+              (refl, properties_readable tier l.properties h.properties, body_readable tier size d layers l.body h.body ids),
             ),
           ),
         ),
@@ -221,30 +221,30 @@ module _ (width height : ℕ) (wide : IsSmall width) (high : IsSmall height) whe
       h.kept.readable
 
   -- the first of those that are drawn for a layer is its own
-  own_layer : (room level size : ℕ) (l : Layer) → Each (IsDrawnSmall size) (tree room level l)
-      → IsLayer level size l × IsSmall l.id × Each IsSmall (object_ids_in l.body)
-  own_layer room level size l h =
-      let own = (tree-Each (IsDrawnSmall size) room level l h).0 in
-      (IsLayer-without (λ ls. []) level size l own.0, own.1.0.0, subst (Each IsSmall) (object_ids-with (λ ls. []) l.body) own.1.1)
+  own_layer : (groups tier size : ℕ) (l : Layer) → Each (IsDrawnSmall size) (tree groups tier l)
+      → IsLayer tier size l × IsSmall l.id × Each IsSmall (object_ids_in l.body)
+  own_layer groups tier size l h =
+      let own = (tree-Each (IsDrawnSmall size) groups tier l h).0 in
+      (IsLayer-without (λ ls. []) tier size l own.0, own.1.0.0, subst (Each IsSmall) (object_ids-with (λ ls. []) l.body) own.1.1)
 
-  module _ (room level size : ℕ) (one : (l : Layer) → Each (IsDrawnSmall size) (tree room level l) → IsReadable (layer_tree room width height l)) where
-    each_readable : (ls : List Layer) → Each (IsDrawnSmall size) (drawn room level ls) → AreReadableItems (items_by (layer_tree room width height) ls)
+  module _ (groups tier size : ℕ) (one : (l : Layer) → Each (IsDrawnSmall size) (tree groups tier l) → IsReadable (layer_tree groups width height l)) where
+    each_readable : (ls : List Layer) → Each (IsDrawnSmall size) (drawn groups tier ls) → AreReadableItems (items_by (layer_tree groups width height) ls)
     each_readable [] h = tt
     each_readable (l ∷ ls) h = (
-      one l (Each-left (IsDrawnSmall size) (tree room level l) (drawn room level ls) h),
-      each_readable ls (Each-right (IsDrawnSmall size) (tree room level l) (drawn room level ls) h),
+      one l (Each-left (IsDrawnSmall size) (tree groups tier l) (drawn groups tier ls) h),
+      each_readable ls (Each-right (IsDrawnSmall size) (tree groups tier l) (drawn groups tier ls) h),
     )
 
-  layer_readable : (room level size : ℕ) (l : Layer) → Each (IsDrawnSmall size) (tree room level l) → IsReadable (layer_tree room width height l)
+  layer_readable : (groups tier size : ℕ) (l : Layer) → Each (IsDrawnSmall size) (tree groups tier l) → IsReadable (layer_tree groups width height l)
   unfolding layer_tree
-  layer_readable zero level size l h =
-      let own = own_layer 0 level size l h in
-      one_readable level size (array no_items) tt l own.0 own.1 own.2
-  layer_readable (suc room) level size l h =
-      let own = own_layer (suc room) level size l h in
-      let below = (tree-Each (IsDrawnSmall size) (suc room) level l h).1 in
-      one_readable level size (layers_tree room width height (inside l))
-      (each_readable room (inner_level level) size (layer_readable room (inner_level level) size) (inside l) below) l own.0 own.1 own.2
+  layer_readable zero tier size l h =
+      let own = own_layer 0 tier size l h in
+      one_readable tier size (array no_items) tt l own.0 own.1 own.2
+  layer_readable (suc groups) tier size l h =
+      let own = own_layer (suc groups) tier size l h in
+      let below = (tree-Each (IsDrawnSmall size) (suc groups) tier l h).1 in
+      one_readable tier size (layers_tree groups width height (inside l))
+      (each_readable groups (inner_tier tier) size (layer_readable groups (inner_tier tier) size) (inside l) below) l own.0 own.1 own.2
 
 -- ---- maps
 small_ids : (next : ℕ) (ids : List ℕ) → next ≤ MAX_NEXT_ID → Each (IsId next) ids → Each IsSmall ids
@@ -279,7 +279,7 @@ lists_readable d m layers h = (
     items_readable IsTileset tileset_tree tileset_readable m.tilesets h.tilesets.each,
     (
       refl,
-      properties_readable map_level m.properties h.properties,
+      properties_readable map_tier m.properties h.properties,
       (refl, IsUtf8-are_ascii (codes "map") refl, (refl, IsUtf8-are_ascii (codes "1.10") refl, tt)),
     ),
   ),
@@ -291,8 +291,8 @@ tree_readable m h =
     let wide = number_below m.width MAX_SIDE h.size.width_limit (omega arith) in
     let high = number_below m.height MAX_SIDE h.size.height_limit (omega arith) in
     let size = m.width * m.height in
-    let one = layer_readable m.width m.height wide high MAX_GROUPS layer_level size in
-    let layers = each_readable m.width m.height wide high MAX_GROUPS layer_level size one m.layers (drawn_small m h) in
+    let one = layer_readable m.width m.height wide high MAX_GROUPS layer_tier size in
+    let layers = each_readable m.width m.height wide high MAX_GROUPS layer_tier size one m.layers (drawn_small m h) in
     own_readable (map_own m) m.kept
     (AreReadableOwn-append (plain_own m) (lists_own (layers_tree MAX_GROUPS m.width m.height m.layers) m) (plain_readable m h)
     (lists_readable (layers_tree MAX_GROUPS m.width m.height m.layers) m layers h)) h.kept.readable

@@ -9,7 +9,7 @@ use Rattle.map_model.specs.declared.parts.Encoding.TheVariants.{Array, Base64}
 use Rattle.map_model.specs.declared.parts.MapParts.{MapParts}
 use Rattle.map_model.specs.declared.parts.Layer.{Layer}
 use Rattle.map_model.specs.Groups.{drawn}
-use Rattle.map_model.specs.Keeping.{deepest_level, layer_level}
+use Rattle.map_model.specs.Keeping.{deepest_tier, layer_tier}
 use Rattle.map_model.specs.Lists.{Each}
 use Rattle.map_model.specs.WellFormed.{IsDrawn}
 use Rattle.map_json.specs.Members.{with_own}
@@ -25,11 +25,11 @@ replaced k d no_members = no_members
 replaced k d (member l e ms) = member l (instead k d l e) (replaced k d ms)
 
 -- layers as a map of so many cells has them, where so many groups may still stand in one another
-pub record AreWritten (room size : ℕ) (ls : List Layer) : Type 0 where
-  pub level : ℕ
-  pub high : layer_level ≤ level
-  pub balance : level + 2 * room ≡ deepest_level
-  pub each : Each (IsDrawn size) (drawn room level ls)
+pub record AreWritten (groups size : ℕ) (ls : List Layer) : Type 0 where
+  pub tier : ℕ
+  pub high : layer_tier ≤ tier
+  pub balance : tier + 2 * groups ≡ deepest_tier
+  pub each : Each (IsDrawn size) (drawn groups tier ls)
 
 -- a tile layer's values as they stand in its frame: of an array none
 abbrev pub framed_cells : Encoding → List ℕ → List ℕ

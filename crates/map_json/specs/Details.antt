@@ -52,11 +52,11 @@ frame_in Whole width height l = layer_frame width height l
 frame_in Outline width height l = outline_frame width height l
 
 abbrev pub layer_in : Detail → ℕ → ℕ → ℕ → Layer → Data
-layer_in Whole room width height l = layer_tree room width height l
-layer_in Outline room width height l = outline_layer room width height l
+layer_in Whole groups width height l = layer_tree groups width height l
+layer_in Outline groups width height l = outline_layer groups width height l
 
 abbrev pub layers_in : Detail → ℕ → ℕ → ℕ → List Layer → Data
-layers_in detail room width height ls = array_by (layer_in detail room width height) ls
+layers_in detail groups width height ls = array_by (layer_in detail groups width height) ls
 
 abbrev pub map_in : Detail → MapParts → Data
 map_in Whole m = tree_of m

@@ -11,12 +11,12 @@ use Rattle.map_model.specs.declared.limits.TheConstants.{MAX_CELLS}
 use Rattle.map_model.specs.declared.parts.MapParts.{MapParts}
 use Rattle.map_model.specs.Format.{map_width_member, map_height_member, tile_width_member, tile_height_member, infinite_member, next_layer_id_member}
 use Rattle.map_model.specs.Format.{next_object_id_member, layers_list, tilesets_list, map_names}
-use Rattle.map_model.specs.Steps.{◌>>=◌, ◌>>◌, check}
+use Rattle.map_model.specs.Refusing.{◌>>=◌, ◌>>◌, check}
 use Rattle.refusals.specs.declared.map_refusal.MapRefusal.{MapRefusal}
 use Rattle.refusals.specs.declared.map_refusal.MapRefusal.TheVariants.{NotJson, Fraction, Infinite, IdUsedTwice, OverLimit, NotAMap}
 use Rattle.map_values.specs.declared.fault.MapFault.{MapFault}
 use Rattle.map_values.specs.declared.fault.MapFault.TheVariants.{Memory, Refused}
-use Rattle.map_values.specs.Steps.{required}
+use Rattle.map_values.specs.Presence.{required}
 use Rattle.map_values.specs.Scalars.{required_member, member_or}
 use Rattle.json_members.specs.Members.{without, without_all}
 use Rattle.map_json.specs.Reading.{required_list, properties_of, tileset_at, map_layers_at}

@@ -19,7 +19,7 @@ outline_own width height layers l = filter (λ p. not (bytes_eq p.0 DATA.now)) (
 -- a layer in which layers may stand in so many groups
 unfoldable pub outline_layer : ℕ → ℕ → ℕ → Layer → Data
 outline_layer zero width height l = object (with_own (outline_own width height (array no_items) l) l.kept)
-outline_layer (suc room) width height l = object (with_own (outline_own width height (array_by (outline_layer room width height) (inside l)) l) l.kept)
+outline_layer (suc groups) width height l = object (with_own (outline_own width height (array_by (outline_layer groups width height) (inside l)) l) l.kept)
 
 -- the tree of a map's outline, and its text
 unfoldable pub outline_of : MapParts → Data

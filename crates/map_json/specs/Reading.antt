@@ -18,16 +18,17 @@ use Rattle.map_model.specs.declared.parts.Body.{Body}
 use Rattle.map_model.specs.declared.parts.Body.TheVariants.{Tiles, Objects, Other, Group}
 use Rattle.map_model.specs.declared.parts.Layer.{Layer}
 use Rattle.map_model.specs.declared.parts.Tileset.{Tileset}
-use Rattle.map_model.specs.Format.{ListMember, id_member, name_member, visible_member, properties_list, layers_list, objects_list, x_member, y_member, width_member}
+use Rattle.map_model.specs.Format.{ListMember, id_member, name_member, visible_member, properties_list, layers_list, objects_list, x_member, y_member}
+use Rattle.map_model.specs.Format.{width_member}
 use Rattle.map_model.specs.Format.{height_member, gid_member, first_id_member, source_member, property_type_member}
 use Rattle.map_model.specs.Format.{layer_names, object_names, tileset_names, property_names}
-use Rattle.map_model.specs.Steps.{◌>>=◌, ◌>>◌, check}
+use Rattle.map_model.specs.Refusing.{◌>>=◌, ◌>>◌, check}
 use Rattle.map_json.specs.declared.body.LayerType.{LayerType}
 use Rattle.map_json.specs.declared.body.LayerType.TheVariants.{TileLayer, ObjectGroup, ImageLayer, GroupLayer}
 use Rattle.map_json.specs.declared.layer.Head.{Head}
 use Rattle.refusals.specs.declared.map_refusal.MapRefusal.{MapRefusal}
 use Rattle.refusals.specs.declared.map_refusal.MapRefusal.TheVariants.{MemberOfAnotherKind, Compressed, BadData, OverLimit}
-use Rattle.map_values.specs.Steps.{required, absent_means}
+use Rattle.map_values.specs.Presence.{required, absent_means}
 use Rattle.map_values.specs.Scalars.{required_member, optional_member, member_or}
 use Rattle.map_json.specs.Elements.{Counting, each_counted, elements_at}
 use Rattle.json_members.specs.Members.{without_all}
@@ -185,10 +186,10 @@ unfoldable pub layers_at : ℕ → ℕ → ℕ → Counting (List Layer)
 layers_at zero width height count d = do
   ds ← ok_or (as_array d) MemberOfAnotherKind
   Err OverLimit
-layers_at (suc room) width height count d = do
+layers_at (suc groups) width height count d = do
   ds ← ok_or (as_array d) MemberOfAnotherKind
   check (nat_le (count + items_len ds) layers_list.most) OverLimit
-  each_counted (layer_by (layers_at room width height) width height) (count + items_len ds) ds
+  each_counted (layer_by (layers_at groups width height) width height) (count + items_len ds) ds
 
 -- the layers of a map: an array, and those of groups within as many groups as may stand in one another
 abbrev pub map_layers_at : ℕ → ℕ → Data → Result (List Layer) MapRefusal

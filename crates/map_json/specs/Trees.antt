@@ -19,7 +19,8 @@ use Rattle.map_model.specs.declared.parts.Body.TheVariants.{Tiles, Objects, Othe
 use Rattle.map_model.specs.declared.parts.Layer.{Layer}
 use Rattle.map_model.specs.declared.parts.Tileset.{Tileset}
 use Rattle.map_model.specs.declared.parts.MapParts.{MapParts}
-use Rattle.map_model.specs.Format.{id_member, name_member, visible_member, properties_list, map_width_member, map_height_member, tile_width_member, tile_height_member}
+use Rattle.map_model.specs.Format.{id_member, name_member, visible_member, properties_list, map_width_member, map_height_member, tile_width_member}
+use Rattle.map_model.specs.Format.{tile_height_member}
 use Rattle.map_model.specs.Format.{infinite_member, next_layer_id_member, next_object_id_member, layers_list, tilesets_list, objects_list, x_member, y_member}
 use Rattle.map_model.specs.Format.{width_member, height_member, gid_member, first_id_member, source_member, property_type_member}
 use Rattle.map_model.specs.Groups.{inside}
@@ -103,10 +104,10 @@ layer_own width height layers l =
 -- a layer in which layers may stand in so many groups
 unfoldable pub layer_tree : ℕ → ℕ → ℕ → Layer → Data
 layer_tree zero width height l = object (with_own (layer_own width height (array no_items) l) l.kept)
-layer_tree (suc room) width height l = object (with_own (layer_own width height (array_by (layer_tree room width height) (inside l)) l) l.kept)
+layer_tree (suc groups) width height l = object (with_own (layer_own width height (array_by (layer_tree groups width height) (inside l)) l) l.kept)
 
 abbrev pub layers_tree : ℕ → ℕ → ℕ → List Layer → Data
-layers_tree room width height ls = array_by (layer_tree room width height) ls
+layers_tree groups width height ls = array_by (layer_tree groups width height) ls
 
 -- ---- maps
 -- the own members of a map that are no lists

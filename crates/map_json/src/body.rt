@@ -7,7 +7,7 @@ ghost use Rattle.map_model.specs.declared.limits.TheConstants.{MAX_CELLS};
 ghost use Rattle.map_model.specs.declared.names.TheConstants.{TYPE, ENCODING, COMPRESSION, DATA};
 ghost use Rattle.map_model.specs.declared.parts.Encoding.TheVariants.{Array};
 ghost use Rattle.json_members.specs.Members.{without, without_all};
-ghost use Rattle.map_values.specs.Steps.{Gives, required, absent_means};
+ghost use Rattle.map_values.specs.Presence.{Gives, required, absent_means};
 ghost use Rattle.map_json.specs.Reading.{type_at, encoding_at, compression_at, same_at, cells_at, tiles_of, objects_of};
 
 use crate::elements::required_elements;

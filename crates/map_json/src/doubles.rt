@@ -6,13 +6,13 @@ ghost use Rattle.map_model.specs.WellFormed.{ids_of, layer_ids, object_ids, obje
 ghost use Rattle.map_json.specs.Distinctness.{are_distinct, ids_are_unique, are_below_next, lists_in, lists_of_drawn, lists_of_layer, are_named_apart};
 ghost use Rattle.map_model.specs.declared.parts.Body.TheVariants.{Objects};
 ghost use Rattle.map_model.specs.Groups.{drawn};
-ghost use Rattle.map_model.specs.Keeping.{layer_level};
+ghost use Rattle.map_model.specs.Keeping.{layer_tier};
 
 use link_chain::Chain;
 use link_tree::LinkTree;
 use map_model::limits::MAX_GROUPS;
 use map_model::{Body, Layer, MapParts, Object, Property, Tileset, names};
-use map_values::{Step, Trail};
+use map_values::{Segment, Trail};
 use std::alloc::{AllocError, Global};
 use std::collections::BTreeSet;
 
@@ -68,15 +68,15 @@ fn push_layer(layer: &Layer, ids: &mut Ids) -> Result<(), AllocError>
 }
 
 // Puts the ids of layers, and of those in them, behind those that are there.
-fn push_layers(layers: &Chain<Layer>, room: usize, ids: &mut Ids) -> Result<(), AllocError>
-    ensures layers { OnOk result (ids.new.layers.items ≡ ids.old.layers.items ++ flat_map ids_of (drawn room layer_level layers.now)) }
-    ensures objects { OnOk result (ids.new.objects.items ≡ ids.old.objects.items ++ flat_map object_ids_of (drawn room layer_level layers.now)) }
+fn push_layers(layers: &Chain<Layer>, groups: usize, ids: &mut Ids) -> Result<(), AllocError>
+    ensures layers { OnOk result (ids.new.layers.items ≡ ids.old.layers.items ++ flat_map ids_of (drawn groups layer_tier layers.now)) }
+    ensures objects { OnOk result (ids.new.objects.items ≡ ids.old.objects.items ++ flat_map object_ids_of (drawn groups layer_tier layers.now)) }
 {
     for layer in layers.iter() {
         push_layer(layer, ids)?;
-        if room > 0 {
+        if groups > 0 {
             if let Some(inside) = layer.body.layers() {
-                push_layers(inside, room - 1, ids)?;
+                push_layers(inside, groups - 1, ids)?;
             }
         }
     }
@@ -115,17 +115,17 @@ fn enter_id_in<T: Trail>(layer: &Layer, owners: Owners, before: &mut usize, trai
         return false;
     }
     if let Owners::Objects = owners {
-        trail.enter(Step::Member(names::OBJECTS));
-        trail.enter(Step::Element(*before));
+        trail.enter(Segment::Member(names::OBJECTS));
+        trail.enter(Segment::Element(*before));
     }
-    trail.enter(Step::Member(names::ID));
+    trail.enter(Segment::Member(names::ID));
     true
 }
 
 // Goes to the id that has so many before it in drawing order; stays where there are not so many.
 fn enter_id<T: Trail>(
     layers: &Chain<Layer>,
-    room: usize,
+    groups: usize,
     owners: Owners,
     before: &mut usize,
     trail: &mut T,
@@ -134,15 +134,15 @@ fn enter_id<T: Trail>(
     if layers.len() == 0 {
         return false;
     }
-    trail.enter(Step::Member(names::LAYERS));
+    trail.enter(Segment::Member(names::LAYERS));
     for (at, layer) in layers.iter().enumerate() {
-        trail.enter(Step::Element(at));
+        trail.enter(Segment::Element(at));
         if enter_id_in(layer, owners, before, trail) {
             return true;
         }
-        if room > 0 {
+        if groups > 0 {
             if let Some(inside) = layer.body.layers() {
-                if enter_id(inside, room - 1, owners, before, trail) {
+                if enter_id(inside, groups - 1, owners, before, trail) {
                     return true;
                 }
             }
@@ -192,9 +192,9 @@ fn first_ids_are_distinct<T: Trail>(
     let ids = first_ids(alloc, tilesets)?;
     match second_number(alloc, &ids)? {
         Some(at) => {
-            trail.enter(Step::Member(names::TILESETS));
-            trail.enter(Step::Element(at));
-            trail.enter(Step::Member(names::FIRST_ID));
+            trail.enter(Segment::Member(names::TILESETS));
+            trail.enter(Segment::Element(at));
+            trail.enter(Segment::Member(names::FIRST_ID));
             Ok(false)
         }
         None => Ok(true),
@@ -216,9 +216,9 @@ fn names_are_distinct<T: Trail>(
     }
     match second_place(alloc, &names)? {
         Some(at) => {
-            trail.enter(Step::Member(names::PROPERTIES));
-            trail.enter(Step::Element(at));
-            trail.enter(Step::Member(names::NAME));
+            trail.enter(Segment::Member(names::PROPERTIES));
+            trail.enter(Segment::Element(at));
+            trail.enter(Segment::Member(names::NAME));
             Ok(false)
         }
         None => Ok(true),
@@ -236,9 +236,9 @@ fn object_names_are_distinct<T: Trail>(
     if objects.len() == 0 {
         return Ok(true);
     }
-    trail.enter(Step::Member(names::OBJECTS));
+    trail.enter(Segment::Member(names::OBJECTS));
     for (at, object) in objects.iter().enumerate() {
-        trail.enter(Step::Element(at));
+        trail.enter(Segment::Element(at));
         if !names_are_distinct(alloc, &object.properties, trail)? {
             return Ok(false);
         }
@@ -278,25 +278,25 @@ fn names_in_layer_are_distinct<T: Trail>(
 fn layer_names_are_distinct<T: Trail>(
     alloc: Global,
     layers: &Chain<Layer>,
-    room: usize,
+    groups: usize,
     trail: &mut T,
 ) -> Result<bool, AllocError>
     ensures { IfOk result (λ answer. answer
-        ≡ list_all are_named_apart (flat_map lists_of_drawn (drawn room layer_level layers.now))) }
+        ≡ list_all are_named_apart (flat_map lists_of_drawn (drawn groups layer_tier layers.now))) }
 {
     // That a length is a `usize` bounds the places.
     if layers.len() == 0 {
         return Ok(true);
     }
-    trail.enter(Step::Member(names::LAYERS));
+    trail.enter(Segment::Member(names::LAYERS));
     for (at, layer) in layers.iter().enumerate() {
-        trail.enter(Step::Element(at));
+        trail.enter(Segment::Element(at));
         if !names_in_layer_are_distinct(alloc, layer, trail)? {
             return Ok(false);
         }
-        if room > 0 {
+        if groups > 0 {
             if let Some(inside) = layer.body.layers() {
-                if !layer_names_are_distinct(alloc, inside, room - 1, trail)? {
+                if !layer_names_are_distinct(alloc, inside, groups - 1, trail)? {
                     return Ok(false);
                 }
             }

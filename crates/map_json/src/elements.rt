@@ -5,13 +5,13 @@ ghost use Rattle.serde_json.specs.Find.{as_array, get_member};
 ghost use Rattle.serde_json.specs.View.{view as data_of, items_view};
 ghost use Rattle.map_model.specs.declared.limits.TheConstants.{MAX_CELLS, MAX_OBJECTS};
 ghost use Rattle.json_members.specs.Members.{without};
-ghost use Rattle.map_values.specs.Steps.{Gives, GivesBy, required, absent_means};
+ghost use Rattle.map_values.specs.Presence.{Gives, GivesBy, required, absent_means};
 ghost use Rattle.map_json.specs.Elements.{each, elements_at};
 
 use crate::size::Size;
 use link_chain::Chain;
 use link_tree::LinkTree;
-use map_values::{JsonObject, MapFault, Step, Trail};
+use map_values::{JsonObject, MapFault, Segment, Trail};
 use refusals::MapRefusal;
 use serde_json::Value;
 use std::alloc::{AllocError, Global};
@@ -109,7 +109,7 @@ fn each<E: Element + Drop, L: ElementList<E> + Drop, T: Trail>(
 {
     let mut found = L::none(alloc);
     for value in values {
-        trail.enter(Step::Element(found.count()));
+        trail.enter(Segment::Element(found.count()));
         let element = E::read(alloc, size, value, trail)?;
         found.add(alloc, element)?;
         trail.leave();

@@ -8,7 +8,7 @@ ghost use Rattle.json_members.specs.Members.{without};
 ghost use Rattle.map_json.specs.Maps.{version_has_fraction, has_fraction};
 
 use map_model::names;
-use map_values::{Step, Trail};
+use map_values::{Segment, Trail};
 use serde_json::{Map, Value};
 
 #[cycle(floats)]
@@ -31,11 +31,11 @@ fn items_have_float<T: Trail>(items: &Vec<Value>, trail: &mut T) -> bool
         // Most items are the numbers of cells, and those take no call.
         if let Value::Number(number) = item {
             if number.is_f64() {
-                trail.enter(Step::Element(at));
+                trail.enter(Segment::Element(at));
                 return true;
             }
         } else {
-            trail.enter(Step::Element(at));
+            trail.enter(Segment::Element(at));
             if has_float(item, trail) {
                 return true;
             }
@@ -50,7 +50,7 @@ fn members_have_float<T: Trail>(members: &Map<String, Value>, trail: &mut T) -> 
     ensures { result ≡ members_have_float (members_view members.now.entries) }
 {
     for (name, member) in members.iter() {
-        trail.enter(Step::Member(name.as_str()));
+        trail.enter(Segment::Member(name.as_str()));
         if has_float(member, trail) {
             return true;
         }
@@ -66,7 +66,7 @@ fn version_has_fraction<T: Trail>(version: Option<&Value>, trail: &mut T) -> boo
     match version {
         Some(Value::Number(_)) | None => false,
         Some(value) => {
-            trail.enter(Step::Member(names::VERSION));
+            trail.enter(Segment::Member(names::VERSION));
             let found = has_float(value, trail);
             if !found {
                 trail.leave();
@@ -83,7 +83,7 @@ fn others_have_fraction<T: Trail>(members: &Map<String, Value>, trail: &mut T) -
 {
     for (name, member) in members.iter() {
         if name.as_str() != "version" {
-            trail.enter(Step::Member(name.as_str()));
+            trail.enter(Segment::Member(name.as_str()));
             if has_float(member, trail) {
                 return true;
             }

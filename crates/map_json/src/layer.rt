@@ -6,7 +6,7 @@ ghost use Rattle.map_model.specs.declared.names.TheConstants.{LAYERS};
 ghost use Rattle.map_model.specs.Format.{body_names, common_names};
 ghost use Rattle.map_model.specs.declared.limits.TheConstants.{MAX_CELLS, MAX_LAYERS};
 ghost use Rattle.json_members.specs.Members.{without, without_all};
-ghost use Rattle.map_values.specs.Steps.{Gives, GivesBy, required};
+ghost use Rattle.map_values.specs.Presence.{Gives, GivesBy, required};
 ghost use Rattle.map_json.specs.Elements.{each_counted};
 ghost use Rattle.map_json.specs.Reading.{body_by, head_of, layer_by, layers_at, map_layers_at};
 
@@ -17,7 +17,7 @@ use crate::size::Size;
 use link_chain::Chain;
 use map_model::limits::{MAX_GROUPS, MAX_LAYERS};
 use map_model::{Body, Layer, MapText, Property, names};
-use map_values::{JsonObject, MapFault, Step, Trail, required_id, text_or, truth_or};
+use map_values::{JsonObject, MapFault, Segment, Trail, required_id, text_or, truth_or};
 use refusals::MapRefusal;
 use serde_json::Value;
 use std::alloc::Global;
@@ -27,7 +27,7 @@ use std::alloc::Global;
 fn body<T: Trail>(
     alloc: Global,
     size: Size,
-    room: usize,
+    groups: usize,
     kind: LayerType,
     members: &mut JsonObject,
     count: &mut usize,
@@ -36,7 +36,7 @@ fn body<T: Trail>(
     requires size { size.width * size.height ≤ MAX_CELLS }
     requires few { count.old ≤ MAX_LAYERS }
     ensures value { GivesBy (λ body. (count.new, body)) result
-        (body_by (layers_at room size.width size.height) kind size.width size.height count.old members.old) }
+        (body_by (layers_at groups size.width size.height) kind size.width size.height count.old members.old) }
     ensures kept { IfOk result (λ body. members.new ≡ without_all (body_names body) members.old) }
     ensures few { IfOk result (λ body. count.new ≤ MAX_LAYERS) }
 {
@@ -48,7 +48,7 @@ fn body<T: Trail>(
             let value = members
                 .enter(names::LAYERS, trail)
                 .ok_or(MapRefusal::MemberMissing)?;
-            let layers = layers_in(alloc, size, room, value, count, trail)?;
+            let layers = layers_in(alloc, size, groups, value, count, trail)?;
             trail.leave();
             Ok(Body::Group(layers))
         }
@@ -94,7 +94,7 @@ fn read_head<T: Trail>(
 fn layer<T: Trail>(
     alloc: Global,
     size: Size,
-    room: usize,
+    groups: usize,
     value: Value,
     count: &mut usize,
     trail: &mut T,
@@ -102,12 +102,12 @@ fn layer<T: Trail>(
     requires size { size.width * size.height ≤ MAX_CELLS }
     requires few { count.old ≤ MAX_LAYERS }
     ensures value { GivesBy (λ layer. (count.new, layer)) result
-        (layer_by (layers_at room size.width size.height) size.width size.height count.old (data_of value)) }
+        (layer_by (layers_at groups size.width size.height) size.width size.height count.old (data_of value)) }
     ensures few { IfOk result (λ layer. count.new ≤ MAX_LAYERS) }
 {
     let mut members = JsonObject::from_value(value).ok_or(MapRefusal::MemberOfAnotherKind)?;
     let head = read_head(alloc, size, &mut members, trail)?;
-    let body = body(alloc, size, room, head.kind, &mut members, count, trail)?;
+    let body = body(alloc, size, groups, head.kind, &mut members, count, trail)?;
     Ok(Layer {
         id: head.id,
         name: head.name,
@@ -123,7 +123,7 @@ fn layer<T: Trail>(
 fn each_layer<T: Trail>(
     alloc: Global,
     size: Size,
-    room: usize,
+    groups: usize,
     values: Vec<Value>,
     count: &mut usize,
     trail: &mut T,
@@ -132,13 +132,13 @@ fn each_layer<T: Trail>(
     requires few { count.old ≤ MAX_LAYERS }
     requires short { length values.items ≤ MAX_LAYERS }
     ensures value { GivesBy (λ layers. (count.new, layers)) result
-        (each_counted (layer_by (layers_at room size.width size.height) size.width size.height) count.old (items_view values.items)) }
+        (each_counted (layer_by (layers_at groups size.width size.height) size.width size.height) count.old (items_view values.items)) }
     ensures few { IfOk result (λ layers. count.new ≤ MAX_LAYERS) }
 {
     let mut found = Chain::new(alloc);
     for value in values {
-        trail.enter(Step::Element(found.len()));
-        let layer = layer(alloc, size, room, value, count, trail)?;
+        trail.enter(Segment::Element(found.len()));
+        let layer = layer(alloc, size, groups, value, count, trail)?;
         found.add(alloc, layer)?;
         trail.leave();
     }
@@ -151,7 +151,7 @@ fn each_layer<T: Trail>(
 fn layers_in<T: Trail>(
     alloc: Global,
     size: Size,
-    room: usize,
+    groups: usize,
     value: Value,
     count: &mut usize,
     trail: &mut T,
@@ -159,15 +159,15 @@ fn layers_in<T: Trail>(
     requires size { size.width * size.height ≤ MAX_CELLS }
     requires few { count.old ≤ MAX_LAYERS }
     ensures value { GivesBy (λ layers. (count.new, layers)) result
-        (layers_at room size.width size.height count.old (data_of value)) }
+        (layers_at groups size.width size.height count.old (data_of value)) }
     ensures few { IfOk result (λ layers. count.new ≤ MAX_LAYERS) }
 {
     let values = array_of(value).ok_or(MapRefusal::MemberOfAnotherKind)?;
-    if room == 0 || values.len() > MAX_LAYERS - *count {
+    if groups == 0 || values.len() > MAX_LAYERS - *count {
         return Err(MapFault::Refused(MapRefusal::OverLimit));
     }
     *count += values.len();
-    each_layer(alloc, size, room - 1, values, count, trail)
+    each_layer(alloc, size, groups - 1, values, count, trail)
 }
 
 /// The layers of a map, which must be there. They are taken out.

@@ -25,6 +25,6 @@ mod detail;
 mod writing;
 
 pub use map_text::{saved_is_opened, write_map, write_outline, written_is_read};
-pub use map_values::{MapFault, NoTrail, Step, Trail};
+pub use map_values::{MapFault, NoTrail, Segment, Trail};
 pub use reading::{read_map, read_map_along};
 pub use refusals::MapRefusal;

@@ -115,17 +115,17 @@ fn push_layers(
     alloc: Global,
     text: &mut Vec<u8>,
     writing: Writing,
-    room: usize,
+    groups: usize,
     layers: &Chain<Layer>,
 ) -> Result<(), AllocError>
-    requires { AreWritten room (writing.size.width * writing.size.height) layers.now }
-    ensures { OnOk result (Appends (layers_in writing.detail room writing.size.width writing.size.height layers.now) text.old.items text.new.items) }
+    requires { AreWritten groups (writing.size.width * writing.size.height) layers.now }
+    ensures { OnOk result (Appends (layers_in writing.detail groups writing.size.width writing.size.height layers.now) text.old.items text.new.items) }
 {
     text.push(b'[')?;
     let mut later = false;
     for layer in layers.iter() {
         push_comma(text, later)?;
-        push_layer(alloc, text, writing, room, layer)?;
+        push_layer(alloc, text, writing, groups, layer)?;
         later = true;
     }
     text.push(b']')?;
@@ -138,16 +138,16 @@ fn push_layer(
     alloc: Global,
     text: &mut Vec<u8>,
     writing: Writing,
-    room: usize,
+    groups: usize,
     layer: &Layer,
 ) -> Result<(), AllocError>
-    requires { AreWritten room (writing.size.width * writing.size.height) (layer.now ∷ []) }
-    ensures { OnOk result (Appends (layer_in writing.detail room writing.size.width writing.size.height layer.now) text.old.items text.new.items) }
+    requires { AreWritten groups (writing.size.width * writing.size.height) (layer.now ∷ []) }
+    ensures { OnOk result (Appends (layer_in writing.detail groups writing.size.width writing.size.height layer.now) text.old.items text.new.items) }
 {
     let frame = frame_in(alloc, writing, layer)?;
-    if room > 0 {
+    if groups > 0 {
         if let Some(inside) = layer.body.layers() {
-            return push_framed(alloc, text, writing, room - 1, inside, &frame);
+            return push_framed(alloc, text, writing, groups - 1, inside, &frame);
         }
     }
     if let Some(numbers) = numbers_in(writing.detail, &layer.body) {
@@ -162,19 +162,19 @@ fn push_member(
     alloc: Global,
     text: &mut Vec<u8>,
     writing: Writing,
-    room: usize,
+    groups: usize,
     layers: &Chain<Layer>,
     name: &str,
     value: &Value,
 ) -> Result<(), AllocError>
-    requires layers { AreWritten room (writing.size.width * writing.size.height) layers.now }
+    requires layers { AreWritten groups (writing.size.width * writing.size.height) layers.now }
     requires whole { has_float (data_of value.now) ≡ false }
     requires shallow { depth (data_of value.now) ≤ max_depth }
-    ensures { OnOk result (Appends (instead LAYERS.now (layers_in writing.detail room writing.size.width writing.size.height layers.now) name.now (data_of value.now))
+    ensures { OnOk result (Appends (instead LAYERS.now (layers_in writing.detail groups writing.size.width writing.size.height layers.now) name.now (data_of value.now))
         text.old.items text.new.items) }
 {
     if name == names::LAYERS {
-        return push_layers(alloc, text, writing, room, layers);
+        return push_layers(alloc, text, writing, groups, layers);
     }
     push_value(alloc, text, value)
 }
@@ -185,21 +185,21 @@ fn push_framed(
     alloc: Global,
     text: &mut Vec<u8>,
     writing: Writing,
-    room: usize,
+    groups: usize,
     layers: &Chain<Layer>,
     frame: &JsonObject,
 ) -> Result<(), AllocError>
-    requires layers { AreWritten room (writing.size.width * writing.size.height) layers.now }
+    requires layers { AreWritten groups (writing.size.width * writing.size.height) layers.now }
     requires whole { members_have_float frame.now ≡ false }
     requires shallow { members_depth frame.now ≤ max_depth }
-    ensures { OnOk result (Appends (object (replaced LAYERS.now (layers_in writing.detail room writing.size.width writing.size.height layers.now) frame.now))
+    ensures { OnOk result (Appends (object (replaced LAYERS.now (layers_in writing.detail groups writing.size.width writing.size.height layers.now) frame.now))
         text.old.items text.new.items) }
 {
     text.push(b'{')?;
     let mut later = false;
     for (name, value) in frame.members().iter() {
         push_name(alloc, text, later, name.as_str())?;
-        push_member(alloc, text, writing, room, layers, name.as_str(), value)?;
+        push_member(alloc, text, writing, groups, layers, name.as_str(), value)?;
         later = true;
     }
     text.push(b'}')?;
@@ -228,8 +228,8 @@ fn write_in(alloc: Global, map: &Map, detail: Detail) -> Result<Vec<u8>, AllocEr
 {
     let parts = map.parts();
     let frame = frame_of(alloc, parts)?;
-    let room = layers_room(detail, MAX_GROUPS, &parts.layers).saturating_add(MAP_ROOM);
-    let mut text = Vec::with_capacity(alloc, room)?;
+    let groups = layers_room(detail, MAX_GROUPS, &parts.layers).saturating_add(MAP_ROOM);
+    let mut text = Vec::with_capacity(alloc, groups)?;
     let size = Size::of_map(parts);
     let writing = Writing { size, detail };
     push_framed(alloc, &mut text, writing, MAX_GROUPS, &parts.layers, &frame)?;

@@ -3,7 +3,7 @@ ghost use Rattle.std.specs.Prelude.{◌≡◌, IfOk};
 ghost use Rattle.serde_json.specs.Find.{get_member};
 ghost use Rattle.map_model.specs.declared.names.TheConstants.{X, Y, WIDTH, HEIGHT, GID};
 ghost use Rattle.json_members.specs.Members.{without};
-ghost use Rattle.map_values.specs.Steps.{optional};
+ghost use Rattle.map_values.specs.Presence.{optional};
 ghost use Rattle.map_values.specs.Scalars.{whole_at};
 ghost use Rattle.map_json.specs.Reading.{object_at, placing_of};
 

@@ -5,7 +5,7 @@ ghost use Rattle.serde_json.specs.View.{view as data_of};
 ghost use Rattle.map_model.specs.declared.names.TheConstants.{PROPERTIES, VALUE};
 ghost use Rattle.map_model.specs.declared.limits.TheConstants.{MAX_CELLS};
 ghost use Rattle.json_members.specs.Members.{without};
-ghost use Rattle.map_values.specs.Steps.{Gives, required};
+ghost use Rattle.map_values.specs.Presence.{Gives, required};
 ghost use Rattle.map_json.specs.Reading.{value_of, value_at, property_at, properties_of};
 
 use crate::elements::{Element, elements_or_none};

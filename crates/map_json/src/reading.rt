@@ -1,7 +1,7 @@
 // A map from its text.
 ghost use Rattle.std.specs.Prelude.{◌≡◌, option_map};
 ghost use Rattle.serde_json.specs.View.{view as data_of};
-ghost use Rattle.map_values.specs.Steps.{Gives};
+ghost use Rattle.map_values.specs.Presence.{Gives};
 ghost use Rattle.map_json.specs.Maps.{is_map_type, parts_of, consistent, map_of, Says};
 
 use crate::doubles::{are_below_next, ids_are_unique, ids_of_map};
@@ -13,7 +13,7 @@ use crate::tileset::required_tilesets;
 use map_model::limits::{MAX_CELLS, MAX_SIDE, MAX_TILE_SIDE};
 use map_model::{Map, MapParts, names};
 use map_values::{
-    JsonObject, MapFault, NoTrail, Step, Trail, required_next_id, required_whole, truth_or,
+    JsonObject, MapFault, NoTrail, Segment, Trail, required_next_id, required_whole, truth_or,
 };
 use refusals::MapRefusal;
 use serde_json::Value;
@@ -30,14 +30,14 @@ fn parts_of<T: Trail>(
     let width = required_whole(&mut members, names::WIDTH, 1, MAX_SIDE, trail)?;
     let height = required_whole(&mut members, names::HEIGHT, 1, MAX_SIDE, trail)?;
     if width as usize * height as usize > MAX_CELLS {
-        trail.enter(Step::Member(names::HEIGHT));
+        trail.enter(Segment::Member(names::HEIGHT));
         return Err(MapFault::Refused(MapRefusal::OverLimit));
     }
     let size = Size { width, height };
     let tile_width = required_whole(&mut members, names::TILE_WIDTH, 1, MAX_TILE_SIDE, trail)?;
     let tile_height = required_whole(&mut members, names::TILE_HEIGHT, 1, MAX_TILE_SIDE, trail)?;
     if truth_or(&mut members, names::INFINITE, false, trail)? {
-        trail.enter(Step::Member(names::INFINITE));
+        trail.enter(Segment::Member(names::INFINITE));
         return Err(MapFault::Refused(MapRefusal::Infinite));
     }
     let next_layer_id = required_next_id(&mut members, names::NEXT_LAYER_ID, trail)?;
@@ -95,7 +95,7 @@ fn map_of<T: Trail>(alloc: Global, value: Value, trail: &mut T) -> Result<MapPar
         return Err(MapFault::Refused(MapRefusal::Fraction));
     }
     let members = JsonObject::from_value(value).ok_or(MapRefusal::NotAMap)?;
-    trail.enter(Step::Member(names::TYPE));
+    trail.enter(Segment::Member(names::TYPE));
     if !is_map_type(members.get(names::TYPE)) {
         return Err(MapFault::Refused(MapRefusal::NotAMap));
     }

@@ -4,7 +4,7 @@ ghost use Rattle.serde_json.specs.Find.{get_member};
 ghost use Rattle.map_model.specs.declared.names.TheConstants.{TILESETS};
 ghost use Rattle.map_model.specs.declared.limits.TheConstants.{MAX_CELLS, MAX_TILESETS};
 ghost use Rattle.json_members.specs.Members.{without};
-ghost use Rattle.map_values.specs.Steps.{Gives, required};
+ghost use Rattle.map_values.specs.Presence.{Gives, required};
 ghost use Rattle.map_json.specs.Elements.{elements_at};
 ghost use Rattle.map_json.specs.Reading.{tileset_at};
 

@@ -20,7 +20,7 @@ use Rattle.map_model.specs.Canvas.{AreCells, MayBeMoved, BodyMayBeMoved, MayBeDr
 use Rattle.map_model.specs.Objects.{object_moved}
 use Rattle.map_model.specs.Document.{DocumentParts, IsDocument}
 use Rattle.map_model.specs.Groups.{all_drawn}
-use Rattle.map_model.specs.Keeping.{layer_level, object_level}
+use Rattle.map_model.specs.Keeping.{layer_tier, object_tier}
 use Rattle.map_model.specs.Format.{body_names}
 use Rattle.map_model.specs.Lists.{Each}
 use Rattle.map_model.proofs.CanvasTrees.{Turns, back_layers, drawn_on, drawn-layers_on}
@@ -81,7 +81,7 @@ lists-laid c prefix rest number (l ∷ ls) held is count = by_body l.1.body rest
     by_body (Group' s r) more at many later = later prefix more at (omega arith) many
 
 pub tile_layers-on : (c : Canvas) (m : MapParts) → length c.layers ≡ length (tile_layers m) → tile_layers (map_on c m) ≡ c.layers
-tile_layers-on c m count = ap (flat_map lists_of) (drawn-layers_on MAX_GROUPS c layer_level 0 m.layers)
+tile_layers-on c m count = ap (flat_map lists_of) (drawn-layers_on MAX_GROUPS c layer_tier 0 m.layers)
     ∙ lists-laid c [] c.layers 0 (all_drawn m.layers) refl refl count
 
 -- ---- what stays of a layer
@@ -107,20 +107,20 @@ flat-on c g same number [] = refl
 flat-on c g same number (l ∷ ls) = λ i. same number l i ++ flat-on c g same (number + length (lists_of l)) ls i
 
 -- ---- well formed on the canvas
-objects-on : (right down : ℤ) (level : ℕ) (os : List Object) → Each (IsObject level) os → Each (MayBeMoved right down) os
-    → Each (IsObject level) (map (object_moved right down) os)
-objects-on right down level [] h may = tt
-objects-on right down level (o ∷ os) h may =
-    (record { placing = may.0; name = h.0.name; gid = h.0.gid; properties = h.0.properties; kept = h.0.kept }, objects-on right down level os h.1 may.1)
+objects-on : (right down : ℤ) (tier : ℕ) (os : List Object) → Each (IsObject tier) os → Each (MayBeMoved right down) os
+    → Each (IsObject tier) (map (object_moved right down) os)
+objects-on right down tier [] h may = tt
+objects-on right down tier (o ∷ os) h may =
+    (record { placing = may.0; name = h.0.name; gid = h.0.gid; properties = h.0.properties; kept = h.0.kept }, objects-on right down tier os h.1 may.1)
 
-IsBody-on : (c : Canvas) (number level old size : ℕ) (b : Body) → IsBody level old b → BodyMayBeMoved c.right c.down b
+IsBody-on : (c : Canvas) (number tier old size : ℕ) (b : Body) → IsBody tier old b → BodyMayBeMoved c.right c.down b
     → Each (AreCells size) (lists_in (body_on c number b))
-    → IsBody level size (body_on c number b)
-IsBody-on c number level old size (Tiles e own) h may cells = cells.0
-IsBody-on c number level old size (Objects os) h may cells =
-    (rw (length-map os (object_moved c.right c.down)) h.0, objects-on c.right c.down (object_level level) os h.1 may)
-IsBody-on c number level old size Other h may cells = tt
-IsBody-on c number level old size (Group' s r) h may cells = h
+    → IsBody tier size (body_on c number b)
+IsBody-on c number tier old size (Tiles e own) h may cells = cells.0
+IsBody-on c number tier old size (Objects os) h may cells =
+    (rw (length-map os (object_moved c.right c.down)) h.0, objects-on c.right c.down (object_tier tier) os h.1 may)
+IsBody-on c number tier old size Other h may cells = tt
+IsBody-on c number tier old size (Group' s r) h may cells = h
 
 layers-on : (c : Canvas) (number old size : ℕ) (ds : List (ℕ × Layer)) → Each (IsDrawn old) ds → Each (MayBeDrawn c.right c.down) ds
     → Each (AreCells size) (flat_map lists_of (drawn_on c number ds)) → Each (IsDrawn size) (drawn_on c number ds)
@@ -146,7 +146,7 @@ pub on-IsDocument : (c : Canvas) (d : DocumentParts) → IsCanvasOf d c → IsDo
 on-IsDocument c d fits h =
     let m = d.map in
     let size = c.width * c.height in
-    let on = drawn-layers_on MAX_GROUPS c layer_level 0 m.layers in
+    let on = drawn-layers_on MAX_GROUPS c layer_tier 0 m.layers in
     let ds = all_drawn m.layers in
     let cells : Each (AreCells size) (flat_map lists_of (drawn_on c 0 ds)) = rw (← on, tile_layers-on c m fits.count) fits.cells in
     record {
@@ -170,27 +170,27 @@ on-IsDocument c d fits h =
 IsShift-neg : (z : ℤ) → IsShift z → IsShift (neg_ℤ z)
 IsShift-neg z h = record { low = omega (arith, ints, h.low, h.high); high = omega (arith, ints, h.low, h.high) }
 
-objects-may : (right down : ℤ) (level : ℕ) (os : List Object) → Each (IsObject level) os
+objects-may : (right down : ℤ) (tier : ℕ) (os : List Object) → Each (IsObject tier) os
     → Each (MayBeMoved (neg_ℤ right) (neg_ℤ down)) (map (object_moved right down) os)
-objects-may right down level [] h = tt
-objects-may right down level (o ∷ os) h = (rw (number-back o.placing.x right, number-back o.placing.y down) h.0.placing, objects-may right down level os h.1)
+objects-may right down tier [] h = tt
+objects-may right down tier (o ∷ os) h = (rw (number-back o.placing.x right, number-back o.placing.y down) h.0.placing, objects-may right down tier os h.1)
 
-body-may : (c : Canvas) (number level size : ℕ) (b : Body) → IsBody level size b → BodyMayBeMoved (neg_ℤ c.right) (neg_ℤ c.down) (body_on c number b)
-body-may c number level size (Tiles e own) h = tt
-body-may c number level size (Objects os) h = objects-may c.right c.down (object_level level) os h.1
-body-may c number level size Other h = tt
-body-may c number level size (Group' s r) h = tt
+body-may : (c : Canvas) (number tier size : ℕ) (b : Body) → IsBody tier size b → BodyMayBeMoved (neg_ℤ c.right) (neg_ℤ c.down) (body_on c number b)
+body-may c number tier size (Tiles e own) h = tt
+body-may c number tier size (Objects os) h = objects-may c.right c.down (object_tier tier) os h.1
+body-may c number tier size Other h = tt
+body-may c number tier size (Group' s r) h = tt
 
 layers-may : (c : Canvas) (number size : ℕ) (ds : List (ℕ × Layer)) → Each (IsDrawn size) ds
     → Each (MayBeDrawn (neg_ℤ c.right) (neg_ℤ c.down)) (drawn_on c number ds)
 layers-may c number size [] h = tt
 layers-may c number size (d ∷ ds) h = (body-may c number d.0 size d.1.body h.0.body, layers-may c (number + length (lists_of d)) size ds h.1)
 
-body-cells : (level size : ℕ) (b : Body) → IsBody level size b → Each (AreCells size) (lists_in b)
-body-cells level size (Tiles e own) h = (h, tt)
-body-cells level size (Objects os) h = tt
-body-cells level size Other h = tt
-body-cells level size (Group' s r) h = tt
+body-cells : (tier size : ℕ) (b : Body) → IsBody tier size b → Each (AreCells size) (lists_in b)
+body-cells tier size (Tiles e own) h = (h, tt)
+body-cells tier size (Objects os) h = tt
+body-cells tier size Other h = tt
+body-cells tier size (Group' s r) h = tt
 
 pub layers-cells : (size : ℕ) (ds : List (ℕ × Layer)) → Each (IsDrawn size) ds → Each (AreCells size) (flat_map lists_of ds)
 layers-cells size [] h = tt
@@ -207,7 +207,7 @@ back-IsCanvasOf c d fits h =
       selection = h.selection;
       right = IsShift-neg c.right fits.right;
       down = IsShift-neg c.down fits.down;
-      objects = rw (drawn-layers_on MAX_GROUPS c layer_level 0 d.map.layers) (layers-may c 0 size (all_drawn d.map.layers) h.map.layers.each);
+      objects = rw (drawn-layers_on MAX_GROUPS c layer_tier 0 d.map.layers) (layers-may c 0 size (all_drawn d.map.layers) h.map.layers.each);
     }
 
 -- ---- the document as its parts were exchanged

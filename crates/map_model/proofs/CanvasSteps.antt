@@ -11,7 +11,7 @@ use Rattle.map_model.specs.declared.parts.Layer.{Layer}
 use Rattle.map_model.specs.Canvas.{BodyMayBeMoved, MayBeDrawn, body_on, each_on, layers_on, lists_after, lists_in, lists_left, lists_of, lists_under, one_on}
 use Rattle.map_model.specs.Canvas.{with_lists}
 use Rattle.map_model.specs.Groups.{body_with_layers, drawn, group_in, inside, layer_with_layers, tree}
-use Rattle.map_model.specs.Keeping.{inner_level, layer_level}
+use Rattle.map_model.specs.Keeping.{inner_tier, layer_tier}
 use Rattle.map_model.specs.Lists.{Each, or_empty}
 use Rattle.map_model.proofs.CanvasTrees.{cells_below, counted, group_in-on, lists_under-is, lists_under-list, one_on-is}
 use Rattle.map_model.proofs.GroupBodies.{objects_in-with}
@@ -60,38 +60,38 @@ module _ (g : ℕ → Layer → Layer) (n : Layer → ℕ) where
 
 -- the cells of layers, and of those that stand in them
 abbrev pub cells : ℕ → List Layer → List (List ℕ)
-cells room ls = flat_map lists_of (drawn room layer_level ls)
+cells groups ls = flat_map lists_of (drawn groups layer_tier ls)
 
-total-cells : (room : ℕ) (g : ℕ → Layer → Layer) (ls : List Layer) → total g (counted room) ls ≡ length (cells room ls)
-total-cells room g [] = refl
-total-cells room g (l ∷ ls) =
-    let later = total-cells room g ls in
-    let own = ap length (lists_under-list room l ls) in
-    omega (arith, later, own, length-append (lists_under room l) (cells room ls))
+total-cells : (groups : ℕ) (g : ℕ → Layer → Layer) (ls : List Layer) → total g (counted groups) ls ≡ length (cells groups ls)
+total-cells groups g [] = refl
+total-cells groups g (l ∷ ls) =
+    let later = total-cells groups g ls in
+    let own = ap length (lists_under-list groups l ls) in
+    omega (arith, later, own, length-append (lists_under groups l) (cells groups ls))
 
-cells-more : (room : ℕ) (ls : List Layer) (k : ℕ) (l : Layer) → slice_get ls k ≡ Some l
-    → cells room (take (suc k) ls) ≡ cells room (take k ls) ++ lists_under room l
-cells-more room [] zero l e = cc
-cells-more room [] (suc k) l e = cc
-cells-more room (m ∷ ls) zero l e = let same : m ≡ l = cc in lists_under-list room m [] ∙ append-nil (lists_under room m) ∙ ap (lists_under room) same
-cells-more room (m ∷ ls) (suc k) l e =
-    lists_under-list room m (take (suc k) ls) ∙ ap (λ xs. lists_under room m ++ xs) (cells-more room ls k l e)
-    ∙ sym (append_assoc (lists_under room m) (cells room (take k ls)) (lists_under room l))
-    ∙ ap (λ xs. xs ++ lists_under room l) (sym (lists_under-list room m (take k ls)))
+cells-more : (groups : ℕ) (ls : List Layer) (k : ℕ) (l : Layer) → slice_get ls k ≡ Some l
+    → cells groups (take (suc k) ls) ≡ cells groups (take k ls) ++ lists_under groups l
+cells-more groups [] zero l e = cc
+cells-more groups [] (suc k) l e = cc
+cells-more groups (m ∷ ls) zero l e = let same : m ≡ l = cc in lists_under-list groups m [] ∙ append-nil (lists_under groups m) ∙ ap (lists_under groups) same
+cells-more groups (m ∷ ls) (suc k) l e =
+    lists_under-list groups m (take (suc k) ls) ∙ ap (λ xs. lists_under groups m ++ xs) (cells-more groups ls k l e)
+    ∙ sym (append_assoc (lists_under groups m) (cells groups (take k ls)) (lists_under groups l))
+    ∙ ap (λ xs. xs ++ lists_under groups l) (sym (lists_under-list groups m (take k ls)))
 
-cells-room : (room : ℕ) (ls : List Layer) (k : ℕ) (l : Layer) → slice_get ls k ≡ Some l
-    → length (cells room (take k ls)) + length (lists_under room l) ≤ length (cells room ls)
-cells-room room [] zero l e = cc
-cells-room room [] (suc k) l e = cc
-cells-room room (m ∷ ls) zero l e =
-    let same : length (lists_under room l) ≡ length (lists_under room m) = let is : l ≡ m = cc in ap (λ j. length (lists_under room j)) is in
-    let own = ap length (lists_under-list room m ls) in
-    omega (arith, same, own, length-append (lists_under room m) (cells room ls))
-cells-room room (m ∷ ls) (suc k) l e =
-    let later = cells-room room ls k l e in
-    let own = ap length (lists_under-list room m ls) in
-    let prefix = ap length (lists_under-list room m (take k ls)) in
-    omega (arith, later, own, prefix, length-append (lists_under room m) (cells room ls), length-append (lists_under room m) (cells room (take k ls)))
+cells-groups : (groups : ℕ) (ls : List Layer) (k : ℕ) (l : Layer) → slice_get ls k ≡ Some l
+    → length (cells groups (take k ls)) + length (lists_under groups l) ≤ length (cells groups ls)
+cells-groups groups [] zero l e = cc
+cells-groups groups [] (suc k) l e = cc
+cells-groups groups (m ∷ ls) zero l e =
+    let same : length (lists_under groups l) ≡ length (lists_under groups m) = let is : l ≡ m = cc in ap (λ j. length (lists_under groups j)) is in
+    let own = ap length (lists_under-list groups m ls) in
+    omega (arith, same, own, length-append (lists_under groups m) (cells groups ls))
+cells-groups groups (m ∷ ls) (suc k) l e =
+    let later = cells-groups groups ls k l e in
+    let own = ap length (lists_under-list groups m ls) in
+    let prefix = ap length (lists_under-list groups m (take k ls)) in
+    omega (arith, later, own, prefix, length-append (lists_under groups m) (cells groups ls), length-append (lists_under groups m) (cells groups (take k ls)))
 
 -- ---- lists of cells of which some were exchanged
 -- a list is what stands before a number, so many elements from there on, and the rest
@@ -182,92 +182,93 @@ module _ (c : Canvas) (lists : List (List ℕ)) (from : ℕ) (agree : Agree from
   body-same number Other low = refl
   body-same number (Group' s r) low = refl
 
-  list-same : (room : ℕ) → ((number : ℕ) (l : Layer) → from ≤ number → one_on room (with_lists lists c) number l ≡ one_on room c number l)
-      → (number : ℕ) (ls : List Layer) → from ≤ number → layers_on room (with_lists lists c) number ls ≡ layers_on room c number ls
-  list-same room each number [] low = refl
-  list-same room each number (l ∷ ls) low = λ i. each number l low i ∷ list-same room each (number + counted room l) ls (omega (arith, low)) i
+  list-same : (groups : ℕ) → ((number : ℕ) (l : Layer) → from ≤ number → one_on groups (with_lists lists c) number l ≡ one_on groups c number l)
+      → (number : ℕ) (ls : List Layer) → from ≤ number → layers_on groups (with_lists lists c) number ls ≡ layers_on groups c number ls
+  list-same groups each number [] low = refl
+  list-same groups each number (l ∷ ls) low = λ i. each number l low i ∷ list-same groups each (number + counted groups l) ls (omega (arith, low)) i
 
-  pub one-same : (room number : ℕ) (l : Layer) → from ≤ number → one_on room (with_lists lists c) number l ≡ one_on room c number l
+  pub one-same : (groups number : ℕ) (l : Layer) → from ≤ number → one_on groups (with_lists lists c) number l ≡ one_on groups c number l
   one-same zero number l low = one_on-is zero (with_lists lists c) number l ∙ (λ i. record l { body = body-same number l.body low i })
       ∙ sym (one_on-is zero c number l)
-  one-same (suc room) number l low =
+  one-same (suc groups) number l low =
       let behind = number + length (lists_in l.body) in
       let far : from ≤ behind = omega (arith, low) in
-      one_on-is (suc room) (with_lists lists c) number l
-      ∙ (λ i. layer_with_layers (λ ls. list-same room (one-same room) behind ls far i) (record l { body = body-same number l.body low i }))
-      ∙ sym (one_on-is (suc room) c number l)
+      one_on-is (suc groups) (with_lists lists c) number l
+      ∙ (λ i. layer_with_layers (λ ls. list-same groups (one-same groups) behind ls far i) (record l { body = body-same number l.body low i }))
+      ∙ sym (one_on-is (suc groups) c number l)
 
-  pub layers-same : (room number : ℕ) (ls : List Layer) → from ≤ number → layers_on room (with_lists lists c) number ls ≡ layers_on room c number ls
-  layers-same room number ls low = list-same room (one-same room) number ls low
+  pub layers-same : (groups number : ℕ) (ls : List Layer) → from ≤ number → layers_on groups (with_lists lists c) number ls ≡ layers_on groups c number ls
+  layers-same groups number ls low = list-same groups (one-same groups) number ls low
 
 -- ---- the layers one after another
 -- the first k of the layers are on the canvas, behind which so many tile layers stand
-pub record AreLaid (room : ℕ) (c : Canvas) (start : ℕ) (ls now : List Layer) (back : Canvas) (k number : ℕ) : Type 0 where
-  pub layers : now ≡ layers_on room c start (take k ls) ++ drop k ls
-  pub canvas : back ≡ with_lists (lists_left start (cells room (take k ls)) c.layers) c
-  pub placed : number ≡ start + length (cells room (take k ls))
+pub record AreLaid (groups : ℕ) (c : Canvas) (start : ℕ) (ls now : List Layer) (back : Canvas) (k number : ℕ) : Type 0 where
+  pub layers : now ≡ layers_on groups c start (take k ls) ++ drop k ls
+  pub canvas : back ≡ with_lists (lists_left start (cells groups (take k ls)) c.layers) c
+  pub placed : number ≡ start + length (cells groups (take k ls))
 
 lists_left-none : (start : ℕ) (lists : List (List ℕ)) → lists_left start [] lists ≡ lists
 lists_left-none start lists = let here : start + 0 ≡ start = omega arith in ap (λ k. take start lists ++ drop k lists) here ∙ take-append-drop start lists
 
-pub none-AreLaid : (room : ℕ) (c : Canvas) (start : ℕ) (ls : List Layer) → AreLaid room c start ls ls c 0 start
-none-AreLaid room c start ls = record { layers = refl; canvas = ap (λ xs. with_lists xs c) (sym (lists_left-none start c.layers)); placed = omega arith }
+pub none-AreLaid : (groups : ℕ) (c : Canvas) (start : ℕ) (ls : List Layer) → AreLaid groups c start ls ls c 0 start
+none-AreLaid groups c start ls = record { layers = refl; canvas = ap (λ xs. with_lists xs c) (sym (lists_left-none start c.layers)); placed = omega arith }
 
-pub length-laid : (room : ℕ) (c : Canvas) (start : ℕ) (ls now : List Layer) (back : Canvas) (k number : ℕ) → AreLaid room c start ls now back k number
+pub length-laid : (groups : ℕ) (c : Canvas) (start : ℕ) (ls now : List Layer) (back : Canvas) (k number : ℕ) → AreLaid groups c start ls now back k number
     → length now ≡ length ls
-length-laid room c start ls now back k number laid =
-    ap length laid.layers ∙ length-append (layers_on room c start (take k ls)) (drop k ls)
-    ∙ ap (λ n. n + length (drop k ls)) (length-each_on (one_on room c) (counted room) start (take k ls)) ∙ sym (length-append (take k ls) (drop k ls))
+length-laid groups c start ls now back k number laid =
+    ap length laid.layers ∙ length-append (layers_on groups c start (take k ls)) (drop k ls)
+    ∙ ap (λ n. n + length (drop k ls)) (length-each_on (one_on groups c) (counted groups) start (take k ls)) ∙ sym (length-append (take k ls) (drop k ls))
     ∙ ap length (take-append-drop k ls)
 
-module _ (room : ℕ) (c : Canvas) (start : ℕ) (ls now : List Layer) (back : Canvas) (k number : ℕ) (l : Layer) (laid : AreLaid room c start ls now back k number)
+module _ (groups : ℕ) (c : Canvas) (start : ℕ) (ls now : List Layer) (back : Canvas) (k number : ℕ) (l : Layer)
+    (laid : AreLaid groups c start ls now back k number)
     (e : slice_get now k ≡ Some l)
-    (count : start + length (cells room ls) ≤ length c.layers) where
+    (count : start + length (cells groups ls) ≤ length c.layers) where
   pub laid-layer : slice_get ls k ≡ Some l
-  laid-layer = sym (laid-at (one_on room c) (counted room) start ls k) ∙ (rw (← laid.layers) e)
+  laid-layer = sym (laid-at (one_on groups c) (counted groups) start ls k) ∙ (rw (← laid.layers) e)
 
-  laid-fits : start + length (cells room (take k ls)) + length (lists_under room l) ≤ length c.layers
-  laid-fits = omega (arith, cells-room room ls k l laid-layer, count)
+  laid-fits : start + length (cells groups (take k ls)) + length (lists_under groups l) ≤ length c.layers
+  laid-fits = omega (arith, cells-groups groups ls k l laid-layer, count)
 
-  pub laid-room : number + length (lists_under room l) ≤ length back.layers
-  laid-room =
-      let long = length-left start (cells room (take k ls)) [] c.layers (omega (arith, laid-fits)) in
+  pub laid-groups : number + length (lists_under groups l) ≤ length back.layers
+  laid-groups =
+      let long = length-left start (cells groups (take k ls)) [] c.layers (omega (arith, laid-fits)) in
       rw (laid.canvas, long) (omega (arith, laid-fits, laid.placed))
 
-  pub laid-next : (new : Layer) (after : Canvas) (next : ℕ) → new ≡ one_on room back number l
-      → after ≡ with_lists (lists_left number (lists_under room l) back.layers) back
-      → next ≡ number + length (lists_under room l) → AreLaid room c start ls (slice_set now k new) after (k + 1) next
+  pub laid-next : (new : Layer) (after : Canvas) (next : ℕ) → new ≡ one_on groups back number l
+      → after ≡ with_lists (lists_left number (lists_under groups l) back.layers) back
+      → next ≡ number + length (lists_under groups l) → AreLaid groups c start ls (slice_set now k new) after (k + 1) next
   laid-next new after next is left placed =
-      let own = cells room (take k ls) in
-      let more = cells-more room ls k l laid-layer in
+      let own = cells groups (take k ls) in
+      let more = cells-more groups ls k l laid-layer in
       let agree = left-agree start own c.layers (omega (arith, laid-fits)) in
-      let on : new ≡ one_on room c number l =
-      is ∙ ap (λ b. one_on room b number l) laid.canvas
-      ∙ one-same c (lists_left start own c.layers) number (λ j d low. agree j d (omega (arith, low, laid.placed))) room number l (omega arith) in
-      let sum = total-cells room (one_on room c) (take k ls) in
+      let on : new ≡ one_on groups c number l =
+      is ∙ ap (λ b. one_on groups b number l) laid.canvas
+      ∙ one-same c (lists_left start own c.layers) number (λ j d low. agree j d (omega (arith, low, laid.placed))) groups number l (omega arith) in
+      let sum = total-cells groups (one_on groups c) (take k ls) in
       record {
-        layers = rw (on, laid.layers, add-one) (laid-more (one_on room c) (counted room) start number ls k l (omega (arith, laid.placed, sum)) laid-layer);
-        canvas = left ∙ ap (λ b. with_lists (lists_left number (lists_under room l) b.layers) b) laid.canvas
-            ∙ ap (λ n. with_lists (lists_left n (lists_under room l) (lists_left start own c.layers)) c) laid.placed
-            ∙ ap (λ xs. with_lists xs c) (left-left start own (lists_under room l) c.layers laid-fits)
+        layers = rw (on, laid.layers, add-one) (laid-more (one_on groups c) (counted groups) start number ls k l (omega (arith, laid.placed, sum)) laid-layer);
+        canvas = left ∙ ap (λ b. with_lists (lists_left number (lists_under groups l) b.layers) b) laid.canvas
+            ∙ ap (λ n. with_lists (lists_left n (lists_under groups l) (lists_left start own c.layers)) c) laid.placed
+            ∙ ap (λ xs. with_lists xs c) (left-left start own (lists_under groups l) c.layers laid-fits)
             ∙ ap (λ xs. with_lists (lists_left start xs c.layers) c) (rw add-one (sym more));
-        placed = rw (add-one, more) (omega (arith, length-append own (lists_under room l), laid.placed, placed));
+        placed = rw (add-one, more) (omega (arith, length-append own (lists_under groups l), laid.placed, placed));
       }
 
 drop-all : {X : Type 0} (xs : List X) (k : ℕ) → k ≡ length xs → drop k xs ≡ []
 drop-all xs k e = ap (λ n. drop n xs) e ∙ drop-length xs
 
-pub all-AreLaid : (room : ℕ) (c : Canvas) (start : ℕ) (ls now : List Layer) (back : Canvas) (k number : ℕ) → AreLaid room c start ls now back k number
+pub all-AreLaid : (groups : ℕ) (c : Canvas) (start : ℕ) (ls now : List Layer) (back : Canvas) (k number : ℕ) → AreLaid groups c start ls now back k number
     → k ≡ length ls
-    → (now ≡ layers_on room c start ls) × ((back ≡ with_lists (lists_left start (cells room ls) c.layers) c) × (number ≡ start + length (cells room ls)))
-all-AreLaid room c start ls now back k number laid end =
+    → (now ≡ layers_on groups c start ls) × ((back ≡ with_lists (lists_left start (cells groups ls) c.layers) c) × (number ≡ start + length (cells groups ls)))
+all-AreLaid groups c start ls now back k number laid end =
     let taken : take k ls ≡ ls = ap (λ n. take n ls) end ∙ take-length ls in
     let gone : drop k ls ≡ [] = drop-all ls k end in (
-      laid.layers ∙ ap (λ ms. layers_on room c start ms ++ drop k ls) taken ∙ ap (λ ms. layers_on room c start ls ++ ms) gone
-          ∙ append-nil (layers_on room c start ls),
+      laid.layers ∙ ap (λ ms. layers_on groups c start ms ++ drop k ls) taken ∙ ap (λ ms. layers_on groups c start ls ++ ms) gone
+          ∙ append-nil (layers_on groups c start ls),
       (
-        laid.canvas ∙ ap (λ ms. with_lists (lists_left start (cells room ms) c.layers) c) taken,
-        laid.placed ∙ ap (λ ms. start + length (cells room ms)) taken,
+        laid.canvas ∙ ap (λ ms. with_lists (lists_left start (cells groups ms) c.layers) c) taken,
+        laid.placed ∙ ap (λ ms. start + length (cells groups ms)) taken,
       ),
     )
 
@@ -291,123 +292,124 @@ after-left number (Objects os) lists fits = sym (lists_left-none number lists)
 after-left number Other lists fits = sym (lists_left-none number lists)
 after-left number (Group' s r) lists fits = sym (lists_left-none number lists)
 
-may-list : (right down : ℤ) (room : ℕ) → ((a b : ℕ) (l : Layer) → Each (MayBeDrawn right down) (tree room a l) → Each (MayBeDrawn right down) (tree room b l))
-    → (a b : ℕ) (ls : List Layer) → Each (MayBeDrawn right down) (drawn room a ls) → Each (MayBeDrawn right down) (drawn room b ls)
-may-list right down room each a b [] h = tt
-may-list right down room each a b (l ∷ ls) h =
+may-list : (right down : ℤ) (groups : ℕ) → ((a b : ℕ) (l : Layer) → Each (MayBeDrawn right down) (tree groups a l)
+    → Each (MayBeDrawn right down) (tree groups b l))
+    → (a b : ℕ) (ls : List Layer) → Each (MayBeDrawn right down) (drawn groups a ls) → Each (MayBeDrawn right down) (drawn groups b ls)
+may-list right down groups each a b [] h = tt
+may-list right down groups each a b (l ∷ ls) h =
     let P : ℕ × Layer → Type 0 = MayBeDrawn right down in
-    Each-append P (tree room b l) (drawn room b ls) (each a b l (Each-prefix P (tree room a l) (drawn room a ls) h))
-    (may-list right down room each a b ls (Each-rest P (tree room a l) (drawn room a ls) h))
+    Each-append P (tree groups b l) (drawn groups b ls) (each a b l (Each-prefix P (tree groups a l) (drawn groups a ls) h))
+    (may-list right down groups each a b ls (Each-rest P (tree groups a l) (drawn groups a ls) h))
 
-may-tree : (right down : ℤ) (room a b : ℕ) (l : Layer) → Each (MayBeDrawn right down) (tree room a l) → Each (MayBeDrawn right down) (tree room b l)
+may-tree : (right down : ℤ) (groups a b : ℕ) (l : Layer) → Each (MayBeDrawn right down) (tree groups a l) → Each (MayBeDrawn right down) (tree groups b l)
 may-tree right down zero a b l h = rw (tree-is zero b l) (let own = rw (tree-is zero a l) at h in (own.0, tt))
-may-tree right down (suc room) a b l h =
-    rw (tree-is (suc room) b l) (let own = rw (tree-is (suc room) a l) at h in
-    (own.0, may-list right down room (may-tree right down room) (inner_level a) (inner_level b) (inside l) own.1))
+may-tree right down (suc groups) a b l h =
+    rw (tree-is (suc groups) b l) (let own = rw (tree-is (suc groups) a l) at h in
+    (own.0, may-list right down groups (may-tree right down groups) (inner_tier a) (inner_tier b) (inside l) own.1))
 
-module _ (room : ℕ) (c : Canvas) (number : ℕ) (l : Layer) (count : number + length (lists_under room l) ≤ length c.layers) where
+module _ (groups : ℕ) (c : Canvas) (number : ℕ) (l : Layer) (count : number + length (lists_under groups l) ≤ length c.layers) where
   own-fits : number + length (lists_in l.body) ≤ length c.layers
-  own-fits = let all = ap length (lists_under-is room l) in omega (arith, count, all, length-append (lists_in l.body) (cells_below room l))
+  own-fits = let all = ap length (lists_under-is groups l) in omega (arith, count, all, length-append (lists_in l.body) (cells_below groups l))
 
-  pub own-room : number + length (lists_in l.body) ≤ length c.layers
-  own-room = own-fits
+  pub own-groups : number + length (lists_in l.body) ≤ length c.layers
+  own-groups = own-fits
 
-  pub own-may : Each (MayBeDrawn c.right c.down) (tree room layer_level l) → BodyMayBeMoved c.right c.down l.body
-  own-may h = rw (← objects_in-with (λ ls. []) l.body) (rw (tree-is room layer_level l) at h).0
+  pub own-may : Each (MayBeDrawn c.right c.down) (tree groups layer_tier l) → BodyMayBeMoved c.right c.down l.body
+  own-may h = rw (← objects_in-with (λ ls. []) l.body) (rw (tree-is groups layer_tier l) at h).0
 
   -- a layer with no room in it
-  module _ (none : room ≡ 0) where
-    alone : lists_under room l ≡ lists_in l.body
-    alone = lists_under-is room l ∙ ap (λ n. lists_in l.body ++ cells_below n l) none ∙ append-nil (lists_in l.body)
+  module _ (none : groups ≡ 0) where
+    alone : lists_under groups l ≡ lists_in l.body
+    alone = lists_under-is groups l ∙ ap (λ n. lists_in l.body ++ cells_below n l) none ∙ append-nil (lists_in l.body)
 
-    pub alone-layer : (body : Body) → body ≡ body_on c number l.body → record l { body = body } ≡ one_on room c number l
+    pub alone-layer : (body : Body) → body ≡ body_on c number l.body → record l { body = body } ≡ one_on groups c number l
     alone-layer body is = (λ i. record l { body = is i }) ∙ sym (ap (λ n. one_on n c number l) none ∙ one_on-is zero c number l)
 
     pub alone-canvas : (after : Canvas) → after ≡ with_lists (lists_after number l.body c.layers) c
-        → after ≡ with_lists (lists_left number (lists_under room l) c.layers) c
+        → after ≡ with_lists (lists_left number (lists_under groups l) c.layers) c
     alone-canvas after is = is ∙ ap (λ xs. with_lists xs c) (after-left number l.body c.layers own-fits ∙ ap (λ xs. lists_left number xs c.layers) (sym alone))
 
-    pub alone-next : (end : ℕ) → end ≡ number + length (lists_in l.body) → end ≡ number + length (lists_under room l)
+    pub alone-next : (end : ℕ) → end ≡ number + length (lists_in l.body) → end ≡ number + length (lists_under groups l)
     alone-next end is = is ∙ ap (λ xs. number + length xs) (sym alone)
 
   -- a layer with room in it, whose body is on the canvas
-  module _ (some : 1 ≤ room) (body : Body) (after : Canvas) (behind : ℕ) (laid : body ≡ body_on c number l.body)
+  module _ (some : 1 ≤ groups) (body : Body) (after : Canvas) (behind : ℕ) (laid : body ≡ body_on c number l.body)
       (left : after ≡ with_lists (lists_after number l.body c.layers) c)
       (next : behind ≡ number + length (lists_in l.body)) where
     within : List (List ℕ)
-    within = cells (room - 1) (or_empty (group_in body))
+    within = cells (groups - 1) (or_empty (group_in body))
 
     inner : or_empty (group_in body) ≡ inside l
     inner = ap (λ b. or_empty (group_in b)) laid ∙ ap or_empty (group_in-on c number l.body)
 
-    all : lists_under room l ≡ lists_in l.body ++ cells (room - 1) (inside l)
-    all = by_room room some
+    all : lists_under groups l ≡ lists_in l.body ++ cells (groups - 1) (inside l)
+    all = by_groups groups some
       where
-        by_room : (n : ℕ) → 1 ≤ n → lists_under n l ≡ lists_in l.body ++ cells (n - 1) (inside l)
-        by_room zero low = absurd (omega (arith, low))
-        by_room (suc n) low = let same : n ≡ suc n - 1 = omega arith in lists_under-is (suc n) l ∙ ap (λ k. lists_in l.body ++ cells k (inside l)) same
+        by_groups : (n : ℕ) → 1 ≤ n → lists_under n l ≡ lists_in l.body ++ cells (n - 1) (inside l)
+        by_groups zero low = absurd (omega (arith, low))
+        by_groups (suc n) low = let same : n ≡ suc n - 1 = omega arith in lists_under-is (suc n) l ∙ ap (λ k. lists_in l.body ++ cells k (inside l)) same
 
     after-is : after ≡ with_lists (lists_left number (lists_in l.body) c.layers) c
     after-is = left ∙ ap (λ xs. with_lists xs c) (after-left number l.body c.layers own-fits)
 
-    fits : number + length (lists_in l.body) + length (cells (room - 1) (inside l)) ≤ length c.layers
-    fits = let sum = ap length all in omega (arith, count, sum, length-append (lists_in l.body) (cells (room - 1) (inside l)))
+    fits : number + length (lists_in l.body) + length (cells (groups - 1) (inside l)) ≤ length c.layers
+    fits = let sum = ap length all in omega (arith, count, sum, length-append (lists_in l.body) (cells (groups - 1) (inside l)))
 
-    pub inside-room : behind + length (cells (room - 1) (or_empty (group_in body))) ≤ length after.layers
-    inside-room =
+    pub inside-groups : behind + length (cells (groups - 1) (or_empty (group_in body))) ≤ length after.layers
+    inside-groups =
         let long = length-left number (lists_in l.body) [] c.layers (omega (arith, fits)) in
         rw (after-is, long, inner) (omega (arith, fits, next))
 
-    pub inside-may : Each (MayBeDrawn c.right c.down) (tree room layer_level l)
-        → Each (MayBeDrawn after.right after.down) (drawn (room - 1) layer_level (or_empty (group_in body)))
-    inside-may h = rw (after-is, inner) (by_room room some h)
+    pub inside-may : Each (MayBeDrawn c.right c.down) (tree groups layer_tier l)
+        → Each (MayBeDrawn after.right after.down) (drawn (groups - 1) layer_tier (or_empty (group_in body)))
+    inside-may h = rw (after-is, inner) (by_groups groups some h)
       where
-        by_room : (n : ℕ) → 1 ≤ n → Each (MayBeDrawn c.right c.down) (tree n layer_level l)
-            → Each (MayBeDrawn c.right c.down) (drawn (n - 1) layer_level (inside l))
-        by_room zero low k = absurd (omega (arith, low))
-        by_room (suc n) low k =
+        by_groups : (n : ℕ) → 1 ≤ n → Each (MayBeDrawn c.right c.down) (tree n layer_tier l)
+            → Each (MayBeDrawn c.right c.down) (drawn (n - 1) layer_tier (inside l))
+        by_groups zero low k = absurd (omega (arith, low))
+        by_groups (suc n) low k =
             let same : n ≡ suc n - 1 = omega arith in
-            let own = rw (tree-is (suc n) layer_level l) at k in
-            subst (λ j. Each (MayBeDrawn c.right c.down) (drawn j layer_level (inside l))) same
-            (may-list c.right c.down n (may-tree c.right c.down n) (inner_level layer_level) layer_level (inside l) own.1)
+            let own = rw (tree-is (suc n) layer_tier l) at k in
+            subst (λ j. Each (MayBeDrawn c.right c.down) (drawn j layer_tier (inside l))) same
+            (may-list c.right c.down n (may-tree c.right c.down n) (inner_tier layer_tier) layer_tier (inside l) own.1)
 
-    pub inside-layer : (new : Body) → new ≡ body_with_layers (layers_on (room - 1) after behind) body → record l { body = new } ≡ one_on room c number l
+    pub inside-layer : (new : Body) → new ≡ body_with_layers (layers_on (groups - 1) after behind) body → record l { body = new } ≡ one_on groups c number l
     inside-layer new is =
         let agree = left-agree number (lists_in l.body) c.layers own-fits in
-        let same : (ls : List Layer) → layers_on (room - 1) after behind ls ≡ layers_on (room - 1) c behind ls = λ ls.
-        ap (λ b. layers_on (room - 1) b behind ls) after-is
-        ∙ layers-same c (lists_left number (lists_in l.body) c.layers) behind (λ j d low. agree j d (omega (arith, low, next))) (room - 1) behind ls
+        let same : (ls : List Layer) → layers_on (groups - 1) after behind ls ≡ layers_on (groups - 1) c behind ls = λ ls.
+        ap (λ b. layers_on (groups - 1) b behind ls) after-is
+        ∙ layers-same c (lists_left number (lists_in l.body) c.layers) behind (λ j d low. agree j d (omega (arith, low, next))) (groups - 1) behind ls
         (omega arith) in
-        (λ i. record l { body = (is ∙ (λ j. body_with_layers (λ ls. same ls j) (laid j))) i }) ∙ by_room room some
+        (λ i. record l { body = (is ∙ (λ j. body_with_layers (λ ls. same ls j) (laid j))) i }) ∙ by_groups groups some
       where
-        by_room : (n : ℕ) → 1 ≤ n → record l { body = body_with_layers (layers_on (n - 1) c behind) (body_on c number l.body) } ≡ one_on n c number l
-        by_room zero low = absurd (omega (arith, low))
-        by_room (suc n) low =
+        by_groups : (n : ℕ) → 1 ≤ n → record l { body = body_with_layers (layers_on (n - 1) c behind) (body_on c number l.body) } ≡ one_on n c number l
+        by_groups zero low = absurd (omega (arith, low))
+        by_groups (suc n) low =
             let n-is : suc n - 1 ≡ n = omega arith in
             (λ i. record l { body = body_with_layers (layers_on (n-is i) c (next i)) (body_on c number l.body) }) ∙ sym (one_on-is (suc n) c number l)
 
-    pub inside-canvas : (end : Canvas) → end ≡ with_lists (lists_left behind (cells (room - 1) (or_empty (group_in body))) after.layers) after
-        → end ≡ with_lists (lists_left number (lists_under room l) c.layers) c
+    pub inside-canvas : (end : Canvas) → end ≡ with_lists (lists_left behind (cells (groups - 1) (or_empty (group_in body))) after.layers) after
+        → end ≡ with_lists (lists_left number (lists_under groups l) c.layers) c
     inside-canvas end is =
-        is ∙ ap (λ b. with_lists (lists_left behind (cells (room - 1) (or_empty (group_in body))) b.layers) b) after-is
-        ∙ (λ i. with_lists (lists_left (next i) (cells (room - 1) (inner i)) (lists_left number (lists_in l.body) c.layers)) c)
-        ∙ ap (λ xs. with_lists xs c) (left-left number (lists_in l.body) (cells (room - 1) (inside l)) c.layers fits)
+        is ∙ ap (λ b. with_lists (lists_left behind (cells (groups - 1) (or_empty (group_in body))) b.layers) b) after-is
+        ∙ (λ i. with_lists (lists_left (next i) (cells (groups - 1) (inner i)) (lists_left number (lists_in l.body) c.layers)) c)
+        ∙ ap (λ xs. with_lists xs c) (left-left number (lists_in l.body) (cells (groups - 1) (inside l)) c.layers fits)
         ∙ ap (λ xs. with_lists (lists_left number xs c.layers) c) (sym all)
 
-    pub inside-next : (end : ℕ) → end ≡ behind + length (cells (room - 1) (or_empty (group_in body))) → end ≡ number + length (lists_under room l)
+    pub inside-next : (end : ℕ) → end ≡ behind + length (cells (groups - 1) (or_empty (group_in body))) → end ≡ number + length (lists_under groups l)
     inside-next end is =
         let sum = ap length all in
-        let same = ap (λ ls. length (cells (room - 1) ls)) inner in
-        omega (arith, is, next, sum, same, length-append (lists_in l.body) (cells (room - 1) (inside l)))
+        let same = ap (λ ls. length (cells (groups - 1) ls)) inner in
+        omega (arith, is, next, sum, same, length-append (lists_in l.body) (cells (groups - 1) (inside l)))
 
 -- what each layer has, each of the tree of one of them has
-pub Each-tree_at : (P : ℕ × Layer → Type 0) (room : ℕ) (ls : List Layer) (k : ℕ) (l : Layer) → slice_get ls k ≡ Some l → Each P (drawn room layer_level ls)
-    → Each P (tree room layer_level l)
-Each-tree_at P room [] zero l e h = cc
-Each-tree_at P room [] (suc k) l e h = cc
-Each-tree_at P room (x ∷ xs) zero l e h = let same : x ≡ l = cc in
-    subst (λ y. Each P (tree room layer_level y)) same (Each-prefix P (tree room layer_level x) (drawn room layer_level xs) h)
-Each-tree_at P room (x ∷ xs) (suc k) l e h = Each-tree_at P room xs k l e (Each-rest P (tree room layer_level x) (drawn room layer_level xs) h)
+pub Each-tree_at : (P : ℕ × Layer → Type 0) (groups : ℕ) (ls : List Layer) (k : ℕ) (l : Layer) → slice_get ls k ≡ Some l → Each P (drawn groups layer_tier ls)
+    → Each P (tree groups layer_tier l)
+Each-tree_at P groups [] zero l e h = cc
+Each-tree_at P groups [] (suc k) l e h = cc
+Each-tree_at P groups (x ∷ xs) zero l e h = let same : x ≡ l = cc in
+    subst (λ y. Each P (tree groups layer_tier y)) same (Each-prefix P (tree groups layer_tier x) (drawn groups layer_tier xs) h)
+Each-tree_at P groups (x ∷ xs) (suc k) l e h = Each-tree_at P groups xs k l e (Each-rest P (tree groups layer_tier x) (drawn groups layer_tier xs) h)
 
 -- all lists exchanged
 pub left-all : (own lists : List (List ℕ)) → length lists ≡ length own → lists_left 0 own lists ≡ own

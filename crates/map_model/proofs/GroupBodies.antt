@@ -104,27 +104,27 @@ module _ (f : List Layer → List Layer) where
   body_names-with Other = refl
   body_names-with (Group' s r) = refl
 
-  pub IsBody-with : (level size : ℕ) (b : Body) → IsBody level size (body_with_layers f b) ≡ IsBody level size b
-  IsBody-with level size (Tiles e cells) = refl
-  IsBody-with level size (Objects os) = refl
-  IsBody-with level size Other = refl
-  IsBody-with level size (Group' s r) = refl
+  pub IsBody-with : (tier size : ℕ) (b : Body) → IsBody tier size (body_with_layers f b) ≡ IsBody tier size b
+  IsBody-with tier size (Tiles e cells) = refl
+  IsBody-with tier size (Objects os) = refl
+  IsBody-with tier size Other = refl
+  IsBody-with tier size (Group' s r) = refl
 
   -- a layer is one of a map with other layers in it too
-  pub IsLayer-with : (level size : ℕ) (l : Layer) → IsLayer level size l → IsLayer level size (layer_with_layers f l)
-  IsLayer-with level size l h = record {
+  pub IsLayer-with : (tier size : ℕ) (l : Layer) → IsLayer tier size l → IsLayer tier size (layer_with_layers f l)
+  IsLayer-with tier size l h = record {
     name = h.name;
     properties = h.properties;
     kept = rw (body_names-with l.body) h.kept;
-    body = rw (IsBody-with level size l.body) h.body;
+    body = rw (IsBody-with tier size l.body) h.body;
   }
 
-  pub IsLayer-without : (level size : ℕ) (l : Layer) → IsLayer level size (layer_with_layers f l) → IsLayer level size l
-  IsLayer-without level size l h = record {
+  pub IsLayer-without : (tier size : ℕ) (l : Layer) → IsLayer tier size (layer_with_layers f l) → IsLayer tier size l
+  IsLayer-without tier size l h = record {
     name = h.name;
     properties = h.properties;
     kept = rw (← body_names-with l.body) h.kept;
-    body = rw (← IsBody-with level size l.body) h.body;
+    body = rw (← IsBody-with tier size l.body) h.body;
   }
 
 pub bare-with : (f : List Layer → List Layer) (l : Layer) → bare (layer_with_layers f l) ≡ bare l

@@ -20,10 +20,10 @@ use Rattle.map_model.specs.Bodies.{IsTiles, tiles_of}
 use Rattle.map_model.specs.Lookups.{body_with_tiles, layer_of, HasTiles, tiles_of_layer, tiles_in, layer_with_tiles, IsWithin}
 use Rattle.map_model.specs.CellEdits.{IsBelow}
 use Rattle.map_model.specs.Groups.{all_drawn, bare, change_among, drawn, group_in, group_of, inside, layer_with_layers, tree}
-use Rattle.map_model.specs.Keeping.{deepest_level, inner_level, layer_level}
+use Rattle.map_model.specs.Keeping.{deepest_tier, inner_tier, layer_tier}
 use Rattle.map_model.specs.Format.{body_names}
 use Rattle.map_model.specs.Layers.{layer_at, layer_with_name, layer_with_visible, siblings_of, with_next_ids, with_siblings, without_layer_at}
-use Rattle.map_model.specs.Properties.{level_by, level_of}
+use Rattle.map_model.specs.Properties.{tier_by, tier_of}
 use Rattle.map_model.specs.WellFormed.{IsId, AreIds, IsTileValue, IsBody, IsDrawn, IsLayer, AreDrawn, AreLayers, IsWellFormed, ids_of, object_ids_in}
 use Rattle.map_model.specs.WellFormed.{object_ids_of, object_ids}
 use Rattle.map_model.proofs.GroupBodies.{IsLayer-with, IsLayer-without, bare-with, group_of-with, object_ids-with}
@@ -126,43 +126,43 @@ AreDrawn-moved {next = next} {next_object = next_object} {prefix = prefix} {piec
 
 -- ---- the layer with an id
 -- what is drawn behind a layer, where the same layers stand in it
-below-same : (room level : ℕ) (l k : Layer) → inside k ≡ inside l → below room level k ≡ below room level l
-below-same zero level l k same = refl
-below-same (suc room) level l k same = ap (drawn room (inner_level level)) same
+below-same : (groups tier : ℕ) (l k : Layer) → inside k ≡ inside l → below groups tier k ≡ below groups tier l
+below-same zero tier l k same = refl
+below-same (suc groups) tier l k same = ap (drawn groups (inner_tier tier)) same
 
-module _ {id room level : ℕ} {l : Layer} {xs : List (ℕ × Layer)} {ys : (Layer → Layer) → List (ℕ × Layer)} (s : Stands id room level l xs ys) where
+module _ {id groups tier : ℕ} {l : Layer} {xs : List (ℕ × Layer)} {ys : (Layer → Layer) → List (ℕ × Layer)} (s : Stands id groups tier l xs ys) where
   -- the layer alone is replaced, where the same layers stand in it
   pub own-IsReplaced : (f : Layer → Layer) → inside (f l) ≡ inside l
-      → IsReplaced s.prefix ((s.own_level, bare l) ∷ []) ((s.own_level, bare (f l)) ∷ []) (below s.own_room s.own_level l ++ s.rest) xs (ys f)
+      → IsReplaced s.prefix ((s.own_tier, bare l) ∷ []) ((s.own_tier, bare (f l)) ∷ []) (below s.own_groups s.own_tier l ++ s.rest) xs (ys f)
   own-IsReplaced f same = record {
-    was = s.was ∙ ap (λ t. s.prefix ++ (t ++ s.rest)) (tree-is s.own_room s.own_level l);
-    now = s.now f ∙ ap (λ t. s.prefix ++ (t ++ s.rest)) (tree-is s.own_room s.own_level (f l) ∙ ap (λ t. (s.own_level, bare (f l)) ∷ t)
-        (below-same s.own_room s.own_level l (f l) same));
+    was = s.was ∙ ap (λ t. s.prefix ++ (t ++ s.rest)) (tree-is s.own_groups s.own_tier l);
+    now = s.now f ∙ ap (λ t. s.prefix ++ (t ++ s.rest)) (tree-is s.own_groups s.own_tier (f l) ∙ ap (λ t. (s.own_tier, bare (f l)) ∷ t)
+        (below-same s.own_groups s.own_tier l (f l) same));
   }
 
 -- where the layer with an id stands in a map
 pub layer-Stands : (m : MapParts) (id : ℕ) (l : Layer) → layer_of m id ≡ Some l
-    → Stands id MAX_GROUPS layer_level l (all_drawn m.layers) (λ f. all_drawn (change_among id MAX_GROUPS f m.layers))
-layer-Stands m id l e = stands id MAX_GROUPS layer_level m.layers l e
+    → Stands id MAX_GROUPS layer_tier l (all_drawn m.layers) (λ f. all_drawn (change_among id MAX_GROUPS f m.layers))
+layer-Stands m id l e = stands id MAX_GROUPS layer_tier m.layers l e
 
-pub level_of-found : (m : MapParts) (id : ℕ) (l : Layer) (e : layer_of m id ≡ Some l) → level_of m id ≡ (layer-Stands m id l e).own_level
-level_of-found m id l e = ap level_by (layer-Stands m id l e).first
+pub tier_of-found : (m : MapParts) (id : ℕ) (l : Layer) (e : layer_of m id ≡ Some l) → tier_of m id ≡ (layer-Stands m id l e).own_tier
+tier_of-found m id l e = ap tier_by (layer-Stands m id l e).first
 
 -- it is one of the map's layers
-pub layer_of-IsLayer : (m : MapParts) (id : ℕ) (l : Layer) → layer_of m id ≡ Some l → IsWellFormed m → IsLayer (level_of m id) (m.width * m.height) l
+pub layer_of-IsLayer : (m : MapParts) (id : ℕ) (l : Layer) → layer_of m id ≡ Some l → IsWellFormed m → IsLayer (tier_of m id) (m.width * m.height) l
 layer_of-IsLayer m id l e h =
     let own = piece-IsDrawn (own-IsReplaced (layer-Stands m id l e) (λ k. k) refl) h.layers in
-    rw (level_of-found m id l e) (IsLayer-without (λ ls. []) (layer-Stands m id l e).own_level (m.width * m.height) l own.0)
+    rw (tier_of-found m id l e) (IsLayer-without (λ ls. []) (layer-Stands m id l e).own_tier (m.width * m.height) l own.0)
 
 -- that layer with f of it in its place, where the same layers stand in it
 pub changed-keeps : (id : ℕ) (f : Layer → Layer) (l : Layer) (m : MapParts) → layer_of m id ≡ Some l → inside (f l) ≡ inside l → (f l).id ≡ l.id
-    → IsLayer (level_of m id) (m.width * m.height) (f l) → AreIds m.next_object_id (object_ids (change_among id MAX_GROUPS f m.layers)) → IsWellFormed m
+    → IsLayer (tier_of m id) (m.width * m.height) (f l) → AreIds m.next_object_id (object_ids (change_among id MAX_GROUPS f m.layers)) → IsWellFormed m
     → IsWellFormed (record m { layers = change_among id MAX_GROUPS f m.layers })
 changed-keeps id f l m e same own_id is ids h =
     let s = layer-Stands m id l e in
-    let here : IsLayer s.own_level (m.width * m.height) (f l) = rw (← level_of-found m id l e) is in
+    let here : IsLayer s.own_tier (m.width * m.height) (f l) = rw (← tier_of-found m id l e) is in
     layers-IsWellFormed m (change_among id MAX_GROUPS f m.layers)
-    (AreDrawn-changed (own-IsReplaced s f same) h.layers refl (IsLayer-with (λ ls. []) s.own_level (m.width * m.height) (f l) here, tt)
+    (AreDrawn-changed (own-IsReplaced s f same) h.layers refl (IsLayer-with (λ ls. []) s.own_tier (m.width * m.height) (f l) here, tt)
     (ap (λ n. n ∷ []) own_id) ids) h
 
 -- its objects' ids replaced in those of all
@@ -174,14 +174,14 @@ object_ids-IsReplaced id f l m e same =
     let was = append-nil (object_ids_in (bare l).body) ∙ object_ids-with (λ ls. []) l.body in
     let now = append-nil (object_ids_in (bare (f l)).body) ∙ object_ids-with (λ ls. []) (f l).body in
     let s = layer-Stands m id l e in
-    (flat_map object_ids_of s.prefix, (flat_map object_ids_of (below s.own_room s.own_level l ++ s.rest), rw (was, now) at r))
+    (flat_map object_ids_of s.prefix, (flat_map object_ids_of (below s.own_groups s.own_tier l ++ s.rest), rw (was, now) at r))
 
 -- a change of a layer that keeps its ids and what stands in it, and keeps it one of the map's layers
 pub record KeepsLayers (f : Layer → Layer) : Type 0 where
   pub ids : (l : Layer) → (f l).id ≡ l.id
   pub inside : (l : Layer) → inside (f l) ≡ inside l
   pub object_ids : (l : Layer) → object_ids_in (f l).body ≡ object_ids_in l.body
-  pub layers : (level size : ℕ) (l : Layer) → IsLayer level size l → IsLayer level size (f l)
+  pub layers : (tier size : ℕ) (l : Layer) → IsLayer tier size l → IsLayer tier size (f l)
 
 pub with_layer-keeps : (id : ℕ) (f : Layer → Layer) (m : MapParts) (layers : List Layer) → layers ≡ change_among id MAX_GROUPS f m.layers → KeepsLayers f
     → IsWellFormed m → IsWellFormed (record m { layers = layers })
@@ -193,7 +193,7 @@ with_layer-keeps id f m layers is k h = rw is (by_layer (layer_of m id) refl)
         let r = object_ids-IsReplaced id f l m e (k.inside l) in
         let same : object_ids (change_among id MAX_GROUPS f m.layers) ≡ object_ids m.layers = r.1.1.now ∙ ap (λ p. r.0 ++ (p ++ r.1.0)) (k.object_ids l)
         ∙ sym r.1.1.was in
-        changed-keeps id f l m e (k.inside l) (k.ids l) (k.layers (level_of m id) (m.width * m.height) l (layer_of-IsLayer m id l e h))
+        changed-keeps id f l m e (k.inside l) (k.ids l) (k.layers (tier_of m id) (m.width * m.height) l (layer_of-IsLayer m id l e h))
         (rw same h.layers.object_ids) h
 
 pub layer_with_visible-keeps : (visible : Bool) → KeepsLayers (layer_with_visible visible)
@@ -201,7 +201,7 @@ layer_with_visible-keeps visible = record {
   ids = λ l. refl;
   inside = λ l. refl;
   object_ids = λ l. refl;
-  layers = λ level size l h. record { name = h.name; properties = h.properties; kept = h.kept; body = h.body };
+  layers = λ tier size l h. record { name = h.name; properties = h.properties; kept = h.kept; body = h.body };
 }
 
 pub layer_with_name-keeps : (name : List ℕ) → IsUtf8 name → KeepsLayers (layer_with_name name)
@@ -209,7 +209,7 @@ layer_with_name-keeps name utf8 = record {
   ids = λ l. refl;
   inside = λ l. refl;
   object_ids = λ l. refl;
-  layers = λ level size l h. record { name = utf8; properties = h.properties; kept = h.kept; body = h.body };
+  layers = λ tier size l h. record { name = utf8; properties = h.properties; kept = h.kept; body = h.body };
 }
 
 -- ---- the values of a layer
@@ -218,11 +218,11 @@ pub record KeepsTiles (f : List ℕ → List ℕ) : Type 0 where
   pub count : (vs : List ℕ) → length (f vs) ≡ length vs
   pub range : (vs : List ℕ) → Each IsTileValue vs → Each IsTileValue (f vs)
 
-IsBody-tiles : (f : List ℕ → List ℕ) → KeepsTiles f → (level size : ℕ) (b : Body) → IsBody level size b → IsBody level size (body_with_tiles f b)
-IsBody-tiles f k level size (Tiles e cells) h = (k.count cells ∙ h.0, k.range cells h.1)
-IsBody-tiles f k level size (Objects os) h = h
-IsBody-tiles f k level size Other h = h
-IsBody-tiles f k level size (Group' s r) h = h
+IsBody-tiles : (f : List ℕ → List ℕ) → KeepsTiles f → (tier size : ℕ) (b : Body) → IsBody tier size b → IsBody tier size (body_with_tiles f b)
+IsBody-tiles f k tier size (Tiles e cells) h = (k.count cells ∙ h.0, k.range cells h.1)
+IsBody-tiles f k tier size (Objects os) h = h
+IsBody-tiles f k tier size Other h = h
+IsBody-tiles f k tier size (Group' s r) h = h
 
 body_names-tiles : (f : List ℕ → List ℕ) (b : Body) → body_names (body_with_tiles f b) ≡ body_names b
 body_names-tiles f (Tiles e cells) = refl
@@ -247,11 +247,11 @@ layer_with_tiles-keeps f k = record {
   ids = λ l. refl;
   inside = λ l. ap or_empty (group_in-tiles f l.body);
   object_ids = λ l. object_ids-tiles f l.body;
-  layers = λ level size l h. record {
+  layers = λ tier size l h. record {
     name = h.name;
     properties = h.properties;
     kept = rw (body_names-tiles f l.body) h.kept;
-    body = IsBody-tiles f k level size l.body h.body;
+    body = IsBody-tiles f k tier size l.body h.body;
   };
 }
 
@@ -267,11 +267,11 @@ Each-found p P (y ∷ ys) x e h = by_test (p y) e (λ q. Each-found p P ys x q h
     by_test true q later = let is : y ≡ x = cc in subst P is h.0
     by_test false q later = later q
 
-length-tiles_of : (level size : ℕ) (b : Body) → IsTiles b → IsBody level size b → length (tiles_of b) ≡ size
-length-tiles_of level size (Tiles e cells) t h = h.0
-length-tiles_of level size (Objects os) t h = absurd t
-length-tiles_of level size Other t h = absurd t
-length-tiles_of level size (Group' s r) t h = absurd t
+length-tiles_of : (tier size : ℕ) (b : Body) → IsTiles b → IsBody tier size b → length (tiles_of b) ≡ size
+length-tiles_of tier size (Tiles e cells) t h = h.0
+length-tiles_of tier size (Objects os) t h = absurd t
+length-tiles_of tier size Other t h = absurd t
+length-tiles_of tier size (Group' s r) t h = absurd t
 
 -- a tile layer has a value for each cell of the map
 pub length-tiles_in : (m : MapParts) (id : ℕ) → HasTiles m id → IsWellFormed m → length (tiles_in m id) ≡ m.width * m.height
@@ -279,7 +279,7 @@ length-tiles_in m id t h = by_layer (layer_of m id) refl t
   where
     by_layer : (o : Option Layer) → layer_of m id ≡ o → IsSomeAnd o (λ l. IsTiles l.body) → length (tiles_of_layer o) ≡ m.width * m.height
     by_layer None e q = absurd q
-    by_layer (Some l) e q = length-tiles_of (level_of m id) (m.width * m.height) l.body q (layer_of-IsLayer m id l e h).body
+    by_layer (Some l) e q = length-tiles_of (tier_of m id) (m.width * m.height) l.body q (layer_of-IsLayer m id l e h).body
 
 pub number-within : (m : MapParts) (id x y number : ℕ) → number ≡ y * m.width + x → x < m.width → y < m.height → HasTiles m id → IsWellFormed m
     → number < length (tiles_in m id)
@@ -296,62 +296,63 @@ numbers-within m id (e ∷ es) h t w = (number-within m id e.x e.y (e.y * m.widt
 -- ---- layers that come and go
 -- the layers ls of a parent stand within all layers in drawing order, with these before and behind them
 pub record StandAmong (m : MapParts) (parent : Option ℕ) (ls : List Layer) : Type 0 where
-  pub room : ℕ
-  pub level : ℕ
+  pub groups : ℕ
+  pub tier : ℕ
   pub prefix : List (ℕ × Layer)
   pub rest : List (ℕ × Layer)
-  pub was : all_drawn m.layers ≡ prefix ++ (drawn room level ls ++ rest)
-  pub now : (f : List Layer → List Layer) → all_drawn (with_siblings parent f m).layers ≡ prefix ++ (drawn room level (f ls) ++ rest)
+  pub was : all_drawn m.layers ≡ prefix ++ (drawn groups tier ls ++ rest)
+  pub now : (f : List Layer → List Layer) → all_drawn (with_siblings parent f m).layers ≡ prefix ++ (drawn groups tier (f ls) ++ rest)
 
 -- a group has room for layers in it
-has_room : (room level deep : ℕ) (size : ℕ) (b : Body) (ls : List Layer) → group_in b ≡ Some ls → IsBody level size b → level + 2 * room ≡ deepest_level
-    → (r : ℕ) × (room ≡ suc r)
-has_room zero level deep size (Tiles e cells) ls g h d = cc
-has_room zero level deep size (Objects os) ls g h d = cc
-has_room zero level deep size Other ls g h d = cc
-has_room zero level deep size (Group' s r) ls g h d = absurd (omega (arith, h, d))
-has_room (suc room) level deep size b ls g h d = (room, refl)
+has_groups : (groups tier deep : ℕ) (size : ℕ) (b : Body) (ls : List Layer) → group_in b ≡ Some ls → IsBody tier size b → tier + 2 * groups ≡ deepest_tier
+    → (r : ℕ) × (groups ≡ suc r)
+has_groups zero tier deep size (Tiles e cells) ls g h d = cc
+has_groups zero tier deep size (Objects os) ls g h d = cc
+has_groups zero tier deep size Other ls g h d = cc
+has_groups zero tier deep size (Group' s r) ls g h d = absurd (omega (arith, h, d))
+has_groups (suc groups) tier deep size b ls g h d = (groups, refl)
 
 pub siblings-StandAmong : (m : MapParts) (parent : Option ℕ) (ls : List Layer) → siblings_of m parent ≡ Some ls → IsWellFormed m → StandAmong m parent ls
 siblings-StandAmong m None ls e h =
     let is : m.layers ≡ ls = cc in
     record {
-      room = MAX_GROUPS;
-      level = layer_level;
+      groups = MAX_GROUPS;
+      tier = layer_tier;
       prefix = [];
       rest = [];
-      was = ap all_drawn is ∙ sym (append-nil (drawn MAX_GROUPS layer_level ls));
-      now = λ f. ap (λ ks. all_drawn (f ks)) is ∙ sym (append-nil (drawn MAX_GROUPS layer_level (f ls)));
+      was = ap all_drawn is ∙ sym (append-nil (drawn MAX_GROUPS layer_tier ls));
+      now = λ f. ap (λ ks. all_drawn (f ks)) is ∙ sym (append-nil (drawn MAX_GROUPS layer_tier (f ls)));
     }
 siblings-StandAmong m (Some id) ls e h = by_layer (layer_of m id) refl e
   where
-    by_room : (l : Layer) (found : layer_of m id ≡ Some l) → group_of l ≡ Some ls → (room level : ℕ) (prefix rest : List (ℕ × Layer))
-        → all_drawn m.layers ≡ prefix ++ (tree room level l ++ rest)
-        → ((f : Layer → Layer) → all_drawn (change_among id MAX_GROUPS f m.layers) ≡ prefix ++ (tree room level (f l) ++ rest)) → (r : ℕ) × (room ≡ suc r)
+    by_groups : (l : Layer) (found : layer_of m id ≡ Some l) → group_of l ≡ Some ls → (groups tier : ℕ) (prefix rest : List (ℕ × Layer))
+        → all_drawn m.layers ≡ prefix ++ (tree groups tier l ++ rest)
+        → ((f : Layer → Layer) → all_drawn (change_among id MAX_GROUPS f m.layers) ≡ prefix ++ (tree groups tier (f l) ++ rest)) → (r : ℕ) × (groups ≡ suc r)
         → StandAmong m (Some id) ls
-    by_room l found g room level prefix rest was now more = record {
-      room = more.0;
-      level = inner_level level;
-      prefix = prefix ++ ((level, bare l) ∷ []);
+    by_groups l found g groups tier prefix rest was now more = record {
+      groups = more.0;
+      tier = inner_tier tier;
+      prefix = prefix ++ ((tier, bare l) ∷ []);
       rest = rest;
       was = was ∙ pieces l (ap or_empty g) refl;
       now = λ f. now (layer_with_layers f) ∙ pieces (layer_with_layers f l) (ap or_empty (group_of-with f l ls g)) (bare-with f l);
     }
       where
         pieces : (k : Layer) {ks : List Layer} → inside k ≡ ks → bare k ≡ bare l
-            → prefix ++ (tree room level k ++ rest) ≡ (prefix ++ ((level, bare l) ∷ [])) ++ (drawn more.0 (inner_level level) ks ++ rest)
+            → prefix ++ (tree groups tier k ++ rest) ≡ (prefix ++ ((tier, bare l) ∷ [])) ++ (drawn more.0 (inner_tier tier) ks ++ rest)
         pieces k are same =
-            ap (λ n. prefix ++ (tree n level k ++ rest)) more.1 ∙ ap (λ t. prefix ++ (t ++ rest)) (tree-is (suc more.0) level k)
-            ∙ (λ i. prefix ++ (((level, same i) ∷ drawn more.0 (inner_level level) (are i)) ++ rest))
-            ∙ sym (append_assoc prefix ((level, bare l) ∷ []) _)
+            ap (λ n. prefix ++ (tree n tier k ++ rest)) more.1 ∙ ap (λ t. prefix ++ (t ++ rest)) (tree-is (suc more.0) tier k)
+            ∙ (λ i. prefix ++ (((tier, same i) ∷ drawn more.0 (inner_tier tier) (are i)) ++ rest))
+            ∙ sym (append_assoc prefix ((tier, bare l) ∷ []) _)
 
     by_layer : (o : Option Layer) → layer_of m id ≡ o → option_and_then group_of o ≡ Some ls → StandAmong m (Some id) ls
     by_layer None found g = cc
     by_layer (Some l) found g =
         let s = layer-Stands m id l found in
         let body = (layer_of-IsLayer m id l found h).body in
-        let here : IsBody s.own_level (m.width * m.height) l.body = rw (← level_of-found m id l found) body in
-        by_room l found g s.own_room s.own_level s.prefix s.rest s.was s.now (has_room s.own_room s.own_level 0 (m.width * m.height) l.body ls g here (s.deep))
+        let here : IsBody s.own_tier (m.width * m.height) l.body = rw (← tier_of-found m id l found) body in
+        by_groups l found g s.own_groups s.own_tier s.prefix s.rest s.was s.now (has_groups s.own_groups s.own_tier 0
+        (m.width * m.height) l.body ls g here (s.deep))
 
 module _ (m : MapParts) (parent : Option ℕ) (ls : List Layer) (e : siblings_of m parent ≡ Some ls) (h : IsWellFormed m) where
   siblings-IsWellFormed : (f : List Layer → List Layer) → AreLayers (m.width * m.height) m.next_layer_id m.next_object_id (with_siblings parent f m).layers
@@ -369,16 +370,16 @@ module _ (m : MapParts) (parent : Option ℕ) (ls : List Layer) (e : siblings_of
       let s = siblings-StandAmong m parent ls e h in
       siblings-IsWellFormed (λ ks. remove ks k)
       (AreDrawn-taken (IsReplaced-as s.was (s.now (λ ks. remove ks k))
-      (IsReplaced-within s.prefix s.rest (flat-IsReplaced (tree s.room s.level) (remove-IsReplaced ls k)))) h.layers)
+      (IsReplaced-within s.prefix s.rest (flat-IsReplaced (tree s.groups s.tier) (remove-IsReplaced ls k)))) h.layers)
 
   -- the map with one of the layers of a parent at another place among them
   pub moved-keeps : (from to : ℕ) (l : Layer) → slice_get ls from ≡ Some l → IsWellFormed (with_siblings parent (λ ks. insert (remove ks from) to l) m)
   moved-keeps from to l there =
       let s = siblings-StandAmong m parent ls e h in
       let gone = IsReplaced-as s.was (s.now (λ ks. remove ks from))
-      (IsReplaced-within s.prefix s.rest (flat-IsReplaced (tree s.room s.level) (rw (take-one ls from l there) at (remove-IsReplaced ls from)))) in
+      (IsReplaced-within s.prefix s.rest (flat-IsReplaced (tree s.groups s.tier) (rw (take-one ls from l there) at (remove-IsReplaced ls from)))) in
       let back = IsReplaced-as (s.now (λ ks. remove ks from)) (s.now (λ ks. insert (remove ks from) to l))
-      (IsReplaced-within s.prefix s.rest (flat-IsReplaced (tree s.room s.level) (insert-IsReplaced (remove ls from) to l))) in
+      (IsReplaced-within s.prefix s.rest (flat-IsReplaced (tree s.groups s.tier) (insert-IsReplaced (remove ls from) to l))) in
       siblings-IsWellFormed (λ ks. insert (remove ks from) to l) (AreDrawn-moved gone back h.layers)
 
 pub remove-keeps : (m : MapParts) (place : LayerPlace) → IsSome (layer_at m place) → IsWellFormed m → IsWellFormed (without_layer_at place m)
@@ -420,25 +421,25 @@ raised-keeps m l h = record {
 }
 
 -- a layer in which none stands
-pub tree-alone : (room level : ℕ) (l : Layer) → inside l ≡ [] → tree room level l ≡ (level, bare l) ∷ []
-tree-alone zero level l none = tree-is zero level l
-tree-alone (suc room) level l none = tree-is (suc room) level l ∙ ap (λ ks. (level, bare l) ∷ drawn room (inner_level level) ks) none
+pub tree-alone : (groups tier : ℕ) (l : Layer) → inside l ≡ [] → tree groups tier l ≡ (tier, bare l) ∷ []
+tree-alone zero tier l none = tree-is zero tier l
+tree-alone (suc groups) tier l none = tree-is (suc groups) tier l ∙ ap (λ ks. (tier, bare l) ∷ drawn groups (inner_tier tier) ks) none
 
 -- a layer without objects and layers, with the next id, put in at a place in no group
 pub numbered-keeps : (m : MapParts) (k : ℕ) (l : Layer) → length (all_drawn m.layers) < MAX_LAYERS → m.next_layer_id < MAX_NEXT_ID
-    → IsLayer layer_level (m.width * m.height) l
+    → IsLayer layer_tier (m.width * m.height) l
     → l.id ≡ m.next_layer_id → object_ids_in l.body ≡ [] → inside l ≡ [] → IsWellFormed m
     → IsWellFormed (record (with_next_ids (m.next_layer_id + 1) m.next_object_id m) { layers = insert m.layers k l })
 numbered-keeps m k l few below layer id none alone h =
     let raised = raised-keeps m below h in
-    let own : drawn MAX_GROUPS layer_level (l ∷ []) ≡ (layer_level, bare l) ∷ [] = append-nil (tree MAX_GROUPS layer_level l)
-    ∙ tree-alone MAX_GROUPS layer_level l alone in
-    let r = rw own at (flat-IsReplaced (tree MAX_GROUPS layer_level) (insert-IsReplaced m.layers k l)) in
-    let was : flat_map ids_of (drawn MAX_GROUPS layer_level (take k m.layers) ++ drawn MAX_GROUPS layer_level (drop k m.layers))
+    let own : drawn MAX_GROUPS layer_tier (l ∷ []) ≡ (layer_tier, bare l) ∷ [] = append-nil (tree MAX_GROUPS layer_tier l)
+    ∙ tree-alone MAX_GROUPS layer_tier l alone in
+    let r = rw own at (flat-IsReplaced (tree MAX_GROUPS layer_tier) (insert-IsReplaced m.layers k l)) in
+    let was : flat_map ids_of (drawn MAX_GROUPS layer_tier (take k m.layers) ++ drawn MAX_GROUPS layer_tier (drop k m.layers))
     ≡ flat_map ids_of (all_drawn m.layers) = ap (flat_map ids_of) (sym r.was) in
     layers-IsWellFormed (with_next_ids (m.next_layer_id + 1) m.next_object_id m) (insert m.layers k l)
-    (AreDrawn-replaced r raised.layers (omega (arith, few)) (IsLayer-with (λ ls. []) layer_level (m.width * m.height) l layer, tt)
-    (rw (← flat_map-append ids_of (drawn MAX_GROUPS layer_level (take k m.layers)) (drawn MAX_GROUPS layer_level (drop k m.layers)), was, id) (record {
+    (AreDrawn-replaced r raised.layers (omega (arith, few)) (IsLayer-with (λ ls. []) layer_tier (m.width * m.height) l layer, tt)
+    (rw (← flat_map-append ids_of (drawn MAX_GROUPS layer_tier (take k m.layers)) (drawn MAX_GROUPS layer_tier (drop k m.layers)), was, id) (record {
       each = (record { low = h.layers.layer_ids.next_low; high = omega arith }, tt);
       distinct = (tt, tt);
       apart = (Each-apart m.next_layer_id (flat_map ids_of (all_drawn m.layers)) h.layers.layer_ids.each, tt);
@@ -453,23 +454,23 @@ with_siblings-IsSelectionOf None f m selection h = h
 with_siblings-IsSelectionOf (Some id) f m selection h = h
 
 -- no more layers stand among siblings than in the map
-length-drawn_le : (room level : ℕ) (ls : List Layer) → length ls ≤ length (drawn room level ls)
-length-drawn_le room level [] = omega arith
-length-drawn_le room level (l ∷ ls) =
-    let later = length-drawn_le room level ls in
-    let own = ap length (tree-is room level l) in
-    omega (arith, later, own, length-append (tree room level l) (drawn room level ls))
+length-drawn_le : (groups tier : ℕ) (ls : List Layer) → length ls ≤ length (drawn groups tier ls)
+length-drawn_le groups tier [] = omega arith
+length-drawn_le groups tier (l ∷ ls) =
+    let later = length-drawn_le groups tier ls in
+    let own = ap length (tree-is groups tier l) in
+    omega (arith, later, own, length-append (tree groups tier l) (drawn groups tier ls))
 
 pub siblings_of-few : (m : MapParts) (parent : Option ℕ) (ls : List Layer) → siblings_of m parent ≡ Some ls → IsWellFormed m → length ls ≤ MAX_LAYERS
 siblings_of-few m parent ls e h =
     let s = siblings-StandAmong m parent ls e h in
     let long = ap length s.was in
-    let own = length-drawn_le s.room s.level ls in
-    omega (arith, h.layers.few, long, own, length-append s.prefix (drawn s.room s.level ls ++ s.rest), length-append (drawn s.room s.level ls) s.rest)
+    let own = length-drawn_le s.groups s.tier ls in
+    omega (arith, h.layers.few, long, own, length-append s.prefix (drawn s.groups s.tier ls ++ s.rest), length-append (drawn s.groups s.tier ls) s.rest)
 
-pub siblings_of-room : (m : MapParts) (place : LayerPlace) → IsSomeAnd (siblings_of m place.parent) (λ ls. place.at ≤ length ls) → IsWellFormed m
+pub siblings_of-groups : (m : MapParts) (place : LayerPlace) → IsSomeAnd (siblings_of m place.parent) (λ ls. place.at ≤ length ls) → IsWellFormed m
     → IsSomeAnd (siblings_of m place.parent) (λ ls. length ls + 1 < 2 ^ 63)
-siblings_of-room m place there h = by_siblings (siblings_of m place.parent) refl there
+siblings_of-groups m place there h = by_siblings (siblings_of m place.parent) refl there
   where
     by_siblings : (o : Option (List Layer)) → siblings_of m place.parent ≡ o → IsSomeAnd o (λ ls. place.at ≤ length ls)
         → IsSomeAnd o (λ ls. length ls + 1 < 2 ^ 63)

@@ -15,7 +15,7 @@ use Rattle.map_model.specs.declared.parts.Body.TheVariants.{Tiles, Objects}
 use Rattle.map_model.specs.declared.parts.LayerKind.{LayerKind}
 use Rattle.map_model.specs.declared.parts.LayerKind.TheVariants as kinds
 use Rattle.map_model.specs.declared.parts.Placing.{Placing}
-use Rattle.map_model.specs.Keeping.{deepest_level, layer_level, object_level, map_level}
+use Rattle.map_model.specs.Keeping.{deepest_tier, layer_tier, object_tier, map_tier}
 use Rattle.map_model.specs.Format.{map_names, layer_names, object_names, tileset_names}
 use Rattle.map_model.specs.Groups.{all_drawn, bare, inside, tree}
 use Rattle.map_model.specs.Lists.{Each}
@@ -30,8 +30,8 @@ Each-replicate : {X : Type 0} (P : X → Type 0) (n : ℕ) (x : X) → P x → E
 Each-replicate P zero x p = tt
 Each-replicate P (suc n) x p = (p, Each-replicate P n x p)
 
-no_properties : (level : ℕ) → AreProperties level []
-no_properties level = record { few = omega arith; each = tt; distinct = tt }
+no_properties : (tier : ℕ) → AreProperties tier []
+no_properties tier = record { few = omega arith; each = tt; distinct = tt }
 
 -- members without these names, by a test
 pub unread-test : (ms : Members) (names : List (List ℕ)) → list_all (λ name. not (is_some (get_member name ms))) names ≡ true
@@ -78,10 +78,10 @@ map_readable = (
 )
 
 -- a new layer is one of a map of so many cells
-pub new_layer-IsLayer : (kind : LayerKind) (id : ℕ) (name : List ℕ) (size : ℕ) → IsUtf8 name → IsLayer layer_level size (new_layer kind id name size)
+pub new_layer-IsLayer : (kind : LayerKind) (id : ℕ) (name : List ℕ) (size : ℕ) → IsUtf8 name → IsLayer layer_tier size (new_layer kind id name size)
 new_layer-IsLayer kinds.Tile id name size utf8 = record {
   name = utf8;
-  properties = no_properties layer_level;
+  properties = no_properties layer_tier;
   kept = record {
     unread = unread-test tile_layer_members (layer_names (Tiles Array [])) refl;
     whole = refl;
@@ -92,7 +92,7 @@ new_layer-IsLayer kinds.Tile id name size utf8 = record {
 }
 new_layer-IsLayer kinds.Object id name size utf8 = record {
   name = utf8;
-  properties = no_properties layer_level;
+  properties = no_properties layer_tier;
   kept = record {
     unread = unread-test object_layer_members (layer_names (Objects [])) refl;
     whole = refl;
@@ -112,19 +112,19 @@ external_tileset-IsTileset first_id source utf8 low high = record {
 }
 
 -- a new object is one of a layer
-pub new_object-IsObject : (level id : ℕ) (placing : Placing) (name : List ℕ) → IsUtf8 name → level ≤ deepest_level → IsPlacing placing
-    → IsObject (object_level level) (new_object id placing name)
-new_object-IsObject level id placing name utf8 low h = record {
+pub new_object-IsObject : (tier id : ℕ) (placing : Placing) (name : List ℕ) → IsUtf8 name → tier ≤ deepest_tier → IsPlacing placing
+    → IsObject (object_tier tier) (new_object id placing name)
+new_object-IsObject tier id placing name utf8 low h = record {
   placing = h;
   name = utf8;
   gid = tt;
-  properties = no_properties (object_level level);
+  properties = no_properties (object_tier tier);
   kept = record { unread = unread-test object_members object_names refl; whole = refl; shallow = omega (arith, low); readable = object_readable };
 }
 
 -- one layer, in which none stands
-alone : (l : Layer) → inside l ≡ [] → all_drawn (l ∷ []) ≡ (layer_level, bare l) ∷ []
-alone l none = append-nil (tree MAX_GROUPS layer_level l) ∙ tree-alone MAX_GROUPS layer_level l none
+alone : (l : Layer) → inside l ≡ [] → all_drawn (l ∷ []) ≡ (layer_tier, bare l) ∷ []
+alone l none = append-nil (tree MAX_GROUPS layer_tier l) ∙ tree-alone MAX_GROUPS layer_tier l none
 
 first_name : IsUtf8 (codes "Tile Layer 1")
 unfolding is_utf8 chars encode
@@ -139,7 +139,7 @@ new_map-IsWellFormed width height tile_width tile_height source utf8 size tile_s
   layers = rw (alone (empty_layer 1 (codes "Tile Layer 1") (width * height)) refl) (record {
     few = omega arith;
     each = (
-      IsLayer-with (λ ls. []) layer_level (width * height) (empty_layer 1 (codes "Tile Layer 1") (width * height))
+      IsLayer-with (λ ls. []) layer_tier (width * height) (empty_layer 1 (codes "Tile Layer 1") (width * height))
           (new_layer-IsLayer kinds.Tile 1 (codes "Tile Layer 1") (width * height) first_name),
       tt,
     );
@@ -151,6 +151,6 @@ new_map-IsWellFormed width height tile_width tile_height source utf8 size tile_s
     each = (external_tileset-IsTileset 1 source utf8 (omega arith) (omega arith), tt);
     distinct = (tt, tt);
   };
-  properties = no_properties map_level;
+  properties = no_properties map_tier;
   kept = record { unread = unread-test map_members map_names refl; whole = refl; shallow = omega arith; readable = map_readable };
 }

@@ -10,7 +10,7 @@ use Rattle.map_model.specs.declared.parts.MapParts.{MapParts}
 use Rattle.map_model.specs.declared.parts.Object.{Object}
 use Rattle.map_model.specs.declared.parts.Placing.{Placing}
 use Rattle.map_model.specs.declared.place.ObjectPlace.{ObjectPlace}
-use Rattle.map_model.specs.Keeping.{object_level}
+use Rattle.map_model.specs.Keeping.{object_tier}
 use Rattle.map_model.specs.Format.{body_names}
 use Rattle.map_model.specs.Layers.{with_next_ids}
 use Rattle.map_model.specs.Groups.{group_in}
@@ -18,7 +18,7 @@ use Rattle.map_model.specs.Lists.{Each, change_at, or_empty}
 use Rattle.map_model.specs.Objects.{objects_in, objects_of, body_with_objects, layer_with_objects, objects_of_layer, object_at, with_objects, without_object_at}
 use Rattle.map_model.specs.Objects.{with_object, object_placing, object_with_placing}
 use Rattle.map_model.specs.Lookups.{layer_of}
-use Rattle.map_model.specs.Properties.{level_of}
+use Rattle.map_model.specs.Properties.{tier_of}
 use Rattle.map_model.specs.WellFormed.{IsId, AreIds, IsPlacing, IsObject, IsBody, IsLayer, IsWellFormed, ids_of_object, object_ids_in, object_ids}
 use Rattle.map_model.proofs.Changes.{Each-insert, Each-remove, length-insert, length-remove_le, slice_get-within, Each-at}
 use Rattle.map_model.proofs.Keeps.{KeepsLayers, changed-keeps, layer_of-IsLayer, object_ids-IsReplaced, with_layer-keeps, Each-IsId-suc, Each-apart}
@@ -29,7 +29,7 @@ use Rattle.map_model.proofs.Listings.{IsReplaced, insert-IsReplaced, remove-IsRe
 -- a change of an object that keeps its id and keeps it one of a layer's objects
 pub record KeepsObjects (f : Object → Object) : Type 0 where
   pub ids : (o : Object) → (f o).id ≡ o.id
-  pub objects : (level : ℕ) (o : Object) → IsObject level o → IsObject level (f o)
+  pub objects : (tier : ℕ) (o : Object) → IsObject tier o → IsObject tier (f o)
 
 pub length-change_at : {X : Type 0} (k : ℕ) (f : X → X) (xs : List X) → length (change_at k f xs) ≡ length xs
 length-change_at zero f [] = refl
@@ -70,24 +70,24 @@ group_in-objects g (Objects os) = refl
 group_in-objects g Other = refl
 group_in-objects g (Group' s r) = refl
 
-IsBody-change_at : (k : ℕ) (f : Object → Object) → KeepsObjects f → (level size : ℕ) (b : Body) → IsBody level size b
-    → IsBody level size (body_with_objects (change_at k f) b)
-IsBody-change_at k f keeps level size (Tiles e cells) h = h
-IsBody-change_at k f keeps level size (Objects os) h =
-    (rw (length-change_at k f os) h.0, Each-change_at (IsObject (object_level level)) k f os (λ o e. keeps.objects (object_level level) o) h.1)
-IsBody-change_at k f keeps level size Other h = h
-IsBody-change_at k f keeps level size (Group' s r) h = h
+IsBody-change_at : (k : ℕ) (f : Object → Object) → KeepsObjects f → (tier size : ℕ) (b : Body) → IsBody tier size b
+    → IsBody tier size (body_with_objects (change_at k f) b)
+IsBody-change_at k f keeps tier size (Tiles e cells) h = h
+IsBody-change_at k f keeps tier size (Objects os) h =
+    (rw (length-change_at k f os) h.0, Each-change_at (IsObject (object_tier tier)) k f os (λ o e. keeps.objects (object_tier tier) o) h.1)
+IsBody-change_at k f keeps tier size Other h = h
+IsBody-change_at k f keeps tier size (Group' s r) h = h
 
 layer_with_object-keeps : (k : ℕ) (f : Object → Object) → KeepsObjects f → KeepsLayers (layer_with_objects (change_at k f))
 layer_with_object-keeps k f keeps = record {
   ids = λ l. refl;
   inside = λ l. ap or_empty (group_in-objects (change_at k f) l.body);
   object_ids = λ l. object_ids-change_at k f keeps.ids l.body;
-  layers = λ level size l h. record {
+  layers = λ tier size l h. record {
     name = h.name;
     properties = h.properties;
     kept = rw (body_names-objects (change_at k f) l.body) h.kept;
-    body = IsBody-change_at k f keeps level size l.body h.body;
+    body = IsBody-change_at k f keeps tier size l.body h.body;
   };
 }
 
@@ -98,21 +98,21 @@ with_object-keeps place f m keeps h =
 pub object_with_placing-keeps : (placing : Placing) → IsPlacing placing → KeepsObjects (object_with_placing placing)
 object_with_placing-keeps placing is = record {
   ids = λ o. refl;
-  objects = λ level o h. record { placing = is; name = h.name; gid = h.gid; properties = h.properties; kept = h.kept };
+  objects = λ tier o h. record { placing = is; name = h.name; gid = h.gid; properties = h.properties; kept = h.kept };
 }
 
 -- ---- the objects of one layer
-IsLayer-objects : (g : List Object → List Object) (os : List Object) (level size : ℕ) (l : Layer) → objects_of l ≡ Some os → length (g os) ≤ MAX_OBJECTS
-    → Each (IsObject (object_level level)) (g os)
-    → IsLayer level size l → IsLayer level size (layer_with_objects g l)
-IsLayer-objects g os level size l e few each h = record {
+IsLayer-objects : (g : List Object → List Object) (os : List Object) (tier size : ℕ) (l : Layer) → objects_of l ≡ Some os → length (g os) ≤ MAX_OBJECTS
+    → Each (IsObject (object_tier tier)) (g os)
+    → IsLayer tier size l → IsLayer tier size (layer_with_objects g l)
+IsLayer-objects g os tier size l e few each h = record {
   name = h.name;
   properties = h.properties;
   kept = rw (body_names-objects g l.body) h.kept;
   body = by_body l.body e h.body;
 }
   where
-    by_body : (b : Body) → objects_in b ≡ Some os → IsBody level size b → IsBody level size (body_with_objects g b)
+    by_body : (b : Body) → objects_in b ≡ Some os → IsBody tier size b → IsBody tier size (body_with_objects g b)
     by_body (Tiles t cells) q k = k
     by_body (Objects own) q k = let is : own ≡ os = cc in rw is (few, each)
     by_body Other q k = k
@@ -126,13 +126,13 @@ found_layer os (Some l) e = (l, (refl, e))
 -- other objects in the place of those of the layer with the id
 with_objects-keeps : (layer : ℕ) (g : List Object → List Object) (os : List Object) (m : MapParts) → objects_of_layer m layer ≡ Some os
     → length (g os) ≤ MAX_OBJECTS
-    → Each (IsObject (object_level (level_of m layer))) (g os) → AreIds m.next_object_id (object_ids (with_objects layer g m).layers) → IsWellFormed m
+    → Each (IsObject (object_tier (tier_of m layer))) (g os) → AreIds m.next_object_id (object_ids (with_objects layer g m).layers) → IsWellFormed m
     → IsWellFormed (with_objects layer g m)
 with_objects-keeps layer g os m e few each ids h =
     let found = found_layer os (layer_of m layer) e in
     let l = found.0 in
     changed-keeps layer (layer_with_objects g) l m found.1.0 (ap or_empty (group_in-objects g l.body)) refl
-    (IsLayer-objects g os (level_of m layer) (m.width * m.height) l found.1.1 few each (layer_of-IsLayer m layer l found.1.0 h)) ids h
+    (IsLayer-objects g os (tier_of m layer) (m.width * m.height) l found.1.1 few each (layer_of-IsLayer m layer l found.1.0 h)) ids h
 
 -- ---- the ids of all objects
 -- for some lists before and behind it, a piece of the list xs is replaced, which gives ys
@@ -193,15 +193,15 @@ HasReplaced-objects layer g os m e r =
 -- ---- objects that come and go
 -- the objects of a layer of a well-formed map
 pub objects_of_layer-IsBody : (m : MapParts) (layer : ℕ) (os : List Object) → objects_of_layer m layer ≡ Some os → IsWellFormed m
-    → IsBody (level_of m layer) (m.width * m.height) (Objects os)
+    → IsBody (tier_of m layer) (m.width * m.height) (Objects os)
 objects_of_layer-IsBody m layer os e h =
     let found = found_layer os (layer_of m layer) e in
     by_body found.0.body found.1.1 (layer_of-IsLayer m layer found.0 found.1.0 h).body
   where
-    by_body : (b : Body) → objects_in b ≡ Some os → IsBody (level_of m layer) (m.width * m.height) b
-        → IsBody (level_of m layer) (m.width * m.height) (Objects os)
+    by_body : (b : Body) → objects_in b ≡ Some os → IsBody (tier_of m layer) (m.width * m.height) b
+        → IsBody (tier_of m layer) (m.width * m.height) (Objects os)
     by_body (Tiles t cells) q k = cc
-    by_body (Objects own) q k = let is : own ≡ os = cc in subst (λ ps. IsBody (level_of m layer) (m.width * m.height) (Objects ps)) is k
+    by_body (Objects own) q k = let is : own ≡ os = cc in subst (λ ps. IsBody (tier_of m layer) (m.width * m.height) (Objects ps)) is k
     by_body Other q k = cc
     by_body (Group' s r) q k = cc
 
@@ -221,10 +221,10 @@ listed k o None e = cc
 listed k o (Some os) e = (os, (refl, e))
 
 pub object_at-IsObject : (m : MapParts) (place : ObjectPlace) (o : Object) → object_at m place ≡ Some o → IsWellFormed m
-    → IsObject (object_level (level_of m place.layer)) o
+    → IsObject (object_tier (tier_of m place.layer)) o
 object_at-IsObject m place o e h =
     let found = listed place.at o (objects_of_layer m place.layer) e in
-    Each-at (IsObject (object_level (level_of m place.layer))) found.0 place.at o found.1.1 (objects_of_layer-IsBody m place.layer found.0 found.1.0 h).1
+    Each-at (IsObject (object_tier (tier_of m place.layer))) found.0 place.at o found.1.1 (objects_of_layer-IsBody m place.layer found.0 found.1.0 h).1
 
 -- the placing of an object is one
 pub object_at-IsPlacing : (m : MapParts) (place : ObjectPlace) (placing : Placing) → option_map object_placing (object_at m place) ≡ Some placing
@@ -250,11 +250,11 @@ object_at-within m place there = by_objects (objects_of_layer m place.layer) the
 -- an object changed at its place, where the change keeps that one alone
 pub with_object-keeps_there : (place : ObjectPlace) (f : Object → Object) (o : Object) (m : MapParts) → object_at m place ≡ Some o
     → ((p : Object) → (f p).id ≡ p.id)
-    → IsObject (object_level (level_of m place.layer)) (f o) → IsWellFormed m → IsWellFormed (with_object place f m)
+    → IsObject (object_tier (tier_of m place.layer)) (f o) → IsWellFormed m → IsWellFormed (with_object place f m)
 with_object-keeps_there place f o m e same is h =
     let found = listed place.at o (objects_of_layer m place.layer) e in
     let os = found.0 in
-    let level = object_level (level_of m place.layer) in
+    let tier = object_tier (tier_of m place.layer) in
     let old = objects_of_layer-IsBody m place.layer os found.1.0 h in
     let layer = found_layer os (layer_of m place.layer) found.1.0 in
     let l = layer.0 in
@@ -263,8 +263,8 @@ with_object-keeps_there place f o m e same is h =
     let ids : object_ids (with_object place f m).layers ≡ object_ids m.layers = r.1.1.now
     ∙ ap (λ p. r.0 ++ (p ++ r.1.0)) (object_ids-change_at place.at f same l.body) ∙ sym r.1.1.was in
     with_objects-keeps place.layer (change_at place.at f) os m found.1.0 (rw (length-change_at place.at f os) old.0)
-    (Each-change_at (IsObject level) place.at f os
-    (λ p q k. let own : o ≡ p = cc (found.1.1, q) in subst (λ z. IsObject level (f z)) own is) old.1)
+    (Each-change_at (IsObject tier) place.at f os
+    (λ p q k. let own : o ≡ p = cc (found.1.1, q) in subst (λ z. IsObject tier (f z)) own is) old.1)
     (rw ids h.layers.object_ids) h
 
 pub without_object_at-keeps : (place : ObjectPlace) (m : MapParts) → IsSome (object_at m place) → IsWellFormed m → IsWellFormed (without_object_at place m)
@@ -309,7 +309,7 @@ next_id-AreNewIds next id ids is low h =
 -- an object with the next id, put in at a place of the objects that g gives for those of the layer
 pub numbered_object-keeps : (m : MapParts) (layer : ℕ) (g : List Object → List Object) (os : List Object) (k : ℕ) (o : Object)
     → objects_of_layer m layer ≡ Some os → g os ≡ insert os k o
-    → length os < MAX_OBJECTS → m.next_object_id < MAX_NEXT_ID → IsObject (object_level (level_of m layer)) o → o.id ≡ m.next_object_id → IsWellFormed m
+    → length os < MAX_OBJECTS → m.next_object_id < MAX_NEXT_ID → IsObject (object_tier (tier_of m layer)) o → o.id ≡ m.next_object_id → IsWellFormed m
     → IsWellFormed (with_next_ids m.next_layer_id (m.next_object_id + 1) (with_objects layer g m))
 numbered_object-keeps m layer g os k o e is few below object id h =
     let raised_is = raised_object-keeps m below h in

@@ -16,7 +16,7 @@ use Rattle.map_model.specs.Lists.{Each, Distinct, first_some, or_else}
 use Rattle.map_model.specs.NewMap.{new_object}
 use Rattle.map_model.specs.Objects.{objects_in, objects_of, has_object_id, place_of_layer, place_in_layer, found_at, found_in_layer, object_place, object_at}
 use Rattle.map_model.specs.Groups.{all_drawn, bare, tree}
-use Rattle.map_model.specs.Keeping.{layer_level}
+use Rattle.map_model.specs.Keeping.{layer_tier}
 use Rattle.map_model.specs.Lookups.{layer_of}
 use Rattle.map_model.specs.Properties.{is_drawn_with}
 use Rattle.map_model.specs.WellFormed.{IsWellFormed, ids_of_object, object_ids_in, object_ids_of}
@@ -39,10 +39,10 @@ layer_of-drawn m k d e h = by_layer (layer_of m d.1.id) refl
         (position-only (λ (j : ℕ × Layer). j.1.id) (all_drawn m.layers) k d e h.layers.layer_ids.distinct) e
 
     by_layer : (o : Option Layer) → layer_of m d.1.id ≡ o → (l : Layer) × ((layer_of m d.1.id ≡ Some l) × (bare l ≡ d.1))
-    by_layer None q = let none = none_among d.1.id MAX_GROUPS layer_level m.layers q in cc (found, none)
+    by_layer None q = let none = none_among d.1.id MAX_GROUPS layer_tier m.layers q in cc (found, none)
     by_layer (Some l) q =
         let s = layer-Stands m d.1.id l q in
-        let same : (s.own_level, bare l) ≡ d = some-eq (s.own_level, bare l) d (sym s.first ∙ found) in
+        let same : (s.own_tier, bare l) ≡ d = some-eq (s.own_tier, bare l) d (sym s.first ∙ found) in
         (l, (q, ap (λ (p : ℕ × Layer). p.1) same))
 
 object_at-drawn : (m : MapParts) (k : ℕ) (d : ℕ × Layer) (os : List Object) (at : ℕ) (o : Object) → slice_get (all_drawn m.layers) k ≡ Some d
@@ -114,16 +114,16 @@ first_some-only (j ∷ ls) (suc k) l os at o e f g h =
     ∙ first_some-only ls k l os at o e f g (Distinct-rest (object_ids_of j) (flat_map object_ids_of ls) h)
 
 -- the layer with an id is drawn
-drawn-found : (m : MapParts) (l : Layer) → layer_of m l.id ≡ Some l → (j : ℕ) × ((level : ℕ) × (slice_get (all_drawn m.layers) j ≡ Some (level, bare l)))
+drawn-found : (m : MapParts) (l : Layer) → layer_of m l.id ≡ Some l → (j : ℕ) × ((tier : ℕ) × (slice_get (all_drawn m.layers) j ≡ Some (tier, bare l)))
 drawn-found m l e =
     let s = layer-Stands m l.id l e in
     let start : length s.prefix + 0 ≡ length s.prefix = omega arith in (
       length s.prefix,
       (
-        s.own_level,
-        ap (λ ds. slice_get ds (length s.prefix)) s.was ∙ ap (slice_get (s.prefix ++ (tree s.own_room s.own_level l ++ s.rest))) (sym start)
-            ∙ slice_get-behind s.prefix (tree s.own_room s.own_level l ++ s.rest) 0
-            ∙ ap (λ t. slice_get (t ++ s.rest) 0) (tree-is s.own_room s.own_level l),
+        s.own_tier,
+        ap (λ ds. slice_get ds (length s.prefix)) s.was ∙ ap (slice_get (s.prefix ++ (tree s.own_groups s.own_tier l ++ s.rest))) (sym start)
+            ∙ slice_get-behind s.prefix (tree s.own_groups s.own_tier l ++ s.rest) 0
+            ∙ ap (λ t. slice_get (t ++ s.rest) 0) (tree-is s.own_groups s.own_tier l),
       ),
     )
   where

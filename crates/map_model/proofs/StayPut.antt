@@ -80,9 +80,9 @@ module _ {X : Type 0} (q : X → Bool) where
 
 -- ---- an object that changes at its place, and keeps its id
 module _ (f : Object → Object) (same : (o : Object) → (f o).id ≡ o.id) (place : ObjectPlace) (id : ℕ) where
-  place_in_layer-change_at : (level : ℕ) (l : Layer) → place_in_layer id (level, bare (layer_with_objects (change_at place.at f) l))
-      ≡ place_in_layer id (level, bare l)
-  place_in_layer-change_at level l = by_body l.body
+  place_in_layer-change_at : (tier : ℕ) (l : Layer) → place_in_layer id (tier, bare (layer_with_objects (change_at place.at f) l))
+      ≡ place_in_layer id (tier, bare l)
+  place_in_layer-change_at tier l = by_body l.body
     where
       by_body : (b : Body) → option_map (place_of_layer l) (option_and_then (position (has_object_id id))
           (objects_in (body_with_layers (λ ls. []) (body_with_objects (change_at place.at f) b))))
@@ -120,7 +120,7 @@ owner_place-with_properties (owners.Layer id) (places.Object place) f m =
     (λ l. ap or_empty (group_in-objects (change_at place.at (object_with_properties f)) l.body)) (λ l. refl) m (places.Layer id) id
 owner_place-with_properties (owners.Object id) places.Map f m = refl
 owner_place-with_properties (owners.Object id) (places.Layer own) f m =
-    ap (option_map places.Object) (first_some-with_layer own (layer_with_properties f) (place_in_layer id) (λ l. refl) (λ level l. refl) m)
+    ap (option_map places.Object) (first_some-with_layer own (layer_with_properties f) (place_in_layer id) (λ l. refl) (λ tier l. refl) m)
 owner_place-with_properties (owners.Object id) (places.Object place) f m =
     ap (option_map places.Object) (object_place-with_object (object_with_properties f) (λ o. refl) place id m)
 

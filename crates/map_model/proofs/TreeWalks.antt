@@ -4,100 +4,100 @@ use Rattle.std.specs.List.{list_any}
 use Rattle.std.proofs.lemmas.List.Folds.{list_any-append}
 use Rattle.map_model.specs.declared.parts.Layer.{Layer}
 use Rattle.map_model.specs.Groups.{bare, drawn, group_of, inside, tree}
-use Rattle.map_model.specs.Keeping.{inner_level, layer_level}
+use Rattle.map_model.specs.Keeping.{inner_tier, layer_tier}
 use Rattle.map_model.specs.Lists.{first_some, or_else, or_empty}
 use Rattle.map_model.proofs.Lookups.{first_some-append}
 use Rattle.map_model.proofs.Trees.{below, tree-is}
 
 -- ---- the first layer for which there is something
 module _ {Y : Type 0} (h : ℕ × Layer → Option Y) (same : (a b : ℕ) (l : Layer) → h (a, bare l) ≡ h (b, l)) where
-  levels_list : (room : ℕ) → ((a b : ℕ) (l : Layer) → first_some h (tree room a l) ≡ first_some h (tree room b l)) → (a b : ℕ) (ls : List Layer)
-      → first_some h (drawn room a ls) ≡ first_some h (drawn room b ls)
-  levels_list room each a b [] = refl
-  levels_list room each a b (l ∷ ls) =
-      first_some-append h (tree room a l) (drawn room a ls) ∙ (λ i. or_else (each a b l i) (levels_list room each a b ls i))
-      ∙ sym (first_some-append h (tree room b l) (drawn room b ls))
+  tiers_list : (groups : ℕ) → ((a b : ℕ) (l : Layer) → first_some h (tree groups a l) ≡ first_some h (tree groups b l)) → (a b : ℕ) (ls : List Layer)
+      → first_some h (drawn groups a ls) ≡ first_some h (drawn groups b ls)
+  tiers_list groups each a b [] = refl
+  tiers_list groups each a b (l ∷ ls) =
+      first_some-append h (tree groups a l) (drawn groups a ls) ∙ (λ i. or_else (each a b l i) (tiers_list groups each a b ls i))
+      ∙ sym (first_some-append h (tree groups b l) (drawn groups b ls))
 
-  levels_one : (room a b : ℕ) (l : Layer) → first_some h (tree room a l) ≡ first_some h (tree room b l)
-  levels_one zero a b l = ap (first_some h) (tree-is zero a l) ∙ ap (λ o. or_else o None) (same a b l ∙ sym (same b b l))
+  tiers_one : (groups a b : ℕ) (l : Layer) → first_some h (tree groups a l) ≡ first_some h (tree groups b l)
+  tiers_one zero a b l = ap (first_some h) (tree-is zero a l) ∙ ap (λ o. or_else o None) (same a b l ∙ sym (same b b l))
       ∙ sym (ap (first_some h) (tree-is zero b l))
-  levels_one (suc room) a b l =
-      ap (first_some h) (tree-is (suc room) a l)
-      ∙ (λ i. or_else ((same a b l ∙ sym (same b b l)) i) (levels_list room (levels_one room) (inner_level a) (inner_level b) (inside l) i))
-      ∙ sym (ap (first_some h) (tree-is (suc room) b l))
+  tiers_one (suc groups) a b l =
+      ap (first_some h) (tree-is (suc groups) a l)
+      ∙ (λ i. or_else ((same a b l ∙ sym (same b b l)) i) (tiers_list groups (tiers_one groups) (inner_tier a) (inner_tier b) (inside l) i))
+      ∙ sym (ap (first_some h) (tree-is (suc groups) b l))
 
-  module _ (room level : ℕ) (l : Layer) where
-    pub first-own : (y : Y) → h (level, l) ≡ Some y → Some y ≡ first_some h (tree room level l)
-    first-own y e = sym (ap (first_some h) (tree-is room level l) ∙ ap (λ o. or_else o (first_some h (below room level l))) (same level level l ∙ e))
+  module _ (groups tier : ℕ) (l : Layer) where
+    pub first-own : (y : Y) → h (tier, l) ≡ Some y → Some y ≡ first_some h (tree groups tier l)
+    first-own y e = sym (ap (first_some h) (tree-is groups tier l) ∙ ap (λ o. or_else o (first_some h (below groups tier l))) (same tier tier l ∙ e))
 
-    pub first-no_room : h (level, l) ≡ None → room ≡ 0 → None ≡ first_some h (tree room level l)
-    first-no_room e z = sym (by_room room z)
+    pub first-no_groups : h (tier, l) ≡ None → groups ≡ 0 → None ≡ first_some h (tree groups tier l)
+    first-no_groups e z = sym (by_groups groups z)
       where
-        by_room : (n : ℕ) → n ≡ 0 → first_some h (tree n level l) ≡ None
-        by_room zero q = ap (first_some h) (tree-is zero level l) ∙ ap (λ o. or_else o None) (same level level l ∙ e)
-        by_room (suc n) q = absurd (omega (arith, q))
+        by_groups : (n : ℕ) → n ≡ 0 → first_some h (tree n tier l) ≡ None
+        by_groups zero q = ap (first_some h) (tree-is zero tier l) ∙ ap (λ o. or_else o None) (same tier tier l ∙ e)
+        by_groups (suc n) q = absurd (omega (arith, q))
 
-    pub first-no_group : h (level, l) ≡ None → group_of l ≡ None → None ≡ first_some h (tree room level l)
-    first-no_group e g = sym (by_room room)
+    pub first-no_group : h (tier, l) ≡ None → group_of l ≡ None → None ≡ first_some h (tree groups tier l)
+    first-no_group e g = sym (by_groups groups)
       where
-        by_room : (n : ℕ) → first_some h (tree n level l) ≡ None
-        by_room zero = ap (first_some h) (tree-is zero level l) ∙ ap (λ o. or_else o None) (same level level l ∙ e)
-        by_room (suc n) =
-            ap (first_some h) (tree-is (suc n) level l) ∙ ap (λ o. or_else o (first_some h (drawn n (inner_level level) (inside l)))) (same level level l ∙ e)
-            ∙ ap (λ o. first_some h (drawn n (inner_level level) (or_empty o))) g
+        by_groups : (n : ℕ) → first_some h (tree n tier l) ≡ None
+        by_groups zero = ap (first_some h) (tree-is zero tier l) ∙ ap (λ o. or_else o None) (same tier tier l ∙ e)
+        by_groups (suc n) =
+            ap (first_some h) (tree-is (suc n) tier l) ∙ ap (λ o. or_else o (first_some h (drawn n (inner_tier tier) (inside l)))) (same tier tier l ∙ e)
+            ∙ ap (λ o. first_some h (drawn n (inner_tier tier) (or_empty o))) g
 
-  pub first-group : (room : ℕ) (l : Layer) (ks : List Layer) → h (layer_level, l) ≡ None → room ≢ 0 → group_of l ≡ Some ks
-      → first_some h (drawn (room - 1) layer_level ks) ≡ first_some h (tree room layer_level l)
+  pub first-group : (groups : ℕ) (l : Layer) (ks : List Layer) → h (layer_tier, l) ≡ None → groups ≢ 0 → group_of l ≡ Some ks
+      → first_some h (drawn (groups - 1) layer_tier ks) ≡ first_some h (tree groups layer_tier l)
   first-group zero l ks e z g = absurd (z refl)
-  first-group (suc room) l ks e z g =
-      let n : suc room - 1 ≡ room = omega arith in
-      ap (λ k. first_some h (drawn k layer_level ks)) n ∙ levels_list room (levels_one room) layer_level (inner_level layer_level) ks
-      ∙ sym (ap (first_some h) (tree-is (suc room) layer_level l)
-      ∙ ap (λ o. or_else o (first_some h (drawn room (inner_level layer_level) (inside l)))) (same layer_level layer_level l ∙ e)
-      ∙ ap (λ o. first_some h (drawn room (inner_level layer_level) (or_empty o))) g)
+  first-group (suc groups) l ks e z g =
+      let n : suc groups - 1 ≡ groups = omega arith in
+      ap (λ k. first_some h (drawn k layer_tier ks)) n ∙ tiers_list groups (tiers_one groups) layer_tier (inner_tier layer_tier) ks
+      ∙ sym (ap (first_some h) (tree-is (suc groups) layer_tier l)
+      ∙ ap (λ o. or_else o (first_some h (drawn groups (inner_tier layer_tier) (inside l)))) (same layer_tier layer_tier l ∙ e)
+      ∙ ap (λ o. first_some h (drawn groups (inner_tier layer_tier) (or_empty o))) g)
 
 -- ---- whether a layer passes
 module _ (p : ℕ × Layer → Bool) (same : (a b : ℕ) (l : Layer) → p (a, bare l) ≡ p (b, l)) where
-  any_list : (room : ℕ) → ((a b : ℕ) (l : Layer) → list_any p (tree room a l) ≡ list_any p (tree room b l)) → (a b : ℕ) (ls : List Layer)
-      → list_any p (drawn room a ls) ≡ list_any p (drawn room b ls)
-  any_list room each a b [] = refl
-  any_list room each a b (l ∷ ls) =
-      list_any-append p (tree room a l) (drawn room a ls) ∙ (λ i. each a b l i || any_list room each a b ls i)
-      ∙ sym (list_any-append p (tree room b l) (drawn room b ls))
+  any_list : (groups : ℕ) → ((a b : ℕ) (l : Layer) → list_any p (tree groups a l) ≡ list_any p (tree groups b l)) → (a b : ℕ) (ls : List Layer)
+      → list_any p (drawn groups a ls) ≡ list_any p (drawn groups b ls)
+  any_list groups each a b [] = refl
+  any_list groups each a b (l ∷ ls) =
+      list_any-append p (tree groups a l) (drawn groups a ls) ∙ (λ i. each a b l i || any_list groups each a b ls i)
+      ∙ sym (list_any-append p (tree groups b l) (drawn groups b ls))
 
-  any_one : (room a b : ℕ) (l : Layer) → list_any p (tree room a l) ≡ list_any p (tree room b l)
+  any_one : (groups a b : ℕ) (l : Layer) → list_any p (tree groups a l) ≡ list_any p (tree groups b l)
   any_one zero a b l = ap (list_any p) (tree-is zero a l) ∙ ap (λ o. o || false) (same a b l ∙ sym (same b b l)) ∙ sym (ap (list_any p) (tree-is zero b l))
-  any_one (suc room) a b l =
-      ap (list_any p) (tree-is (suc room) a l)
-      ∙ (λ i. (same a b l ∙ sym (same b b l)) i || any_list room (any_one room) (inner_level a) (inner_level b) (inside l) i)
-      ∙ sym (ap (list_any p) (tree-is (suc room) b l))
+  any_one (suc groups) a b l =
+      ap (list_any p) (tree-is (suc groups) a l)
+      ∙ (λ i. (same a b l ∙ sym (same b b l)) i || any_list groups (any_one groups) (inner_tier a) (inner_tier b) (inside l) i)
+      ∙ sym (ap (list_any p) (tree-is (suc groups) b l))
 
-  module _ (room level : ℕ) (l : Layer) where
-    pub any-own : p (level, l) ≡ true → true ≡ list_any p (tree room level l)
-    any-own e = sym (ap (list_any p) (tree-is room level l) ∙ ap (λ o. o || list_any p (below room level l)) (same level level l ∙ e))
+  module _ (groups tier : ℕ) (l : Layer) where
+    pub any-own : p (tier, l) ≡ true → true ≡ list_any p (tree groups tier l)
+    any-own e = sym (ap (list_any p) (tree-is groups tier l) ∙ ap (λ o. o || list_any p (below groups tier l)) (same tier tier l ∙ e))
 
-    pub any-no_room : p (level, l) ≡ false → room ≡ 0 → false ≡ list_any p (tree room level l)
-    any-no_room e z = sym (by_room room z)
+    pub any-no_groups : p (tier, l) ≡ false → groups ≡ 0 → false ≡ list_any p (tree groups tier l)
+    any-no_groups e z = sym (by_groups groups z)
       where
-        by_room : (n : ℕ) → n ≡ 0 → list_any p (tree n level l) ≡ false
-        by_room zero q = ap (list_any p) (tree-is zero level l) ∙ ap (λ o. o || false) (same level level l ∙ e)
-        by_room (suc n) q = absurd (omega (arith, q))
+        by_groups : (n : ℕ) → n ≡ 0 → list_any p (tree n tier l) ≡ false
+        by_groups zero q = ap (list_any p) (tree-is zero tier l) ∙ ap (λ o. o || false) (same tier tier l ∙ e)
+        by_groups (suc n) q = absurd (omega (arith, q))
 
-    pub any-no_group : p (level, l) ≡ false → group_of l ≡ None → false ≡ list_any p (tree room level l)
-    any-no_group e g = sym (by_room room)
+    pub any-no_group : p (tier, l) ≡ false → group_of l ≡ None → false ≡ list_any p (tree groups tier l)
+    any-no_group e g = sym (by_groups groups)
       where
-        by_room : (n : ℕ) → list_any p (tree n level l) ≡ false
-        by_room zero = ap (list_any p) (tree-is zero level l) ∙ ap (λ o. o || false) (same level level l ∙ e)
-        by_room (suc n) =
-            ap (list_any p) (tree-is (suc n) level l) ∙ ap (λ o. o || list_any p (drawn n (inner_level level) (inside l))) (same level level l ∙ e)
-            ∙ ap (λ o. list_any p (drawn n (inner_level level) (or_empty o))) g
+        by_groups : (n : ℕ) → list_any p (tree n tier l) ≡ false
+        by_groups zero = ap (list_any p) (tree-is zero tier l) ∙ ap (λ o. o || false) (same tier tier l ∙ e)
+        by_groups (suc n) =
+            ap (list_any p) (tree-is (suc n) tier l) ∙ ap (λ o. o || list_any p (drawn n (inner_tier tier) (inside l))) (same tier tier l ∙ e)
+            ∙ ap (λ o. list_any p (drawn n (inner_tier tier) (or_empty o))) g
 
-  pub any-group : (room : ℕ) (l : Layer) (ks : List Layer) → p (layer_level, l) ≡ false → room ≢ 0 → group_of l ≡ Some ks
-      → list_any p (drawn (room - 1) layer_level ks) ≡ list_any p (tree room layer_level l)
+  pub any-group : (groups : ℕ) (l : Layer) (ks : List Layer) → p (layer_tier, l) ≡ false → groups ≢ 0 → group_of l ≡ Some ks
+      → list_any p (drawn (groups - 1) layer_tier ks) ≡ list_any p (tree groups layer_tier l)
   any-group zero l ks e z g = absurd (z refl)
-  any-group (suc room) l ks e z g =
-      let n : suc room - 1 ≡ room = omega arith in
-      ap (λ k. list_any p (drawn k layer_level ks)) n ∙ any_list room (any_one room) layer_level (inner_level layer_level) ks
-      ∙ sym (ap (list_any p) (tree-is (suc room) layer_level l)
-      ∙ ap (λ o. o || list_any p (drawn room (inner_level layer_level) (inside l))) (same layer_level layer_level l ∙ e)
-      ∙ ap (λ o. list_any p (drawn room (inner_level layer_level) (or_empty o))) g)
+  any-group (suc groups) l ks e z g =
+      let n : suc groups - 1 ≡ groups = omega arith in
+      ap (λ k. list_any p (drawn k layer_tier ks)) n ∙ any_list groups (any_one groups) layer_tier (inner_tier layer_tier) ks
+      ∙ sym (ap (list_any p) (tree-is (suc groups) layer_tier l)
+      ∙ ap (λ o. o || list_any p (drawn groups (inner_tier layer_tier) (inside l))) (same layer_tier layer_tier l ∙ e)
+      ∙ ap (λ o. list_any p (drawn groups (inner_tier layer_tier) (or_empty o))) g)

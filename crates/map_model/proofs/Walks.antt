@@ -7,18 +7,18 @@ use Rattle.std.proofs.lemmas.Bool.Decides.{nat_tests}
 use Rattle.map_model.specs.declared.parts.Body.{Body}
 use Rattle.map_model.specs.declared.parts.Layer.{Layer}
 use Rattle.map_model.specs.Groups.{body_with_layers, change_among, change_one, find_one, group_of, has_id, holds, layer_among, drawn, tree}
-use Rattle.map_model.specs.Keeping.{inner_level, layer_level}
+use Rattle.map_model.specs.Keeping.{inner_tier, layer_tier}
 use Rattle.map_model.specs.Layers.{place_among, place_inside, place_under}
 use Rattle.map_model.specs.Lists.{first_some, or_else, or_empty}
 use Rattle.map_model.proofs.Trees.{changed_below, change_one-is, found_below, find_one-is, length-drawn, tree-is}
 use Rattle.map_model.proofs.Changes.{find-at_position, set-at_position}
 
 -- ---- the layer with an id
-pub find_one-own : (id room : ℕ) (l : Layer) → l.id ≡ id → Some l ≡ find_one id room l
-find_one-own id room l e = let own : has_id id l ≡ true = grind (arith, nat_tests, e) in sym (find_one-is id room l ∙ rw own refl)
+pub find_one-own : (id groups : ℕ) (l : Layer) → l.id ≡ id → Some l ≡ find_one id groups l
+find_one-own id groups l e = let own : has_id id l ≡ true = grind (arith, nat_tests, e) in sym (find_one-is id groups l ∙ rw own refl)
 
-find_one-other : (id room : ℕ) (l : Layer) → l.id ≢ id → found_below id room l ≡ find_one id room l
-find_one-other id room l e = let other : has_id id l ≡ false = grind (arith, nat_tests, e) in sym (find_one-is id room l ∙ rw other refl)
+find_one-other : (id groups : ℕ) (l : Layer) → l.id ≢ id → found_below id groups l ≡ find_one id groups l
+find_one-other id groups l e = let other : has_id id l ≡ false = grind (arith, nat_tests, e) in sym (find_one-is id groups l ∙ rw other refl)
 
 -- where a look-up gives something, there is a place at which it does
 position_from-first_some : {X Y : Type 0} (f : X → Option Y) (xs : List X) (i : ℕ)
@@ -35,92 +35,93 @@ pub position-first_some : {X Y : Type 0} (f : X → Option Y) (xs : List X) → 
 position-first_some f xs = ap is_some (position_from-zero (λ x. is_some (f x)) xs) ∙ position_from-first_some f xs 0
 
 module _ (id : ℕ) where
-  below-no_room : (room : ℕ) (l : Layer) → room ≡ 0 → None ≡ found_below id room l
-  below-no_room zero l e = refl
-  below-no_room (suc room) l e = absurd (omega (arith, e))
+  below-no_groups : (groups : ℕ) (l : Layer) → groups ≡ 0 → None ≡ found_below id groups l
+  below-no_groups zero l e = refl
+  below-no_groups (suc groups) l e = absurd (omega (arith, e))
 
-  below-no_group : (room : ℕ) (l : Layer) → group_of l ≡ None → None ≡ found_below id room l
+  below-no_group : (groups : ℕ) (l : Layer) → group_of l ≡ None → None ≡ found_below id groups l
   below-no_group zero l e = refl
-  below-no_group (suc room) l e = ap (λ o. layer_among id room (or_empty o)) (sym e)
+  below-no_group (suc groups) l e = ap (λ o. layer_among id groups (or_empty o)) (sym e)
 
-  below-group : (room : ℕ) (l : Layer) (ks : List Layer) → room ≢ 0 → group_of l ≡ Some ks → layer_among id (room - 1) ks ≡ found_below id room l
+  below-group : (groups : ℕ) (l : Layer) (ks : List Layer) → groups ≢ 0 → group_of l ≡ Some ks → layer_among id (groups - 1) ks ≡ found_below id groups l
   below-group zero l ks e g = absurd (e refl)
-  below-group (suc room) l ks e g =
-      let same : suc room - 1 ≡ room = omega arith in
-      ap (λ n. layer_among id n ks) same ∙ ap (λ o. layer_among id room (or_empty o)) (sym g)
+  below-group (suc groups) l ks e g =
+      let same : suc groups - 1 ≡ groups = omega arith in
+      ap (λ n. layer_among id n ks) same ∙ ap (λ o. layer_among id groups (or_empty o)) (sym g)
 
-  pub find_one-no_room : (room : ℕ) (l : Layer) → l.id ≢ id → room ≡ 0 → None ≡ find_one id room l
-  find_one-no_room room l e z = below-no_room room l z ∙ find_one-other id room l e
+  pub find_one-no_groups : (groups : ℕ) (l : Layer) → l.id ≢ id → groups ≡ 0 → None ≡ find_one id groups l
+  find_one-no_groups groups l e z = below-no_groups groups l z ∙ find_one-other id groups l e
 
-  pub find_one-no_group : (room : ℕ) (l : Layer) → l.id ≢ id → group_of l ≡ None → None ≡ find_one id room l
-  find_one-no_group room l e g = below-no_group room l g ∙ find_one-other id room l e
+  pub find_one-no_group : (groups : ℕ) (l : Layer) → l.id ≢ id → group_of l ≡ None → None ≡ find_one id groups l
+  find_one-no_group groups l e g = below-no_group groups l g ∙ find_one-other id groups l e
 
-  pub find_one-group : (room : ℕ) (l : Layer) (ks : List Layer) → l.id ≢ id → room ≢ 0 → group_of l ≡ Some ks
-      → layer_among id (room - 1) ks ≡ find_one id room l
-  find_one-group room l ks e z g = below-group room l ks z g ∙ find_one-other id room l e
+  pub find_one-group : (groups : ℕ) (l : Layer) (ks : List Layer) → l.id ≢ id → groups ≢ 0 → group_of l ≡ Some ks
+      → layer_among id (groups - 1) ks ≡ find_one id groups l
+  find_one-group groups l ks e z g = below-group groups l ks z g ∙ find_one-other id groups l e
 
   -- ---- whether a layer has the id, or one that stands in it
-  pub holds-own : (room : ℕ) (l : Layer) → l.id ≡ id → true ≡ holds id room l
-  holds-own room l e = ap is_some (find_one-own id room l e)
+  pub holds-own : (groups : ℕ) (l : Layer) → l.id ≡ id → true ≡ holds id groups l
+  holds-own groups l e = ap is_some (find_one-own id groups l e)
 
-  pub holds-no_room : (room : ℕ) (l : Layer) → l.id ≢ id → room ≡ 0 → false ≡ holds id room l
-  holds-no_room room l e z = ap is_some (find_one-no_room room l e z)
+  pub holds-no_groups : (groups : ℕ) (l : Layer) → l.id ≢ id → groups ≡ 0 → false ≡ holds id groups l
+  holds-no_groups groups l e z = ap is_some (find_one-no_groups groups l e z)
 
-  pub holds-no_group : (room : ℕ) (l : Layer) → l.id ≢ id → group_of l ≡ None → false ≡ holds id room l
-  holds-no_group room l e g = ap is_some (find_one-no_group room l e g)
+  pub holds-no_group : (groups : ℕ) (l : Layer) → l.id ≢ id → group_of l ≡ None → false ≡ holds id groups l
+  holds-no_group groups l e g = ap is_some (find_one-no_group groups l e g)
 
-  pub holds-group : (room : ℕ) (l : Layer) (ks : List Layer) → l.id ≢ id → room ≢ 0 → group_of l ≡ Some ks
-      → is_some (position (holds id (room - 1)) ks) ≡ holds id room l
-  holds-group room l ks e z g = position-first_some (find_one id (room - 1)) ks ∙ ap is_some (find_one-group room l ks e z g)
+  pub holds-group : (groups : ℕ) (l : Layer) (ks : List Layer) → l.id ≢ id → groups ≢ 0 → group_of l ≡ Some ks
+      → is_some (position (holds id (groups - 1)) ks) ≡ holds id groups l
+  holds-group groups l ks e z g = position-first_some (find_one id (groups - 1)) ks ∙ ap is_some (find_one-group groups l ks e z g)
 
 -- ---- the place of a layer
 -- no layer stands in an empty list
-pub place_among-none : (id room : ℕ) (parent : Option ℕ) → place_among id room parent [] ≡ None
+pub place_among-none : (id groups : ℕ) (parent : Option ℕ) → place_among id groups parent [] ≡ None
 unfolding place_among
 place_among-none id zero parent = refl
-place_among-none id (suc room) parent = refl
+place_among-none id (suc groups) parent = refl
 
-pub place_inside-no_group : (id room : ℕ) (l : Layer) → group_of l ≡ None → place_inside id room l ≡ None
-place_inside-no_group id room l g = ap (λ o. place_among id room (Some l.id) (or_empty o)) g ∙ place_among-none id room (Some l.id)
+pub place_inside-no_group : (id groups : ℕ) (l : Layer) → group_of l ≡ None → place_inside id groups l ≡ None
+place_inside-no_group id groups l g = ap (λ o. place_among id groups (Some l.id) (or_empty o)) g ∙ place_among-none id groups (Some l.id)
 
-pub place_inside-group : (id room : ℕ) (l : Layer) (ks : List Layer) → group_of l ≡ Some ks → place_among id room (Some l.id) ks ≡ place_inside id room l
-place_inside-group id room l ks g = ap (λ o. place_among id room (Some l.id) (or_empty o)) (sym g)
+pub place_inside-group : (id groups : ℕ) (l : Layer) (ks : List Layer) → group_of l ≡ Some ks → place_among id groups (Some l.id) ks ≡ place_inside id groups l
+place_inside-group id groups l ks g = ap (λ o. place_among id groups (Some l.id) (or_empty o)) (sym g)
 
-pub place_among-own : (id room : ℕ) (parent : Option ℕ) (ls : List Layer) (at : ℕ) → position (has_id id) ls ≡ Some at
-    → Some (place_under parent at) ≡ place_among id room parent ls
+pub place_among-own : (id groups : ℕ) (parent : Option ℕ) (ls : List Layer) (at : ℕ) → position (has_id id) ls ≡ Some at
+    → Some (place_under parent at) ≡ place_among id groups parent ls
 unfolding place_among
 place_among-own id zero parent ls at e = ap (option_map (place_under parent)) (sym e)
-place_among-own id (suc room) parent ls at e = ap (λ o. or_else (option_map (place_under parent) o) (first_some (place_inside id room) ls)) (sym e)
+place_among-own id (suc groups) parent ls at e = ap (λ o. or_else (option_map (place_under parent) o) (first_some (place_inside id groups) ls)) (sym e)
 
-pub place_among-within : (id room : ℕ) (parent : Option ℕ) (ls : List Layer) → room ≢ 0 → position (has_id id) ls ≡ None
-    → first_some (place_inside id (room - 1)) ls ≡ place_among id room parent ls
+pub place_among-within : (id groups : ℕ) (parent : Option ℕ) (ls : List Layer) → groups ≢ 0 → position (has_id id) ls ≡ None
+    → first_some (place_inside id (groups - 1)) ls ≡ place_among id groups parent ls
 unfolding place_among
 place_among-within id zero parent ls z e = absurd (z refl)
-place_among-within id (suc room) parent ls z e =
-    let same : suc room - 1 ≡ room = omega arith in
-    ap (λ n. first_some (place_inside id n) ls) same ∙ ap (λ o. or_else (option_map (place_under parent) o) (first_some (place_inside id room) ls)) (sym e)
+place_among-within id (suc groups) parent ls z e =
+    let same : suc groups - 1 ≡ groups = omega arith in
+    ap (λ n. first_some (place_inside id n) ls) same ∙ ap (λ o. or_else (option_map (place_under parent) o) (first_some (place_inside id groups) ls)) (sym e)
 
-pub place_among-no_room : (id room : ℕ) (parent : Option ℕ) (ls : List Layer) → room ≡ 0 → position (has_id id) ls ≡ None → None ≡ place_among id room parent ls
+pub place_among-no_groups : (id groups : ℕ) (parent : Option ℕ) (ls : List Layer) → groups ≡ 0 → position (has_id id) ls ≡ None
+    → None ≡ place_among id groups parent ls
 unfolding place_among
-place_among-no_room id zero parent ls z e = ap (option_map (place_under parent)) (sym e)
-place_among-no_room id (suc room) parent ls z e = absurd (omega (arith, z))
+place_among-no_groups id zero parent ls z e = ap (option_map (place_under parent)) (sym e)
+place_among-no_groups id (suc groups) parent ls z e = absurd (omega (arith, z))
 
 -- ---- how many layers stand in one
-pub count-no_room : (room level : ℕ) (l : Layer) → room ≡ 0 → 1 ≡ length (tree room level l)
-count-no_room zero level l z = sym (ap length (tree-is zero level l))
-count-no_room (suc room) level l z = absurd (omega (arith, z))
+pub count-no_groups : (groups tier : ℕ) (l : Layer) → groups ≡ 0 → 1 ≡ length (tree groups tier l)
+count-no_groups zero tier l z = sym (ap length (tree-is zero tier l))
+count-no_groups (suc groups) tier l z = absurd (omega (arith, z))
 
-pub count-no_group : (room level : ℕ) (l : Layer) → group_of l ≡ None → 1 ≡ length (tree room level l)
-count-no_group zero level l g = sym (ap length (tree-is zero level l))
-count-no_group (suc room) level l g = sym (ap length (tree-is (suc room) level l) ∙ ap (λ o. suc (length (drawn room (inner_level level) (or_empty o)))) g)
+pub count-no_group : (groups tier : ℕ) (l : Layer) → group_of l ≡ None → 1 ≡ length (tree groups tier l)
+count-no_group zero tier l g = sym (ap length (tree-is zero tier l))
+count-no_group (suc groups) tier l g = sym (ap length (tree-is (suc groups) tier l) ∙ ap (λ o. suc (length (drawn groups (inner_tier tier) (or_empty o)))) g)
 
-pub count-group : (room : ℕ) (l : Layer) (ks : List Layer) → room ≢ 0 → group_of l ≡ Some ks
-    → suc (length (drawn (room - 1) layer_level ks)) ≡ length (tree room layer_level l)
+pub count-group : (groups : ℕ) (l : Layer) (ks : List Layer) → groups ≢ 0 → group_of l ≡ Some ks
+    → suc (length (drawn (groups - 1) layer_tier ks)) ≡ length (tree groups layer_tier l)
 count-group zero l ks z g = absurd (z refl)
-count-group (suc room) l ks z g =
-    let same : suc room - 1 ≡ room = omega arith in
-    ap (λ n. suc (length (drawn n layer_level ks))) same ∙ ap suc (length-drawn room layer_level (inner_level layer_level) ks)
-    ∙ sym (ap length (tree-is (suc room) layer_level l) ∙ ap (λ o. suc (length (drawn room (inner_level layer_level) (or_empty o)))) g)
+count-group (suc groups) l ks z g =
+    let same : suc groups - 1 ≡ groups = omega arith in
+    ap (λ n. suc (length (drawn n layer_tier ks))) same ∙ ap suc (length-drawn groups layer_tier (inner_tier layer_tier) ks)
+    ∙ sym (ap length (tree-is (suc groups) layer_tier l) ∙ ap (λ o. suc (length (drawn groups (inner_tier layer_tier) (or_empty o)))) g)
 
 -- ---- a change where the layer stands
 -- what a look-up gives of the first element for which it gives something
@@ -138,63 +139,64 @@ first_some-at {X = X} {Y = Y} f xs at x e g = by_find xs (find-at_position (λ y
         by_own None q k later = later k
         by_own (Some y) q k later = let is : z ≡ x = cc in (sym q ∙ ap f is, ap is_some (sym (ap f is) ∙ q))
 
-module _ (id room : ℕ) (ls : List Layer) (at : ℕ) (l : Layer) (place : position (holds id room) ls ≡ Some at) (there : slice_get ls at ≡ Some l) where
+module _ (id groups : ℕ) (ls : List Layer) (at : ℕ) (l : Layer) (place : position (holds id groups) ls ≡ Some at) (there : slice_get ls at ≡ Some l) where
   -- the layer that stands there has the id
   module _ (own : l.id ≡ id) where
-    pub own-found : layer_among id room ls ≡ Some l
-    own-found = (first_some-at (find_one id room) ls at l place there).0 ∙ sym (find_one-own id room l own)
+    pub own-found : layer_among id groups ls ≡ Some l
+    own-found = (first_some-at (find_one id groups) ls at l place there).0 ∙ sym (find_one-own id groups l own)
 
-    pub own-changed : (new : Layer) → slice_set ls at new ≡ change_among id room (λ k. new) ls
+    pub own-changed : (new : Layer) → slice_set ls at new ≡ change_among id groups (λ k. new) ls
     own-changed new =
         let has : has_id id l ≡ true = grind (arith, nat_tests, own) in
-        ap (slice_set ls at) (sym (change_one-is id room (λ k. new) l ∙ rw has refl))
-        ∙ set-at_position (holds id room) (change_one id room (λ k. new)) ls at l place there
+        ap (slice_set ls at) (sym (change_one-is id groups (λ k. new) l ∙ rw has refl))
+        ∙ set-at_position (holds id groups) (change_one id groups (λ k. new)) ls at l place there
 
   -- or one that stands in it
   module _ (other : l.id ≢ id) where
-    other-below : (found_below id room l ≡ layer_among id room ls) × (is_some (found_below id room l) ≡ true)
+    other-below : (found_below id groups l ≡ layer_among id groups ls) × (is_some (found_below id groups l) ≡ true)
     other-below =
-        let first = first_some-at (find_one id room) ls at l place there in
-        let below = find_one-other id room l other in
+        let first = first_some-at (find_one id groups) ls at l place there in
+        let below = find_one-other id groups l other in
         (below ∙ sym first.0, ap is_some below ∙ first.1)
 
-    pub other-room : 1 ≤ room
-    other-room = by_room room (other-below.1)
+    pub other-groups : 1 ≤ groups
+    other-groups = by_groups groups (other-below.1)
       where
-        by_room : (n : ℕ) → is_some (found_below id n l) ≡ true → 1 ≤ n
-        by_room zero q = cc
-        by_room (suc n) q = omega arith
+        by_groups : (n : ℕ) → is_some (found_below id n l) ≡ true → 1 ≤ n
+        by_groups zero q = cc
+        by_groups (suc n) q = omega arith
 
-    pub other-found : option_and_then (layer_among id (room - 1)) (group_of l) ≡ layer_among id room ls
-    other-found = by_room room other-room other-below.0
+    pub other-found : option_and_then (layer_among id (groups - 1)) (group_of l) ≡ layer_among id groups ls
+    other-found = by_groups groups other-groups other-below.0
       where
         by_group : (n : ℕ) (o : Option (List Layer)) → option_and_then (layer_among id n) o ≡ layer_among id n (or_empty o)
         by_group n None = refl
         by_group n (Some ks) = refl
 
-        by_room : (n : ℕ) → 1 ≤ n → found_below id n l ≡ layer_among id room ls → option_and_then (layer_among id (n - 1)) (group_of l) ≡ layer_among id room ls
-        by_room zero low q = absurd (omega (arith, low))
-        by_room (suc n) low q = let same : suc n - 1 ≡ n = omega arith in ap (λ k. option_and_then (layer_among id k) (group_of l)) same
+        by_groups : (n : ℕ) → 1 ≤ n → found_below id n l ≡ layer_among id groups ls
+            → option_and_then (layer_among id (n - 1)) (group_of l) ≡ layer_among id groups ls
+        by_groups zero low q = absurd (omega (arith, low))
+        by_groups (suc n) low q = let same : suc n - 1 ≡ n = omega arith in ap (λ k. option_and_then (layer_among id k) (group_of l)) same
             ∙ by_group n (group_of l) ∙ q
 
-    pub other-changed : (new : Body) (left : Layer) → new ≡ body_with_layers (change_among id (room - 1) (λ k. left)) l.body
-        → slice_set ls at (record l { body = new }) ≡ change_among id room (λ k. left) ls
+    pub other-changed : (new : Body) (left : Layer) → new ≡ body_with_layers (change_among id (groups - 1) (λ k. left)) l.body
+        → slice_set ls at (record l { body = new }) ≡ change_among id groups (λ k. left) ls
     other-changed new left is =
         let passed : has_id id l ≡ false = grind (arith, nat_tests, other) in
-        ap (slice_set ls at) (by_room room other-room is ∙ sym (change_one-is id room (λ k. left) l ∙ rw passed refl))
-        ∙ set-at_position (holds id room) (change_one id room (λ k. left)) ls at l place there
+        ap (slice_set ls at) (by_groups groups other-groups is ∙ sym (change_one-is id groups (λ k. left) l ∙ rw passed refl))
+        ∙ set-at_position (holds id groups) (change_one id groups (λ k. left)) ls at l place there
       where
-        by_room : (n : ℕ) → 1 ≤ n → new ≡ body_with_layers (change_among id (n - 1) (λ k. left)) l.body
+        by_groups : (n : ℕ) → 1 ≤ n → new ≡ body_with_layers (change_among id (n - 1) (λ k. left)) l.body
             → record l { body = new } ≡ changed_below id n (λ k. left) l
-        by_room zero q e = absurd (omega (arith, q))
-        by_room (suc n) q e = let same : suc n - 1 ≡ n = omega arith in
+        by_groups zero q e = absurd (omega (arith, q))
+        by_groups (suc n) q e = let same : suc n - 1 ≡ n = omega arith in
             λ i. record l { body = (e ∙ ap (λ k. body_with_layers (change_among id k (λ j. left)) l.body) same) i }
 
 -- where one is found inside a layer, it is a group
-pub some_inside : (id room : ℕ) (l : Layer) → IsSome (option_and_then (layer_among id room) (group_of l))
-    → IsSomeAnd (group_of l) (λ ls. IsSome (layer_among id room ls))
-some_inside id room l h = by_group (group_of l) h
+pub some_inside : (id groups : ℕ) (l : Layer) → IsSome (option_and_then (layer_among id groups) (group_of l))
+    → IsSomeAnd (group_of l) (λ ls. IsSome (layer_among id groups ls))
+some_inside id groups l h = by_group (group_of l) h
   where
-    by_group : (o : Option (List Layer)) → IsSome (option_and_then (layer_among id room) o) → IsSomeAnd o (λ ls. IsSome (layer_among id room ls))
+    by_group : (o : Option (List Layer)) → IsSome (option_and_then (layer_among id groups) o) → IsSomeAnd o (λ ls. IsSome (layer_among id groups ls))
     by_group None q = cc
     by_group (Some ls) q = q

@@ -10,7 +10,7 @@ use Rattle.map_model.specs.declared.parts.MapParts.{MapParts}
 use Rattle.map_model.specs.declared.parts.Object.{Object}
 use Rattle.map_model.specs.Document.{DocumentParts, LiesIn}
 use Rattle.map_model.specs.Groups.{all_drawn, layer_with_layers, tree}
-use Rattle.map_model.specs.Keeping.{layer_level}
+use Rattle.map_model.specs.Keeping.{layer_tier}
 use Rattle.map_model.specs.Lists.{Each}
 use Rattle.map_model.specs.Objects.{objects_in, placing_moved, object_moved}
 use Rattle.map_model.specs.WellFormed.{IsSize, IsTileValue, IsPlacing}
@@ -28,7 +28,7 @@ lists_of d = lists_in d.1.body
 
 -- those of a layer and of those that stand in it
 abbrev pub lists_under : ℕ → Layer → List (List ℕ)
-lists_under room l = flat_map lists_of (tree room layer_level l)
+lists_under groups l = flat_map lists_of (tree groups layer_tier l)
 
 -- the cells of each tile layer, in drawing order
 abbrev pub tile_layers : MapParts → List (List ℕ)
@@ -53,12 +53,12 @@ each_on g count number (l ∷ ls) = g number l ∷ each_on g count (number + cou
 -- a layer behind so many tile layers, and those that stand in it
 unfoldable pub one_on : ℕ → Canvas → ℕ → Layer → Layer
 one_on zero c number l = layer_on c number l
-one_on (suc room) c number l =
-    layer_with_layers (each_on (one_on room c) (λ k. length (lists_under room k)) (number + length (lists_in l.body))) (layer_on c number l)
+one_on (suc groups) c number l =
+    layer_with_layers (each_on (one_on groups c) (λ k. length (lists_under groups k)) (number + length (lists_in l.body))) (layer_on c number l)
 
 -- layers behind so many tile layers, and those that stand in them
 abbrev pub layers_on : ℕ → Canvas → ℕ → List Layer → List Layer
-layers_on room c number ls = each_on (one_on room c) (λ l. length (lists_under room l)) number ls
+layers_on groups c number ls = each_on (one_on groups c) (λ l. length (lists_under groups l)) number ls
 
 abbrev pub map_on : Canvas → MapParts → MapParts
 map_on c m = record m { width = c.width; height = c.height; layers = layers_on MAX_GROUPS c 0 m.layers }

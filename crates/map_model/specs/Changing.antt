@@ -12,22 +12,22 @@ use Rattle.map_model.specs.Lists.{change_at}
 use Rattle.map_model.specs.Objects.{body_with_objects, layer_with_objects, objects_in, objects_of}
 
 -- the layer with the id is changed by one call of f, which gives r; what the call leaves stands in its place
-pub record ChangesLayer {F R : Type 0} (g : Once F (MutBor Layer × Unit {0}) (R × (MutBor Layer × Unit {0}))) (f : F) (id room : ℕ) (old : List Layer) (r : R)
+pub record ChangesLayer {F R : Type 0} (g : Once F (MutBor Layer × Unit {0}) (R × (MutBor Layer × Unit {0}))) (f : F) (id groups : ℕ) (old : List Layer) (r : R)
     (new : List Layer) : Type 0 where
   pub layer : Layer
   pub left : Layer
-  pub found : layer_among id room old ≡ Some layer
+  pub found : layer_among id groups old ≡ Some layer
   pub call : FnOnceReturnsAtMut g f layer r left
-  pub is : new ≡ change_among id room (λ own. left) old
+  pub is : new ≡ change_among id groups (λ own. left) old
 
 -- the layer with the id, among those that stand in a group, is changed by one call of f, which gives r
-pub record ChangesInside {F R : Type 0} (g : Once F (MutBor Layer × Unit {0}) (R × (MutBor Layer × Unit {0}))) (f : F) (id room : ℕ) (old : Body) (r : R)
+pub record ChangesInside {F R : Type 0} (g : Once F (MutBor Layer × Unit {0}) (R × (MutBor Layer × Unit {0}))) (f : F) (id groups : ℕ) (old : Body) (r : R)
     (new : Body) : Type 0 where
   pub layer : Layer
   pub left : Layer
-  pub found : option_and_then (layer_among id room) (group_in old) ≡ Some layer
+  pub found : option_and_then (layer_among id groups) (group_in old) ≡ Some layer
   pub call : FnOnceReturnsAtMut g f layer r left
-  pub is : new ≡ body_with_layers (change_among id room (λ own. left)) old
+  pub is : new ≡ body_with_layers (change_among id groups (λ own. left)) old
 
 -- the object at a place of a layer's body is changed by one call of f, which gives r
 pub record ChangesObjectIn {F R : Type 0} (g : Once F (MutBor Object × Unit {0}) (R × (MutBor Object × Unit {0}))) (f : F) (at : ℕ) (old : Body) (r : R)

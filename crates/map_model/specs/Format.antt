@@ -6,7 +6,8 @@ use Rattle.std.specs.Prelude.{ℕ, ◌-◌, List, [], ◌∷◌, ◌++◌}
 use Rattle.map_model.specs.declared.names.TheConstants.{ID, NAME, TYPE, VISIBLE, PROPERTIES, WIDTH, HEIGHT, TILE_WIDTH, TILE_HEIGHT, INFINITE, NEXT_LAYER_ID}
 use Rattle.map_model.specs.declared.names.TheConstants.{NEXT_OBJECT_ID, LAYERS, TILESETS, VERSION, ENCODING, COMPRESSION, DATA, OBJECTS, X, Y, GID, FIRST_ID}
 use Rattle.map_model.specs.declared.names.TheConstants.{SOURCE, VALUE}
-use Rattle.map_model.specs.declared.limits.TheConstants.{MAX_SIDE, MAX_TILE_SIDE, MAX_NEXT_ID, MAX_FIRST_ID, MAX_LAYERS, MAX_OBJECTS, MAX_PROPERTIES, MAX_TILESETS}
+use Rattle.map_model.specs.declared.limits.TheConstants.{MAX_SIDE, MAX_TILE_SIDE, MAX_NEXT_ID, MAX_FIRST_ID, MAX_LAYERS, MAX_OBJECTS, MAX_PROPERTIES}
+use Rattle.map_model.specs.declared.limits.TheConstants.{MAX_TILESETS}
 use Rattle.map_model.specs.declared.parts.Body.{Body}
 use Rattle.map_model.specs.declared.parts.Body.TheVariants.{Tiles, Objects, Other, Group'}
 

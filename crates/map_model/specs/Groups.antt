@@ -10,7 +10,7 @@ use Rattle.map_model.specs.declared.parts.Body.TheVariants.{Tiles, Objects, Othe
 use Rattle.map_model.specs.declared.parts.Body.TheOpen as seen
 use Rattle.map_model.specs.declared.parts.Body.TheViews.{out-Body}
 use Rattle.map_model.specs.declared.parts.Layer.{Layer}
-use Rattle.map_model.specs.Keeping.{layer_level, inner_level}
+use Rattle.map_model.specs.Keeping.{layer_tier, inner_tier}
 use Rattle.map_model.specs.Lists.{change_first, first_some, or_empty}
 
 -- ---- the layers of a group
@@ -50,18 +50,18 @@ abbrev pub bare : Layer → Layer
 bare l = layer_with_layers (λ ls. []) l
 
 -- ---- layers in drawing order
--- a layer at this level, and behind it those that stand in it, each with its level and without those in it
+-- a layer at this tier, and behind it those that stand in it, each with its tier and without those in it
 unfoldable pub tree : ℕ → ℕ → Layer → List (ℕ × Layer)
-tree zero level l = (level, bare l) ∷ []
-tree (suc room) level l = (level, bare l) ∷ flat_map (tree room (inner_level level)) (inside l)
+tree zero tier l = (tier, bare l) ∷ []
+tree (suc groups) tier l = (tier, bare l) ∷ flat_map (tree groups (inner_tier tier)) (inside l)
 
--- the layers of a list at this level, and behind each those that stand in it, each with its level and without those in it
+-- the layers of a list at this tier, and behind each those that stand in it, each with its tier and without those in it
 abbrev pub drawn : ℕ → ℕ → List Layer → List (ℕ × Layer)
-drawn room level ls = flat_map (tree room level) ls
+drawn groups tier ls = flat_map (tree groups tier) ls
 
 -- all layers that stand in a map's layers
 abbrev pub all_drawn : List Layer → List (ℕ × Layer)
-all_drawn ls = drawn MAX_GROUPS layer_level ls
+all_drawn ls = drawn MAX_GROUPS layer_tier ls
 
 -- ---- the layer with an id
 -- whether a layer has the id
@@ -71,21 +71,21 @@ has_id id l = nat_eq l.id id
 -- the first layer with the id, of a layer and those that stand in it
 unfoldable pub find_one : ℕ → ℕ → Layer → Option Layer
 find_one id zero l = if has_id id l then Some l else None
-find_one id (suc room) l = if has_id id l then Some l else first_some (find_one id room) (inside l)
+find_one id (suc groups) l = if has_id id l then Some l else first_some (find_one id groups) (inside l)
 
 -- the first layer with the id, of the layers of a list and those that stand in them
 abbrev pub layer_among : ℕ → ℕ → List Layer → Option Layer
-layer_among id room ls = first_some (find_one id room) ls
+layer_among id groups ls = first_some (find_one id groups) ls
 
 -- whether a layer has the id, or one that stands in it
 abbrev pub holds : ℕ → ℕ → Layer → Bool
-holds id room l = is_some (find_one id room l)
+holds id groups l = is_some (find_one id groups l)
 
 -- a layer with f of the first layer with the id in its place
 unfoldable pub change_one : ℕ → ℕ → (Layer → Layer) → Layer → Layer
 change_one id zero f l = if has_id id l then f l else l
-change_one id (suc room) f l = if has_id id l then f l else layer_with_layers (change_first (holds id room) (change_one id room f)) l
+change_one id (suc groups) f l = if has_id id l then f l else layer_with_layers (change_first (holds id groups) (change_one id groups f)) l
 
 -- the layers of a list with f of the first layer with the id, among them or in one of them, in its place
 abbrev pub change_among : ℕ → ℕ → (Layer → Layer) → List Layer → List Layer
-change_among id room f ls = change_first (holds id room) (change_one id room f) ls
+change_among id groups f ls = change_first (holds id groups) (change_one id groups f) ls

@@ -22,12 +22,12 @@ sibling_place place at = record place { at = at }
 -- the place of the layer with the id, in layers of this parent, or else in one that stands in them
 unfoldable pub place_among : ℕ → ℕ → Option ℕ → List Layer → Option LayerPlace
 place_among id zero parent ls = option_map (place_under parent) (position (has_id id) ls)
-place_among id (suc room) parent ls =
-    or_else (option_map (place_under parent) (position (has_id id) ls)) (first_some (λ l. place_among id room (Some l.id) (inside l)) ls)
+place_among id (suc groups) parent ls =
+    or_else (option_map (place_under parent) (position (has_id id) ls)) (first_some (λ l. place_among id groups (Some l.id) (inside l)) ls)
 
 -- the place of the layer with the id, among those that stand in a layer, or in one of them
 abbrev pub place_inside : ℕ → ℕ → Layer → Option LayerPlace
-place_inside id room l = place_among id room (Some l.id) (inside l)
+place_inside id groups l = place_among id groups (Some l.id) (inside l)
 
 -- the place of the layer with the id
 abbrev pub layer_place : MapParts → ℕ → Option LayerPlace

@@ -22,7 +22,7 @@ pub mod Sizes
 pub mod Properties
 pub mod Readable
 pub mod PropertyLenses
-pub mod Steps
+pub mod Refusing
 pub mod Given
 pub mod Groups
 pub mod Ways

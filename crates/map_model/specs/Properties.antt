@@ -17,7 +17,7 @@ use Rattle.map_model.specs.declared.place.OwnerPlace.TheVariants as places
 use Rattle.map_model.specs.declared.setting.Scalar.{Scalar}
 use Rattle.map_model.specs.declared.setting.Scalar.TheVariants as scalars
 use Rattle.map_model.specs.declared.setting.Setting.{Setting}
-use Rattle.map_model.specs.Keeping.{map_level, layer_level, object_level, property_level}
+use Rattle.map_model.specs.Keeping.{map_tier, layer_tier, object_tier, property_tier}
 use Rattle.map_model.specs.Groups.{all_drawn, has_id}
 use Rattle.map_model.specs.Lists.{change_at}
 use Rattle.map_model.specs.Objects.{object_at, object_place, with_object}
@@ -57,29 +57,29 @@ owner_place m owners.Map = Some places.Map
 owner_place m (owners.Layer id) = option_map (λ l. places.Layer id) (layer_of m id)
 owner_place m (owners.Object id) = option_map places.Object (object_place m id)
 
--- the level of a layer that was found
-abbrev pub level_by : Option (ℕ × Layer) → ℕ
-level_by None = layer_level
-level_by (Some d) = d.0
+-- the tier of a layer that was found
+abbrev pub tier_by : Option (ℕ × Layer) → ℕ
+tier_by None = layer_tier
+tier_by (Some d) = d.0
 
 -- whether it is the layer with the id
 abbrev pub is_drawn_with : ℕ → ℕ × Layer → Bool
 is_drawn_with id d = has_id id d.1
 
--- the level of the layer with the id
-abbrev pub level_of : MapParts → ℕ → ℕ
-level_of m id = level_by (find (is_drawn_with id) (all_drawn m.layers))
+-- the tier of the layer with the id
+abbrev pub tier_of : MapParts → ℕ → ℕ
+tier_of m id = tier_by (find (is_drawn_with id) (all_drawn m.layers))
 
 -- how deep the object of an owner stands in what is written for a map
-abbrev pub owner_level : MapParts → OwnerPlace → ℕ
-owner_level m places.Map = map_level
-owner_level m (places.Layer id) = level_of m id
-owner_level m (places.Object place) = object_level (level_of m place.layer)
+abbrev pub owner_tier : MapParts → OwnerPlace → ℕ
+owner_tier m places.Map = map_tier
+owner_tier m (places.Layer id) = tier_of m id
+owner_tier m (places.Object place) = object_tier (tier_of m place.layer)
 
 -- a setting that a property of the owner may have
 pub record IsSetting (m : MapParts) (owner : OwnerPlace) (s : Setting) : Type 0 where
   pub kind : IsUtf8 s.kind
-  pub value : IsValue (property_level (owner_level m owner)) s.value
+  pub value : IsValue (property_tier (owner_tier m owner)) s.value
 
 -- ---- the properties of an owner
 abbrev pub layer_properties : Layer → List Property

@@ -15,7 +15,7 @@ use Rattle.map_model.specs.declared.parts.Tileset.{Tileset}
 use Rattle.map_model.specs.declared.parts.MapParts.{MapParts}
 use Rattle.map_model.specs.Groups.{all_drawn}
 use Rattle.map_model.specs.Lists.{Each, Distinct}
-use Rattle.map_model.specs.Keeping.{AreKept, IsKeptValue, map_level, deepest_level, object_level, tileset_level, property_level}
+use Rattle.map_model.specs.Keeping.{AreKept, IsKeptValue, map_tier, deepest_tier, object_tier, tileset_tier, property_tier}
 use Rattle.map_model.specs.Format.{map_names, layer_names}
 use Rattle.map_model.specs.Format.{object_names, tileset_names, property_names}
 
@@ -80,25 +80,25 @@ pub record IsWhole (z : ℤ) : Type 0 where
 
 -- a value that a text, a whole number or a truth value can hold is held so
 abbrev pub IsValue : ℕ → PropValue → Type 0
-IsValue level (values.Text s) = IsUtf8 s
-IsValue level (values.Whole z) = IsWhole z
-IsValue level (values.Truth b) = Unit {0}
-IsValue level (values.Other d) = IsKeptValue level d
+IsValue tier (values.Text s) = IsUtf8 s
+IsValue tier (values.Whole z) = IsWhole z
+IsValue tier (values.Truth b) = Unit {0}
+IsValue tier (values.Other d) = IsKeptValue tier d
 
-pub record IsProperty (level : ℕ) (p : Property) : Type 0 where
+pub record IsProperty (tier : ℕ) (p : Property) : Type 0 where
   pub name : IsUtf8 p.name
   pub kind : IsUtf8 p.kind
-  pub value : IsValue level p.value
-  pub kept : AreKept level property_names p.kept
+  pub value : IsValue tier p.value
+  pub kept : AreKept tier property_names p.kept
 
 -- the names of a property
 abbrev pub names_of_property : Property → List (List ℕ)
 names_of_property p = p.name ∷ []
 
--- the properties of an owner at this level, with distinct names
-pub record AreProperties (level : ℕ) (ps : List Property) : Type 0 where
+-- the properties of an owner at this tier, with distinct names
+pub record AreProperties (tier : ℕ) (ps : List Property) : Type 0 where
   pub few : length ps ≤ MAX_PROPERTIES
-  pub each : Each (IsProperty (property_level level)) ps
+  pub each : Each (IsProperty (property_tier tier)) ps
   pub distinct : Distinct (flat_map names_of_property ps)
 
 -- ---- objects
@@ -117,30 +117,30 @@ pub record IsPlacing (p : Placing) : Type 0 where
 abbrev pub IsTileValue : ℕ → Type 0
 IsTileValue value = value < 2 ^ 32
 
--- an object at this level
-pub record IsObject (level : ℕ) (o : Object) : Type 0 where
+-- an object at this tier
+pub record IsObject (tier : ℕ) (o : Object) : Type 0 where
   pub placing : IsPlacing o.placing
   pub name : IfSome o.name IsUtf8
   pub gid : IfSome o.gid IsTileValue
-  pub properties : AreProperties level o.properties
-  pub kept : AreKept level object_names o.kept
+  pub properties : AreProperties tier o.properties
+  pub kept : AreKept tier object_names o.kept
 
 -- ---- layers
 -- a tile layer has one value for each cell of the map, and a group leaves room for layers in it
 abbrev pub IsBody : ℕ → ℕ → Body → Type 0
-IsBody level size (Tiles e cells) = (length cells ≡ size) × Each IsTileValue cells
-IsBody level size (Objects os) = (length os ≤ MAX_OBJECTS) × Each (IsObject (object_level level)) os
-IsBody level size Other = Unit {0}
-IsBody level size (Group' s r) = level < deepest_level
+IsBody tier size (Tiles e cells) = (length cells ≡ size) × Each IsTileValue cells
+IsBody tier size (Objects os) = (length os ≤ MAX_OBJECTS) × Each (IsObject (object_tier tier)) os
+IsBody tier size Other = Unit {0}
+IsBody tier size (Group' s r) = tier < deepest_tier
 
--- a layer at this level, of a map of so many cells
-pub record IsLayer (level size : ℕ) (l : Layer) : Type 0 where
+-- a layer at this tier, of a map of so many cells
+pub record IsLayer (tier size : ℕ) (l : Layer) : Type 0 where
   pub name : IsUtf8 l.name
-  pub properties : AreProperties level l.properties
-  pub kept : AreKept level (layer_names l.body) l.kept
-  pub body : IsBody level size l.body
+  pub properties : AreProperties tier l.properties
+  pub kept : AreKept tier (layer_names l.body) l.kept
+  pub body : IsBody tier size l.body
 
--- a layer of a map of so many cells, with its level
+-- a layer of a map of so many cells, with its tier
 abbrev pub IsDrawn : ℕ → ℕ × Layer → Type 0
 IsDrawn size d = IsLayer d.0 size d.1
 
@@ -160,7 +160,7 @@ pub record IsTileset (t : Tileset) : Type 0 where
   pub low : 1 ≤ t.first_id
   pub high : t.first_id ≤ MAX_FIRST_ID
   pub source : IfSome t.source IsUtf8
-  pub kept : AreKept tileset_level tileset_names t.kept
+  pub kept : AreKept tileset_tier tileset_names t.kept
 
 -- the first ids of a tileset
 abbrev pub first_ids_of : Tileset → List ℕ
@@ -178,5 +178,5 @@ pub record IsWellFormed (m : MapParts) : Type 0 where
   pub tile_size : IsTileSize m.tile_width m.tile_height
   pub layers : AreLayers (m.width * m.height) m.next_layer_id m.next_object_id m.layers
   pub tilesets : AreTilesets m.tilesets
-  pub properties : AreProperties map_level m.properties
-  pub kept : AreKept map_level map_names m.kept
+  pub properties : AreProperties map_tier m.properties
+  pub kept : AreKept map_tier map_names m.kept

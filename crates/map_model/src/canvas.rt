@@ -5,7 +5,7 @@ ghost use Rattle.std.specs.Option.{option_map};
 ghost use Rattle.map_model.specs.Canvas.{body_on, layers_on, lists_after, lists_in, lists_left, lists_of, lists_under, one_on, with_lists, BodyMayBeMoved, MayBeDrawn, MayBeMoved};
 ghost use Rattle.map_model.specs.Objects.{object_moved, placing_moved};
 ghost use Rattle.map_model.specs.Groups.{body_with_layers, drawn, group_in, tree};
-ghost use Rattle.map_model.specs.Keeping.{layer_level};
+ghost use Rattle.map_model.specs.Keeping.{layer_tier};
 ghost use Rattle.map_model.specs.Lists.{Each, or_empty};
 ghost use Rattle.map_model.specs.WellFormed.{IsPixels, IsPlacing};
 
@@ -106,7 +106,7 @@ impl Body {
     // Puts a body on a canvas, which gets its cells. So many tile layers stand before it; the answer is how many stand before
     // the next body.
     fn exchange(&mut self, canvas: &mut Canvas, number: usize) -> usize
-        requires room { number + length (lists_in self.old) ≤ length canvas.old.layers }
+        requires groups { number + length (lists_in self.old) ≤ length canvas.old.layers }
         requires objects { BodyMayBeMoved canvas.old.right canvas.old.down self.old }
         ensures body { self.new ≡ body_on canvas.old number self.old }
         ensures canvas { canvas.new ≡ with_lists (lists_after number self.old canvas.old.layers) canvas.old }
@@ -134,48 +134,48 @@ pub fn exchange_layers(
     layers: &mut Chain<Layer>,
     canvas: &mut Canvas,
     number: usize,
-    room: usize,
+    groups: usize,
 ) -> usize
-    requires count { number + length (flat_map lists_of (drawn room layer_level layers.old)) ≤ length canvas.old.layers }
-    requires objects { Each (MayBeDrawn canvas.old.right canvas.old.down) (drawn room layer_level layers.old) }
-    ensures layers { layers.new ≡ layers_on room canvas.old number layers.old }
-    ensures canvas { canvas.new ≡ with_lists (lists_left number (flat_map lists_of (drawn room layer_level layers.old)) canvas.old.layers) canvas.old }
-    ensures next { result ≡ number + length (flat_map lists_of (drawn room layer_level layers.old)) }
+    requires count { number + length (flat_map lists_of (drawn groups layer_tier layers.old)) ≤ length canvas.old.layers }
+    requires objects { Each (MayBeDrawn canvas.old.right canvas.old.down) (drawn groups layer_tier layers.old) }
+    ensures layers { layers.new ≡ layers_on groups canvas.old number layers.old }
+    ensures canvas { canvas.new ≡ with_lists (lists_left number (flat_map lists_of (drawn groups layer_tier layers.old)) canvas.old.layers) canvas.old }
+    ensures next { result ≡ number + length (flat_map lists_of (drawn groups layer_tier layers.old)) }
 {
     let mut number = number;
     for at in 0..layers.len() {
-        number = exchange_layer(layers.get_mut(at), canvas, number, room);
+        number = exchange_layer(layers.get_mut(at), canvas, number, groups);
     }
     number
 }
 
 // Exchanges the cells and moves the objects of one layer, and of those that stand in it.
 #[cycle(exchange)]
-fn exchange_layer(layer: &mut Layer, canvas: &mut Canvas, number: usize, room: usize) -> usize
-    requires count { number + length (lists_under room layer.old) ≤ length canvas.old.layers }
-    requires objects { Each (MayBeDrawn canvas.old.right canvas.old.down) (tree room layer_level layer.old) }
-    ensures layer { layer.new ≡ one_on room canvas.old number layer.old }
-    ensures canvas { canvas.new ≡ with_lists (lists_left number (lists_under room layer.old) canvas.old.layers) canvas.old }
-    ensures next { result ≡ number + length (lists_under room layer.old) }
+fn exchange_layer(layer: &mut Layer, canvas: &mut Canvas, number: usize, groups: usize) -> usize
+    requires count { number + length (lists_under groups layer.old) ≤ length canvas.old.layers }
+    requires objects { Each (MayBeDrawn canvas.old.right canvas.old.down) (tree groups layer_tier layer.old) }
+    ensures layer { layer.new ≡ one_on groups canvas.old number layer.old }
+    ensures canvas { canvas.new ≡ with_lists (lists_left number (lists_under groups layer.old) canvas.old.layers) canvas.old }
+    ensures next { result ≡ number + length (lists_under groups layer.old) }
 {
     let number = layer.body.exchange(canvas, number);
-    if room == 0 {
+    if groups == 0 {
         return number;
     }
-    exchange_inside(&mut layer.body, canvas, number, room - 1)
+    exchange_inside(&mut layer.body, canvas, number, groups - 1)
 }
 
 // Exchanges the cells and moves the objects of the layers that stand in a layer.
 #[cycle(exchange)]
-fn exchange_inside(body: &mut Body, canvas: &mut Canvas, number: usize, room: usize) -> usize
-    requires count { number + length (flat_map lists_of (drawn room layer_level (or_empty (group_in body.old)))) ≤ length canvas.old.layers }
-    requires objects { Each (MayBeDrawn canvas.old.right canvas.old.down) (drawn room layer_level (or_empty (group_in body.old))) }
-    ensures body { body.new ≡ body_with_layers (layers_on room canvas.old number) body.old }
-    ensures canvas { canvas.new ≡ with_lists (lists_left number (flat_map lists_of (drawn room layer_level (or_empty (group_in body.old)))) canvas.old.layers) canvas.old }
-    ensures next { result ≡ number + length (flat_map lists_of (drawn room layer_level (or_empty (group_in body.old)))) }
+fn exchange_inside(body: &mut Body, canvas: &mut Canvas, number: usize, groups: usize) -> usize
+    requires count { number + length (flat_map lists_of (drawn groups layer_tier (or_empty (group_in body.old)))) ≤ length canvas.old.layers }
+    requires objects { Each (MayBeDrawn canvas.old.right canvas.old.down) (drawn groups layer_tier (or_empty (group_in body.old))) }
+    ensures body { body.new ≡ body_with_layers (layers_on groups canvas.old number) body.old }
+    ensures canvas { canvas.new ≡ with_lists (lists_left number (flat_map lists_of (drawn groups layer_tier (or_empty (group_in body.old)))) canvas.old.layers) canvas.old }
+    ensures next { result ≡ number + length (flat_map lists_of (drawn groups layer_tier (or_empty (group_in body.old)))) }
 {
     match body {
-        Body::Group(layers) => exchange_layers(layers, canvas, number, room),
+        Body::Group(layers) => exchange_layers(layers, canvas, number, groups),
         Body::Tiles(_, _) => number,
         Body::Objects(_) => number,
         Body::Other => number,

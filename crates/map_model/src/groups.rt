@@ -40,7 +40,7 @@ ghost use Rattle.map_model.specs.declared.limits.TheConstants.{MAX_GROUPS};
 ghost use Rattle.map_model.specs.declared.parts.Layer.{Layer};
 ghost use Rattle.map_model.specs.Changing.{ChangesInside, ChangesLayer};
 ghost use Rattle.map_model.specs.Groups.{drawn, find_one, group_in, has_id, holds, layer_among, tree};
-ghost use Rattle.map_model.specs.Keeping.{layer_level};
+ghost use Rattle.map_model.specs.Keeping.{layer_tier};
 ghost use Rattle.map_model.specs.Layers.{place_among, place_inside};
 ghost use Rattle.map_model.specs.Lists.{Distinct, first_some};
 ghost use Rattle.map_model.specs.Ways.{IsWay, LeadsFrom, ArrivesIn};
@@ -75,20 +75,20 @@ impl Body {
 /// Finds the way to the layer with an id, where there is one: the place in the innermost group first, and the place among these
 /// layers last.
 #[cycle(ways)]
-pub fn find_way(layers: &Chain<Layer>, id: u32, room: usize, way: &mut Way) -> bool
+pub fn find_way(layers: &Chain<Layer>, id: u32, groups: usize, way: &mut Way) -> bool
     requires empty { way.old.items ≡ [] }
-    requires room { room ≤ MAX_GROUPS }
-    ensures there { result ≡ is_some (position (holds id room) layers.now) }
-    ensures way { IsTrue result → IsWay id room (reverse way.new.items) layers.now }
+    requires groups { groups ≤ MAX_GROUPS }
+    ensures there { result ≡ is_some (position (holds id groups) layers.now) }
+    ensures way { IsTrue result → IsWay id groups (reverse way.new.items) layers.now }
     ensures none { IsFalse result → way.new.items ≡ [] }
-    ensures short { array_vec_len way.new ≤ room + 1 }
+    ensures short { array_vec_len way.new ≤ groups + 1 }
 {
     // That a length is a `usize` bounds the places.
     if layers.len() == 0 {
         return false;
     }
     for (at, layer) in layers.iter().enumerate() {
-        if find_way_from(layer, id, room, way) {
+        if find_way_from(layer, id, groups, way) {
             way.push(at);
             return true;
         }
@@ -98,33 +98,33 @@ pub fn find_way(layers: &Chain<Layer>, id: u32, room: usize, way: &mut Way) -> b
 
 // Finds the way from a layer, which may have the id itself.
 #[cycle(ways)]
-fn find_way_from(layer: &Layer, id: u32, room: usize, way: &mut Way) -> bool
+fn find_way_from(layer: &Layer, id: u32, groups: usize, way: &mut Way) -> bool
     requires empty { way.old.items ≡ [] }
-    requires room { room ≤ MAX_GROUPS }
-    ensures there { result ≡ holds id room layer.now }
-    ensures way { IsTrue result → LeadsFrom id room (reverse way.new.items) layer.now }
+    requires groups { groups ≤ MAX_GROUPS }
+    ensures there { result ≡ holds id groups layer.now }
+    ensures way { IsTrue result → LeadsFrom id groups (reverse way.new.items) layer.now }
     ensures none { IsFalse result → way.new.items ≡ [] }
-    ensures short { array_vec_len way.new ≤ room }
+    ensures short { array_vec_len way.new ≤ groups }
 {
     if layer.id == id {
         return true;
     }
-    if room == 0 {
+    if groups == 0 {
         return false;
     }
     match layer.body.layers() {
-        Some(inside) => find_way(inside, id, room - 1, way),
+        Some(inside) => find_way(inside, id, groups - 1, way),
         None => false,
     }
 }
 
 /// The layer with an id, in layers that may have so many groups in one another.
 #[cycle(found)]
-pub fn find_in(layers: &Chain<Layer>, id: u32, room: usize) -> Option<&Layer>
-    ensures { option_copied result ≡ layer_among id room layers.now }
+pub fn find_in(layers: &Chain<Layer>, id: u32, groups: usize) -> Option<&Layer>
+    ensures { option_copied result ≡ layer_among id groups layers.now }
 {
     for layer in layers.iter() {
-        if let Some(found) = find_under(layer, id, room) {
+        if let Some(found) = find_under(layer, id, groups) {
             return Some(found);
         }
     }
@@ -133,17 +133,17 @@ pub fn find_in(layers: &Chain<Layer>, id: u32, room: usize) -> Option<&Layer>
 
 // The layer with an id, of a layer and those that stand in it.
 #[cycle(found)]
-fn find_under(layer: &Layer, id: u32, room: usize) -> Option<&Layer>
-    ensures { option_copied result ≡ find_one id room layer.now }
+fn find_under(layer: &Layer, id: u32, groups: usize) -> Option<&Layer>
+    ensures { option_copied result ≡ find_one id groups layer.now }
 {
     if layer.id == id {
         return Some(layer);
     }
-    if room == 0 {
+    if groups == 0 {
         return None;
     }
     match layer.body.layers() {
-        Some(inside) => find_in(inside, id, room - 1),
+        Some(inside) => find_in(inside, id, groups - 1),
         None => None,
     }
 }
@@ -154,27 +154,27 @@ pub fn place_in(
     layers: &Chain<Layer>,
     id: u32,
     parent: Option<u32>,
-    room: usize,
+    groups: usize,
 ) -> Option<LayerPlace>
-    ensures { result ≡ place_among id room parent layers.now }
+    ensures { result ≡ place_among id groups parent layers.now }
 {
     if let Some(at) = own_place(layers, id) {
         return Some(LayerPlace { parent, at });
     }
-    if room == 0 {
+    if groups == 0 {
         return None;
     }
-    place_within(layers, id, room - 1)
+    place_within(layers, id, groups - 1)
 }
 
 // The place of the layer with an id, in the groups among these layers.
 #[cycle(places)]
-fn place_within(layers: &Chain<Layer>, id: u32, room: usize) -> Option<LayerPlace>
-    ensures { result ≡ first_some (place_inside id room) layers.now }
+fn place_within(layers: &Chain<Layer>, id: u32, groups: usize) -> Option<LayerPlace>
+    ensures { result ≡ first_some (place_inside id groups) layers.now }
 {
     for layer in layers.iter() {
         if let Some(inside) = layer.body.layers() {
-            if let Some(place) = place_in(inside, id, Some(layer.id), room) {
+            if let Some(place) = place_in(inside, id, Some(layer.id), groups) {
                 return Some(place);
             }
         }
@@ -191,28 +191,28 @@ fn own_place(layers: &Chain<Layer>, id: u32) -> Option<usize>
 
 /// How many layers these are, those that stand in them too.
 #[cycle(count)]
-pub fn count_in(layers: &Chain<Layer>, room: usize) -> usize
-    requires { length (drawn room layer_level layers.now) < 2 ^ 32 }
-    ensures { result ≡ length (drawn room layer_level layers.now) }
+pub fn count_in(layers: &Chain<Layer>, groups: usize) -> usize
+    requires { length (drawn groups layer_tier layers.now) < 2 ^ 32 }
+    ensures { result ≡ length (drawn groups layer_tier layers.now) }
 {
     let mut count = 0;
     for layer in layers.iter() {
-        count += count_under(layer, room);
+        count += count_under(layer, groups);
     }
     count
 }
 
 // A layer, and how many stand in it.
 #[cycle(count)]
-fn count_under(layer: &Layer, room: usize) -> usize
-    requires { length (tree room layer_level layer.now) < 2 ^ 32 }
-    ensures { result ≡ length (tree room layer_level layer.now) }
+fn count_under(layer: &Layer, groups: usize) -> usize
+    requires { length (tree groups layer_tier layer.now) < 2 ^ 32 }
+    ensures { result ≡ length (tree groups layer_tier layer.now) }
 {
-    if room == 0 {
+    if groups == 0 {
         return 1;
     }
     match layer.body.layers() {
-        Some(inside) => 1 + count_in(inside, room - 1),
+        Some(inside) => 1 + count_in(inside, groups - 1),
         None => 1,
     }
 }
@@ -223,19 +223,19 @@ fn change_along<R, F: FnOnce(&mut Layer) -> R>(
     layers: &mut Chain<Layer>,
     way: &[usize],
     id: u32,
-    room: usize,
+    groups: usize,
     change: F,
 ) -> R
-    requires way { IsWay id room (reverse way.now) layers.old }
-    requires callable { (l : Layer) → layer_among id room layers.old ≡ Some l → FnOnceTakesAtMut F.FnOnce change l }
-    ensures { ChangesLayer F.FnOnce change id room layers.old result layers.new }
+    requires way { IsWay id groups (reverse way.now) layers.old }
+    requires callable { (l : Layer) → layer_among id groups layers.old ≡ Some l → FnOnceTakesAtMut F.FnOnce change l }
+    ensures { ChangesLayer F.FnOnce change id groups layers.old result layers.new }
 {
     let (at, rest) = way.split_last().unwrap();
     let layer = layers.get_mut(*at);
     if layer.id == id {
         return changed(layer, change);
     }
-    change_inside(&mut layer.body, rest, id, room - 1, change)
+    change_inside(&mut layer.body, rest, id, groups - 1, change)
 }
 
 // Changes a layer.
@@ -253,15 +253,15 @@ fn change_inside<R, F: FnOnce(&mut Layer) -> R>(
     body: &mut Body,
     way: &[usize],
     id: u32,
-    room: usize,
+    groups: usize,
     change: F,
 ) -> R
-    requires way { IsSomeAnd (group_in body.old) (IsWay id room (reverse way.now)) }
-    requires callable { (l : Layer) → option_and_then (layer_among id room) (group_in body.old) ≡ Some l → FnOnceTakesAtMut F.FnOnce change l }
-    ensures { ChangesInside F.FnOnce change id room body.old result body.new }
+    requires way { IsSomeAnd (group_in body.old) (IsWay id groups (reverse way.now)) }
+    requires callable { (l : Layer) → option_and_then (layer_among id groups) (group_in body.old) ≡ Some l → FnOnceTakesAtMut F.FnOnce change l }
+    ensures { ChangesInside F.FnOnce change id groups body.old result body.new }
 {
     match body {
-        Body::Group(layers) => change_along(layers, way, id, room, change),
+        Body::Group(layers) => change_along(layers, way, id, groups, change),
         Body::Tiles(_, _) => unreachable!(),
         Body::Objects(_) => unreachable!(),
         Body::Other => unreachable!(),
@@ -270,12 +270,12 @@ fn change_inside<R, F: FnOnce(&mut Layer) -> R>(
 
 // Finds the way to the layer with an id, where it leads by the places that were last changed.
 #[cycle(near)]
-fn find_way_here(layers: &Chain<Layer>, id: u32, room: usize, way: &mut Way) -> bool
+fn find_way_here(layers: &Chain<Layer>, id: u32, groups: usize, way: &mut Way) -> bool
     requires empty { way.old.items ≡ [] }
-    requires room { room ≤ MAX_GROUPS }
+    requires groups { groups ≤ MAX_GROUPS }
     ensures way { IsTrue result → ArrivesIn id (reverse way.new.items) layers.now }
     ensures none { IsFalse result → way.new.items ≡ [] }
-    ensures short { array_vec_len way.new ≤ room + 1 }
+    ensures short { array_vec_len way.new ≤ groups + 1 }
 {
     let Some((at, layer)) = layers.here() else {
         return false;
@@ -284,7 +284,7 @@ fn find_way_here(layers: &Chain<Layer>, id: u32, room: usize, way: &mut Way) -> 
         let Some(inside) = layer.body.layers() else {
             return false;
         };
-        if room == 0 || !find_way_here(inside, id, room - 1, way) {
+        if groups == 0 || !find_way_here(inside, id, groups - 1, way) {
             return false;
         }
     }

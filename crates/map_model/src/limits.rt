@@ -36,5 +36,5 @@ pub const MAX_PIXELS: i32 = 1_000_000_000;
 /// The most pixels by which objects are moved, either way: as many tiles as there may be pixels, each as large as may be.
 pub const MAX_SHIFT: i64 = 65_535_000_000_000;
 
-/// The most levels that the tree of a map nests.
+/// The most tiers that the tree of a map nests.
 pub const MAX_DEPTH: usize = 127;

@@ -9,7 +9,7 @@ ghost use Rattle.map_model.specs.Changing.{ChangesObject, ChangesObjectIn};
 ghost use Rattle.map_model.specs.Lists.{Distinct, change_at, first_some};
 ghost use Rattle.map_model.specs.Objects.{body_with_objects, found_in_layer, has_object_id, layer_with_objects, object_placing, object_with_placing, objects_in, objects_of};
 ghost use Rattle.map_model.specs.Groups.{change_among, drawn, layer_among, tree};
-ghost use Rattle.map_model.specs.Keeping.{layer_level};
+ghost use Rattle.map_model.specs.Keeping.{layer_tier};
 ghost use Rattle.map_model.specs.WellFormed.{layer_ids};
 
 use crate::groups::change_layer;
@@ -151,7 +151,7 @@ fn find_object(objects: &LinkTree<Object>, id: u32) -> Option<(usize, &Object)>
 
 /// The object with an id in a layer, behind its place.
 pub fn find_in_layer(layer: &Layer, id: u32) -> Option<(ObjectPlace, &Object)>
-    ensures { option_map (λ found. (found.0, found.1.now)) result ≡ found_in_layer id (layer_level, layer.now) }
+    ensures { option_map (λ found. (found.0, found.1.now)) result ≡ found_in_layer id (layer_tier, layer.now) }
 {
     let (at, object) = find_object(layer.body.objects()?, id)?;
     let place = ObjectPlace {
@@ -164,11 +164,15 @@ pub fn find_in_layer(layer: &Layer, id: u32) -> Option<(ObjectPlace, &Object)>
 /// The object with an id, behind its place, found by a walk through layers that may have so many groups in one another.
 #[inline(never)]
 #[cycle(found)]
-pub fn find_in_layers(layers: &Chain<Layer>, id: u32, room: usize) -> Option<(ObjectPlace, &Object)>
-    ensures { option_map (λ found. (found.0, found.1.now)) result ≡ first_some (found_in_layer id) (drawn room layer_level layers.now) }
+pub fn find_in_layers(
+    layers: &Chain<Layer>,
+    id: u32,
+    groups: usize,
+) -> Option<(ObjectPlace, &Object)>
+    ensures { option_map (λ found. (found.0, found.1.now)) result ≡ first_some (found_in_layer id) (drawn groups layer_tier layers.now) }
 {
     for layer in layers.iter() {
-        if let Some(found) = find_under(layer, id, room) {
+        if let Some(found) = find_under(layer, id, groups) {
             return Some(found);
         }
     }
@@ -177,17 +181,17 @@ pub fn find_in_layers(layers: &Chain<Layer>, id: u32, room: usize) -> Option<(Ob
 
 // The object with an id, behind its place, in a layer and those that stand in it.
 #[cycle(found)]
-fn find_under(layer: &Layer, id: u32, room: usize) -> Option<(ObjectPlace, &Object)>
-    ensures { option_map (λ found. (found.0, found.1.now)) result ≡ first_some (found_in_layer id) (tree room layer_level layer.now) }
+fn find_under(layer: &Layer, id: u32, groups: usize) -> Option<(ObjectPlace, &Object)>
+    ensures { option_map (λ found. (found.0, found.1.now)) result ≡ first_some (found_in_layer id) (tree groups layer_tier layer.now) }
 {
     if let Some(found) = find_in_layer(layer, id) {
         return Some(found);
     }
-    if room == 0 {
+    if groups == 0 {
         return None;
     }
     match layer.body.layers() {
-        Some(inside) => find_in_layers(inside, id, room - 1),
+        Some(inside) => find_in_layers(inside, id, groups - 1),
         None => None,
     }
 }

@@ -8,11 +8,11 @@ use link_tree::LinkTree;
 /// Goes to the object with an id in the layer that was last changed or gone to, in layers that may have so many groups in one
 /// another, and tells whether it did. That layer notes it, so that next time it need not look the object up. No layer changes.
 #[cycle(here)]
-pub fn seek_here(layers: &mut Chain<Layer>, id: u32, room: usize) -> bool
+pub fn seek_here(layers: &mut Chain<Layer>, id: u32, groups: usize) -> bool
     ensures { layers.new ≡ layers.old }
 {
     match layer_here(layers) {
-        Some(at) => layers.get_mut(at).body.seek_object_here(id, room),
+        Some(at) => layers.get_mut(at).body.seek_object_here(id, groups),
         None => false,
     }
 }
@@ -49,35 +49,35 @@ fn seek_listed(objects: &mut LinkTree<Object>, id: u32) -> bool
 /// another. Where the ids of a layer do not rise, or those of several layers overlap, it may miss the object. No layer changes.
 #[inline(never)]
 #[cycle(seek)]
-pub fn seek_in_layers(layers: &mut Chain<Layer>, id: u32, room: usize)
+pub fn seek_in_layers(layers: &mut Chain<Layer>, id: u32, groups: usize)
     ensures { layers.new ≡ layers.old }
 {
-    if let Some(at) = likely_layer(layers, id, room) {
-        layers.get_mut(at).body.seek_object(id, room);
+    if let Some(at) = likely_layer(layers, id, groups) {
+        layers.get_mut(at).body.seek_object(id, groups);
     }
 }
 
 // The place of a layer of which an object may have the id, or one that stands in it: the layer that was last changed, or
 // else the first such one.
-fn likely_layer(layers: &Chain<Layer>, id: u32, room: usize) -> Option<usize>
+fn likely_layer(layers: &Chain<Layer>, id: u32, groups: usize) -> Option<usize>
     ensures { IfSome result (λ at. at < length layers.now) }
 {
     match layers.here() {
-        Some((at, layer)) if is_likely(layer, id, room) => Some(at),
-        _ => layers.iter().position(|layer| is_likely(layer, id, room)),
+        Some((at, layer)) if is_likely(layer, id, groups) => Some(at),
+        _ => layers.iter().position(|layer| is_likely(layer, id, groups)),
     }
 }
 
 // Whether an object of a layer may have the id, or one of a layer that stands in it.
-fn is_likely(layer: &Layer, id: u32, room: usize) -> bool {
+fn is_likely(layer: &Layer, id: u32, groups: usize) -> bool {
     let Some(inside) = layer.body.layers() else {
         return layer.body.may_have(id);
     };
-    if room == 0 {
+    if groups == 0 {
         return false;
     }
     for layer in inside.iter() {
-        if is_likely(layer, id, room - 1) {
+        if is_likely(layer, id, groups - 1) {
             return true;
         }
     }
@@ -94,14 +94,14 @@ fn place_of_id(objects: &LinkTree<Object>, id: u32) -> Option<usize> {
 impl Body {
     // Goes to the object with an id, or in a group to that in the layer here, and tells whether it did.
     #[cycle(here)]
-    fn seek_object_here(&mut self, id: u32, room: usize) -> bool
+    fn seek_object_here(&mut self, id: u32, groups: usize) -> bool
         ensures { self.new ≡ self.old }
     {
         match self {
             Body::Objects(objects) => seek_listed(objects, id),
             Body::Group(layers) => {
-                if room > 0 {
-                    seek_here(layers, id, room - 1)
+                if groups > 0 {
+                    seek_here(layers, id, groups - 1)
                 } else {
                     false
                 }
@@ -124,7 +124,7 @@ impl Body {
 
     // Goes to the object with an id, or in a group to the layer that may have it first.
     #[cycle(seek)]
-    fn seek_object(&mut self, id: u32, room: usize)
+    fn seek_object(&mut self, id: u32, groups: usize)
         ensures { self.new ≡ self.old }
     {
         match self {
@@ -134,8 +134,8 @@ impl Body {
                 }
             }
             Body::Group(layers) => {
-                if room > 0 {
-                    seek_in_layers(layers, id, room - 1);
+                if groups > 0 {
+                    seek_in_layers(layers, id, groups - 1);
                 }
             }
             Body::Tiles(_, _) => {}

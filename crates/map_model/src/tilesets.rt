@@ -2,7 +2,7 @@
 ghost use Rattle.std.specs.Prelude.{◌≡◌, Some};
 ghost use Rattle.std.specs.List.{list_any};
 ghost use Rattle.map_model.specs.Groups.{drawn, tree};
-ghost use Rattle.map_model.specs.Keeping.{layer_level};
+ghost use Rattle.map_model.specs.Keeping.{layer_tier};
 ghost use Rattle.map_model.specs.NewMap.{external_tileset};
 ghost use Rattle.map_model.specs.Tilesets.{in_use, tileset_place, values_in, values_of, gids_of};
 ghost use Rattle.map_model.specs.Uses.{base_limit, end_of, is_between, nearer};
@@ -138,11 +138,11 @@ fn is_in_body(body: &Body, low: u32, end: u32) -> bool
 }
 
 #[cycle(uses)]
-fn is_in_layers(layers: &Chain<Layer>, low: u32, end: u32, room: usize) -> bool
-    ensures { result ≡ list_any (λ d. list_any (is_between low end) (values_of d)) (drawn room layer_level layers.now) }
+fn is_in_layers(layers: &Chain<Layer>, low: u32, end: u32, groups: usize) -> bool
+    ensures { result ≡ list_any (λ d. list_any (is_between low end) (values_of d)) (drawn groups layer_tier layers.now) }
 {
     for layer in layers.iter() {
-        if is_in_layer(layer, low, end, room) {
+        if is_in_layer(layer, low, end, groups) {
             return true;
         }
     }
@@ -151,17 +151,17 @@ fn is_in_layers(layers: &Chain<Layer>, low: u32, end: u32, room: usize) -> bool
 
 // Whether the base of a value in a layer, or in one that stands in it, is not below `low`, and below `end`.
 #[cycle(uses)]
-fn is_in_layer(layer: &Layer, low: u32, end: u32, room: usize) -> bool
-    ensures { result ≡ list_any (λ d. list_any (is_between low end) (values_of d)) (tree room layer_level layer.now) }
+fn is_in_layer(layer: &Layer, low: u32, end: u32, groups: usize) -> bool
+    ensures { result ≡ list_any (λ d. list_any (is_between low end) (values_of d)) (tree groups layer_tier layer.now) }
 {
     if is_in_body(&layer.body, low, end) {
         return true;
     }
-    if room == 0 {
+    if groups == 0 {
         return false;
     }
     match layer.body.layers() {
-        Some(inside) => is_in_layers(inside, low, end, room - 1),
+        Some(inside) => is_in_layers(inside, low, end, groups - 1),
         None => false,
     }
 }

@@ -1,7 +1,7 @@
 // The fractions of a map that is refused for one: each with its place, and the layer or the object that has it.
 use crate::place::Place;
 use crate::shown::write_short;
-use map_json::{Step, Trail};
+use map_json::{Segment, Trail};
 use serde_json::{Map, Value};
 use std::alloc::{AllocError, Global};
 use std::io::{self, Write};
@@ -140,7 +140,7 @@ fn find_in_items<F: Fractions>(
 ) -> io::Result<u64> {
     let mut count = 0u64;
     for (at, item) in items.iter().enumerate() {
-        place.enter(Step::Element(at));
+        place.enter(Segment::Element(at));
         let more = find_in_value(item, root, part, owner, place, fractions)?;
         count = count.saturating_add(more);
         place.leave();
@@ -162,7 +162,7 @@ fn find_in_members<F: Fractions>(
         let name = name.as_str();
         // The version of the map comes last.
         if part != Part::Map || name != "version" {
-            place.enter(Step::Member(name));
+            place.enter(Segment::Member(name));
             let inner = part.member(name);
             let more = find_in_value(member, root, inner, owner, place, fractions)?;
             count = count.saturating_add(more);
@@ -182,7 +182,7 @@ fn find_in_version<F: Fractions>(
     match root.get("version") {
         None | Some(Value::Number(_)) => Ok(0),
         Some(version) => {
-            place.enter(Step::Member("version"));
+            place.enter(Segment::Member("version"));
             find_in_value(
                 version,
                 root,

@@ -128,11 +128,11 @@ fn put_object(out: &mut Writer, layer: u32, object: &Object) -> Result<(), Alloc
 }
 
 // Puts the objects of layers and of those in them, where so many groups may stand in one another.
-fn put_objects(out: &mut Writer, layers: &Chain<Layer>, room: usize) -> Result<(), AllocError> {
+fn put_objects(out: &mut Writer, layers: &Chain<Layer>, groups: usize) -> Result<(), AllocError> {
     for layer in layers.iter() {
         match &layer.body {
             Body::Objects(objects) => put_objects_of(out, layer.id, objects)?,
-            Body::Group(inside) if room > 0 => put_objects(out, inside, room - 1)?,
+            Body::Group(inside) if groups > 0 => put_objects(out, inside, groups - 1)?,
             _ => {}
         }
     }
@@ -188,13 +188,13 @@ fn put_layers(
     out: &mut Writer,
     group: Option<u32>,
     layers: &Chain<Layer>,
-    room: usize,
+    groups: usize,
 ) -> Result<(), AllocError> {
     for layer in layers.iter() {
         put_layer(out, group, layer)?;
         if let Some(inside) = layer.body.layers() {
-            if room > 0 {
-                put_layers(out, Some(layer.id), inside, room - 1)?;
+            if groups > 0 {
+                put_layers(out, Some(layer.id), inside, groups - 1)?;
             }
         }
     }

@@ -6,9 +6,9 @@ use map_model::{Body, Layer, MapParts, Object, PropValue, Property, Tileset};
 use std::io::{self, Write};
 use tile_id::Gid;
 
-// Begins the line of a thing that stands so many levels below the map.
-fn write_indent<W: Write>(level: usize, output: &mut W) -> io::Result<()> {
-    for _ in 0..level {
+// Begins the line of a thing that stands so far below the map.
+fn write_indent<W: Write>(indent: usize, output: &mut W) -> io::Result<()> {
+    for _ in 0..indent {
         output.write_all(b"  ")?;
     }
     Ok(())
@@ -39,12 +39,12 @@ fn write_key<W: Write>(name: &str, kind: &str, output: &mut W) -> io::Result<()>
 }
 
 fn write_properties<W: Write>(
-    level: usize,
+    indent: usize,
     properties: &Chain<Property>,
     output: &mut W,
 ) -> io::Result<()> {
     for property in properties.iter() {
-        write_indent(level, output)?;
+        write_indent(indent, output)?;
         write_key(property.name.as_str(), property.kind.as_str(), output)?;
         write_value(&property.value, output)?;
     }
@@ -52,18 +52,18 @@ fn write_properties<W: Write>(
 }
 
 // Writes an object; a place that the file leaves out is 0.
-fn write_object<W: Write>(level: usize, object: &Object, output: &mut W) -> io::Result<()> {
+fn write_object<W: Write>(indent: usize, object: &Object, output: &mut W) -> io::Result<()> {
     let id = object.id;
     let x = object.placing.x.unwrap_or(0);
     let y = object.placing.y.unwrap_or(0);
-    write_indent(level, output)?;
+    write_indent(indent, output)?;
     write!(output, "object {id}")?;
     if let Some(name) = &object.name {
         let name = name.as_str();
         write!(output, " {name:?}")?;
     }
     writeln!(output, " at {x}, {y}")?;
-    write_properties(level.saturating_add(1), &object.properties, output)
+    write_properties(indent.saturating_add(1), &object.properties, output)
 }
 
 fn kind_of(body: &Body) -> &'static str {
@@ -83,17 +83,17 @@ fn write_cells<W: Write>(cells: &[Gid], output: &mut W) -> io::Result<()> {
 }
 
 // Writes a layer without the layers in it.
-fn write_layer<W: Write>(level: usize, layer: &Layer, output: &mut W) -> io::Result<()> {
+fn write_layer<W: Write>(indent: usize, layer: &Layer, output: &mut W) -> io::Result<()> {
     let kind = kind_of(&layer.body);
     let id = layer.id;
     let name = layer.name.as_str();
-    write_indent(level, output)?;
+    write_indent(indent, output)?;
     write!(output, "{kind} {id} {name:?}")?;
     if let Some(cells) = layer.body.tiles() {
         write_cells(cells, output)?;
     }
     writeln!(output, "")?;
-    let inside = level.saturating_add(1);
+    let inside = indent.saturating_add(1);
     write_properties(inside, &layer.properties, output)?;
     if let Body::Objects(objects) = &layer.body {
         for object in objects.iter() {
@@ -105,16 +105,16 @@ fn write_layer<W: Write>(level: usize, layer: &Layer, output: &mut W) -> io::Res
 
 // Writes layers and those in them, where so many groups may stand in one another.
 fn write_layers<W: Write>(
-    level: usize,
+    indent: usize,
     layers: &Chain<Layer>,
-    room: usize,
+    groups: usize,
     output: &mut W,
 ) -> io::Result<()> {
     for layer in layers.iter() {
-        write_layer(level, layer, output)?;
+        write_layer(indent, layer, output)?;
         if let Some(inside) = layer.body.layers() {
-            if room > 0 {
-                write_layers(level.saturating_add(1), inside, room - 1, output)?;
+            if groups > 0 {
+                write_layers(indent.saturating_add(1), inside, groups - 1, output)?;
             }
         }
     }

@@ -1,14 +1,14 @@
 // The place of a fault in the tree of a file, and what stands there.
 use crate::shown::{is_shown_plain, write_short};
 use json::Writer;
-use map_json::{Step, Trail};
+use map_json::{Segment, Trail};
 use serde_json::Value;
 use std::alloc::{AllocError, Global};
 use std::io::{self, Write};
 
 // A step from a value to one in it, with a name of its own.
 #[derive(Drop)]
-enum OwnStep {
+enum OwnSegment {
     Member(String),
     Element(usize),
 }
@@ -17,7 +17,7 @@ enum OwnStep {
 #[derive(Drop)]
 pub struct Place {
     alloc: Global,
-    steps: Vec<OwnStep>,
+    steps: Vec<OwnSegment>,
     is_lost: bool,
 }
 
@@ -36,10 +36,10 @@ impl Place {
         self.is_lost
     }
 
-    fn push(&mut self, step: Step<'_>) -> Result<(), AllocError> {
+    fn push(&mut self, step: Segment<'_>) -> Result<(), AllocError> {
         let step = match step {
-            Step::Member(name) => OwnStep::Member(String::from_str(self.alloc, name)?),
-            Step::Element(at) => OwnStep::Element(at),
+            Segment::Member(name) => OwnSegment::Member(String::from_str(self.alloc, name)?),
+            Segment::Element(at) => OwnSegment::Element(at),
         };
         self.steps.push(step)?;
         Ok(())
@@ -70,8 +70,8 @@ impl Place {
         out.begin_array()?;
         for step in &self.steps {
             match step {
-                OwnStep::Member(name) => out.string(name.as_str())?,
-                OwnStep::Element(at) => out.u64(*at as u64)?,
+                OwnSegment::Member(name) => out.string(name.as_str())?,
+                OwnSegment::Element(at) => out.u64(*at as u64)?,
             }
         }
         out.end_array()
@@ -79,7 +79,7 @@ impl Place {
 }
 
 impl Trail for Place {
-    fn enter(&mut self, step: Step<'_>) {
+    fn enter(&mut self, step: Segment<'_>) {
         if !self.is_lost && self.push(step).is_err() {
             self.is_lost = true;
         }
@@ -91,22 +91,22 @@ impl Trail for Place {
 }
 
 // What stands behind a step.
-fn step_into<'a>(value: &'a Value, step: &OwnStep) -> Option<&'a Value> {
+fn step_into<'a>(value: &'a Value, step: &OwnSegment) -> Option<&'a Value> {
     match step {
-        OwnStep::Member(name) => value.get(name.as_str()),
-        OwnStep::Element(at) => value.get(*at),
+        OwnSegment::Member(name) => value.get(name.as_str()),
+        OwnSegment::Element(at) => value.get(*at),
     }
 }
 
 fn write_step<W: Write>(
     alloc: Global,
-    step: &OwnStep,
+    step: &OwnSegment,
     is_first: bool,
     output: &mut W,
 ) -> io::Result<()> {
     let name = match step {
-        OwnStep::Element(at) => return write!(output, "[{at}]"),
-        OwnStep::Member(name) => name.as_str(),
+        OwnSegment::Element(at) => return write!(output, "[{at}]"),
+        OwnSegment::Member(name) => name.as_str(),
     };
     if !is_shown_plain(name) {
         output.write_all(b"[")?;

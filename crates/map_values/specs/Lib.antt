@@ -1,4 +1,4 @@
-pub mod Steps
+pub mod Presence
 pub mod Scalars
 pub mod Cells
 pub mod Arrays

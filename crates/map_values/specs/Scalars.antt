@@ -5,11 +5,11 @@ use Rattle.serde_json.specs.Data.{Data, Members, boolean, number, string}
 use Rattle.serde_json.specs.Find.{as_number, as_u64, as_i64, as_str, as_bool, get_member, of_integer}
 use Rattle.map_model.specs.declared.limits.TheConstants.{MAX_NEXT_ID, MAX_PIXELS}
 use Rattle.map_model.specs.Format.{Kind, Whole, Pixels, Text, Truth, Member}
-use Rattle.map_model.specs.Steps.{◌>>=◌}
+use Rattle.map_model.specs.Refusing.{◌>>=◌}
 use Rattle.refusals.specs.declared.map_refusal.MapRefusal.{MapRefusal}
 use Rattle.refusals.specs.declared.map_refusal.MapRefusal.TheVariants.{MemberOfAnotherKind, OverLimit}
 use Rattle.map_values.specs.Arrays.{whole_tree}
-use Rattle.map_values.specs.Steps.{required, absent_means, optional}
+use Rattle.map_values.specs.Presence.{required, absent_means, optional}
 
 -- a whole number from low to high
 unfoldable pub whole_at : ℕ → ℕ → Data → Result ℕ MapRefusal

@@ -6,12 +6,12 @@ ghost use Rattle.base64.specs.GeneralPurpose.{decode_of, encode_of, IsDecodeFail
 ghost use Rattle.serde_json.specs.Data.{string};
 ghost use Rattle.serde_json.specs.View.{view as data_of, items_view};
 ghost use Rattle.map_model.specs.declared.limits.TheConstants.{MAX_CELLS};
-ghost use Rattle.map_values.specs.Steps.{Gives, GivesBy};
+ghost use Rattle.map_values.specs.Presence.{Gives, GivesBy};
 ghost use Rattle.map_values.specs.Cells.{is_blank, cell_of, cells_of, array_cells_at, base64_cells_at, packed, words_of, bytes_of};
 ghost use Rattle.refusals.specs.declared.map_refusal.MapRefusal.TheVariants.{BadData};
 
 use crate::fault::MapFault;
-use crate::trail::{Step, Trail};
+use crate::trail::{Segment, Trail};
 use base64::engine::general_purpose::STANDARD;
 use base64::{DecodeAllocError, encoded_len};
 use map_model::Cells;
@@ -41,7 +41,7 @@ fn cells<T: Trail>(alloc: Global, values: &Vec<Value>, trail: &mut T) -> Result<
     let mut found = Vec::with_capacity(alloc, values.len())?;
     for (at, value) in values.iter().enumerate() {
         let Some(cell) = cell(value) else {
-            trail.enter(Step::Element(at));
+            trail.enter(Segment::Element(at));
             return Err(MapFault::Refused(MapRefusal::BadData));
         };
         found.push(cell)?;

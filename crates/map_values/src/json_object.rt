@@ -5,7 +5,7 @@ ghost use Rattle.serde_json.specs.Find.{get_member, as_object};
 ghost use Rattle.serde_json.specs.View.{view as data_of, members_view};
 ghost use Rattle.json_members.specs.Members.{without, put_some};
 
-use crate::trail::{Step, Trail};
+use crate::trail::{Segment, Trail};
 use map_model::Kept;
 use serde_json::{Map, Value};
 use std::alloc::{AllocError, Global};
@@ -69,7 +69,7 @@ impl JsonObject {
         ensures found { option_map data_of result ≡ get_member name.now self.old }
         ensures left { self.new ≡ without name.now self.old }
     {
-        trail.enter(Step::Member(name));
+        trail.enter(Segment::Member(name));
         self.take(name)
     }
 

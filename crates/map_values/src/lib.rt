@@ -16,4 +16,4 @@ pub use scalar::{
     optional_pixels, optional_text, optional_truth, optional_whole, required_id, required_next_id,
     required_text, required_whole, text_or, truth_or,
 };
-pub use trail::{NoTrail, Step, Trail};
+pub use trail::{NoTrail, Segment, Trail};

@@ -4,7 +4,7 @@ ghost use Rattle.serde_json.specs.Find.{get_member};
 ghost use Rattle.serde_json.specs.View.{view as data_of};
 ghost use Rattle.map_model.specs.declared.names.TheConstants.{ID};
 ghost use Rattle.json_members.specs.Members.{without};
-ghost use Rattle.map_values.specs.Steps.{required, absent_means, optional, Gives};
+ghost use Rattle.map_values.specs.Presence.{required, absent_means, optional, Gives};
 ghost use Rattle.map_values.specs.Scalars.{whole_at, text_at, truth_at, id_at, pixels_at};
 
 use crate::fault::MapFault;

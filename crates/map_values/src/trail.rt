@@ -2,7 +2,7 @@
 
 /// A step from a value of a file to one in it.
 #[derive(Clone, Copy)]
-pub enum Step<'a> {
+pub enum Segment<'a> {
     /// To the member of this name, which may be absent.
     Member(&'a str),
     /// To the element at this place, counted from 0.
@@ -12,7 +12,7 @@ pub enum Step<'a> {
 /// What is told of the way of a reader. The reader begins at the root, and leaves what has no fault.
 pub trait Trail {
     /// The reader goes a step on.
-    fn enter(&mut self, step: Step<'_>);
+    fn enter(&mut self, step: Segment<'_>);
 
     /// The reader goes back by its last step.
     fn leave(&mut self);
@@ -24,7 +24,7 @@ pub struct NoTrail;
 
 impl Trail for NoTrail {
     #[inline(always)]
-    fn enter(&mut self, _step: Step<'_>) {}
+    fn enter(&mut self, _step: Segment<'_>) {}
 
     #[inline(always)]
     fn leave(&mut self) {}

@@ -13,11 +13,11 @@ use Rattle.map_model.specs.Layers.{with_next_ids}
 use Rattle.map_model.specs.Objects.{objects_of, objects_of_layer, object_at, last_object_place, sibling_object_place, with_objects, with_object_at}
 use Rattle.map_model.specs.Objects.{without_object_at}
 use Rattle.map_model.specs.NewMap.{new_object}
-use Rattle.map_model.specs.Properties.{level_of}
+use Rattle.map_model.specs.Properties.{tier_of}
 use Rattle.map_model.specs.Lookups.{layer_of}
 use Rattle.map_model.specs.Slot.{next_object_slot}
 use Rattle.map_model.specs.WellFormed.{IsPixels, IsWellFormed}
-use Rattle.map_model.proofs.Lookups.{level_of-low}
+use Rattle.map_model.proofs.Lookups.{tier_of-low}
 use Rattle.map_model.proofs.NewMaps.{new_object-IsObject}
 use Rattle.map_model.proofs.ObjectKeeps.{numbered_object-keeps, with_objects-along}
 use Rattle.map_model.proofs.SlotLaws.{next_object_slot-laws}
@@ -112,7 +112,7 @@ pub add_made : (d : DocumentParts) (layer : ℕ) (x y : ℤ) (width height : ℕ
 add_made d layer x y width height name os loose utf8 objects left top size few below h is =
     let there = listed (layer_of d.map layer) os objects in
     let o = new_object d.map.next_object_id (placing_of x y width height) name in
-    let object = new_object-IsObject (level_of d.map layer) d.map.next_object_id (placing_of x y width height) name utf8 (level_of-low d.map layer)
+    let object = new_object-IsObject (tier_of d.map layer) d.map.next_object_id (placing_of x y width height) name utf8 (tier_of-low d.map layer)
     (placing_of-IsPlacing x y width height left top size) in
     rw is (
     link_made refl (record {

@@ -179,13 +179,16 @@ impl Command for PlaceObject {
     }
 
     fn offer(&self) -> Offer<'_> {
+        if !self.follows {
+            return Offer::Nothing;
+        }
         match self.kind {
-            PlacingKind::Move if self.follows => Offer::Place {
+            PlacingKind::Move => Offer::Place {
                 object: self.object,
                 before: self.placing.get(),
                 after: self.after.get(),
             },
-            _ => Offer::Nothing,
+            PlacingKind::Resize => Offer::Nothing,
         }
     }
 

@@ -11,15 +11,15 @@ use Rattle.map_model.specs.declared.setting.Scalar.{Scalar}
 use Rattle.map_model.specs.declared.setting.Setting.{Setting}
 use Rattle.map_model.specs.Document.{DocumentParts, with_map}
 use Rattle.map_model.specs.Given.{given_setting}
-use Rattle.map_model.specs.Keeping.{property_level}
+use Rattle.map_model.specs.Keeping.{property_tier}
 use Rattle.map_model.specs.Lens.{put, update_found}
-use Rattle.map_model.specs.Properties.{has_name, new_property, owner_level, properties_of, property_at, scalar_value, setting_of, setting_with}
+use Rattle.map_model.specs.Properties.{has_name, new_property, owner_tier, properties_of, property_at, scalar_value, setting_of, setting_with}
 use Rattle.map_model.specs.Properties.{property_with_setting, with_property, with_property_at, without_property_at, IsSetting}
 use Rattle.map_model.specs.PropertyLenses.{properties, property_slot, setting_at, setting_named, setting_place, without_setting}
 use Rattle.map_model.specs.WellFormed.{IsValue, IsWellFormed}
 use Rattle.map_model.proofs.Changes.{length-insert, slice_get-insert}
 use Rattle.map_model.proofs.FoundLaws.{found-get, found-update}
-use Rattle.map_model.proofs.PropertyKeeps.{owner_level-with_properties}
+use Rattle.map_model.proofs.PropertyKeeps.{owner_tier-with_properties}
 use Rattle.map_model.proofs.PropertyLaws.{properties-laws, property_slot-laws}
 use Rattle.map_model.proofs.StayPut.{setting_place-added, setting_named-keeps, setting_named-laws, without_setting-none, without-put, new_property-put}
 use Rattle.command_api.specs.Exchange.{FitsTurn, IsExchanged, change_of}
@@ -63,14 +63,14 @@ pub set-there : (owner : Owner) (name : List ℕ) (place : OwnerPlace) (at : ℕ
 set-there owner name place at false after held d h = property_at-given owner name place at d h.allowed.stands h.given.0
 set-there owner name place at true after held d h = property_at-given owner name place at d h.allowed.stands (rw h.given refl)
 
--- a setting changes no level
-setting_named-level : (owner : Owner) (name : List ℕ) (f : Setting → Setting) (d : DocumentParts) (place : OwnerPlace)
-    → owner_level ((setting_named owner name).update f d).map place ≡ owner_level d.map place
-setting_named-level owner name f d place = by_place (setting_place owner name d)
+-- a setting changes no tier
+setting_named-tier : (owner : Owner) (name : List ℕ) (f : Setting → Setting) (d : DocumentParts) (place : OwnerPlace)
+    → owner_tier ((setting_named owner name).update f d).map place ≡ owner_tier d.map place
+setting_named-tier owner name f d place = by_place (setting_place owner name d)
   where
-    by_place : (o : Option (OwnerPlace × ℕ)) → owner_level (update_found (λ k. setting_at k.0 k.1) f d o).map place ≡ owner_level d.map place
+    by_place : (o : Option (OwnerPlace × ℕ)) → owner_tier (update_found (λ k. setting_at k.0 k.1) f d o).map place ≡ owner_tier d.map place
     by_place None = refl
-    by_place (Some k) = owner_level-with_properties k.0 _ d.map place
+    by_place (Some k) = owner_tier-with_properties k.0 _ d.map place
 
 module _ (owner : Owner) (name : List ℕ) (place : OwnerPlace) (at : ℕ) (d : DocumentParts) (s held : Setting) where
   pub AllowsSetting-put : setting_place owner name d ≡ Some (place, at) → IsSetting (put (setting_named owner name) s d).map place held
@@ -82,7 +82,7 @@ module _ (owner : Owner) (name : List ℕ) (place : OwnerPlace) (at : ℕ) (d : 
     stands = sym (setting_named-keeps owner name (λ own. s) d) ∙ h.stands;
     setting = record {
       kind = h.setting.kind;
-      value = subst (λ n. IsValue (property_level n) held.value) (setting_named-level owner name (λ own. s) d place) h.setting.value;
+      value = subst (λ n. IsValue (property_tier n) held.value) (setting_named-tier owner name (λ own. s) d place) h.setting.value;
     };
   }
 

@@ -12,7 +12,7 @@ use Rattle.undo_stack.specs.History.{History, current}
 use Rattle.map_model.specs.declared.parts.MapParts.{MapParts}
 use Rattle.undo_stack.specs.Reading.{action_at, text_at}
 use Rattle.session.specs.declared.reply.Reply.{Reply}
-use Rattle.document_lines.specs.Steps.{StepIn}
+use Rattle.document_lines.specs.Rules.{MachineStepIn}
 use Rattle.document_lines.specs.Machine.{Machine, Workspace, active_of, workspace}
 use Rattle.editor.specs.Kinds.{Kinds, StepKindsIn, macros_at}
 use Rattle.map_store.specs.Files.{Files}
@@ -34,7 +34,7 @@ workspace_of s = workspace s.machine (record { files = s.files; failures = 0; ho
 
 -- a line leads on: the machine and the files do its step, with the reply to it, and it says which steps are macros then
 pub record StepsTo (line : List ℕ) (old new : SessionParts) : Type 0 where
-  pub step : StepIn line (workspace_of old) new.reply (workspace_of new)
+  pub step : MachineStepIn line (workspace_of old) new.reply (workspace_of new)
   pub kinds : StepKindsIn line old.machine new.reply new.machine old.kinds new.kinds
 
 -- ---- of the active document, where there is one

@@ -10,7 +10,7 @@ use Rattle.session.specs.declared.reply.Reply.TheVariants.{Refused}
 use Rattle.document_lines.specs.declared.planned.Edit.{Edit}
 use Rattle.document_lines.specs.declared.planned.Planned.TheVariants as planned
 use Rattle.document_lines.specs.Machine.{Machine, Workspace, active_of, workspace}
-use Rattle.document_lines.specs.Steps.{Edits, OnActive, OnDocuments, OnFiles, Rule, Step, rule_of}
+use Rattle.document_lines.specs.Rules.{Edits, OnActive, OnDocuments, OnFiles, Rule, MachineStep, rule_of}
 use Rattle.document_lines.specs.Planning.{IsOfActive, edit_change}
 use Rattle.editor.specs.Kinds.{CommitKinds, Kinds, StepKinds}
 use Rattle.editor.specs.Planning.{Commits, IsEditOf, Plans}
@@ -33,16 +33,16 @@ same-IsSame v w e = record {
 -- the edit was committed, in a command that does the same
 pub push_step : (line : Line) (old mid : Workspace) (new : Machine) (edit : Edit) (w : Change) (reply : Reply) → Plans line old (planned.Push edit) mid
     → IsSame (edit_change edit) w
-    → Commits (active_of mid.machine) w reply mid.machine new → Step line old (Some reply) (workspace new mid.stored)
+    → Commits (active_of mid.machine) w reply mid.machine new → MachineStep line old (Some reply) (workspace new mid.stored)
 push_step line old mid new edit w reply p same c =
     let P : Workspace → Type 0 = λ m. Commits (active_of m.machine) w reply m.machine new in
-    let Q : Workspace → Type 0 = λ m. Step line old (Some reply) (workspace new m.stored) in
+    let Q : Workspace → Type 0 = λ m. MachineStep line old (Some reply) (workspace new m.stored) in
     subst Q (sym p.0) (commit_step line old.machine new old.stored (edit_change edit) w reply p.1 same (subst P p.0 c))
 
 -- there was no memory for a command
-pub unput_step : (line : Line) (old mid : Workspace) (edit : Edit) → Plans line old (planned.Push edit) mid → Step line old (Some (Refused NoMemory)) mid
+pub unput_step : (line : Line) (old mid : Workspace) (edit : Edit) → Plans line old (planned.Push edit) mid → MachineStep line old (Some (Refused NoMemory)) mid
 unput_step line old mid edit p =
-    let Q : Workspace → Type 0 = λ m. Step line old (Some (Refused NoMemory)) m in
+    let Q : Workspace → Type 0 = λ m. MachineStep line old (Some (Refused NoMemory)) m in
     subst Q (sym p.0) (uncommitted line old.machine old.stored (edit_change edit) p.1)
 
 -- an edit is a line about the active document

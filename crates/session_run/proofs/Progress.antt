@@ -20,7 +20,7 @@ use Rattle.session.specs.declared.reply.Reply.TheVariants.{Refused}
 use Rattle.session.specs.Grammar.{line_of}
 use Rattle.session.specs.Replies.{refusal_of}
 use Rattle.document_lines.specs.Machine.{Workspace}
-use Rattle.document_lines.specs.Steps.{StepIn}
+use Rattle.document_lines.specs.Rules.{MachineStepIn}
 use Rattle.session_run.specs.Runs.{Run, TakesBeginning, IsAccepted, output, reply_line}
 use Rattle.session_run.specs.StrictRuns.{refused_text}
 use Rattle.session_run.specs.WithinRuns.{Going, Goes, StepFound, StopsInWrite, StopsRefused, StopsUnread, StopsUnwritten}
@@ -31,10 +31,10 @@ unfolding line_of
 too_long long h = rw (lt-ltb MAX_LINE (length long) (omega (arith, h))) refl
 
 run_more : (handled : List (List ℕ)) (line : List ℕ) (from now mid : Workspace) (replies : List Reply) (reply : Option Reply) → Run from handled replies now
-    → StepIn line now reply mid
+    → MachineStepIn line now reply mid
     → Run from (handled ++ line ∷ []) (replies ++ option_to_list reply) mid
 run_more [] line from now mid replies reply r s =
-    let P : Workspace → Type 0 = λ m. StepIn line m reply mid in
+    let P : Workspace → Type 0 = λ m. MachineStepIn line m reply mid in
     (mid, reply, [], subst P r.1 s, (refl, refl), ap (λ rs. rs ++ option_to_list reply) r.0 ∙ sym (append-nil (option_to_list reply)))
 run_more (l ∷ handled) line from now mid replies reply r s = (
   r.0,
@@ -73,7 +73,7 @@ stops_before None = tt
 stops_before (Some xs) = ([], All-nil (λ b. b ≢ 10), refl)
 
 -- a long line is refused as such
-too_long_refused : (long : List ℕ) (old new : Workspace) (refusal : Refusal) → 2 ^ 16 ≤ length long → StepIn long old (Some (Refused refusal)) new
+too_long_refused : (long : List ℕ) (old new : Workspace) (refusal : Refusal) → 2 ^ 16 ≤ length long → MachineStepIn long old (Some (Refused refusal)) new
     → refusal ≡ LineRefusal TooLong
 too_long_refused long old new refusal size s =
     let step = rw (too_long long size) at s in
@@ -83,7 +83,7 @@ too_long_refused long old new refusal size s =
 -- a run that began at start
 module _ (strict : Bool) (start : Workspace) where
   going_more : (input line : List ℕ) (left : List (List ℕ)) (now mid : Workspace) (reply : Option Reply) (before after after' : Option (List ℕ)) (n k : ℕ)
-      → Going strict start input (line ∷ left) now before after n k → StepIn line now reply mid → Appends after after' (output (option_to_list reply))
+      → Going strict start input (line ∷ left) now before after n k → MachineStepIn line now reply mid → Appends after after' (output (option_to_list reply))
       → (IsTrue strict → All IsAccepted (option_to_list reply)) → Going strict start input left mid before after' (n + 1) (k + length (option_to_list reply))
   going_more input line left now mid reply before after after' n k g s w a =
       let joined : output (g.progress.replies ++ option_to_list reply) ≡ output g.progress.replies ++ output (option_to_list reply) =
@@ -197,7 +197,7 @@ module _ (strict : Bool) (start : Workspace) where
       )
 
   going_unwritten : (input line : List ℕ) (left : List (List ℕ)) (mid now : Workspace) (reply : Reply) (before after after' : Option (List ℕ)) (n k : ℕ)
-      → Going strict start input (line ∷ left) mid before after n k → StepIn line mid (Some reply) now → TakesBeginning (reply_line reply) after after'
+      → Going strict start input (line ∷ left) mid before after n k → MachineStepIn line mid (Some reply) now → TakesBeginning (reply_line reply) after after'
       → StopsUnwritten strict start input before after' now.stored
   going_unwritten input line left mid now reply before after after' n k g s w = (
     record {
@@ -273,7 +273,7 @@ module _ (strict : Bool) (start : Workspace) where
   }
 
   going_refused : (input line shown : List ℕ) (left : List (List ℕ)) (mid now : Workspace) (refusal : Refusal) (before after after' : Option (List ℕ)) (n k : ℕ)
-      → Going strict start input (line ∷ left) mid before after n k → StepIn line mid (Some (Refused refusal)) now
+      → Going strict start input (line ∷ left) mid before after n k → MachineStepIn line mid (Some (Refused refusal)) now
       → Appends after after' (reply_line (Refused refusal)) → IsTrue strict
       → refused_text line refusal ≡ refused_text shown refusal → StopsRefused start input refusal now.stored shown before after' (n + 1)
   going_refused input line shown left mid now refusal before after after' n k g s w h e = record {

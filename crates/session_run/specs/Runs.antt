@@ -7,13 +7,13 @@ use Rattle.session.specs.declared.reply.Reply.{Reply}
 use Rattle.session.specs.Replies.{refusal_of, reply_text}
 use Rattle.document_lines.specs.Machine.{Machine, Workspace, workspace}
 use Rattle.map_store.specs.Files.{StoreParts}
-use Rattle.document_lines.specs.Steps.{StepIn}
+use Rattle.document_lines.specs.Rules.{MachineStepIn}
 
 -- what may be replied to lines, one after another, and where they lead
 abbrev pub Run : Workspace → List (List ℕ) → List Reply → Workspace → Type 0
 Run old [] replies new = (replies ≡ []) × (new ≡ old)
 Run old (line ∷ lines) replies new = (mid : Workspace) × (reply : Option Reply) × (rest : List Reply)
-    × StepIn line old reply mid × Run mid lines rest new × (replies ≡ option_to_list reply ++ rest)
+    × MachineStepIn line old reply mid × Run mid lines rest new × (replies ≡ option_to_list reply ++ rest)
 
 -- a reply as it is written, and all replies
 abbrev pub reply_line : Reply → List ℕ
@@ -71,5 +71,5 @@ pub record RunsToWrite (start : Workspace) (input : List ℕ) (before after : Op
   pub progress : Progress start input (line ∷ left) mid before written lines replied
   pub reply : Reply
   pub now : Machine
-  pub step : StepIn line mid (Some reply) (workspace now stored)
+  pub step : MachineStepIn line mid (Some reply) (workspace now stored)
   pub beginning : TakesBeginning (reply_line reply) written after

@@ -13,7 +13,7 @@ use Rattle.undo_stack.specs.History.{History, is_clean}
 use Rattle.undo_group.specs.Groups.{OpenDocument}
 use Rattle.map_store.specs.Files.{StoreParts}
 use Rattle.document_lines.specs.Machine.{Machine, Workspace, workspace}
-use Rattle.document_lines.specs.Steps.{StepIn}
+use Rattle.document_lines.specs.Rules.{MachineStepIn}
 use Rattle.session_run.specs.Runs.{IsAccepted, Progress, RunsAll, RunsToUnread, RunsToWrite, reply_line}
 use Rattle.session_run.specs.declared.strict.Unsaved.{Unsaved}
 use Rattle.session_run.specs.declared.strict.Unsaved.TheVariants.{Changes, OpenMacro}
@@ -53,7 +53,7 @@ pub record RunsToRefused (start : Workspace) (input : List ℕ) (before after : 
   pub accepted : AreAccepted progress.replies
   pub refusal : Refusal
   pub now : Machine
-  pub step : StepIn line mid (Some (Refused refusal)) (workspace now stored)
+  pub step : MachineStepIn line mid (Some (Refused refusal)) (workspace now stored)
   pub reply : Appends written after (reply_line (Refused refusal))
 
 -- as each run that a fault ends, and no line before was refused

@@ -12,7 +12,7 @@ use Rattle.map_store.specs.Files.{StoreParts}
 use Rattle.document_lines.specs.declared.planned.Edit.{Edit}
 use Rattle.document_lines.specs.Machine.{Workspace}
 use Rattle.document_lines.specs.Planning.{edit_change}
-use Rattle.document_lines.specs.Steps.{StepIn}
+use Rattle.document_lines.specs.Rules.{MachineStepIn}
 use Rattle.session_run.specs.Runs.{Progress, RunsAll, RunsToUnread, RunsToWrite}
 use Rattle.session_run.specs.StrictRuns.{AreAccepted, AreClean, RunsToRefused, Tells, TellsDocuments, TellsOneLine, TellsRefused, TellsUnsaved, Told}
 use Rattle.session_run.specs.StrictRuns.{refused_text, unsaved_told}
@@ -43,7 +43,7 @@ PutsSame change edit None = ⊤
 PutsSame change edit (Some command) = IsSame (edit_change edit) (change command)
 
 abbrev pub StepFound : Found → List ℕ → Workspace → Option Reply → Workspace → Type 0
-StepFound found line old reply new = OfFound found line (λ bytes. StepIn bytes old reply new)
+StepFound found line old reply new = OfFound found line (λ bytes. MachineStepIn bytes old reply new)
 
 -- ---- how lines end
 -- a strict run stops at a refused line, whose text is that of the line at hand

@@ -2,7 +2,7 @@ ghost use Rattle.std.specs.Prelude.{◌≡◌, ◌≤◌, [], Option, IsErrOf, I
 ghost use Rattle.undo_stack.specs.declared.limits.TheConstants.{MAX_LIMIT};
 ghost use Rattle.document_lines.specs.declared.planned.Edit.{Edit};
 ghost use Rattle.document_lines.specs.Machine.{started_machine, workspace};
-ghost use Rattle.document_lines.specs.Steps.{Step, StepIn};
+ghost use Rattle.document_lines.specs.Rules.{MachineStep, MachineStepIn};
 ghost use Rattle.editor.specs.Editors.{IsSound, machine_of};
 ghost use Rattle.editor.specs.Kinds.{StepKinds, StepKindsIn, kinds_in};
 ghost use Rattle.session.specs.Spelling.{CanBeSpelled};
@@ -84,7 +84,7 @@ fn carry_out<C: Command, S: MapStore, F: Fn(Edit) -> Option<C>>(
     requires callable { F.IsAlwaysCallable put.now }
     requires same { (edit : Edit) (command : Option C) → F.post put.now edit command → PutsSame C.change edit command }
     ensures sound { IsSound C.change editor.new }
-    ensures step { Step line.now
+    ensures step { MachineStep line.now
         (workspace (machine_of C.change editor.old) (S.stored store.old)) result (workspace (machine_of C.change editor.new) (S.stored store.new)) }
     ensures kinds { StepKinds line.now (machine_of C.change editor.old) result (machine_of C.change editor.new) (kinds_in editor.old) (kinds_in editor.new) }
     ensures asks { LineAsks line.now (machine_of C.change editor.old) result (S.asked store.old) (S.asked store.new) }
@@ -115,7 +115,7 @@ pub fn step<C: Command, S: MapStore, F: Fn(Edit) -> Option<C>>(
     requires callable { F.IsAlwaysCallable put.now }
     requires same { (edit : Edit) (command : Option C) → F.post put.now edit command → PutsSame C.change edit command }
     ensures sound { IsSound C.change editor.new }
-    ensures step { StepIn line.now
+    ensures step { MachineStepIn line.now
         (workspace (machine_of C.change editor.old) (S.stored store.old)) result (workspace (machine_of C.change editor.new) (S.stored store.new)) }
     ensures kinds { StepKindsIn line.now (machine_of C.change editor.old) result (machine_of C.change editor.new) (kinds_in editor.old) (kinds_in editor.new) }
     ensures asks { AsksIn line.now (machine_of C.change editor.old) result (S.asked store.old) (S.asked store.new) }

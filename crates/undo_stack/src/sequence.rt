@@ -123,6 +123,10 @@ impl<C: Command> Sequence<C> {
         ensures joined { TakesIn C.change command.now document.now (target_in self.old) result (target_in self.new) }
         ensures nests { MergesNestings self.old result self.new }
     {
+        // Where no entry is below the index, none takes the command in.
+        if self.index == 0 {
+            return Ok(false);
+        }
         // The offer is lent where it was made: it is larger than most commands.
         self.merge_offered(alloc, command, &command.offer(), document)
     }
@@ -136,6 +140,7 @@ impl<C: Command> Sequence<C> {
         offer: &Offer<'_>,
         document: &Document,
     ) -> Result<bool, AllocError>
+        requires some { 0 < self.old.index }
         requires offer { IsOfferOf (C.change command.now) (shown_of offer.now) }
         requires held { IsHeld C.change ((C.change command.now).undone document.now) self.old }
         requires fits { (C.change command.now).fits_undo document.now }
@@ -158,6 +163,7 @@ impl<C: Command> Sequence<C> {
         offer: &Offer<'_>,
         document: &Document,
     ) -> Result<bool, AllocError>
+        requires some { 0 < self.old.index }
         requires offer { IsOfferOf (C.change command.now) (shown_of offer.now) }
         requires held { IsHeld C.change ((C.change command.now).undone document.now) self.old }
         requires fits { (C.change command.now).fits_undo document.now }
@@ -165,9 +171,6 @@ impl<C: Command> Sequence<C> {
         ensures joined { TakesIn C.change command.now document.now (target_in self.old) result (target_in self.new) }
         ensures nests { MergesNestings self.old result self.new }
     {
-        if self.index == 0 {
-            return Ok(false);
-        }
         if self.clean == Some(self.index) {
             return Ok(false);
         }
@@ -244,7 +247,12 @@ impl<C: Command> Sequence<C> {
         ensures room { deque_capacity self.new.entries ≡ deque_capacity self.old.entries }
     {
         if self.index < self.entries.len() {
-            self.entries.truncate(self.index);
+            // Mostly one entry is above the index, that of the step that was undone last.
+            if self.entries.len() - self.index == 1 {
+                let _ = self.entries.pop_back();
+            } else {
+                self.entries.truncate(self.index);
+            }
         }
         self.lose_clean();
     }

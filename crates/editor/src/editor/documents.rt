@@ -14,7 +14,7 @@ ghost use Rattle.document_lines.specs.Acts.{Answers, Closes, Creates, NotTaken, 
 ghost use Rattle.document_lines.specs.Answers.{documents_text, is_active, starred, status_reply};
 ghost use Rattle.document_lines.specs.Machine.{active_of, workspace};
 ghost use Rattle.document_lines.specs.Planning.{KeepsReply};
-ghost use Rattle.document_lines.specs.Steps.{Step};
+ghost use Rattle.document_lines.specs.Rules.{MachineStep};
 ghost use Rattle.editor.specs.Editors.{machine_of, IsHeld, IsSound};
 ghost use Rattle.editor.specs.Asking.{Asks};
 ghost use Rattle.editor.specs.Kinds.{AddsKinds, LosesKinds, UnlessRefused, StepKinds, kinds_in};
@@ -125,7 +125,7 @@ impl<C: Command> Editor<C> {
         requires about { IsOfDocuments line.now }
         ensures held { IsHeld C.change self.new }
         ensures sound { IsSound C.change self.old → IsSound C.change self.new }
-        ensures step { Step line.now (workspace (machine_of C.change self.old) (S.stored store.old)) (Some result) (workspace (machine_of C.change self.new) (S.stored store.new)) }
+        ensures step { MachineStep line.now (workspace (machine_of C.change self.old) (S.stored store.old)) (Some result) (workspace (machine_of C.change self.new) (S.stored store.new)) }
         ensures unchanged { KeepsReply result (machine_of C.change self.old) (machine_of C.change self.new) }
         ensures kinds { StepKinds line.now (machine_of C.change self.old) (Some result) (machine_of C.change self.new) (kinds_in self.old) (kinds_in self.new) }
         ensures asks { Asks line.now (machine_of C.change self.old) result (S.asked store.old) (S.asked store.new) }

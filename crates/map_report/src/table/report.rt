@@ -112,14 +112,14 @@ fn write_layers<W: Write>(
     width: u32,
     layers: &Chain<Layer>,
     group: Option<u32>,
-    room: usize,
+    groups: usize,
     output: &mut W,
 ) -> io::Result<()> {
     for layer in layers.iter() {
         write_layer(width, layer, group, output)?;
         if let Some(inside) = layer.body.layers() {
-            if room > 0 {
-                write_layers(width, inside, Some(layer.id), room - 1, output)?;
+            if groups > 0 {
+                write_layers(width, inside, Some(layer.id), groups - 1, output)?;
             }
         }
     }

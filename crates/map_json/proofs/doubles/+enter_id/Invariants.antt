@@ -3,7 +3,7 @@ use Prim.Native.Nat.{◌^◌}
 use Rattle.map_json.proofs.doubles.+enter_id.Given as goal
 
 abbrev pub decreases-enter_id : goal.decreases-enter_id
-decreases-enter_id g l = l.room
+decreases-enter_id g l = l.groups
 
 abbrev pub invariant-loop-at : goal.invariant-loop-at
 invariant-loop-at g l = record {

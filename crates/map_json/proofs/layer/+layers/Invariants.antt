@@ -8,20 +8,20 @@ use Rattle.map_json.proofs.Loops.{counted_prefix}
 use Rattle.map_json.proofs.layer.+layers.Given as goal
 
 abbrev pub decreases-layers_in : goal.decreases-layers_in
-decreases-layers_in g l = 4 * l.room
+decreases-layers_in g l = 4 * l.groups
 
 abbrev pub decreases-body : goal.decreases-body
-decreases-body g l = 4 * l.room + 1
+decreases-body g l = 4 * l.groups + 1
 
 abbrev pub decreases-layer : goal.decreases-layer
-decreases-layer g l = 4 * l.room + 2
+decreases-layer g l = 4 * l.groups + 2
 
 abbrev pub decreases-each_layer : goal.decreases-each_layer
-decreases-each_layer g l = 4 * l.room + 3
+decreases-each_layer g l = 4 * l.groups + 3
 
 abbrev pub invariant-each_layer-loop-value : goal.invariant-each_layer-loop-value
 invariant-each_layer-loop-value g l =
-    let read = layer_by (layers_at l.room l.size.width l.size.height) l.size.width l.size.height in
+    let read = layer_by (layers_at l.groups l.size.width l.size.height) l.size.width l.size.height in
     (goal.iterator-each_layer-loop-value g).can_next l.value-iterator × (goal.iterator-each_layer-loop-value g).is_finite l.value-iterator
     × (length l.found + length (into_iter_items l.value-iterator) ≡ length l.fn.values.items)
     × (counted_prefix l.found (each_counted read l.count (items_view (into_iter_items l.value-iterator)))

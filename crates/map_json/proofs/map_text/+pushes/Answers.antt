@@ -17,17 +17,17 @@ use Rattle.map_values.specs.Texts.{Appends}
 use Rattle.map_json.specs.Appending.{AreWritten, instead, replaced}
 use Rattle.map_json.specs.Details.{frame_in, layer_in, layers_in, numbers_in}
 use Rattle.map_values.specs.Arrays.{array_by, items_by, whole_tree}
-use Rattle.map_json.proofs.Outlines.{frame_in_plain, layer_in-frame, layer_in-group, layer_in-numbers, layer_in-room}
+use Rattle.map_json.proofs.Outlines.{frame_in_plain, layer_in-frame, layer_in-group, layer_in-numbers, layer_in-groups}
 use Rattle.map_json.proofs.PutMembers.{ArePut, ArePut-none, ArePut-more, ArePut-all}
 use Rattle.map_values.proofs.Returning.{ItemsReturn, ItemsReturn-none, ItemsReturn-item, Returns-array}
 use Rattle.map_json.proofs.Returning.{regroup_item}
 use Rattle.map_json.proofs.Written.{AreWritten-first, AreWritten-rest, AreWritten-inside, AreWritten-lacks, AreWritten-values}
-use Rattle.map_json.proofs.map_text.+pushes.Goals.{push_layer-then-room-gt0+in_default, push_layer-else-room-gt0}
+use Rattle.map_json.proofs.map_text.+pushes.Goals.{push_layer-then-groups-gt0+in_default, push_layer-else-groups-gt0}
 use Rattle.map_json.proofs.map_text.+pushes.Goals as goal
 
 pub push_framed-loop-name-init : goal.push_framed-loop-name-init
 push_framed-loop-name-init t c =
-    let d = layers_in c.args.writing.detail c.args.room c.args.writing.size.width c.args.writing.size.height c.args.layers.now in
+    let d = layers_in c.args.writing.detail c.args.groups c.args.writing.size.width c.args.writing.size.height c.args.layers.now in
     let held : c.into_iter-name-iterator.result ≡ c.members.result.now.entries = search rules in
     ArePut-none LAYERS.now d c.args.frame.now c.push.new.self.items c.into_iter-name-iterator.result
     (ap members_view held ∙ c.members.ensures) c.requires.whole c.requires.shallow
@@ -35,7 +35,7 @@ push_framed-loop-name-init t c =
 pub push_framed-loop-name-preserved : goal.push_framed-loop-name-preserved
 push_framed-loop-name-preserved t c =
     let l = c.loop-name in
-    let d = layers_in c.args.writing.detail c.args.room c.args.writing.size.width c.args.writing.size.height c.args.layers.now in
+    let d = layers_in c.args.writing.detail c.args.groups c.args.writing.size.width c.args.writing.size.height c.args.layers.now in
     let e : Entry = (c.in-Some.name.now, c.in-Some.value.now) in
     let k = string_bytes c.in-Some.name.now in
     let held : c.into_iter-name-iterator.result ≡ c.members.result.now.entries = search rules in
@@ -52,7 +52,7 @@ push_framed-loop-name-preserved t c =
 pub push_framed-returns : goal.push_framed-returns
 push_framed-returns t c =
     let l = c.loop-name in
-    let d = layers_in c.args.writing.detail c.args.room c.args.writing.size.width c.args.writing.size.height c.args.layers.now in
+    let d = layers_in c.args.writing.detail c.args.groups c.args.writing.size.width c.args.writing.size.height c.args.layers.now in
     let none : l.name-iterator ≡ [] = search rules in
     let held : c.into_iter-name-iterator.result ≡ c.members.result.now.entries = search rules in
     let put = subst (λ es. ArePut LAYERS.now d c.args.frame.now c.push.new.self.items c.into_iter-name-iterator.result es l.later l.text.items) none l.invariant
@@ -66,13 +66,13 @@ push_layer-push_framed-requires t c =
     let size = c.args.writing.size.width * c.args.writing.size.height in
     let l = c.args.layer.now in
     let group : group_in l.body ≡ Some c.in-Some.inside.now = search rules in
-    let more : c.args.room ≡ suc (c.args.room - 1) = omega (arith, c.if-room-gt0.true) in
-    let plain = frame_in_plain c.args.writing.detail c.args.room c.args.writing.size.width c.args.writing.size.height l c.requires in
+    let more : c.args.groups ≡ suc (c.args.groups - 1) = omega (arith, c.if-groups-gt0.true) in
+    let plain = frame_in_plain c.args.writing.detail c.args.groups c.args.writing.size.width c.args.writing.size.height l c.requires in
     let deep = plain.1 in
     let is : c.in_ok-frame.frame ≡ frame_in c.args.writing.detail c.args.writing.size.width c.args.writing.size.height l = c.in_ok-frame.ensures in (
-      omega (arith, c.if-room-gt0.true),
+      omega (arith, c.if-groups-gt0.true),
       (
-        AreWritten-inside c.args.room (c.args.room - 1) size l c.in-Some.inside.now more (ap or_empty group) c.requires,
+        AreWritten-inside c.args.groups (c.args.groups - 1) size l c.in-Some.inside.now more (ap or_empty group) c.requires,
         (ap members_have_float is ∙ plain.0, subst (λ ms. members_depth ms ≤ max_depth) (sym is) (omega (arith, deep))),
       ),
     )
@@ -81,30 +81,30 @@ pub push_layer-returns-in-Some : goal.push_layer-returns-in-Some
 push_layer-returns-in-Some t c =
     let l = c.args.layer.now in
     let group : group_in l.body ≡ Some c.in-Some.inside.now = search rules in
-    let less = c.args.room - 1 in
-    let more : c.args.room ≡ suc less = omega (arith, c.if-room-gt0.true) in
+    let less = c.args.groups - 1 in
+    let more : c.args.groups ≡ suc less = omega (arith, c.if-groups-gt0.true) in
     let is : c.in_ok-frame.frame ≡ frame_in c.args.writing.detail c.args.writing.size.width c.args.writing.size.height l = c.in_ok-frame.ensures in
     let whole = ap (λ ms. object (replaced LAYERS.now
     (layers_in c.args.writing.detail less c.args.writing.size.width c.args.writing.size.height c.in-Some.inside.now) ms)) is
-    ∙ layer_in-group c.args.writing.detail c.args.room less c.args.writing.size.width c.args.writing.size.height l c.in-Some.inside.now more group
-    (AreWritten-lacks c.args.room (c.args.writing.size.width * c.args.writing.size.height) l c.requires) in
+    ∙ layer_in-group c.args.writing.detail c.args.groups less c.args.writing.size.width c.args.writing.size.height l c.in-Some.inside.now more group
+    (AreWritten-lacks c.args.groups (c.args.writing.size.width * c.args.writing.size.height) l c.requires) in
     subst (λ d. OnOk c.push_framed.result (Appends d c.args.text.now.items c.push_framed.new.text.items)) whole c.push_framed.ensures
 
 pub push_layer-push_numbered-requires-clause-numbers : goal.push_layer-push_numbered-requires-clause-numbers
 push_layer-push_numbered-requires-clause-numbers t c =
     let l = c.args.layer.now in
     let some : numbers_in c.args.writing.detail l.body ≡ Some c.in-Some-numbers_in.numbers.now = search rules in
-    AreWritten-values c.args.writing.detail c.args.room (c.args.writing.size.width * c.args.writing.size.height) l c.in-Some-numbers_in.numbers.now some
+    AreWritten-values c.args.writing.detail c.args.groups (c.args.writing.size.width * c.args.writing.size.height) l c.in-Some-numbers_in.numbers.now some
     c.requires
 
 pub push_layer-push_numbered-requires-clause-whole : goal.push_layer-push_numbered-requires-clause-whole
 push_layer-push_numbered-requires-clause-whole t c =
-    let plain = frame_in_plain c.args.writing.detail c.args.room c.args.writing.size.width c.args.writing.size.height c.args.layer.now c.requires in
+    let plain = frame_in_plain c.args.writing.detail c.args.groups c.args.writing.size.width c.args.writing.size.height c.args.layer.now c.requires in
     ap members_have_float c.in_ok-frame.ensures ∙ plain.0
 
 pub push_layer-push_numbered-requires-clause-shallow : goal.push_layer-push_numbered-requires-clause-shallow
 push_layer-push_numbered-requires-clause-shallow t c =
-    let plain = frame_in_plain c.args.writing.detail c.args.room c.args.writing.size.width c.args.writing.size.height c.args.layer.now c.requires in
+    let plain = frame_in_plain c.args.writing.detail c.args.groups c.args.writing.size.width c.args.writing.size.height c.args.layer.now c.requires in
     let deep = plain.1 in
     subst (λ ms. members_depth ms ≤ max_depth) (sym c.in_ok-frame.ensures) (omega (arith, deep))
 
@@ -114,18 +114,18 @@ push_layer-returns-in-Some-numbers_in t c =
     let numbers = c.in-Some-numbers_in.numbers.now in
     let some : numbers_in c.args.writing.detail l.body ≡ Some numbers = search rules in
     let whole = ap (λ ms. object (replaced DATA.now (array_by whole_tree numbers) ms)) c.in_ok-frame.ensures
-    ∙ layer_in-numbers c.args.writing.detail c.args.room c.args.writing.size.width c.args.writing.size.height l numbers some
-    (AreWritten-lacks c.args.room (c.args.writing.size.width * c.args.writing.size.height) l c.requires) in
+    ∙ layer_in-numbers c.args.writing.detail c.args.groups c.args.writing.size.width c.args.writing.size.height l numbers some
+    (AreWritten-lacks c.args.groups (c.args.writing.size.width * c.args.writing.size.height) l c.requires) in
     subst (λ d. OnOk c.push_numbered.result (Appends d c.args.text.now.items c.push_numbered.new.text.items)) whole c.push_numbered.ensures
 
 pub push_layer-push_value-requires-clause-whole : goal.push_layer-push_value-requires-clause-whole
 push_layer-push_value-requires-clause-whole t c =
-    let plain = frame_in_plain c.args.writing.detail c.args.room c.args.writing.size.width c.args.writing.size.height c.args.layer.now c.requires in
+    let plain = frame_in_plain c.args.writing.detail c.args.groups c.args.writing.size.width c.args.writing.size.height c.args.layer.now c.requires in
     ap has_float (c.into_value.ensures ∙ ap object c.in_ok-frame.ensures) ∙ plain.0
 
 pub push_layer-push_value-requires-clause-shallow : goal.push_layer-push_value-requires-clause-shallow
 push_layer-push_value-requires-clause-shallow t c =
-    let plain = frame_in_plain c.args.writing.detail c.args.room c.args.writing.size.width c.args.writing.size.height c.args.layer.now c.requires in
+    let plain = frame_in_plain c.args.writing.detail c.args.groups c.args.writing.size.width c.args.writing.size.height c.args.layer.now c.requires in
     subst (λ d. depth d ≤ max_depth) (sym (c.into_value.ensures ∙ ap object c.in_ok-frame.ensures)) plain.1
 
 pub push_layer-returns : goal.push_layer-returns
@@ -133,13 +133,13 @@ push_layer-returns t c =
     let l = c.args.layer.now in
     let plain : numbers_in c.args.writing.detail l.body ≡ None = search rules in
     let whole : object (frame_in c.args.writing.detail c.args.writing.size.width c.args.writing.size.height l)
-    ≡ layer_in c.args.writing.detail c.args.room c.args.writing.size.width c.args.writing.size.height l =
-    elim c.if-room-gt0.branch [
-      | push_layer-then-room-gt0+in_default w ↦
+    ≡ layer_in c.args.writing.detail c.args.groups c.args.writing.size.width c.args.writing.size.height l =
+    elim c.if-groups-gt0.branch [
+      | push_layer-then-groups-gt0+in_default w ↦
           let none : group_in l.body ≡ None = search rules in
-          layer_in-frame c.args.writing.detail c.args.room c.args.writing.size.width c.args.writing.size.height l plain none
-      | push_layer-else-room-gt0 w ↦ layer_in-room c.args.writing.detail c.args.room c.args.writing.size.width c.args.writing.size.height l plain
-          (omega (arith, w.if-room-gt0))
+          layer_in-frame c.args.writing.detail c.args.groups c.args.writing.size.width c.args.writing.size.height l plain none
+      | push_layer-else-groups-gt0 w ↦ layer_in-groups c.args.writing.detail c.args.groups c.args.writing.size.width c.args.writing.size.height l plain
+          (omega (arith, w.if-groups-gt0))
     ] in
     subst (λ d. OnOk c.push_value.result (Appends d c.args.text.now.items c.push_value.new.text.items))
     (c.into_value.ensures ∙ (ap object c.in_ok-frame.ensures ∙ whole)) c.push_value.ensures
@@ -147,14 +147,14 @@ push_layer-returns t c =
 pub push_layers-push_layer-requires : goal.push_layers-push_layer-requires
 push_layers-push_layer-requires t c = (
   omega arith,
-  AreWritten-first c.args.room (c.args.writing.size.width * c.args.writing.size.height) c.in-Some.layer.now c.next.new.self
-      (subst (AreWritten c.args.room (c.args.writing.size.width * c.args.writing.size.height)) c.in-Some.ensures.steps c.loop-layer.invariant.2),
+  AreWritten-first c.args.groups (c.args.writing.size.width * c.args.writing.size.height) c.in-Some.layer.now c.next.new.self
+      (subst (AreWritten c.args.groups (c.args.writing.size.width * c.args.writing.size.height)) c.in-Some.ensures.steps c.loop-layer.invariant.2),
 )
 
 pub push_layers-loop-layer-preserved : goal.push_layers-loop-layer-preserved
 push_layers-loop-layer-preserved t c =
     let l = c.loop-layer in
-    let tree = layer_in c.args.writing.detail c.args.room c.args.writing.size.width c.args.writing.size.height in
+    let tree = layer_in c.args.writing.detail c.args.groups c.args.writing.size.width c.args.writing.size.height in
     let d = tree c.in-Some.layer.now in
     let left = items_by tree c.next.new.self in
     let step : items_by tree l.layer-iterator ≡ item d left = ap (items_by tree) c.in-Some.ensures.steps in
@@ -164,14 +164,14 @@ push_layers-loop-layer-preserved t c =
           ∙ (regroup_item l.text.items (comma_if l.later) (compact_text d) (items_text true left)
           ∙ (ap (λ ds. l.text.items ++ items_text l.later ds) (sym step) ∙ l.invariant.0)),
       λ h. l.invariant.1 (subst ItemsReturn (sym step) (ItemsReturn-item d left shows.1 h)),
-      AreWritten-rest c.args.room (c.args.writing.size.width * c.args.writing.size.height) c.in-Some.layer.now c.next.new.self
-          (subst (AreWritten c.args.room (c.args.writing.size.width * c.args.writing.size.height)) c.in-Some.ensures.steps l.invariant.2),
+      AreWritten-rest c.args.groups (c.args.writing.size.width * c.args.writing.size.height) c.in-Some.layer.now c.next.new.self
+          (subst (AreWritten c.args.groups (c.args.writing.size.width * c.args.writing.size.height)) c.in-Some.ensures.steps l.invariant.2),
     )
 
 pub push_layers-returns : goal.push_layers-returns
 push_layers-returns t c =
     let l = c.loop-layer in
-    let tree = layer_in c.args.writing.detail c.args.room c.args.writing.size.width c.args.writing.size.height in
+    let tree = layer_in c.args.writing.detail c.args.groups c.args.writing.size.width c.args.writing.size.height in
     let all = items_by tree c.args.layers.now in
     let none : l.layer-iterator ≡ [] = search rules in (
       c.in_ok-push-2.ensures.items

@@ -1,5 +1,5 @@
 use Rattle.std.proofs.Common.{◌≡◌, Err, rules, ◌∙◌, arith}
-use Rattle.map_values.specs.Steps.{Fails}
+use Rattle.map_values.specs.Presence.{Fails}
 use Rattle.map_json.specs.Maps.{parts_of}
 use Rattle.json_members.proofs.MembersLemmas.{get_member-without}
 use Rattle.map_json.proofs.Parts.{next_object_refused, plain_taken, parts_of-with, layers_refused, tilesets_refused, properties_refused, parts_read}

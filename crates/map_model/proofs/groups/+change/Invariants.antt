@@ -2,7 +2,7 @@ use Rattle.std.proofs.Common.{◌+◌, ◌*◌}
 use Rattle.map_model.proofs.groups.+change.Given as goal
 
 abbrev pub decreases-change_along : goal.decreases-change_along
-decreases-change_along g a = 2 * a.room
+decreases-change_along g a = 2 * a.groups
 
 abbrev pub decreases-change_inside : goal.decreases-change_inside
-decreases-change_inside g a = 2 * a.room + 1
+decreases-change_inside g a = 2 * a.groups + 1

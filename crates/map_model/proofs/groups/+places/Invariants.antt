@@ -4,10 +4,10 @@ use Rattle.map_model.specs.Lists.{first_some}
 use Rattle.map_model.proofs.groups.+places.Given as goal
 
 abbrev pub decreases-place_in : goal.decreases-place_in
-decreases-place_in a = 2 * a.room
+decreases-place_in a = 2 * a.groups
 
 abbrev pub decreases-place_within : goal.decreases-place_within
-decreases-place_within a = 2 * a.room + 1
+decreases-place_within a = 2 * a.groups + 1
 
 abbrev pub invariant-place_within-loop-layer : goal.invariant-place_within-loop-layer
-invariant-place_within-loop-layer l = first_some (place_inside l.id l.room) l.layer-iterator ≡ first_some (place_inside l.id l.room) l.fn.layers
+invariant-place_within-loop-layer l = first_some (place_inside l.id l.groups) l.layer-iterator ≡ first_some (place_inside l.id l.groups) l.fn.layers

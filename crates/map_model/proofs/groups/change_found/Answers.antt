@@ -2,7 +2,7 @@ use Rattle.std.proofs.Common.{◌∙◌, arith}
 use mathlib.Core.List.{reverse}
 use Rattle.std.proofs.lemmas.List.{length-reverse}
 use Rattle.map_model.specs.declared.limits.TheConstants.{MAX_GROUPS}
-use Rattle.map_model.specs.Keeping.{layer_level}
+use Rattle.map_model.specs.Keeping.{layer_tier}
 use Rattle.map_model.specs.Groups.{find_one}
 use Rattle.map_model.specs.Ways.{IsWay}
 use Rattle.map_model.proofs.Walks.{position-first_some}
@@ -19,7 +19,7 @@ change_along-requires-clause-way g c =
           ∙ c.requires.there))
       | else-not-find_way_here w ↦
           let here = c.find_way_here.new.way.items in
-          rw w.way'-is (way-arrived c.args.id (reverse here) MAX_GROUPS layer_level c.args.layers.now
+          rw w.way'-is (way-arrived c.args.id (reverse here) MAX_GROUPS layer_tier c.args.layers.now
           (omega (arith, c.find_way_here.ensures.short, length-reverse here)) c.requires.distinct
           (c.find_way_here.ensures.way w.if-not-find_way_here.false))
     ] in

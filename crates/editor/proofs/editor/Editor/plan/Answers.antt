@@ -1,7 +1,7 @@
 use Rattle.std.proofs.Common.{refl, sym, subst}
 use Rattle.undo_stack.specs.Stacks.{history}
 use Rattle.document_lines.specs.Machine.{Machine, workspace}
-use Rattle.document_lines.specs.Steps.{rule_of}
+use Rattle.document_lines.specs.Rules.{rule_of}
 use Rattle.document_lines.specs.Turns.{turning_rule_of}
 use Rattle.document_lines.proofs.Moving.{steady-PlansOn}
 use Rattle.document_lines.proofs.SteadyPlans.{plans-steady}

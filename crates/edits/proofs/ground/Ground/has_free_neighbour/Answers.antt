@@ -22,36 +22,36 @@ found g ground =
     (λ e. false_from_ne_true (free_in g (x, before y)) (λ h. omega (arith, e, ground.low, free_in-row g ground (x, before y) h)))
     (λ l. omega (arith, l, ground.row, ground.low))
 
-pub returns-then-is_free : goal.returns-then-is_free
-returns-then-is_free c =
+pub returns-then-is_free_cell : goal.returns-then-is_free_cell
+returns-then-is_free_cell c =
     let g = c.args.self.now in
     let x = g.start.0 in
     let y = g.start.1 in
-    ap (λ b. (b || free_in g (x + 1, y)) || (free_in g (x, before y) || free_in g (x, y + 1))) c.if-is_free.ensures ∙ sym (found g c.requires)
+    ap (λ b. (b || free_in g (x + 1, y)) || (free_in g (x, before y) || free_in g (x, y + 1))) c.if-is_free_cell.ensures ∙ sym (found g c.requires)
 
-pub returns-then-is_free-2 : goal.returns-then-is_free-2
-returns-then-is_free-2 c =
+pub returns-then-is_free_cell-2 : goal.returns-then-is_free_cell-2
+returns-then-is_free_cell-2 c =
     let g = c.args.self.now in
     let x = g.start.0 in
     let y = g.start.1 in
-    ap (λ b. (false || b) || (free_in g (x, before y) || free_in g (x, y + 1))) c.if-is_free-2.ensures
-    ∙ ap (λ b. (b || free_in g (x + 1, y)) || (free_in g (x, before y) || free_in g (x, y + 1))) c.if-is_free.ensures ∙ sym (found g c.requires)
+    ap (λ b. (false || b) || (free_in g (x, before y) || free_in g (x, y + 1))) c.if-is_free_cell-2.ensures
+    ∙ ap (λ b. (b || free_in g (x + 1, y)) || (free_in g (x, before y) || free_in g (x, y + 1))) c.if-is_free_cell.ensures ∙ sym (found g c.requires)
 
-pub returns-then-is_free-3 : goal.returns-then-is_free-3
-returns-then-is_free-3 c =
+pub returns-then-is_free_cell-3 : goal.returns-then-is_free_cell-3
+returns-then-is_free_cell-3 c =
     let g = c.args.self.now in
     let x = g.start.0 in
     let y = g.start.1 in
-    ap (λ b. (false || false) || (b || free_in g (x, y + 1))) c.if-is_free-3.ensures
-    ∙ ap (λ b. (false || b) || (free_in g (x, before y) || free_in g (x, y + 1))) c.if-is_free-2.ensures
-    ∙ ap (λ b. (b || free_in g (x + 1, y)) || (free_in g (x, before y) || free_in g (x, y + 1))) c.if-is_free.ensures ∙ sym (found g c.requires)
+    ap (λ b. (false || false) || (b || free_in g (x, y + 1))) c.if-is_free_cell-3.ensures
+    ∙ ap (λ b. (false || b) || (free_in g (x, before y) || free_in g (x, y + 1))) c.if-is_free_cell-2.ensures
+    ∙ ap (λ b. (b || free_in g (x + 1, y)) || (free_in g (x, before y) || free_in g (x, y + 1))) c.if-is_free_cell.ensures ∙ sym (found g c.requires)
 
 pub returns : goal.returns
 returns c =
     let g = c.args.self.now in
     let x = g.start.0 in
     let y = g.start.1 in
-    ap (λ b. (false || false) || (false || b)) c.is_free-4.ensures
-    ∙ ap (λ b. (false || false) || (b || free_in g (x, y + 1))) c.if-is_free-3.ensures
-    ∙ ap (λ b. (false || b) || (free_in g (x, before y) || free_in g (x, y + 1))) c.if-is_free-2.ensures
-    ∙ ap (λ b. (b || free_in g (x + 1, y)) || (free_in g (x, before y) || free_in g (x, y + 1))) c.if-is_free.ensures ∙ sym (found g c.requires)
+    ap (λ b. (false || false) || (false || b)) c.is_free_cell-4.ensures
+    ∙ ap (λ b. (false || false) || (b || free_in g (x, y + 1))) c.if-is_free_cell-3.ensures
+    ∙ ap (λ b. (false || b) || (free_in g (x, before y) || free_in g (x, y + 1))) c.if-is_free_cell-2.ensures
+    ∙ ap (λ b. (b || free_in g (x + 1, y)) || (free_in g (x, before y) || free_in g (x, y + 1))) c.if-is_free_cell.ensures ∙ sym (found g c.requires)

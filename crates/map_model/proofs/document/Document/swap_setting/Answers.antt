@@ -3,9 +3,9 @@ use Rattle.map_model.specs.declared.document.Document.TheInside.{Inside}
 use Rattle.map_model.specs.Document.{DocumentParts}
 use Rattle.map_model.specs.Lists.{change_at}
 use Rattle.map_model.specs.Properties.{IsSetting, property_at, property_with_setting}
-use Rattle.map_model.specs.Keeping.{property_level}
+use Rattle.map_model.specs.Keeping.{property_tier}
 use Rattle.map_model.specs.WellFormed.{IsValue}
-use Rattle.map_model.proofs.PropertyKeeps.{owner_level-with_properties, with_setting-keeps, property_at-IsSetting, with_properties-IsSelectionOf}
+use Rattle.map_model.proofs.PropertyKeeps.{owner_tier-with_properties, with_setting-keeps, property_at-IsSetting, with_properties-IsSelectionOf}
 use Rattle.map_model.proofs.Selections.{selection-IsSelectionOf}
 use Rattle.map_model.proofs.document.Document.swap_setting.Goals as goal
 
@@ -34,11 +34,11 @@ returns-clause-given c =
 pub returns-clause-back : goal.returns-clause-back
 returns-clause-back c =
     let m = c.self-inside.inside.0.0.parts in
-    let level = owner_level-with_properties c.args.owner (change_at c.args.at (property_with_setting c.args.setting.now)) m c.args.owner in
+    let tier = owner_tier-with_properties c.args.owner (change_at c.args.at (property_with_setting c.args.setting.now)) m c.args.owner in
     let old = property_at-IsSetting c.args.owner c.args.at c.swap_in.new.setting m c.swap_in.ensures.given c.self-inside.invariant in
     rw c.swap_in.ensures.parts (record {
       kind = old.kind;
-      value = subst (λ n. IsValue (property_level n) c.swap_in.new.setting.value) (sym level) old.value;
+      value = subst (λ n. IsValue (property_tier n) c.swap_in.new.setting.value) (sym tier) old.value;
     })
 
 pub returns-clause-well_formed : goal.returns-clause-well_formed

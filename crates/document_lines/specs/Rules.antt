@@ -110,13 +110,13 @@ rule_of Show = OnActive (OrNoMemory (Answers λ h. replies.Map (text_of (current
 rule_of (StepText i) = OnActive (OrNoMemory (Answers λ h. step_text_reply (text_at h i)))
 
 -- what a line may do
-abbrev pub Step : Line → Act Workspace
-Step line = Allows (rule_of line)
+abbrev pub MachineStep : Line → Act Workspace
+MachineStep line = Allows (rule_of line)
 
-abbrev pub StepOf : Result Line LineFault → Act Workspace
-StepOf (Ok line) = Step line
-StepOf (Err fault) = Refuses (refusals.Line fault)
+abbrev pub MachineStepOf : Result Line LineFault → Act Workspace
+MachineStepOf (Ok line) = MachineStep line
+MachineStepOf (Err fault) = Refuses (refusals.Line fault)
 
 -- what the bytes of a line may do
-abbrev pub StepIn : List ℕ → Act Workspace
-StepIn bytes = StepOf (line_of bytes)
+abbrev pub MachineStepIn : List ℕ → Act Workspace
+MachineStepIn bytes = MachineStepOf (line_of bytes)
