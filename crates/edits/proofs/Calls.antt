@@ -2,20 +2,21 @@
 use Rattle.std.proofs.Common.{◌≡◌, inl, inr, ℕ, ◌/◌, ◌%◌, ◌*◌, ◌<◌, List, length, Bor, Option, Some, None, false, Result, Ok, Err, IfOk, IsSomeAnd, ℤ, mul_comm}
 use Rattle.std.proofs.Common.{sym, ap, ◌∙◌, subst, arith}
 use Rattle.std.specs.FinSet as set
+use Rattle.std.specs.Option.{ok_or}
 use Rattle.region.specs.Cells.{cell_cmp}
-use Rattle.map_model.specs.declared.parts.Body.{Body}
-use Rattle.map_model.specs.declared.parts.Body.TheVariants.{Tiles, Objects, Other, Group'}
 use Rattle.map_model.specs.declared.parts.Layer.{Layer}
 use Rattle.map_model.specs.declared.parts.MapParts.{MapParts}
 use Rattle.map_model.specs.declared.edit.CellEdit.{CellEdit}
 use Rattle.map_model.specs.CellEdits.{AreInRowOrder}
-use Rattle.map_model.specs.Bodies.{IsTiles, tiles_of}
+use Rattle.map_model.specs.Bodies.{IsTiles, tiles_or_none}
 use Rattle.map_model.specs.Document.{DocumentParts, with_map}
+use Rattle.map_model.specs.Lists.{or_empty}
 use Rattle.map_model.specs.Lookups.{layer_of, HasTiles, tiles_in, tiles_of_layer}
 use Rattle.map_model.specs.WellFormed.{IsWellFormed}
 use Rattle.map_model.proofs.Keeps.{length-tiles_in}
 use Rattle.map_model.proofs.Turns.{tiles_in-with_tiles}
 use Rattle.refusals.specs.declared.edit_fault.EditFault.{EditFault}
+use Rattle.refusals.specs.declared.edit_fault.EditFault.TheVariants.{LayerOfAnotherKind}
 use Rattle.edits.specs.declared.area.Area.{Area}
 use Rattle.edits.specs.declared.change.CellChange.{CellChange}
 use Rattle.edits.specs.declared.span.Span.{Span}
@@ -24,7 +25,7 @@ use Rattle.edits.specs.Covering.{covered, covered_map}
 use Rattle.map_model.specs.Difference.{difference, difference_in}
 use Rattle.edits.specs.Laying.{IsLayerOf, IsExtent}
 use Rattle.edits.specs.Painting.{IsPainted}
-use Rattle.edits.specs.Refusals.{body_tiles_or_fault, tiles_or_fault}
+use Rattle.edits.specs.Refusals.{tiles_or_fault}
 use Rattle.edits.specs.Stamping.{IsBlock}
 use Rattle.edits.proofs.RowOrder.{difference-AreInRowOrder}
 use Rattle.edits.proofs.Overs.{stamp_over-column, stamp_over-row, erase_over-column, erase_over-row}
@@ -39,13 +40,11 @@ pub record IsTheLayer (m : MapParts) (id : ℕ) (tiles : List ℕ) : Type 0 wher
 tiles_of_found : (found : Option Layer) (tiles : List ℕ) → tiles_or_fault found ≡ Ok tiles
     → IsSomeAnd found (λ l. IsTiles l.body) × (tiles ≡ tiles_of_layer found)
 tiles_of_found None tiles e = cc
-tiles_of_found (Some l) tiles e = by_body l.body e
+tiles_of_found (Some l) tiles e = by_tiles (tiles_or_none l.body) e
   where
-    by_body : (b : Body) → body_tiles_or_fault b ≡ Ok tiles → IsTiles b × (tiles ≡ tiles_of b)
-    by_body (Tiles f cells) e = (tt, cc)
-    by_body (Objects os) e = cc
-    by_body Other e = cc
-    by_body (Group' s r) e = cc
+    by_tiles : (o : Option (List ℕ)) → ok_or o LayerOfAnotherKind ≡ Ok tiles → IsSomeAnd o (λ cells. Unit {0}) × (tiles ≡ or_empty o)
+    by_tiles None e = cc
+    by_tiles (Some cells) e = (tt, cc)
 
 -- the values that an edit finds
 pub IsTheLayer-found : (m : MapParts) (id : ℕ) (tiles : List ℕ) → IsWellFormed m → tiles_or_fault (layer_of m id) ≡ Ok tiles → IsTheLayer m id tiles

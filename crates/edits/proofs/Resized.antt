@@ -20,15 +20,15 @@ use Rattle.region.proofs.Members.{cell_cmp-same, contains-rectangle}
 use Rattle.map_model.specs.declared.canvas.Canvas.{Canvas}
 use Rattle.map_model.specs.declared.limits.TheConstants.{MAX_GROUPS, MAX_PIXELS, MAX_TILE_SIDE}
 use Rattle.map_model.specs.declared.parts.Body.{Body}
-use Rattle.map_model.specs.declared.parts.Body.TheVariants.{Tiles, Objects, Other, Group'}
+use Rattle.map_model.specs.declared.parts.Body.TheVariants.{Tiles, Objects}
 use Rattle.map_model.specs.declared.parts.Layer.{Layer}
 use Rattle.map_model.specs.declared.parts.Object.{Object}
+use Rattle.map_model.specs.Bodies.{objects_in}
 use Rattle.map_model.specs.Canvas.{lists_in, lists_of, tile_layers, with_canvas, IsShift, AreCells, MayBeDrawn, MayBeMoved, BodyMayBeMoved, IsCanvasOf}
 use Rattle.map_model.specs.Document.{DocumentParts, IsDocument}
 use Rattle.map_model.specs.Groups.{all_drawn}
 use Rattle.map_model.specs.Keeping.{object_tier}
 use Rattle.map_model.specs.Lists.{Each}
-use Rattle.map_model.specs.Objects.{objects_in}
 use Rattle.map_model.specs.WellFormed.{IsSize, IsTileValue, IsPixels, IsObject, IsBody, IsDrawn}
 use Rattle.map_model.proofs.Listings.{Each-append}
 use Rattle.edits.specs.Blocks.{ValueBlock, offset, value_in}
@@ -78,9 +78,7 @@ layer-cells : (tier size more : ℕ) (f : List ℕ → List ℕ) → ((cells : L
     → IsBody tier size b
     → Each (AreCells more) (map f (lists_in b))
 layer-cells tier size more f good (Tiles e own) h = (good own h.1, tt)
-layer-cells tier size more f good (Objects os) h = tt
-layer-cells tier size more f good Other h = tt
-layer-cells tier size more f good (Group' s r) h = tt
+layer-cells tier size more f good b h = tt
 
 layers-cells : (size more : ℕ) (f : List ℕ → List ℕ) → ((cells : List ℕ) → Each IsTileValue cells → AreCells more (f cells)) → (ds : List (ℕ × Layer))
     → Each (IsDrawn size) ds
@@ -125,10 +123,8 @@ objects-may right down tier (o ∷ os) h e =
     )
 
 body-may : (right down : ℤ) (tier size : ℕ) (b : Body) → IsBody tier size b → all_stay right down (objects_in b) ≡ true → BodyMayBeMoved right down b
-body-may right down tier size (Tiles e own) h stay = tt
 body-may right down tier size (Objects os) h stay = objects-may right down (object_tier tier) os h.1 stay
-body-may right down tier size Other h stay = tt
-body-may right down tier size (Group' s r) h stay = tt
+body-may right down tier size b h stay = tt
 
 layers-may : (right down : ℤ) (size : ℕ) (ds : List (ℕ × Layer)) → Each (IsDrawn size) ds → list_all (drawn_stays right down) ds ≡ true
     → Each (MayBeDrawn right down) ds

@@ -8,33 +8,27 @@ use Rattle.std.proofs.lemmas.List.{length-map, map-append}
 use Rattle.std.proofs.lemmas.List.Folds.{list_all-append}
 use Rattle.map_model.specs.declared.canvas.Canvas.{Canvas}
 use Rattle.map_model.specs.declared.parts.Body.{Body}
-use Rattle.map_model.specs.declared.parts.Body.TheVariants.{Tiles, Objects, Other, Group'}
+use Rattle.map_model.specs.declared.parts.Body.TheVariants.{Tiles}
 use Rattle.map_model.specs.declared.parts.Layer.{Layer}
-use Rattle.map_model.specs.Lookups.{body_with_tiles}
+use Rattle.map_model.specs.Bodies.{body_with_objects, body_with_tiles}
 use Rattle.map_model.specs.Canvas.{lists_in, lists_of, lists_under, body_on, layer_on, layers_on, one_on}
-use Rattle.map_model.specs.Objects.{object_moved, objects_in, objects_of, body_with_objects}
-use Rattle.map_model.specs.Groups.{bare, body_with_layers, drawn, group_in, group_of, inside, layer_with_layers, tree}
+use Rattle.map_model.specs.Objects.{object_moved, objects_of}
+use Rattle.map_model.specs.Groups.{bare, drawn, group_in, group_of, inside, layer_with_layers, tree}
 use Rattle.map_model.specs.Keeping.{inner_tier, layer_tier}
 use Rattle.map_model.specs.Lists.{Each, or_empty}
 use Rattle.map_model.proofs.CanvasTrees.{lists_under-is, lists_under-list, one_on-is}
-use Rattle.map_model.proofs.GroupBodies.{body_with_layers-along}
+use Rattle.map_model.proofs.GroupBodies.{body_with_layers-along, objects_in-with}
 use Rattle.map_model.proofs.Listings.{Each-prefix, Each-rest}
 use Rattle.map_model.proofs.Trees.{tree-is}
 use Rattle.edits.specs.Resizing.{all_stay, drawn_stays, each_under}
 
 -- ---- objects that stay
-objects_in-bare : (f : List Layer → List Layer) (b : Body) → objects_in (body_with_layers f b) ≡ objects_in b
-objects_in-bare f (Tiles e cells) = refl
-objects_in-bare f (Objects os) = refl
-objects_in-bare f Other = refl
-objects_in-bare f (Group' s r) = refl
-
 module _ (right down : ℤ) where
   abbrev all : List (ℕ × Layer) → Bool
   all = list_all (drawn_stays right down)
 
   stay-own : (l : Layer) → all_stay right down (objects_of (bare l)) ≡ all_stay right down (objects_of l)
-  stay-own l = ap (all_stay right down) (objects_in-bare (λ ls. []) l.body)
+  stay-own l = ap (all_stay right down) (objects_in-with (λ ls. []) l.body)
 
   stay-list : (groups : ℕ) → ((a b : ℕ) (l : Layer) → all (tree groups a l) ≡ all (tree groups b l)) → (a b : ℕ) (ls : List Layer)
       → all (drawn groups a ls) ≡ all (drawn groups b ls)
@@ -132,9 +126,7 @@ module _ {X Y : Type 0} (f : X → Y) where
 body-with : (c : Canvas) (f : List ℕ → List ℕ) (number : ℕ) (b : Body) → ((e : List ℕ) → lists_in b ≡ e ∷ [] → get_or c.layers number e ≡ f e)
     → body_on c number b ≡ body_with_objects (map (object_moved c.right c.down)) (body_with_tiles f b)
 body-with c f number (Tiles e own) h = ap (Tiles e) (h own refl)
-body-with c f number (Objects os) h = refl
-body-with c f number Other h = refl
-body-with c f number (Group' s r) h = refl
+body-with c f number b h = refl
 
 -- a layer with f of its values, or with its objects moved
 abbrev pub layer-with : (List ℕ → List ℕ) → ℤ → ℤ → Layer → Layer
@@ -143,9 +135,7 @@ layer-with f right down l = record l { body = body_with_objects (map (object_mov
 group_in-with : (f : List ℕ → List ℕ) (right down : ℤ) (b : Body)
     → group_in (body_with_objects (map (object_moved right down)) (body_with_tiles f b)) ≡ group_in b
 group_in-with f right down (Tiles e own) = refl
-group_in-with f right down (Objects os) = refl
-group_in-with f right down Other = refl
-group_in-with f right down (Group' s r) = refl
+group_in-with f right down b = refl
 
 abbrev each_below : ℕ → (Layer → Layer) → Layer → Layer
 each_below zero f l = f l

@@ -1,27 +1,20 @@
 -- Why an edit of the cells of a layer is refused.
-use Rattle.std.specs.Prelude.{ℕ, List, Bool, ◌||◌, nat_eq, nat_le, Option, is_some, Result, Ok, Err}
+use Rattle.std.specs.Prelude.{ℕ, List, Bool, ◌||◌, nat_eq, nat_le, Option, is_some, Result}
 use Rattle.std.specs.Option.{ok_or}
-use Rattle.map_model.specs.declared.parts.Body.{Body}
-use Rattle.map_model.specs.declared.parts.Body.TheVariants.{Tiles, Objects, Other, Group'}
 use Rattle.map_model.specs.declared.parts.Layer.{Layer}
 use Rattle.map_model.specs.declared.parts.MapParts.{MapParts}
+use Rattle.map_model.specs.Bodies.{tiles_or_none}
 use Rattle.map_model.specs.Tilesets.{tileset_of}
 use Rattle.tile_id.specs.Gid.{base_of}
 use Rattle.refusals.specs.declared.edit_fault.EditFault.{EditFault}
 use Rattle.refusals.specs.declared.edit_fault.EditFault.TheVariants.{NoSuchLayer, LayerOfAnotherKind}
 use Rattle.map_model.specs.Refusing.{◌>>=◌}
 
-abbrev pub body_tiles_or_fault : Body → Result (List ℕ) EditFault
-body_tiles_or_fault (Tiles e cells) = Ok cells
-body_tiles_or_fault (Objects os) = Err LayerOfAnotherKind
-body_tiles_or_fault Other = Err LayerOfAnotherKind
-body_tiles_or_fault (Group' s r) = Err LayerOfAnotherKind
-
 -- the values of a tile layer
 abbrev pub tiles_or_fault : Option Layer → Result (List ℕ) EditFault
 tiles_or_fault found = do
   l ← ok_or found NoSuchLayer
-  body_tiles_or_fault l.body
+  ok_or (tiles_or_none l.body) LayerOfAnotherKind
 
 -- a value is 0 or has a tileset
 abbrev pub is_known : MapParts → ℕ → Bool

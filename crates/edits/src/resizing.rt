@@ -4,11 +4,11 @@ ghost use Rattle.std.specs.List.{flat_map, list_all};
 ghost use Rattle.std.specs.Option.{option_map};
 ghost use Rattle.command_api.specs.Making.{IsRefusalOf};
 ghost use Rattle.map_model.specs.declared.limits.TheConstants.{MAX_SIDE};
+ghost use Rattle.map_model.specs.Bodies.{objects_in};
 ghost use Rattle.map_model.specs.Canvas.{lists_in, lists_of, lists_under, tile_layers, with_canvas, AreCells, IsCanvasOf, IsShift};
 ghost use Rattle.map_model.specs.Groups.{drawn, tree};
 ghost use Rattle.map_model.specs.Keeping.{layer_tier};
 ghost use Rattle.map_model.specs.Lists.{Each};
-ghost use Rattle.map_model.specs.Objects.{objects_in};
 ghost use Rattle.map_model.specs.WellFormed.{IsSize, IsTileSize};
 ghost use Rattle.edits.specs.Resizing.{after_resize, all_stay, are_pixels, drawn_stays, objects_stay, pixels_down, pixels_right, resized, resized_values, stays, IsDistance};
 

@@ -17,7 +17,7 @@ use Rattle.map_model.specs.declared.limits.TheConstants.{MAX_SIDE, MAX_CELLS, MA
 use Rattle.map_model.specs.declared.parts.Property.{Property}
 use Rattle.map_model.specs.declared.parts.Object.{Object}
 use Rattle.map_model.specs.declared.parts.Body.{Body}
-use Rattle.map_model.specs.declared.parts.Body.TheVariants.{Tiles, Objects, Other, Group'}
+use Rattle.map_model.specs.declared.parts.Body.TheVariants.{Objects}
 use Rattle.map_model.specs.declared.parts.Layer.{Layer}
 use Rattle.map_model.specs.declared.parts.MapParts.{MapParts}
 use Rattle.map_model.specs.Groups.{all_drawn}
@@ -59,10 +59,8 @@ Each-IsObject tier (o ∷ os) h e =
     )
 
 IsBody-read : (tier size : ℕ) (b : Body) → WasReadBody tier size b → list_all are_named_apart (lists_in b) ≡ true → IsBody tier size b
-IsBody-read tier size (Tiles e cells) h f = h
 IsBody-read tier size (Objects os) h f = (h.0, Each-IsObject (object_tier tier) os h.1 f)
-IsBody-read tier size Other h f = tt
-IsBody-read tier size (Group' s r) h f = h
+IsBody-read tier size b h f = h
 
 IsLayer-read : (tier size : ℕ) (l : Layer) → WasReadLayer tier size l → list_all are_named_apart (lists_of_layer l) ≡ true → IsLayer tier size l
 IsLayer-read tier size l h e =
@@ -84,10 +82,8 @@ Each-IsDrawn size (d ∷ ds) h e =
 
 -- ---- ids from 1 on
 low_in : (tier size : ℕ) (b : Body) → WasReadBody tier size b → Each (λ id. 1 ≤ id) (object_ids_in b)
-low_in tier size (Tiles e cells) h = tt
 low_in tier size (Objects os) h = Each-flat_map (λ id. 1 ≤ id) (WasReadObject (object_tier tier)) ids_of_object (λ o g. (g.low, tt)) os h.1
-low_in tier size Other h = tt
-low_in tier size (Group' s r) h = tt
+low_in tier size b h = tt
 
 -- ---- the members but the version
 -- a member left out before others, or behind them

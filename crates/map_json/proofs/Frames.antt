@@ -12,8 +12,8 @@ use Rattle.serde_json.specs.Find.{get_member}
 use Rattle.map_model.specs.declared.names.TheConstants.{ID, NAME, VISIBLE, TYPE, PROPERTIES, WIDTH, HEIGHT, LAYERS, TILESETS, VERSION, ENCODING, COMPRESSION}
 use Rattle.map_model.specs.declared.names.TheConstants.{DATA}
 use Rattle.map_model.specs.declared.parts.Body.{Body}
-use Rattle.map_model.specs.declared.parts.Body.TheVariants.{Tiles, Objects, Other, Group'}
-use Rattle.map_model.specs.declared.parts.Encoding.TheVariants.{Array, Base64}
+use Rattle.map_model.specs.declared.parts.Body.TheVariants.{Tiles, Group'}
+use Rattle.map_model.specs.declared.parts.Encoding.TheVariants.{Array}
 use Rattle.map_model.specs.declared.parts.Layer.{Layer}
 use Rattle.map_model.specs.declared.parts.MapParts.{MapParts}
 use Rattle.map_model.specs.Groups.{group_in, inside}
@@ -98,21 +98,17 @@ replaced-frame_of d m absent =
 own_instead-layer_own : (width height : ℕ) (d : Data) (l : Layer) (b : Body) (ls : List Layer) → group_in b ≡ Some ls
     → own_instead LAYERS.now d (layer_own width height (array no_items) (record l { body = framed_body b })) ≡ layer_own width height d (record l { body = b })
 unfolding own_instead
-own_instead-layer_own width height d l (Tiles e cells) ls g = cc
-own_instead-layer_own width height d l (Objects os) ls g = cc
-own_instead-layer_own width height d l Other ls g = cc
 own_instead-layer_own width height d l (Group' s r) ls g =
     ap (λ o. (TYPE.now, Some (string (codes "group"))) ∷ (ID.now, Some (whole_tree l.id)) ∷ (NAME.now, Some (string l.name)) ∷
     (VISIBLE.now, Some (boolean l.visible))
     ∷ (PROPERTIES.now, o) ∷ (LAYERS.now, Some d) ∷ [])
     (optional_stays d (properties_member l.properties))
+own_instead-layer_own width height d l b ls g = cc
 
 layers_absent : (b : Body) (ls : List Layer) (kept : Members) → group_in b ≡ Some ls → Each (λ name. get_member name kept ≡ None) (layer_names b)
     → get_member LAYERS.now kept ≡ None
-layers_absent (Tiles e cells) ls kept g h = cc
-layers_absent (Objects os) ls kept g h = cc
-layers_absent Other ls kept g h = cc
 layers_absent (Group' s r) ls kept g h = h.1.1.1.1.1.0
+layers_absent b ls kept g h = cc
 
 -- the members of a group are its frame's, with the layers in their place
 pub replaced-layer_frame : (width height : ℕ) (d : Data) (l : Layer) (ls : List Layer) → group_in l.body ≡ Some ls
@@ -126,19 +122,14 @@ replaced-layer_frame width height d l ls g h =
 -- a layer's own members, where it is no group
 pub layer_own-other : (width height : ℕ) (d e : Data) (l : Layer) (b : Body) → group_in b ≡ None
     → layer_own width height d (record l { body = b }) ≡ layer_own width height e (record l { body = b })
-layer_own-other width height d e l (Tiles c cells) g = refl
-layer_own-other width height d e l (Objects os) g = refl
-layer_own-other width height d e l Other g = refl
 layer_own-other width height d e l (Group' s r) g = cc
+layer_own-other width height d e l b g = refl
 
 -- ---- a tile layer's own numbers
 -- where its values are no numbers, all of a body stands in its frame
 framed_body-whole : (b : Body) → numbers_of b ≡ None → framed_body b ≡ b
 framed_body-whole (Tiles Array cells) none = cc
-framed_body-whole (Tiles Base64 cells) none = refl
-framed_body-whole (Objects os) none = refl
-framed_body-whole Other none = refl
-framed_body-whole (Group' s r) none = refl
+framed_body-whole b none = refl
 
 pub framed-whole : (l : Layer) → numbers_of l.body ≡ None → record l { body = framed_body l.body } ≡ l
 framed-whole l none = ap (λ (b : Body). record l { body = b }) (framed_body-whole l.body none)
@@ -159,18 +150,12 @@ own_instead-numbers width height d l (Tiles Array cells) ns g =
     ∷ (DATA.now, Some (array_by whole_tree ns)) ∷ [])
     (properties_stay (array_by whole_tree ns) (properties_member l.properties))
     ∙ ap (λ (xs : List ℕ). layer_own width height d (record l { body = Tiles Array xs })) (sym same)
-own_instead-numbers width height d l (Tiles Base64 cells) ns g = cc
-own_instead-numbers width height d l (Objects os) ns g = cc
-own_instead-numbers width height d l Other ns g = cc
-own_instead-numbers width height d l (Group' s r) ns g = cc
+own_instead-numbers width height d l b ns g = cc
 
 data_absent : (b : Body) (ns : List ℕ) (kept : Members) → numbers_of b ≡ Some ns → Each (λ name. get_member name kept ≡ None) (layer_names b)
     → get_member DATA.now kept ≡ None
 data_absent (Tiles Array cells) ns kept g h = h.1.1.1.1.1.1.1.1.1.0
-data_absent (Tiles Base64 cells) ns kept g h = cc
-data_absent (Objects os) ns kept g h = cc
-data_absent Other ns kept g h = cc
-data_absent (Group' s r) ns kept g h = cc
+data_absent b ns kept g h = cc
 
 -- the members of a tile layer are its frame's, with the numbers in their place
 replaced-numbers : (width height : ℕ) (d : Data) (l : Layer) (ns : List ℕ) → numbers_of l.body ≡ Some ns

@@ -54,15 +54,11 @@ kind_of (Group' s r) = GroupLayer
 type_again : (b : Body) → type_at (string (type_word b)) ≡ Ok (kind_of b)
 unfolding type_at
 type_again (Tiles e cells) = refl
-type_again (Objects os) = refl
-type_again Other = refl
-type_again (Group' s r) = refl
+type_again b = refl
 
 no_properties : (width height : ℕ) (layers : Data) (b : Body) (d : Option Data) → find_own PROPERTIES.now (body_own width height layers b) d ≡ d
 no_properties width height layers (Tiles e cells) d = refl
-no_properties width height layers (Objects os) d = refl
-no_properties width height layers Other d = refl
-no_properties width height layers (Group' s r) d = refl
+no_properties width height layers b d = refl
 
 tiles_read : (width height : ℕ) (e : Encoding) (cells : List ℕ) (ms : Members) → get_member ENCODING.now ms ≡ encoding_member e
     → get_member COMPRESSION.now ms ≡ None
@@ -120,9 +116,7 @@ body_again groups tier next width height count few inner d l (Group' s r) kept r
 kept_again : (width height : ℕ) (d : Data) (l : Layer) (b : Body) (kept : Members) → LacksAll (layer_names b) kept
     → without_all (layer_names b) (with_own (layer_own width height d (with_body l b)) kept) ≡ kept
 kept_again width height d l (Tiles e cells) kept lacks = without_all-with_own (layer_own width height d (with_body l (Tiles e cells))) kept refl lacks
-kept_again width height d l (Objects os) kept lacks = without_all-with_own (layer_own width height d (with_body l (Objects os))) kept refl lacks
-kept_again width height d l Other kept lacks = without_all-with_own (layer_own width height d (with_body l Other)) kept refl lacks
-kept_again width height d l (Group' s r) kept lacks = without_all-with_own (layer_own width height d (with_body l (Group' s r))) kept refl lacks
+kept_again width height d l b kept lacks = without_all-with_own (layer_own width height d (with_body l b)) kept refl lacks
 
 layer_read : (inner : Counting (List Layer)) (width height count behind : ℕ) (l : Layer) (ms : Members)
     → get_member TYPE.now ms ≡ Some (string (type_word l.body)) → get_member ID.now ms ≡ Some (whole_tree l.id)
@@ -137,10 +131,8 @@ layer_read inner width height count behind l ms type id name visible properties 
 
 -- a layer as deep as may be is no group
 no_group : (tier size : ℕ) (b : Body) (ls : List Layer) → group_in b ≡ Some ls → IsBody tier size b → tier ≡ deepest_tier → ⊥
-no_group tier size (Tiles e cells) ls g h balance = cc
-no_group tier size (Objects os) ls g h balance = cc
-no_group tier size Other ls g h balance = cc
 no_group tier size (Group' s r) ls g h balance = omega (arith, h, balance)
+no_group tier size b ls g h balance = cc
 
 -- a layer that fits a map of so many cells, with these next ids
 abbrev Fits : ℕ → ℕ → ℕ → ℕ × Layer → Type 0

@@ -16,9 +16,10 @@ use Rattle.map_model.specs.declared.parts.Layer.{Layer}
 use Rattle.map_model.specs.Groups.{all_drawn, bare, body_with_layers, drawn, group_in, tree}
 use Rattle.map_model.specs.Lists.{Each}
 use Rattle.map_model.specs.Keeping.{AreKept, deepest_tier, inner_tier, layer_tier, object_tier, property_tier}
-use Rattle.map_model.specs.Format.{body_names, layer_names}
+use Rattle.map_model.specs.Format.{layer_names}
 use Rattle.map_model.specs.Refusing.{◌>>=◌, ◌>>◌, check}
 use Rattle.map_model.specs.WellFormed.{IsTileValue}
+use Rattle.map_model.proofs.GroupBodies.{body_names-with}
 use Rattle.map_model.proofs.Trees.{below}
 use Rattle.json_members.specs.Members.{without_all}
 use Rattle.map_json.specs.declared.body.LayerType.{LayerType}
@@ -66,18 +67,9 @@ none_counted : (size count : ℕ) → WereCounted size count count []
 none_counted size count = record { sum = omega arith; each = tt; few = λ h. h }
 
 -- ---- other layers in a layer
-module _ (f : List Layer → List Layer) where
-  body_names-with : (b : Body) → body_names (body_with_layers f b) ≡ body_names b
-  body_names-with (Tiles e cells) = refl
-  body_names-with (Objects os) = refl
-  body_names-with Other = refl
-  body_names-with (Group' s r) = refl
-
-  WasReadBody-with : (tier size : ℕ) (b : Body) → WasReadBody tier size (body_with_layers f b) ≡ WasReadBody tier size b
-  WasReadBody-with tier size (Tiles e cells) = refl
-  WasReadBody-with tier size (Objects os) = refl
-  WasReadBody-with tier size Other = refl
-  WasReadBody-with tier size (Group' s r) = refl
+WasReadBody-with : (f : List Layer → List Layer) (tier size : ℕ) (b : Body) → WasReadBody tier size (body_with_layers f b) ≡ WasReadBody tier size b
+WasReadBody-with f tier size (Group' s r) = refl
+WasReadBody-with f tier size b = refl
 
 WasReadLayer-bare : (tier size : ℕ) (l : Layer) → WasReadLayer tier size l → WasReadLayer tier size (bare l)
 WasReadLayer-bare tier size l h = record {

@@ -15,7 +15,7 @@ use Rattle.map_model.specs.declared.limits.TheConstants.{MAX_SIDE, MAX_CELLS, MA
 use Rattle.map_model.specs.declared.parts.Property.{Property}
 use Rattle.map_model.specs.declared.parts.Object.{Object}
 use Rattle.map_model.specs.declared.parts.Body.{Body}
-use Rattle.map_model.specs.declared.parts.Body.TheVariants.{Tiles, Objects, Other, Group'}
+use Rattle.map_model.specs.declared.parts.Body.TheVariants.{Objects}
 use Rattle.map_model.specs.declared.parts.Layer.{Layer}
 use Rattle.map_model.specs.declared.parts.MapParts.{MapParts}
 use Rattle.map_model.specs.Groups.{all_drawn}
@@ -50,10 +50,8 @@ objects_apart tier [] h = refl
 objects_apart tier (o ∷ os) h = and_from (are_named_apart o.properties) _ (named_apart tier o.properties h.0.properties) (objects_apart tier os h.1)
 
 body_apart : (tier size : ℕ) (b : Body) → IsBody tier size b → list_all are_named_apart (lists_in b) ≡ true
-body_apart tier size (Tiles e cells) h = refl
 body_apart tier size (Objects os) h = objects_apart (object_tier tier) os h.1
-body_apart tier size Other h = refl
-body_apart tier size (Group' s r) h = refl
+body_apart tier size b h = refl
 
 layers_apart : (size : ℕ) (ds : List (ℕ × Layer)) → Each (IsDrawn size) ds → list_all are_named_apart (flat_map lists_of_drawn ds) ≡ true
 layers_apart size [] h = refl

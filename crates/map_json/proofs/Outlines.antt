@@ -6,7 +6,7 @@ use Rattle.serde_json.specs.Data.{Data, Members, array, object, no_items}
 use Rattle.serde_json.specs.Find.{get_member}
 use Rattle.map_model.specs.declared.names.TheConstants.{DATA, LAYERS}
 use Rattle.map_model.specs.declared.parts.Body.{Body}
-use Rattle.map_model.specs.declared.parts.Body.TheVariants.{Tiles, Objects, Other, Group'}
+use Rattle.map_model.specs.declared.parts.Body.TheVariants.{Tiles}
 use Rattle.map_model.specs.declared.parts.Encoding.{Encoding}
 use Rattle.map_model.specs.declared.parts.Layer.{Layer}
 use Rattle.map_model.specs.Bodies.{IsTiles}
@@ -32,9 +32,7 @@ use Rattle.map_json.proofs.Plain.{ArePlainOwn, IsPlain, IsPlainOwn, kept_plain, 
 pub outline_own-other : (width height : ℕ) (d : Data) (l : Layer) (b : Body) → (IsTiles b → ⊥)
     → outline_own width height d (record l { body = b }) ≡ layer_own width height d (record l { body = b })
 outline_own-other width height d l (Tiles e cells) h = absurd (h tt)
-outline_own-other width height d l (Objects os) h = refl
-outline_own-other width height d l Other h = refl
-outline_own-other width height d l (Group' s r) h = refl
+outline_own-other width height d l b h = refl
 
 -- of a tile layer they are all but the values
 pub outline_own-tiles : (width height : ℕ) (d : Data) (l : Layer) (b : Body) (e : Encoding) (cells : List ℕ) → b ≡ Tiles e cells
@@ -42,15 +40,11 @@ pub outline_own-tiles : (width height : ℕ) (d : Data) (l : Layer) (b : Body) (
 outline_own-tiles width height d l (Tiles f values) e cells is =
     let same : f ≡ e = cc in
     ap (λ (x : Encoding). common_own (record l { body = Tiles f values }) ++ shape_own width height x) same
-outline_own-tiles width height d l (Objects os) e cells is = absurd (let worse : ⊥ = cc in worse)
-outline_own-tiles width height d l Other e cells is = absurd (let worse : ⊥ = cc in worse)
-outline_own-tiles width height d l (Group' s r) e cells is = absurd (let worse : ⊥ = cc in worse)
+outline_own-tiles width height d l b e cells is = absurd (let worse : ⊥ = cc in worse)
 
 no_numbers : (b : Body) → (IsTiles b → ⊥) → numbers_of b ≡ None
 no_numbers (Tiles e cells) h = absurd (h tt)
-no_numbers (Objects os) h = refl
-no_numbers Other h = refl
-no_numbers (Group' s r) h = refl
+no_numbers b h = refl
 
 -- of a layer that is no tile layer the whole frame stands in an outline
 pub outline_frame-other : (width height : ℕ) (l : Layer) → (IsTiles l.body → ⊥) → layer_frame width height l ≡ outline_frame width height l
@@ -60,9 +54,7 @@ outline_frame-other width height l h =
 
 no_tiles : (b : Body) (ls : List Layer) → group_in b ≡ Some ls → IsTiles b → ⊥
 no_tiles (Tiles e cells) ls g = absurd (let worse : ⊥ = cc in worse)
-no_tiles (Objects os) ls g = λ t. t
-no_tiles Other ls g = λ t. t
-no_tiles (Group' s r) ls g = λ t. t
+no_tiles b ls g = λ t. t
 
 -- ---- numbers and depths
 filter_plain_at : (b : Bool) (n : ℕ) (x : List ℕ × Option Data) (rest : Own) → IsPlainOwn n x.1 → ArePlainOwn n rest → ArePlainOwn n (cond b (x ∷ rest) rest)

@@ -196,10 +196,7 @@ framed_plain : (tier n size width height : ℕ) → property_tier (object_tier t
     → (b : Body) → IsBody tier size b
     → ArePlainOwn (suc (suc (suc (suc n)))) (body_own width height d (framed_body b))
 framed_plain tier n size width height room d layers (Tiles Array cells) h = body_plain tier n 0 width height room d layers (Tiles Array []) (refl, tt)
-framed_plain tier n size width height room d layers (Tiles Base64 cells) h = body_plain tier n size width height room d layers (Tiles Base64 cells) h
-framed_plain tier n size width height room d layers (Objects os) h = body_plain tier n size width height room d layers (Objects os) h
-framed_plain tier n size width height room d layers Other h = body_plain tier n size width height room d layers Other h
-framed_plain tier n size width height room d layers (Group' s r) h = body_plain tier n size width height room d layers (Group' s r) h
+framed_plain tier n size width height room d layers b h = body_plain tier n size width height room d layers b h
 
 -- the own members of a layer, with this for the layers of a group
 pub own_are_plain : (tier n size width height : ℕ) → property_tier (object_tier tier) + n ≡ MAX_DEPTH → (d : Data) → IsPlain (suc (suc (suc (suc n)))) d

@@ -2,8 +2,8 @@
 use Rattle.std.proofs.Common.{◌≡◌, ℕ, suc, List, [], ◌∷◌, Some, None, subst, arith}
 use Rattle.serde_json.specs.Find.{get_member}
 use Rattle.map_model.specs.declared.parts.Body.{Body}
-use Rattle.map_model.specs.declared.parts.Body.TheVariants.{Tiles, Objects, Other, Group'}
-use Rattle.map_model.specs.declared.parts.Encoding.TheVariants.{Array, Base64}
+use Rattle.map_model.specs.declared.parts.Body.TheVariants.{Tiles}
+use Rattle.map_model.specs.declared.parts.Encoding.TheVariants.{Array}
 use Rattle.map_model.specs.declared.parts.Layer.{Layer}
 use Rattle.map_model.specs.Groups.{drawn, inside, tree}
 use Rattle.map_model.specs.Keeping.{inner_tier}
@@ -52,10 +52,7 @@ AreWritten-lacks groups size l h =
 -- its values are tile values
 values_in : (tier size : ℕ) (b : Body) (ns : List ℕ) → numbers_of b ≡ Some ns → IsBody tier size b → Each IsTileValue ns
 values_in tier size (Tiles Array cells) ns is h = let same : cells ≡ ns = cc in subst (Each IsTileValue) same h.1
-values_in tier size (Tiles Base64 cells) ns is h = cc
-values_in tier size (Objects os) ns is h = cc
-values_in tier size Other ns is h = cc
-values_in tier size (Group' s r) ns is h = cc
+values_in tier size b ns is h = cc
 
 numbers_in-whole : (detail : Detail) (b : Body) (ns : List ℕ) → numbers_in detail b ≡ Some ns → numbers_of b ≡ Some ns
 numbers_in-whole Whole b ns is = is

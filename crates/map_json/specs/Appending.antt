@@ -3,7 +3,7 @@ use Rattle.std.specs.Prelude.{◌≡◌, ℕ, ◌+◌, ◌*◌, ◌≤◌, List,
 use Rattle.std.specs.Str.{bytes_eq}
 use Rattle.serde_json.specs.Data.{Data, array, Members, no_members, member, no_items}
 use Rattle.map_model.specs.declared.parts.Body.{Body}
-use Rattle.map_model.specs.declared.parts.Body.TheVariants.{Tiles, Objects, Other, Group'}
+use Rattle.map_model.specs.declared.parts.Body.TheVariants.{Tiles}
 use Rattle.map_model.specs.declared.parts.Encoding.{Encoding}
 use Rattle.map_model.specs.declared.parts.Encoding.TheVariants.{Array, Base64}
 use Rattle.map_model.specs.declared.parts.MapParts.{MapParts}
@@ -39,9 +39,7 @@ framed_cells Base64 cells = cells
 -- what a layer holds, as it stands in its frame
 abbrev pub framed_body : Body → Body
 framed_body (Tiles e cells) = Tiles e (framed_cells e cells)
-framed_body (Objects os) = Objects os
-framed_body Other = Other
-framed_body (Group' s r) = Group' s r
+framed_body b = b
 
 -- the members of a layer, with an empty array for numbers and for the layers of a group
 abbrev pub layer_frame : ℕ → ℕ → Layer → Members

@@ -3,9 +3,9 @@ use Rattle.std.specs.Prelude.{ℕ, List, [], ◌∷◌, Option, Some, None}
 use Rattle.serde_json.specs.Data.{Data, array, string, Members, no_items}
 use Rattle.map_model.specs.declared.names.TheConstants.{TYPE, WIDTH, HEIGHT, ENCODING, COMPRESSION}
 use Rattle.map_model.specs.declared.parts.Body.{Body}
-use Rattle.map_model.specs.declared.parts.Body.TheVariants.{Tiles, Objects, Other, Group'}
+use Rattle.map_model.specs.declared.parts.Body.TheVariants.{Tiles}
 use Rattle.map_model.specs.declared.parts.Encoding.{Encoding}
-use Rattle.map_model.specs.declared.parts.Encoding.TheVariants.{Array, Base64}
+use Rattle.map_model.specs.declared.parts.Encoding.TheVariants.{Array}
 use Rattle.map_model.specs.declared.parts.Layer.{Layer}
 use Rattle.map_model.specs.declared.parts.MapParts.{MapParts}
 use Rattle.map_model.specs.Format.{id_member, name_member, visible_member, properties_list}
@@ -36,10 +36,7 @@ outline_frame width height l = with_own (outline_own width height (array no_item
 -- the numbers that a layer's values are; none, where they are in base64 or it has no values
 abbrev pub numbers_of : Body → Option (List ℕ)
 numbers_of (Tiles Array cells) = Some cells
-numbers_of (Tiles Base64 cells) = None
-numbers_of (Objects os) = None
-numbers_of Other = None
-numbers_of (Group' s r) = None
+numbers_of b = None
 
 -- ---- in either detail
 -- the numbers that are written

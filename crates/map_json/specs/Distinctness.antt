@@ -5,10 +5,11 @@ use Rattle.std.specs.Str.{bytes_eq}
 use Rattle.map_model.specs.declared.parts.Property.{Property}
 use Rattle.map_model.specs.declared.parts.Object.{Object}
 use Rattle.map_model.specs.declared.parts.Body.{Body}
-use Rattle.map_model.specs.declared.parts.Body.TheVariants.{Tiles, Objects, Other, Group'}
 use Rattle.map_model.specs.declared.parts.Layer.{Layer}
 use Rattle.map_model.specs.declared.parts.MapParts.{MapParts}
+use Rattle.map_model.specs.Bodies.{objects_in}
 use Rattle.map_model.specs.Groups.{all_drawn}
+use Rattle.map_model.specs.Lists.{or_empty}
 use Rattle.map_model.specs.WellFormed.{layer_ids, object_ids, first_ids_of, names_of_property}
 
 -- no element is there twice, by this test
@@ -18,10 +19,7 @@ are_distinct eq (x ∷ xs) = not (list_any (eq x) xs) && are_distinct eq xs
 
 -- the lists of properties of objects, of a layer without those in it, and of a map
 abbrev pub lists_in : Body → List (List Property)
-lists_in (Tiles e cells) = []
-lists_in (Objects os) = map (λ (o : Object). o.properties) os
-lists_in Other = []
-lists_in (Group' s r) = []
+lists_in b = map (λ (o : Object). o.properties) (or_empty (objects_in b))
 
 abbrev pub lists_of_layer : Layer → List (List Property)
 lists_of_layer l = l.properties ∷ lists_in l.body

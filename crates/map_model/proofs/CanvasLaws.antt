@@ -1,6 +1,6 @@
 -- Documents that are put on a canvas, and undone.
 use Rattle.std.proofs.Common.{◌≡◌, ℕ, ◌+◌, ◌*◌, ℤ, ◌+ℤ◌, neg_ℤ, suc, List, [], ◌∷◌, ◌++◌, append-nil, length, map, get_or, Option, Some, None, option_map, refl}
-use Rattle.std.proofs.Common.{sym, ap, ◌∙◌, arith, append_assoc, length-append}
+use Rattle.std.proofs.Common.{sym, ap, ◌∙◌, subst, arith, append_assoc, length-append}
 use Rattle.std.specs.List.{flat_map}
 use Rattle.std.proofs.Math.IntN.{+ℤ-neg_ℤ_cancel}
 use Rattle.std.proofs.Math.Seq.{get_or-append_seam}
@@ -9,23 +9,24 @@ use Rattle.std.proofs.lemmas.List.{length-map}
 use Rattle.map_model.specs.declared.canvas.Canvas.{Canvas}
 use Rattle.map_model.specs.declared.limits.TheConstants.{MAX_GROUPS}
 use Rattle.map_model.specs.declared.parts.Body.{Body}
-use Rattle.map_model.specs.declared.parts.Body.TheVariants.{Tiles, Objects, Other, Group'}
+use Rattle.map_model.specs.declared.parts.Body.TheVariants.{Tiles, Objects}
 use Rattle.map_model.specs.declared.parts.Layer.{Layer}
 use Rattle.map_model.specs.declared.parts.Object.{Object}
 use Rattle.map_model.specs.declared.parts.MapParts.{MapParts}
 use Rattle.std.specs.FinSet as set
 use Rattle.region.specs.Cells.{cell_cmp}
-use Rattle.map_model.specs.Canvas.{with_lists, lists_in, lists_of, tile_layers, body_on, layer_on, layers_on, map_on, with_canvas, canvas_back, IsShift}
-use Rattle.map_model.specs.Canvas.{AreCells, MayBeMoved, BodyMayBeMoved, MayBeDrawn, IsCanvasOf}
+use Rattle.map_model.specs.Bodies.{tiles_or_none}
+use Rattle.map_model.specs.Canvas.{with_lists, lists_in, lists_of, tile_layers, body_on, cells_on, objects_on, layer_on, layers_on, map_on, with_canvas}
+use Rattle.map_model.specs.Canvas.{canvas_back, IsShift, AreCells, MayBeMoved, BodyMayBeMoved, MayBeDrawn, IsCanvasOf}
 use Rattle.map_model.specs.Objects.{object_moved}
 use Rattle.map_model.specs.Document.{DocumentParts, IsDocument}
 use Rattle.map_model.specs.Groups.{all_drawn}
 use Rattle.map_model.specs.Keeping.{layer_tier, object_tier}
-use Rattle.map_model.specs.Format.{body_names}
 use Rattle.map_model.specs.Lists.{Each}
+use Rattle.map_model.proofs.BodyLaws.{IsLayer-contents, object_ids-contents}
 use Rattle.map_model.proofs.CanvasTrees.{Turns, back_layers, drawn_on, drawn-layers_on}
 use Rattle.map_model.proofs.Listings.{Each-append, Each-prefix, Each-rest}
-use Rattle.map_model.specs.WellFormed.{IsBody, IsDrawn, IsObject, ids_of, ids_of_object, object_ids_in, object_ids_of}
+use Rattle.map_model.specs.WellFormed.{IsBody, IsDrawn, IsObject, ids_of, ids_of_object, object_ids_of}
 
 -- ---- undone
 number-back : (o : Option ℤ) (by : ℤ) → option_map (λ z. z +ℤ neg_ℤ by) (option_map (λ z. z +ℤ by) o) ≡ o
@@ -46,8 +47,7 @@ body-back : (c : Canvas) (d : DocumentParts) → Turns (held c d) c
 body-back c d prefix rest number (Tiles e own) is =
     ap (Tiles e) (ap (λ k. get_or (prefix ++ own ∷ rest) k (get_or c.layers number own)) is ∙ get_or-append_seam prefix own rest (get_or c.layers number own))
 body-back c d prefix rest number (Objects os) is = ap Objects (objects-back c.right c.down os)
-body-back c d prefix rest number Other is = refl
-body-back c d prefix rest number (Group' s r) is = refl
+body-back c d prefix rest number b is = refl
 
 layers-back : (c : Canvas) (d : DocumentParts) (ls : List Layer)
     → layers_on MAX_GROUPS (held c d (flat_map lists_of (all_drawn ls))) 0 (layers_on MAX_GROUPS c 0 ls) ≡ ls
@@ -76,9 +76,7 @@ lists-laid c prefix rest number (l ∷ ls) held is count = by_body l.1.body rest
         ap (λ xs. get_or xs number own) at ∙ ap (λ k. get_or (prefix ++ cells ∷ more) k own) is ∙ get_or-append_seam prefix cells more own in
         let next : number + 1 ≡ length (prefix ++ cells ∷ []) = omega (arith, length-append prefix (cells ∷ [])) in
         λ i. first i ∷ later (prefix ++ cells ∷ []) more (at ∙ sym (append_assoc prefix (cells ∷ []) more)) next (omega arith) i
-    by_body (Objects os) more at many later = later prefix more at (omega arith) many
-    by_body Other more at many later = later prefix more at (omega arith) many
-    by_body (Group' s r) more at many later = later prefix more at (omega arith) many
+    by_body b more at many later = later prefix more at (omega arith) many
 
 pub tile_layers-on : (c : Canvas) (m : MapParts) → length c.layers ≡ length (tile_layers m) → tile_layers (map_on c m) ≡ c.layers
 tile_layers-on c m count = ap (flat_map lists_of) (drawn-layers_on MAX_GROUPS c layer_tier 0 m.layers)
@@ -88,18 +86,6 @@ tile_layers-on c m count = ap (flat_map lists_of) (drawn-layers_on MAX_GROUPS c 
 object_ids-moved : (right down : ℤ) (os : List Object) → flat_map ids_of_object (map (object_moved right down) os) ≡ flat_map ids_of_object os
 object_ids-moved right down [] = refl
 object_ids-moved right down (o ∷ os) = ap (λ ids. o.id ∷ ids) (object_ids-moved right down os)
-
-object_ids-on : (c : Canvas) (number : ℕ) (b : Body) → object_ids_in (body_on c number b) ≡ object_ids_in b
-object_ids-on c number (Tiles e own) = refl
-object_ids-on c number (Objects os) = object_ids-moved c.right c.down os
-object_ids-on c number Other = refl
-object_ids-on c number (Group' s r) = refl
-
-body_names-on : (c : Canvas) (number : ℕ) (b : Body) → body_names (body_on c number b) ≡ body_names b
-body_names-on c number (Tiles e own) = refl
-body_names-on c number (Objects os) = refl
-body_names-on c number Other = refl
-body_names-on c number (Group' s r) = refl
 
 flat-on : (c : Canvas) (g : ℕ × Layer → List ℕ) → ((number : ℕ) (d : ℕ × Layer) → g (d.0, layer_on c number d.1) ≡ g d) → (number : ℕ) (ls : List (ℕ × Layer))
     → flat_map g (drawn_on c number ls) ≡ flat_map g ls
@@ -113,14 +99,10 @@ objects-on right down tier [] h may = tt
 objects-on right down tier (o ∷ os) h may =
     (record { placing = may.0; name = h.0.name; gid = h.0.gid; properties = h.0.properties; kept = h.0.kept }, objects-on right down tier os h.1 may.1)
 
-IsBody-on : (c : Canvas) (number tier old size : ℕ) (b : Body) → IsBody tier old b → BodyMayBeMoved c.right c.down b
-    → Each (AreCells size) (lists_in (body_on c number b))
-    → IsBody tier size (body_on c number b)
-IsBody-on c number tier old size (Tiles e own) h may cells = cells.0
-IsBody-on c number tier old size (Objects os) h may cells =
-    (rw (length-map os (object_moved c.right c.down)) h.0, objects-on c.right c.down (object_tier tier) os h.1 may)
-IsBody-on c number tier old size Other h may cells = tt
-IsBody-on c number tier old size (Group' s r) h may cells = h
+AreCells-on : (c : Canvas) (number size : ℕ) (b : Body) → Each (AreCells size) (lists_in (body_on c number b)) → (own : List ℕ) → tiles_or_none b ≡ Some own
+    → AreCells size (cells_on c number own)
+AreCells-on c number size (Tiles e cells) h own is = let same : cells ≡ own = cc in subst (λ (vs : List ℕ). AreCells size (cells_on c number vs)) same h.0
+AreCells-on c number size b h own is = cc
 
 layers-on : (c : Canvas) (number old size : ℕ) (ds : List (ℕ × Layer)) → Each (IsDrawn old) ds → Each (MayBeDrawn c.right c.down) ds
     → Each (AreCells size) (flat_map lists_of (drawn_on c number ds)) → Each (IsDrawn size) (drawn_on c number ds)
@@ -129,12 +111,8 @@ layers-on c number old size (d ∷ ds) h may cells =
     let l = d.1 in
     let own = Each-prefix (AreCells size) (lists_in (body_on c number l.body)) (flat_map lists_of (drawn_on c (number + length (lists_of d)) ds)) cells in
     let rest = Each-rest (AreCells size) (lists_in (body_on c number l.body)) (flat_map lists_of (drawn_on c (number + length (lists_of d)) ds)) cells in (
-      record {
-        name = h.0.name;
-        properties = h.0.properties;
-        kept = rw (body_names-on c number l.body) h.0.kept;
-        body = IsBody-on c number d.0 old size l.body h.0.body may.0 own;
-      },
+      IsLayer-contents (cells_on c number) (objects_on c) d.0 old size l (λ cells e k. AreCells-on c number size l.body own cells e)
+          (λ os e k. (rw (length-map os (object_moved c.right c.down)) k.0, objects-on c.right c.down (object_tier d.0) os k.1 (rw e at may.0))) h.0,
       layers-on c (number + length (lists_of d)) old size ds h.1 may.1 rest,
     )
 
@@ -148,6 +126,7 @@ on-IsDocument c d fits h =
     let size = c.width * c.height in
     let on = drawn-layers_on MAX_GROUPS c layer_tier 0 m.layers in
     let ds = all_drawn m.layers in
+    let same = λ (number : ℕ) (l : ℕ × Layer). object_ids-contents (cells_on c number) (objects_on c) (object_ids-moved c.right c.down) l.1.body in
     let cells : Each (AreCells size) (flat_map lists_of (drawn_on c 0 ds)) = rw (← on, tile_layers-on c m fits.count) fits.cells in
     record {
       map = record {
@@ -157,7 +136,7 @@ on-IsDocument c d fits h =
           few = rw (length-drawn_on c 0 ds) h.map.layers.few;
           each = layers-on c 0 (m.width * m.height) size ds h.map.layers.each fits.objects cells;
           layer_ids = rw (flat-on c ids_of (λ number l. refl) 0 ds) h.map.layers.layer_ids;
-          object_ids = rw (flat-on c object_ids_of (λ number l. object_ids-on c number l.1.body) 0 ds) h.map.layers.object_ids;
+          object_ids = rw (flat-on c object_ids_of same 0 ds) h.map.layers.object_ids;
         });
         tilesets = h.map.tilesets;
         properties = h.map.properties;
@@ -176,10 +155,8 @@ objects-may right down tier [] h = tt
 objects-may right down tier (o ∷ os) h = (rw (number-back o.placing.x right, number-back o.placing.y down) h.0.placing, objects-may right down tier os h.1)
 
 body-may : (c : Canvas) (number tier size : ℕ) (b : Body) → IsBody tier size b → BodyMayBeMoved (neg_ℤ c.right) (neg_ℤ c.down) (body_on c number b)
-body-may c number tier size (Tiles e own) h = tt
 body-may c number tier size (Objects os) h = objects-may c.right c.down (object_tier tier) os h.1
-body-may c number tier size Other h = tt
-body-may c number tier size (Group' s r) h = tt
+body-may c number tier size b h = tt
 
 layers-may : (c : Canvas) (number size : ℕ) (ds : List (ℕ × Layer)) → Each (IsDrawn size) ds
     → Each (MayBeDrawn (neg_ℤ c.right) (neg_ℤ c.down)) (drawn_on c number ds)
@@ -188,9 +165,7 @@ layers-may c number size (d ∷ ds) h = (body-may c number d.0 size d.1.body h.0
 
 body-cells : (tier size : ℕ) (b : Body) → IsBody tier size b → Each (AreCells size) (lists_in b)
 body-cells tier size (Tiles e own) h = (h, tt)
-body-cells tier size (Objects os) h = tt
-body-cells tier size Other h = tt
-body-cells tier size (Group' s r) h = tt
+body-cells tier size b h = tt
 
 pub layers-cells : (size : ℕ) (ds : List (ℕ × Layer)) → Each (IsDrawn size) ds → Each (AreCells size) (flat_map lists_of ds)
 layers-cells size [] h = tt

@@ -6,14 +6,15 @@ use Rattle.std.proofs.Math.Seq.{drop-append-add, drop-append_seam, take-append_s
 use Rattle.std.proofs.lemmas.List.{get_or-append_right, length-take-le, take-append-drop}
 use Rattle.map_model.specs.declared.canvas.Canvas.{Canvas}
 use Rattle.map_model.specs.declared.parts.Body.{Body}
-use Rattle.map_model.specs.declared.parts.Body.TheVariants.{Tiles, Objects, Other, Group'}
+use Rattle.map_model.specs.declared.parts.Body.TheVariants.{Tiles}
 use Rattle.map_model.specs.declared.parts.Layer.{Layer}
 use Rattle.map_model.specs.Canvas.{BodyMayBeMoved, MayBeDrawn, body_on, each_on, layers_on, lists_after, lists_in, lists_left, lists_of, lists_under, one_on}
-use Rattle.map_model.specs.Canvas.{with_lists}
+use Rattle.map_model.specs.Canvas.{cells_on, objects_on, with_lists}
 use Rattle.map_model.specs.Groups.{body_with_layers, drawn, group_in, inside, layer_with_layers, tree}
 use Rattle.map_model.specs.Keeping.{inner_tier, layer_tier}
 use Rattle.map_model.specs.Lists.{Each, or_empty}
-use Rattle.map_model.proofs.CanvasTrees.{cells_below, counted, group_in-on, lists_under-is, lists_under-list, one_on-is}
+use Rattle.map_model.proofs.BodyLaws.{group_in-contents}
+use Rattle.map_model.proofs.CanvasTrees.{cells_below, counted, lists_under-is, lists_under-list, one_on-is}
 use Rattle.map_model.proofs.GroupBodies.{objects_in-with}
 use Rattle.map_model.proofs.Listings.{Each-append, Each-prefix, Each-rest}
 use Rattle.map_model.proofs.Trees.{tree-is}
@@ -178,9 +179,7 @@ Agree number xs ys = (j : ℕ) (d : List ℕ) → number ≤ j → get_or xs j d
 module _ (c : Canvas) (lists : List (List ℕ)) (from : ℕ) (agree : Agree from lists c.layers) where
   body-same : (number : ℕ) (b : Body) → from ≤ number → body_on (with_lists lists c) number b ≡ body_on c number b
   body-same number (Tiles e own) low = ap (Tiles e) (agree number own low)
-  body-same number (Objects os) low = refl
-  body-same number Other low = refl
-  body-same number (Group' s r) low = refl
+  body-same number b low = refl
 
   list-same : (groups : ℕ) → ((number : ℕ) (l : Layer) → from ≤ number → one_on groups (with_lists lists c) number l ≡ one_on groups c number l)
       → (number : ℕ) (ls : List Layer) → from ≤ number → layers_on groups (with_lists lists c) number ls ≡ layers_on groups c number ls
@@ -288,9 +287,7 @@ after-left number (Tiles e own) lists fits =
     by_piece (x ∷ []) long is prefix =
         (λ i. slice_set (is i) (prefix i) own) ∙ set-append_seam (take number lists) x (drop 1 (drop number lists)) own
         ∙ sym (ap (lists_left number (own ∷ [])) is ∙ left-split (take number lists) (x ∷ []) (own ∷ []) (drop 1 (drop number lists)) number prefix refl)
-after-left number (Objects os) lists fits = sym (lists_left-none number lists)
-after-left number Other lists fits = sym (lists_left-none number lists)
-after-left number (Group' s r) lists fits = sym (lists_left-none number lists)
+after-left number b lists fits = sym (lists_left-none number lists)
 
 may-list : (right down : ℤ) (groups : ℕ) → ((a b : ℕ) (l : Layer) → Each (MayBeDrawn right down) (tree groups a l)
     → Each (MayBeDrawn right down) (tree groups b l))
@@ -340,7 +337,7 @@ module _ (groups : ℕ) (c : Canvas) (number : ℕ) (l : Layer) (count : number 
     within = cells (groups - 1) (or_empty (group_in body))
 
     inner : or_empty (group_in body) ≡ inside l
-    inner = ap (λ b. or_empty (group_in b)) laid ∙ ap or_empty (group_in-on c number l.body)
+    inner = ap (λ b. or_empty (group_in b)) laid ∙ ap or_empty (group_in-contents (cells_on c number) (objects_on c) l.body)
 
     all : lists_under groups l ≡ lists_in l.body ++ cells (groups - 1) (inside l)
     all = by_groups groups some

@@ -4,12 +4,13 @@ use Rattle.std.specs.List.{flat_map}
 use Rattle.std.proofs.lemmas.Grind.{flat_map-append}
 use Rattle.map_model.specs.declared.canvas.Canvas.{Canvas}
 use Rattle.map_model.specs.declared.parts.Body.{Body}
-use Rattle.map_model.specs.declared.parts.Body.TheVariants.{Tiles, Objects, Other, Group'}
+use Rattle.map_model.specs.declared.parts.Body.TheVariants.{Tiles}
 use Rattle.map_model.specs.declared.parts.Layer.{Layer}
-use Rattle.map_model.specs.Canvas.{body_on, layer_on, layers_on, lists_in, lists_of, lists_under, one_on}
-use Rattle.map_model.specs.Groups.{bare, body_with_layers, drawn, group_in, inside, layer_with_layers, tree}
+use Rattle.map_model.specs.Canvas.{body_on, cells_on, layer_on, layers_on, lists_in, lists_of, lists_under, objects_on, one_on}
+use Rattle.map_model.specs.Groups.{bare, body_with_layers, drawn, inside, layer_with_layers, tree}
 use Rattle.map_model.specs.Keeping.{inner_tier, layer_tier}
 use Rattle.map_model.specs.Lists.{or_empty}
+use Rattle.map_model.proofs.BodyLaws.{body_with_contents-with, group_in-contents}
 use Rattle.map_model.proofs.GroupBodies.{bare-with, body_with_layers-along, body_with_layers-same, body_with_layers-twice, inside-with, lists_in-with}
 use Rattle.map_model.proofs.Trees.{tree-is}
 
@@ -27,24 +28,9 @@ one_on-is zero c number l = refl
 one_on-is (suc groups) c number l = refl
 
 -- ---- bodies
-pub group_in-on : (c : Canvas) (number : ℕ) (b : Body) → group_in (body_on c number b) ≡ group_in b
-group_in-on c number (Tiles e own) = refl
-group_in-on c number (Objects os) = refl
-group_in-on c number Other = refl
-group_in-on c number (Group' s r) = refl
-
-pub body_on-with : (c : Canvas) (number : ℕ) (f : List Layer → List Layer) (b : Body)
-    → body_on c number (body_with_layers f b) ≡ body_with_layers f (body_on c number b)
-body_on-with c number f (Tiles e own) = refl
-body_on-with c number f (Objects os) = refl
-body_on-with c number f Other = refl
-body_on-with c number f (Group' s r) = refl
-
-pub lists_in-on : (c : Canvas) (number : ℕ) (b : Body) → length (lists_in (body_on c number b)) ≡ length (lists_in b)
+lists_in-on : (c : Canvas) (number : ℕ) (b : Body) → length (lists_in (body_on c number b)) ≡ length (lists_in b)
 lists_in-on c number (Tiles e own) = refl
-lists_in-on c number (Objects os) = refl
-lists_in-on c number Other = refl
-lists_in-on c number (Group' s r) = refl
+lists_in-on c number b = refl
 
 -- ---- the cells of a tree, which its tier does not change
 lists-list : (groups : ℕ) → ((a b : ℕ) (l : Layer) → flat_map lists_of (tree groups a l) ≡ flat_map lists_of (tree groups b l))
@@ -95,10 +81,10 @@ drawn_on-append c number (x ∷ xs) ys =
     (λ k. drawn_on c (number + length (lists_of x)) xs ++ drawn_on c k ys) there)
 
 bare-on : (c : Canvas) (number : ℕ) (l : Layer) → bare (layer_on c number l) ≡ layer_on c number (bare l)
-bare-on c number l = λ i. record l { body = sym (body_on-with c number (λ ls. []) l.body) i }
+bare-on c number l = λ i. record l { body = sym (body_with_contents-with (cells_on c number) (objects_on c) (λ ls. []) l.body) i }
 
 inside-on : (c : Canvas) (number : ℕ) (l : Layer) → inside (layer_on c number l) ≡ inside l
-inside-on c number l = ap or_empty (group_in-on c number l.body)
+inside-on c number l = ap or_empty (group_in-contents (cells_on c number) (objects_on c) l.body)
 
 drawn-on_list : (groups : ℕ) (c : Canvas) → ((tier number : ℕ) (l : Layer)
     → tree groups tier (one_on groups c number l) ≡ drawn_on c number (tree groups tier l))
@@ -197,7 +183,7 @@ module _ (h : List (List ℕ) → Canvas) (c : Canvas) (turns : Turns h c) where
       let passed : number + length (lists_in (body_with_layers f (body_on c number b))) ≡ behind =
       ap (λ xs. number + length xs) (lists_in-with f (body_on c number b)) ∙ ap (λ k. number + k) (lists_in-on c number b) in
       let body : body_with_layers g (body_on on number (body_with_layers f (body_on c number b))) ≡ b =
-      ap (body_with_layers g) (body_on-with on number f (body_on c number b))
+      ap (body_with_layers g) (body_with_contents-with (cells_on on number) (objects_on on) f (body_on c number b))
       ∙ body_with_layers-twice g f (body_on on number (body_on c number b))
       ∙ ap (body_with_layers (λ ls. g (f ls))) (turns prefix (cells ++ rest) number b is)
       ∙ body_with_layers-along (λ ls. g (f ls)) (λ ls. ls) b (λ ls e. let same : inside l ≡ ls = ap or_empty e in rw (← same) inner)

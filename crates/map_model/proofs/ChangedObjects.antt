@@ -3,24 +3,23 @@ use Rattle.std.proofs.Common.{◌≡◌, ℕ, List, Option, Some, None, IsSomeAn
 use Rattle.std.specs.List.{slice_get}
 use Rattle.map_model.specs.declared.limits.TheConstants.{MAX_GROUPS}
 use Rattle.map_model.specs.declared.parts.Body.{Body}
-use Rattle.map_model.specs.declared.parts.Body.TheVariants.{Tiles, Objects, Other, Group'}
+use Rattle.map_model.specs.declared.parts.Body.TheVariants.{Objects}
 use Rattle.map_model.specs.declared.parts.Layer.{Layer}
 use Rattle.map_model.specs.declared.parts.Object.{Object}
 use Rattle.map_model.specs.declared.place.ObjectPlace.{ObjectPlace}
+use Rattle.map_model.specs.Bodies.{body_with_objects, objects_in}
 use Rattle.map_model.specs.Groups.{change_among, layer_among}
 use Rattle.map_model.specs.Lists.{change_at}
-use Rattle.map_model.specs.Objects.{body_with_objects, layer_with_objects, objects_in, objects_of}
+use Rattle.map_model.specs.Objects.{layer_with_objects, objects_of}
 use Rattle.map_model.proofs.LensLaws.{change_at-along}
 use Rattle.map_model.proofs.TreeChanges.{change_among-along}
 
 -- two changes that agree on the object
 body-along : (f g : Object → Object) (b : Body) (k : ℕ) (o : Object) → option_and_then (λ os. slice_get os k) (objects_in b) ≡ Some o → f o ≡ g o
     → body_with_objects (change_at k f) b ≡ body_with_objects (change_at k g) b
-body-along f g (Tiles e cells) k o found same = refl
 body-along f g (Objects os) k o found same = ap Objects (change_at-along f g os k
     (λ a there. let is : o ≡ a = cc (found, there) in ap f (sym is) ∙ (same ∙ ap g is)))
-body-along f g Other k o found same = refl
-body-along f g (Group' s r) k o found same = refl
+body-along f g b k o found same = refl
 
 -- what was left there is f of the object
 pub object_by : (place : ObjectPlace) (f : Object → Object) (old new : List Layer) (o left : Object)

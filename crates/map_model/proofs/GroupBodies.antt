@@ -1,14 +1,14 @@
 -- A layer and the layers that stand in it.
 use Rattle.std.proofs.Common.{◌≡◌, ℕ, List, [], Some, None, refl, sym, ap, ◌∙◌, subst}
 use Rattle.map_model.specs.declared.parts.Body.{Body}
-use Rattle.map_model.specs.declared.parts.Body.TheVariants.{Tiles, Objects, Other, Group, Group'}
+use Rattle.map_model.specs.declared.parts.Body.TheVariants.{Group, Group'}
 use Rattle.map_model.specs.declared.parts.Body.TheViews.{out-Body, outs-Group, outs-Group', roll-Body, roll-out-Body, rolls-Group}
 use Rattle.map_model.specs.declared.parts.Layer.{Layer}
+use Rattle.map_model.specs.Bodies.{objects_in}
 use Rattle.map_model.specs.Canvas.{lists_in}
 use Rattle.map_model.specs.Groups.{layers_by, group_in, group_of, inside, bare, body_with_layers, layer_with_layers}
 use Rattle.map_model.specs.Format.{body_names}
 use Rattle.map_model.specs.Lists.{or_empty}
-use Rattle.map_model.specs.Objects.{objects_in}
 use Rattle.map_model.specs.Tilesets.{values_in}
 use Rattle.map_model.specs.WellFormed.{IsBody, IsLayer, object_ids_in}
 
@@ -21,13 +21,11 @@ body_with_layers-Group f ls = ap (λ x. Group (f (layers_by x))) (outs-Group ls)
 
 -- a group is that of its layers
 Group-layers_by : (b : Body) (ls : List Layer) → group_in b ≡ Some ls → b ≡ Group ls
-Group-layers_by (Tiles e cells) ls h = cc
-Group-layers_by (Objects os) ls h = cc
-Group-layers_by Other ls h = cc
 Group-layers_by (Group' s r) ls h =
     let are : layers_by (out-Body (Group' s r)) ≡ ls = cc in
     let own = outs-Group' s r in
     sym (roll-out-Body (Group' s r)) ∙ ap roll-Body own ∙ rolls-Group _ ∙ ap Group (sym (ap layers_by own) ∙ are)
+Group-layers_by b ls h = cc
 
 -- ---- other layers in a body
 group_in-with : (f : List Layer → List Layer) (b : Body) (ls : List Layer) → group_in b ≡ Some ls → group_in (body_with_layers f b) ≡ Some (f ls)
@@ -40,11 +38,9 @@ group_of-with f l ls h = group_in-with f l.body ls h
 -- a body is a group, or has no layers and stays as it is
 pub group_cases : (P : Body → Type 0) → ((b : Body) → group_in b ≡ None → ((f : List Layer → List Layer) → body_with_layers f b ≡ b) → P b)
     → ((ls : List Layer) → P (Group ls)) → (b : Body) → P b
-group_cases P other group (Tiles e cells) = other (Tiles e cells) refl (λ f. refl)
-group_cases P other group (Objects os) = other (Objects os) refl (λ f. refl)
-group_cases P other group Other = other Other refl (λ f. refl)
 group_cases P other group (Group' s r) = subst P (sym (Group-layers_by (Group' s r) (layers_by (out-Body (Group' s r))) refl))
     (group (layers_by (out-Body (Group' s r))))
+group_cases P other group b = other b refl (λ f. refl)
 
 -- what stands in a layer that gets other layers
 pub inside-with : (f : List Layer → List Layer) → f [] ≡ [] → (l : Layer) → inside (layer_with_layers f l) ≡ f (inside l)
@@ -75,40 +71,28 @@ body_with_layers-same = group_cases (λ b. body_with_layers (λ ls. ls) b ≡ b)
 -- ---- what a body has beside its layers
 module _ (f : List Layer → List Layer) where
   pub object_ids-with : (b : Body) → object_ids_in (body_with_layers f b) ≡ object_ids_in b
-  object_ids-with (Tiles e cells) = refl
-  object_ids-with (Objects os) = refl
-  object_ids-with Other = refl
   object_ids-with (Group' s r) = refl
+  object_ids-with b = refl
 
   pub objects_in-with : (b : Body) → objects_in (body_with_layers f b) ≡ objects_in b
-  objects_in-with (Tiles e cells) = refl
-  objects_in-with (Objects os) = refl
-  objects_in-with Other = refl
   objects_in-with (Group' s r) = refl
+  objects_in-with b = refl
 
   pub lists_in-with : (b : Body) → lists_in (body_with_layers f b) ≡ lists_in b
-  lists_in-with (Tiles e cells) = refl
-  lists_in-with (Objects os) = refl
-  lists_in-with Other = refl
   lists_in-with (Group' s r) = refl
+  lists_in-with b = refl
 
   pub values_in-with : (b : Body) → values_in (body_with_layers f b) ≡ values_in b
-  values_in-with (Tiles e cells) = refl
-  values_in-with (Objects os) = refl
-  values_in-with Other = refl
   values_in-with (Group' s r) = refl
+  values_in-with b = refl
 
   pub body_names-with : (b : Body) → body_names (body_with_layers f b) ≡ body_names b
-  body_names-with (Tiles e cells) = refl
-  body_names-with (Objects os) = refl
-  body_names-with Other = refl
   body_names-with (Group' s r) = refl
+  body_names-with b = refl
 
   pub IsBody-with : (tier size : ℕ) (b : Body) → IsBody tier size (body_with_layers f b) ≡ IsBody tier size b
-  IsBody-with tier size (Tiles e cells) = refl
-  IsBody-with tier size (Objects os) = refl
-  IsBody-with tier size Other = refl
   IsBody-with tier size (Group' s r) = refl
+  IsBody-with tier size b = refl
 
   -- a layer is one of a map with other layers in it too
   pub IsLayer-with : (tier size : ℕ) (l : Layer) → IsLayer tier size l → IsLayer tier size (layer_with_layers f l)

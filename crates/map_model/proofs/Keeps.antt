@@ -7,7 +7,7 @@ use Rattle.std.proofs.lemmas.Nat.{mul-add-lt}
 use Rattle.std.proofs.lemmas.Grind.{flat_map-append}
 use Rattle.map_model.specs.declared.limits.TheConstants.{MAX_GROUPS, MAX_LAYERS, MAX_NEXT_ID}
 use Rattle.map_model.specs.declared.parts.Body.{Body}
-use Rattle.map_model.specs.declared.parts.Body.TheVariants.{Tiles, Objects, Other, Group'}
+use Rattle.map_model.specs.declared.parts.Body.TheVariants.{Tiles, Group'}
 use Rattle.map_model.specs.declared.parts.Layer.{Layer}
 use Rattle.map_model.specs.declared.parts.MapParts.{MapParts}
 use Rattle.map_model.specs.declared.edit.CellEdit.{CellEdit}
@@ -17,15 +17,15 @@ use Rattle.region.specs.Cells.{cell_cmp}
 use Rattle.map_model.specs.Document.{IsSelectionOf}
 use Rattle.map_model.specs.Lists.{Each, or_empty}
 use Rattle.map_model.specs.Bodies.{IsTiles, tiles_of}
-use Rattle.map_model.specs.Lookups.{body_with_tiles, layer_of, HasTiles, tiles_of_layer, tiles_in, layer_with_tiles, IsWithin}
+use Rattle.map_model.specs.Lookups.{layer_of, HasTiles, tiles_of_layer, tiles_in, layer_with_tiles, IsWithin}
 use Rattle.map_model.specs.CellEdits.{IsBelow}
 use Rattle.map_model.specs.Groups.{all_drawn, bare, change_among, drawn, group_in, group_of, inside, layer_with_layers, tree}
 use Rattle.map_model.specs.Keeping.{deepest_tier, inner_tier, layer_tier}
-use Rattle.map_model.specs.Format.{body_names}
 use Rattle.map_model.specs.Layers.{layer_at, layer_with_name, layer_with_visible, siblings_of, with_next_ids, with_siblings, without_layer_at}
 use Rattle.map_model.specs.Properties.{tier_by, tier_of}
 use Rattle.map_model.specs.WellFormed.{IsId, AreIds, IsTileValue, IsBody, IsDrawn, IsLayer, AreDrawn, AreLayers, IsWellFormed, ids_of, object_ids_in}
 use Rattle.map_model.specs.WellFormed.{object_ids_of, object_ids}
+use Rattle.map_model.proofs.BodyLaws.{IsLayer-contents, group_in-contents, object_ids-contents}
 use Rattle.map_model.proofs.GroupBodies.{IsLayer-with, IsLayer-without, bare-with, group_of-with, object_ids-with}
 use Rattle.map_model.proofs.Listings.{Each-append, Each-prefix, Each-rest, IsReplaced, flat-IsReplaced, insert-IsReplaced, remove-IsReplaced, take-one}
 use Rattle.map_model.proofs.Listings.{AreNewIds, AreNewIds-none, AreIds-replaced, AreNewIds-piece}
@@ -218,41 +218,12 @@ pub record KeepsTiles (f : List ℕ → List ℕ) : Type 0 where
   pub count : (vs : List ℕ) → length (f vs) ≡ length vs
   pub range : (vs : List ℕ) → Each IsTileValue vs → Each IsTileValue (f vs)
 
-IsBody-tiles : (f : List ℕ → List ℕ) → KeepsTiles f → (tier size : ℕ) (b : Body) → IsBody tier size b → IsBody tier size (body_with_tiles f b)
-IsBody-tiles f k tier size (Tiles e cells) h = (k.count cells ∙ h.0, k.range cells h.1)
-IsBody-tiles f k tier size (Objects os) h = h
-IsBody-tiles f k tier size Other h = h
-IsBody-tiles f k tier size (Group' s r) h = h
-
-body_names-tiles : (f : List ℕ → List ℕ) (b : Body) → body_names (body_with_tiles f b) ≡ body_names b
-body_names-tiles f (Tiles e cells) = refl
-body_names-tiles f (Objects os) = refl
-body_names-tiles f Other = refl
-body_names-tiles f (Group' s r) = refl
-
-object_ids-tiles : (f : List ℕ → List ℕ) (b : Body) → object_ids_in (body_with_tiles f b) ≡ object_ids_in b
-object_ids-tiles f (Tiles e cells) = refl
-object_ids-tiles f (Objects os) = refl
-object_ids-tiles f Other = refl
-object_ids-tiles f (Group' s r) = refl
-
-group_in-tiles : (f : List ℕ → List ℕ) (b : Body) → group_in (body_with_tiles f b) ≡ group_in b
-group_in-tiles f (Tiles e cells) = refl
-group_in-tiles f (Objects os) = refl
-group_in-tiles f Other = refl
-group_in-tiles f (Group' s r) = refl
-
 layer_with_tiles-keeps : (f : List ℕ → List ℕ) → KeepsTiles f → KeepsLayers (layer_with_tiles f)
 layer_with_tiles-keeps f k = record {
   ids = λ l. refl;
-  inside = λ l. ap or_empty (group_in-tiles f l.body);
-  object_ids = λ l. object_ids-tiles f l.body;
-  layers = λ tier size l h. record {
-    name = h.name;
-    properties = h.properties;
-    kept = rw (body_names-tiles f l.body) h.kept;
-    body = IsBody-tiles f k tier size l.body h.body;
-  };
+  inside = λ l. ap or_empty (group_in-contents f (λ os. os) l.body);
+  object_ids = λ l. object_ids-contents f (λ os. os) (λ os. refl) l.body;
+  layers = λ tier size l h. IsLayer-contents f (λ os. os) tier size size l (λ cells e own. (k.count cells ∙ own.0, k.range cells own.1)) (λ os e own. own) h;
 }
 
 pub with_tiles-keeps : (id : ℕ) (f : List ℕ → List ℕ) (m : MapParts) (layers : List Layer) → layers ≡ change_among id MAX_GROUPS (layer_with_tiles f) m.layers
@@ -269,9 +240,7 @@ Each-found p P (y ∷ ys) x e h = by_test (p y) e (λ q. Each-found p P ys x q h
 
 length-tiles_of : (tier size : ℕ) (b : Body) → IsTiles b → IsBody tier size b → length (tiles_of b) ≡ size
 length-tiles_of tier size (Tiles e cells) t h = h.0
-length-tiles_of tier size (Objects os) t h = absurd t
-length-tiles_of tier size Other t h = absurd t
-length-tiles_of tier size (Group' s r) t h = absurd t
+length-tiles_of tier size b t h = absurd t
 
 -- a tile layer has a value for each cell of the map
 pub length-tiles_in : (m : MapParts) (id : ℕ) → HasTiles m id → IsWellFormed m → length (tiles_in m id) ≡ m.width * m.height
@@ -306,10 +275,8 @@ pub record StandAmong (m : MapParts) (parent : Option ℕ) (ls : List Layer) : T
 -- a group has room for layers in it
 has_groups : (groups tier deep : ℕ) (size : ℕ) (b : Body) (ls : List Layer) → group_in b ≡ Some ls → IsBody tier size b → tier + 2 * groups ≡ deepest_tier
     → (r : ℕ) × (groups ≡ suc r)
-has_groups zero tier deep size (Tiles e cells) ls g h d = cc
-has_groups zero tier deep size (Objects os) ls g h d = cc
-has_groups zero tier deep size Other ls g h d = cc
 has_groups zero tier deep size (Group' s r) ls g h d = absurd (omega (arith, h, d))
+has_groups zero tier deep size b ls g h d = cc
 has_groups (suc groups) tier deep size b ls g h d = (groups, refl)
 
 pub siblings-StandAmong : (m : MapParts) (parent : Option ℕ) (ls : List Layer) → siblings_of m parent ≡ Some ls → IsWellFormed m → StandAmong m parent ls

@@ -2,16 +2,15 @@
 use Rattle.std.proofs.Common.{◌≡◌, ℕ, zero, suc, List, [], ◌∷◌, Bool, Option, Some, None, option_map, option_and_then, find, refl, sym, ap, ◌∙◌, subst}
 use Rattle.std.specs.List.{slice_get}
 use Rattle.map_model.specs.declared.limits.TheConstants.{MAX_GROUPS}
-use Rattle.map_model.specs.declared.parts.Body.{Body}
-use Rattle.map_model.specs.declared.parts.Body.TheVariants.{Tiles, Objects, Other, Group'}
 use Rattle.map_model.specs.declared.parts.Layer.{Layer}
 use Rattle.map_model.specs.declared.parts.Object.{Object}
 use Rattle.map_model.specs.declared.place.ObjectPlace.{ObjectPlace}
 use Rattle.map_model.specs.Document.{DocumentParts, with_selection}
 use Rattle.map_model.specs.Layers.{layer_name, layer_with_name, layer_visible, layer_with_visible}
 use Rattle.map_model.specs.Lists.{change_at}
-use Rattle.map_model.specs.Objects.{objects_of, objects_in, body_with_objects, object_at, object_placing, object_with_placing}
+use Rattle.map_model.specs.Objects.{objects_of, object_at, object_placing, object_with_placing}
 use Rattle.map_model.specs.Lookups.{layer_of}
+use Rattle.map_model.proofs.BodyLaws.{body_with_contents-same, body_with_contents-twice, body_with_objects-along, objects_in-contents}
 use Rattle.map_model.proofs.GroupBodies.{group_of-with, body_with_layers-along, body_with_layers-same, body_with_layers-twice}
 use Rattle.map_model.proofs.TreeChanges.{layer_among-change_among, change_among-change_among, change_among-along, change_among-same}
 use Rattle.map_model.proofs.FirstChanges.{change_first-change_first, find-change_first, change_first-along, change_first-same}
@@ -159,28 +158,10 @@ mapped f (Some a) v e = e
 -- ---- objects
 pub objects-laws : IsLawfulLens objects
 objects-laws = record {
-  get-update = λ f os l e. got f os l.body e;
-  update-same = λ f os l e q. ap (λ b. record l { body = b }) (same f os l.body e q);
-  update-update = λ f g l. ap (λ b. record l { body = b }) (twice f g l.body);
+  get-update = λ f os l e. objects_in-contents (λ cells. cells) f l.body ∙ ap (option_map f) e;
+  update-same = λ f os l e q. ap (λ b. record l { body = b }) (body_with_objects-along f (λ ps. ps) os l.body e q ∙ body_with_contents-same l.body);
+  update-update = λ f g l. ap (λ b. record l { body = b }) (body_with_contents-twice (λ cells. cells) f (λ cells. cells) g l.body);
 }
-  where
-    got : (f : List Object → List Object) (os : List Object) (b : Body) → objects_in b ≡ Some os → objects_in (body_with_objects f b) ≡ Some (f os)
-    got f os (Tiles e cells) h = cc
-    got f os (Objects own) h = let is : own ≡ os = cc in ap (λ ps. Some (f ps)) is
-    got f os Other h = cc
-    got f os (Group' s r) h = cc
-
-    same : (f : List Object → List Object) (os : List Object) (b : Body) → objects_in b ≡ Some os → f os ≡ os → body_with_objects f b ≡ b
-    same f os (Tiles e cells) h q = refl
-    same f os (Objects own) h q = let is : os ≡ own = cc in ap Objects (rw is at q)
-    same f os Other h q = refl
-    same f os (Group' s r) h q = refl
-
-    twice : (f g : List Object → List Object) (b : Body) → body_with_objects f (body_with_objects g b) ≡ body_with_objects (λ os. f (g os)) b
-    twice f g (Tiles e cells) = refl
-    twice f g (Objects own) = refl
-    twice f g Other = refl
-    twice f g (Group' s r) = refl
 
 pub layer_objects-laws : (id : ℕ) → IsLawfulLens (layer_objects id)
 layer_objects-laws id = of_layer-laws id objects (λ f l. refl) objects-laws

@@ -1,3 +1,4 @@
+pub mod BodyLaws
 pub mod GroupBodies
 pub mod Trees
 pub mod TreeChanges

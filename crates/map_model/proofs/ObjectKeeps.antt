@@ -4,22 +4,23 @@ use Rattle.std.proofs.Common.{option_map, option_and_then, refl, sym, ap, ◌∙
 use Rattle.std.specs.List.{slice_get, slice_set, insert, remove, flat_map}
 use Rattle.map_model.specs.declared.limits.TheConstants.{MAX_GROUPS, MAX_OBJECTS, MAX_NEXT_ID}
 use Rattle.map_model.specs.declared.parts.Body.{Body}
-use Rattle.map_model.specs.declared.parts.Body.TheVariants.{Tiles, Objects, Other, Group'}
+use Rattle.map_model.specs.declared.parts.Body.TheVariants.{Objects}
 use Rattle.map_model.specs.declared.parts.Layer.{Layer}
 use Rattle.map_model.specs.declared.parts.MapParts.{MapParts}
 use Rattle.map_model.specs.declared.parts.Object.{Object}
 use Rattle.map_model.specs.declared.parts.Placing.{Placing}
 use Rattle.map_model.specs.declared.place.ObjectPlace.{ObjectPlace}
+use Rattle.map_model.specs.Bodies.{body_with_objects, objects_in}
 use Rattle.map_model.specs.Keeping.{object_tier}
-use Rattle.map_model.specs.Format.{body_names}
 use Rattle.map_model.specs.Layers.{with_next_ids}
 use Rattle.map_model.specs.Groups.{group_in}
 use Rattle.map_model.specs.Lists.{Each, change_at, or_empty}
-use Rattle.map_model.specs.Objects.{objects_in, objects_of, body_with_objects, layer_with_objects, objects_of_layer, object_at, with_objects, without_object_at}
+use Rattle.map_model.specs.Objects.{objects_of, layer_with_objects, objects_of_layer, object_at, with_objects, without_object_at}
 use Rattle.map_model.specs.Objects.{with_object, object_placing, object_with_placing}
 use Rattle.map_model.specs.Lookups.{layer_of}
 use Rattle.map_model.specs.Properties.{tier_of}
 use Rattle.map_model.specs.WellFormed.{IsId, AreIds, IsPlacing, IsObject, IsBody, IsLayer, IsWellFormed, ids_of_object, object_ids_in, object_ids}
+use Rattle.map_model.proofs.BodyLaws.{IsLayer-contents, group_in-contents, object_ids-contents, body_with_objects-along, objects_in-contents}
 use Rattle.map_model.proofs.Changes.{Each-insert, Each-remove, length-insert, length-remove_le, slice_get-within, Each-at}
 use Rattle.map_model.proofs.Keeps.{KeepsLayers, changed-keeps, layer_of-IsLayer, object_ids-IsReplaced, with_layer-keeps, Each-IsId-suc, Each-apart}
 use Rattle.map_model.proofs.TreeChanges.{change_among-along}
@@ -53,42 +54,18 @@ ids-change_at (suc k) f same (o ∷ os) = ap (λ ids. o.id ∷ ids) (ids-change_
 
 object_ids-change_at : (k : ℕ) (f : Object → Object) → ((o : Object) → (f o).id ≡ o.id) → (b : Body)
     → object_ids_in (body_with_objects (change_at k f) b) ≡ object_ids_in b
-object_ids-change_at k f same (Tiles e cells) = refl
-object_ids-change_at k f same (Objects os) = ids-change_at k f same os
-object_ids-change_at k f same Other = refl
-object_ids-change_at k f same (Group' s r) = refl
-
-body_names-objects : (g : List Object → List Object) (b : Body) → body_names (body_with_objects g b) ≡ body_names b
-body_names-objects g (Tiles e cells) = refl
-body_names-objects g (Objects os) = refl
-body_names-objects g Other = refl
-body_names-objects g (Group' s r) = refl
+object_ids-change_at k f same = object_ids-contents (λ cells. cells) (change_at k f) (ids-change_at k f same)
 
 pub group_in-objects : (g : List Object → List Object) (b : Body) → group_in (body_with_objects g b) ≡ group_in b
-group_in-objects g (Tiles e cells) = refl
-group_in-objects g (Objects os) = refl
-group_in-objects g Other = refl
-group_in-objects g (Group' s r) = refl
-
-IsBody-change_at : (k : ℕ) (f : Object → Object) → KeepsObjects f → (tier size : ℕ) (b : Body) → IsBody tier size b
-    → IsBody tier size (body_with_objects (change_at k f) b)
-IsBody-change_at k f keeps tier size (Tiles e cells) h = h
-IsBody-change_at k f keeps tier size (Objects os) h =
-    (rw (length-change_at k f os) h.0, Each-change_at (IsObject (object_tier tier)) k f os (λ o e. keeps.objects (object_tier tier) o) h.1)
-IsBody-change_at k f keeps tier size Other h = h
-IsBody-change_at k f keeps tier size (Group' s r) h = h
+group_in-objects g = group_in-contents (λ cells. cells) g
 
 layer_with_object-keeps : (k : ℕ) (f : Object → Object) → KeepsObjects f → KeepsLayers (layer_with_objects (change_at k f))
 layer_with_object-keeps k f keeps = record {
   ids = λ l. refl;
   inside = λ l. ap or_empty (group_in-objects (change_at k f) l.body);
   object_ids = λ l. object_ids-change_at k f keeps.ids l.body;
-  layers = λ tier size l h. record {
-    name = h.name;
-    properties = h.properties;
-    kept = rw (body_names-objects (change_at k f) l.body) h.kept;
-    body = IsBody-change_at k f keeps tier size l.body h.body;
-  };
+  layers = λ tier size l h. IsLayer-contents (λ cells. cells) (change_at k f) tier size size l (λ cells e own. own) (λ os e own.
+      (rw (length-change_at k f os) own.0, Each-change_at (IsObject (object_tier tier)) k f os (λ o e. keeps.objects (object_tier tier) o) own.1)) h;
 }
 
 pub with_object-keeps : (place : ObjectPlace) (f : Object → Object) (m : MapParts) → KeepsObjects f → IsWellFormed m → IsWellFormed (with_object place f m)
@@ -105,18 +82,10 @@ object_with_placing-keeps placing is = record {
 IsLayer-objects : (g : List Object → List Object) (os : List Object) (tier size : ℕ) (l : Layer) → objects_of l ≡ Some os → length (g os) ≤ MAX_OBJECTS
     → Each (IsObject (object_tier tier)) (g os)
     → IsLayer tier size l → IsLayer tier size (layer_with_objects g l)
-IsLayer-objects g os tier size l e few each h = record {
-  name = h.name;
-  properties = h.properties;
-  kept = rw (body_names-objects g l.body) h.kept;
-  body = by_body l.body e h.body;
-}
-  where
-    by_body : (b : Body) → objects_in b ≡ Some os → IsBody tier size b → IsBody tier size (body_with_objects g b)
-    by_body (Tiles t cells) q k = k
-    by_body (Objects own) q k = let is : own ≡ os = cc in rw is (few, each)
-    by_body Other q k = k
-    by_body (Group' s r) q k = k
+IsLayer-objects g os tier size l e few each h =
+    IsLayer-contents (λ cells. cells) g tier size size l (λ cells q own. own) (λ ps q own.
+    let both : Some ps ≡ Some os = sym q ∙ e in
+    let is : ps ≡ os = cc in rw is (few, each)) h
 
 -- where there is an object layer, there is a layer
 pub found_layer : (os : List Object) (o : Option Layer) → option_and_then objects_of o ≡ Some os → (l : Layer) × ((o ≡ Some l) × (objects_of l ≡ Some os))
@@ -175,11 +144,7 @@ HasReplaced-inner {piece = piece} {new = new} {prefix = prefix} {rest = rest} r 
 HasReplaced-layer : {piece new : List ℕ} (g : List Object → List Object) (os : List Object) (b : Body) → objects_in b ≡ Some os
     → HasReplaced piece new (flat_map ids_of_object os) (flat_map ids_of_object (g os))
     → HasReplaced piece new (object_ids_in b) (object_ids_in (body_with_objects g b))
-HasReplaced-layer g os (Tiles t cells) e r = cc
-HasReplaced-layer {piece = piece} {new = new} g os (Objects own) e r =
-    let is : os ≡ own = cc in subst (λ ps. HasReplaced piece new (flat_map ids_of_object ps) (flat_map ids_of_object (g ps))) is r
-HasReplaced-layer g os Other e r = cc
-HasReplaced-layer g os (Group' s k) e r = cc
+HasReplaced-layer g os b e r = rw (objects_in-contents (λ cells. cells) g b, e) r
 
 HasReplaced-objects : {piece new : List ℕ} (layer : ℕ) (g : List Object → List Object) (os : List Object) (m : MapParts) → objects_of_layer m layer ≡ Some os
     → HasReplaced piece new (flat_map ids_of_object os) (flat_map ids_of_object (g os))
@@ -200,10 +165,8 @@ objects_of_layer-IsBody m layer os e h =
   where
     by_body : (b : Body) → objects_in b ≡ Some os → IsBody (tier_of m layer) (m.width * m.height) b
         → IsBody (tier_of m layer) (m.width * m.height) (Objects os)
-    by_body (Tiles t cells) q k = cc
     by_body (Objects own) q k = let is : own ≡ os = cc in subst (λ ps. IsBody (tier_of m layer) (m.width * m.height) (Objects ps)) is k
-    by_body Other q k = cc
-    by_body (Group' s r) q k = cc
+    by_body b q k = cc
 
 pub objects_of_layer-few : (m : MapParts) (layer k : ℕ) → IsSomeAnd (objects_of_layer m layer) (λ os. k ≤ length os) → IsWellFormed m
     → IsSomeAnd (objects_of_layer m layer) (λ os. length os ≤ MAX_OBJECTS)
@@ -328,13 +291,7 @@ pub with_objects-along : (m : MapParts) (layer : ℕ) (f g : List Object → Lis
 with_objects-along m layer f g os e same =
     ap (λ ls. record m { layers = ls })
     (change_among-along layer (layer_with_objects f) (layer_with_objects g) MAX_GROUPS m.layers
-    (λ l found. ap (λ b. record l { body = b }) (by_body l.body (ap (option_and_then objects_of) (sym found) ∙ e))))
-  where
-    by_body : (b : Body) → objects_in b ≡ Some os → body_with_objects f b ≡ body_with_objects g b
-    by_body (Tiles t cells) q = refl
-    by_body (Objects own) q = let is : own ≡ os = cc in ap Objects (rw is same)
-    by_body Other q = refl
-    by_body (Group' s r) q = refl
+    (λ l found. ap (λ b. record l { body = b }) (body_with_objects-along f g os l.body (ap (option_and_then objects_of) (sym found) ∙ e) same)))
 
 -- ---- a write at a place
 pub slice_set-change_at : {X : Type 0} (f : X → X) (xs : List X) (k : ℕ) (x : X) → slice_get xs k ≡ Some x → slice_set xs k (f x) ≡ change_at k f xs

@@ -6,15 +6,16 @@ use Rattle.std.proofs.lemmas.Bool.Decides.{nat_tests}
 use Rattle.std.proofs.lemmas.List.Quantifiers.{position-Some}
 use Rattle.std.proofs.lemmas.Iterator.Adapters.{position_from-zero}
 use Rattle.map_model.specs.declared.parts.Body.{Body}
-use Rattle.map_model.specs.declared.parts.Body.TheVariants.{Tiles, Objects, Other, Group'}
+use Rattle.map_model.specs.declared.parts.Body.TheVariants.{Objects}
 use Rattle.map_model.specs.declared.limits.TheConstants.{MAX_GROUPS}
 use Rattle.map_model.specs.declared.parts.Layer.{Layer}
 use Rattle.map_model.specs.declared.parts.MapParts.{MapParts}
 use Rattle.map_model.specs.declared.parts.Object.{Object}
 use Rattle.map_model.specs.declared.place.ObjectPlace.{ObjectPlace}
+use Rattle.map_model.specs.Bodies.{objects_in}
 use Rattle.map_model.specs.Lists.{Each, Distinct, first_some, or_else}
 use Rattle.map_model.specs.NewMap.{new_object}
-use Rattle.map_model.specs.Objects.{objects_in, objects_of, has_object_id, place_of_layer, place_in_layer, found_at, found_in_layer, object_place, object_at}
+use Rattle.map_model.specs.Objects.{objects_of, has_object_id, place_of_layer, place_in_layer, found_at, found_in_layer, object_place, object_at}
 use Rattle.map_model.specs.Groups.{all_drawn, bare, tree}
 use Rattle.map_model.specs.Keeping.{layer_tier}
 use Rattle.map_model.specs.Lookups.{layer_of}
@@ -60,13 +61,9 @@ Each-object_at : (P : ℕ → Type 0) (ls : List (ℕ × Layer)) (k : ℕ) (l : 
 Each-object_at P [] zero l os at o e f g h = cc
 Each-object_at P [] (suc k) l os at o e f g h = cc
 Each-object_at P (j ∷ ls) zero l os at o e f g h =
-    let same : j ≡ l = cc in by_body j.1.body (ap (λ (y : ℕ × Layer). objects_of y.1) same ∙ f) (Each-prefix P (object_ids_of j) (flat_map object_ids_of ls) h)
-  where
-    by_body : (b : Body) → objects_in b ≡ Some os → Each P (object_ids_in b) → P o.id
-    by_body (Tiles t cells) q d = cc
-    by_body (Objects own) q d = let is : own ≡ os = cc in Each-id_at (λ (p : Object). p.id) P own at o (rw is g) d
-    by_body Other q d = cc
-    by_body (Group' s r) q d = cc
+    let same : j ≡ l = cc in
+    let own : objects_of j.1 ≡ Some os = ap (λ (y : ℕ × Layer). objects_of y.1) same ∙ f in
+    Each-id_at (λ (p : Object). p.id) P os at o g (rw own at (Each-prefix P (object_ids_of j) (flat_map object_ids_of ls) h))
 Each-object_at P (j ∷ ls) (suc k) l os at o e f g h = Each-object_at P ls k l os at o e f g (Each-rest P (object_ids_of j) (flat_map object_ids_of ls) h)
 
 position_from-none : (id i : ℕ) (os : List Object) → Each (λ n. n ≢ id) (flat_map ids_of_object os) → position_from (has_object_id id) i os ≡ None
@@ -80,10 +77,8 @@ place_in_layer-none id l h = by_body l.1.body h
   where
     by_body : (b : Body) → Each (λ n. n ≢ id) (object_ids_in b)
         → option_map (place_of_layer l.1) (option_and_then (position (has_object_id id)) (objects_in b)) ≡ None
-    by_body (Tiles t cells) k = refl
     by_body (Objects os) k = ap (option_map (place_of_layer l.1)) (position_from-zero (has_object_id id) os ∙ position_from-none id 0 os k)
-    by_body Other k = refl
-    by_body (Group' s r) k = refl
+    by_body b k = refl
 
 Each-apart_from : (P : ℕ → ℕ → Type 0) (id : ℕ) (ns ids : List ℕ) → ((n : ℕ) → Each (P n) ids → P n id) → Each (λ n. Each (P n) ids) ns → Each (λ n. P n id) ns
 Each-apart_from P id [] ids at h = tt
@@ -96,16 +91,10 @@ first_some-only [] zero l os at o e f g h = cc
 first_some-only [] (suc k) l os at o e f g h = cc
 first_some-only (j ∷ ls) zero l os at o e f g h =
     let same : j ≡ l = cc in
+    let own : Distinct (object_ids_of l) = subst (λ i. Distinct (object_ids_of i)) same (Distinct-prefix (object_ids_of j) (flat_map object_ids_of ls) h) in
     let here : place_in_layer o.id j ≡ Some (place_of_layer l.1 at) =
-    rw same (by_body l.1.body f (subst (λ i. Distinct (object_ids_of i)) same (Distinct-prefix (object_ids_of j) (flat_map object_ids_of ls) h))) in
+    rw (same, f) (ap (option_map (place_of_layer l.1)) (position-only (λ (p : Object). p.id) os at o g (rw f at own))) in
     ap (λ p. or_else p (first_some (place_in_layer o.id) ls)) here
-  where
-    by_body : (b : Body) → objects_in b ≡ Some os → Distinct (object_ids_in b)
-        → option_map (place_of_layer l.1) (option_and_then (position (has_object_id o.id)) (objects_in b)) ≡ Some (place_of_layer l.1 at)
-    by_body (Tiles t cells) q d = cc
-    by_body (Objects own) q d = let is : own ≡ os = cc in ap (option_map (place_of_layer l.1)) (position-only (λ (p : Object). p.id) own at o (rw is g) d)
-    by_body Other q d = cc
-    by_body (Group' s r) q d = cc
 first_some-only (j ∷ ls) (suc k) l os at o e f g h =
     let apart = Apart-pieces (object_ids_of j) (flat_map object_ids_of ls) h in
     let others = Each-apart_from (λ n i. n ≢ i) o.id (object_ids_of j) (flat_map object_ids_of ls)
@@ -156,10 +145,8 @@ place_in_layer-found id l = by_body l.1.body
 
     by_body : (b : Body) → option_map (place_of_layer l.1) (option_and_then (position (has_object_id id)) (objects_in b))
         ≡ option_map (λ q. q.0) (option_and_then (λ os. option_and_then (found_at l.1 os) (position (has_object_id id) os)) (objects_in b))
-    by_body (Tiles t cells) = refl
     by_body (Objects os) = by_place os (position (has_object_id id) os) refl
-    by_body Other = refl
-    by_body (Group' s r) = refl
+    by_body b = refl
 
 -- the place of the object is the one that is found with it
 pub object_place-found : (id : ℕ) (ls : List (ℕ × Layer)) → first_some (place_in_layer id) ls ≡ option_map (λ q. q.0) (first_some (found_in_layer id) ls)

@@ -7,7 +7,7 @@ use Rattle.std.proofs.lemmas.Slice.Eq.{bytes_eq-Decides}
 use Rattle.map_model.specs.declared.owner.Owner.{Owner}
 use Rattle.map_model.specs.declared.owner.Owner.TheVariants as owners
 use Rattle.map_model.specs.declared.parts.Body.{Body}
-use Rattle.map_model.specs.declared.parts.Body.TheVariants.{Tiles, Objects, Other, Group'}
+use Rattle.map_model.specs.declared.parts.Body.TheVariants.{Objects}
 use Rattle.map_model.specs.declared.parts.Layer.{Layer}
 use Rattle.map_model.specs.declared.parts.MapParts.{MapParts}
 use Rattle.map_model.specs.declared.parts.Object.{Object}
@@ -17,11 +17,11 @@ use Rattle.map_model.specs.declared.place.ObjectPlace.{ObjectPlace}
 use Rattle.map_model.specs.declared.place.OwnerPlace.{OwnerPlace}
 use Rattle.map_model.specs.declared.place.OwnerPlace.TheVariants as places
 use Rattle.map_model.specs.declared.setting.Setting.{Setting}
+use Rattle.map_model.specs.Bodies.{body_with_objects, objects_in}
 use Rattle.map_model.specs.Document.{DocumentParts, with_map}
 use Rattle.map_model.specs.Groups.{bare, body_with_layers}
 use Rattle.map_model.specs.Lists.{change_at, or_empty}
-use Rattle.map_model.specs.Objects.{objects_in, has_object_id, place_of_layer, place_in_layer, object_place, layer_with_objects, with_object, body_with_objects}
-use Rattle.map_model.specs.Objects.{object_with_placing}
+use Rattle.map_model.specs.Objects.{has_object_id, place_of_layer, place_in_layer, object_place, object_with_placing, layer_with_objects, with_object}
 use Rattle.map_model.specs.Lens.{IsLawfulLens, of_object, placing, placing_with_id, put}
 use Rattle.map_model.specs.Properties.{has_name, layer_with_properties, new_property, object_with_properties, owner_place, properties_of, property_at}
 use Rattle.map_model.specs.Properties.{property_place, property_with_setting, setting_of, with_properties, with_property_at, without_property_at}
@@ -87,10 +87,8 @@ module _ (f : Object → Object) (same : (o : Object) → (f o).id ≡ o.id) (pl
       by_body : (b : Body) → option_map (place_of_layer l) (option_and_then (position (has_object_id id))
           (objects_in (body_with_layers (λ ls. []) (body_with_objects (change_at place.at f) b))))
           ≡ option_map (place_of_layer l) (option_and_then (position (has_object_id id)) (objects_in (body_with_layers (λ ls. []) b)))
-      by_body (Tiles e cells) = refl
       by_body (Objects os) = ap (option_map (place_of_layer l)) (position-change_at (has_object_id id) f (λ o. ap (λ n. nat_eq n id) (same o)) place.at os)
-      by_body Other = refl
-      by_body (Group' s r) = refl
+      by_body b = refl
 
   pub object_place-with_object : (m : MapParts) → object_place (with_object place f m) id ≡ object_place m id
   object_place-with_object =

@@ -2,43 +2,26 @@
 use Rattle.std.proofs.Common.{◌≡◌, ℕ, List, Option, Some, None, IsSomeAnd, option_map, refl, sym, ap, ◌∙◌, subst}
 use Rattle.map_model.specs.declared.limits.TheConstants.{MAX_GROUPS}
 use Rattle.map_model.specs.declared.parts.Body.{Body}
-use Rattle.map_model.specs.declared.parts.Body.TheVariants.{Tiles, Objects, Other, Group'}
+use Rattle.map_model.specs.declared.parts.Body.TheVariants.{Tiles}
 use Rattle.map_model.specs.declared.parts.Layer.{Layer}
 use Rattle.map_model.specs.declared.parts.MapParts.{MapParts}
-use Rattle.map_model.specs.Bodies.{IsTiles, tiles_of}
-use Rattle.map_model.specs.Lookups.{body_with_tiles, layer_of, HasTiles, tiles_of_layer, tiles_in, layer_with_tiles, with_tiles}
+use Rattle.map_model.specs.Bodies.{IsTiles, body_with_tiles, tiles_of}
+use Rattle.map_model.specs.Lookups.{layer_of, HasTiles, tiles_of_layer, tiles_in, layer_with_tiles, with_tiles}
+use Rattle.map_model.proofs.BodyLaws.{body_with_contents-same, body_with_contents-twice}
 use Rattle.map_model.proofs.TreeChanges.{layer_among-change_among, change_among-change_among, change_among-along, change_among-same}
 
 -- ---- bodies
-body-body : (f g : List ℕ → List ℕ) (b : Body) → body_with_tiles f (body_with_tiles g b) ≡ body_with_tiles (λ vs. f (g vs)) b
-body-body f g (Tiles e cells) = refl
-body-body f g (Objects os) = refl
-body-body f g Other = refl
-body-body f g (Group' s r) = refl
-
 body-along : (f g : List ℕ → List ℕ) (b : Body) → f (tiles_of b) ≡ g (tiles_of b) → body_with_tiles f b ≡ body_with_tiles g b
 body-along f g (Tiles e cells) h = ap (Tiles e) h
-body-along f g (Objects os) h = refl
-body-along f g Other h = refl
-body-along f g (Group' s r) h = refl
-
-body-same : (b : Body) → body_with_tiles (λ vs. vs) b ≡ b
-body-same (Tiles e cells) = refl
-body-same (Objects os) = refl
-body-same Other = refl
-body-same (Group' s r) = refl
+body-along f g b h = refl
 
 tiles_of-body : (f : List ℕ → List ℕ) (b : Body) → IsTiles b → tiles_of (body_with_tiles f b) ≡ f (tiles_of b)
 tiles_of-body f (Tiles e cells) h = refl
-tiles_of-body f (Objects os) h = absurd h
-tiles_of-body f Other h = absurd h
-tiles_of-body f (Group' s r) h = absurd h
+tiles_of-body f b h = absurd h
 
 IsTiles-body : (f : List ℕ → List ℕ) (b : Body) → IsTiles b → IsTiles (body_with_tiles f b)
 IsTiles-body f (Tiles e cells) h = tt
-IsTiles-body f (Objects os) h = h
-IsTiles-body f Other h = h
-IsTiles-body f (Group' s r) h = h
+IsTiles-body f b h = h
 
 -- ---- maps
 found_after : (m : MapParts) (id : ℕ) (f : List ℕ → List ℕ) → layer_of (with_tiles m id f) id ≡ option_map (layer_with_tiles f) (layer_of m id)
@@ -50,7 +33,7 @@ with_tiles-with_tiles m id f g =
     ap (λ ls. record m { layers = ls }) (
     change_among-change_among id (layer_with_tiles g) (λ l. refl) MAX_GROUPS (layer_with_tiles f) m.layers
     ∙ change_among-along id (λ l. layer_with_tiles f (layer_with_tiles g l)) (layer_with_tiles (λ vs. f (g vs))) MAX_GROUPS m.layers
-    (λ l e. ap (λ b. record l { body = b }) (body-body f g l.body))
+    (λ l e. ap (λ b. record l { body = b }) (body_with_contents-twice f (λ os. os) g (λ os. os) l.body))
     )
 
 -- two changes that agree on the values of the layer
@@ -65,7 +48,7 @@ with_tiles-along m id f g h =
 pub with_tiles-same : (m : MapParts) (id : ℕ) → with_tiles m id (λ vs. vs) ≡ m
 with_tiles-same m id =
     ap (λ ls. record m { layers = ls }) (
-    change_among-along id (layer_with_tiles (λ vs. vs)) (λ l. l) MAX_GROUPS m.layers (λ l e. ap (λ b. record l { body = b }) (body-same l.body))
+    change_among-along id (layer_with_tiles (λ vs. vs)) (λ l. l) MAX_GROUPS m.layers (λ l e. ap (λ b. record l { body = b }) (body_with_contents-same l.body))
     ∙ change_among-same id MAX_GROUPS m.layers
     )
 

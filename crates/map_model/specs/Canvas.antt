@@ -1,27 +1,25 @@
 -- Canvases: what a map is drawn on. A map changes places with one when it is resized.
 use Rattle.std.specs.Prelude.{◌≡◌, ℕ, zero, suc, ◌+◌, ◌*◌, ℤ, neg_ℤ, ◌≤ℤ◌, List, [], ◌∷◌, ◌++◌, length, map, take, drop, slice_set, slice_index_or, IfSome}
+use Rattle.std.specs.Option.{option_map_or, option_to_list}
 use Rattle.std.specs.List.{flat_map}
 use Rattle.map_model.specs.declared.canvas.Canvas.{Canvas}
 use Rattle.map_model.specs.declared.limits.TheConstants.{MAX_GROUPS, MAX_SHIFT}
 use Rattle.map_model.specs.declared.parts.Body.{Body}
-use Rattle.map_model.specs.declared.parts.Body.TheVariants.{Tiles, Objects, Other, Group'}
 use Rattle.map_model.specs.declared.parts.Layer.{Layer}
 use Rattle.map_model.specs.declared.parts.MapParts.{MapParts}
 use Rattle.map_model.specs.declared.parts.Object.{Object}
+use Rattle.map_model.specs.Bodies.{body_with_contents, objects_in, tiles_or_none}
 use Rattle.map_model.specs.Document.{DocumentParts, LiesIn}
 use Rattle.map_model.specs.Groups.{all_drawn, layer_with_layers, tree}
 use Rattle.map_model.specs.Keeping.{layer_tier}
 use Rattle.map_model.specs.Lists.{Each}
-use Rattle.map_model.specs.Objects.{objects_in, placing_moved, object_moved}
+use Rattle.map_model.specs.Objects.{placing_moved, object_moved}
 use Rattle.map_model.specs.WellFormed.{IsSize, IsTileValue, IsPlacing}
 
 -- ---- the cells of tile layers
 -- the cells of a tile layer, as the one list of a list; another layer has none
 abbrev pub lists_in : Body → List (List ℕ)
-lists_in (Tiles e cells) = cells ∷ []
-lists_in (Objects os) = []
-lists_in Other = []
-lists_in (Group' s r) = []
+lists_in b = option_to_list (tiles_or_none b)
 
 abbrev pub lists_of : ℕ × Layer → List (List ℕ)
 lists_of d = lists_in d.1.body
@@ -35,12 +33,17 @@ abbrev pub tile_layers : MapParts → List (List ℕ)
 tile_layers m = flat_map lists_of (all_drawn m.layers)
 
 -- ---- a document on a canvas
--- a body behind so many tile layers: a tile layer has the canvas's cells of that number, and objects are moved by its pixels
+-- the cells of a tile layer behind so many others: the canvas's cells of that number
+abbrev pub cells_on : Canvas → ℕ → List ℕ → List ℕ
+cells_on c number own = slice_index_or c.layers number own
+
+-- objects moved by the canvas's pixels
+abbrev pub objects_on : Canvas → List Object → List Object
+objects_on c = map (object_moved c.right c.down)
+
+-- a body behind so many tile layers
 abbrev pub body_on : Canvas → ℕ → Body → Body
-body_on c number (Tiles e own) = Tiles e (slice_index_or c.layers number own)
-body_on c number (Objects os) = Objects (map (object_moved c.right c.down) os)
-body_on c number Other = Other
-body_on c number (Group' s r) = Group' s r
+body_on c number = body_with_contents (cells_on c number) (objects_on c)
 
 abbrev pub layer_on : Canvas → ℕ → Layer → Layer
 layer_on c number l = record l { body = body_on c number l.body }
@@ -117,10 +120,7 @@ pub record IsCanvasOf (d : DocumentParts) (c : Canvas) : Type 0 where
 -- ---- one body at a time
 -- the lists of cells when a body behind so many tile layers has taken its cells and left its own
 abbrev pub lists_after : ℕ → Body → List (List ℕ) → List (List ℕ)
-lists_after number (Tiles e own) lists = slice_set lists number own
-lists_after number (Objects os) lists = lists
-lists_after number Other lists = lists
-lists_after number (Group' s r) lists = lists
+lists_after number b lists = option_map_or (λ own. slice_set lists number own) (tiles_or_none b) lists
 
 -- lists with others instead of as many of them, from a number on
 abbrev pub lists_left : ℕ → List (List ℕ) → List (List ℕ) → List (List ℕ)

@@ -7,9 +7,10 @@ use Rattle.map_model.specs.declared.parts.Body.{Body}
 use Rattle.map_model.specs.declared.parts.Layer.{Layer}
 use Rattle.map_model.specs.declared.parts.Object.{Object}
 use Rattle.map_model.specs.declared.place.ObjectPlace.{ObjectPlace}
+use Rattle.map_model.specs.Bodies.{body_with_objects, objects_in}
 use Rattle.map_model.specs.Groups.{body_with_layers, change_among, group_in, layer_among}
 use Rattle.map_model.specs.Lists.{change_at}
-use Rattle.map_model.specs.Objects.{body_with_objects, layer_with_objects, objects_in, objects_of}
+use Rattle.map_model.specs.Objects.{layer_with_objects, objects_of}
 
 -- the layer with the id is changed by one call of f, which gives r; what the call leaves stands in its place
 pub record ChangesLayer {F R : Type 0} (g : Once F (MutBor Layer × Unit {0}) (R × (MutBor Layer × Unit {0}))) (f : F) (id groups : ℕ) (old : List Layer) (r : R)

@@ -6,7 +6,7 @@ use Rattle.std.specs.Prelude.{ℕ, zero, suc, List, [], ◌∷◌, Bool, nat_eq,
 use Rattle.std.specs.List.{flat_map}
 use Rattle.map_model.specs.declared.limits.TheConstants.{MAX_GROUPS}
 use Rattle.map_model.specs.declared.parts.Body.{Body}
-use Rattle.map_model.specs.declared.parts.Body.TheVariants.{Tiles, Objects, Other, Group, Group'}
+use Rattle.map_model.specs.declared.parts.Body.TheVariants.{Group, Group'}
 use Rattle.map_model.specs.declared.parts.Body.TheOpen as seen
 use Rattle.map_model.specs.declared.parts.Body.TheViews.{out-Body}
 use Rattle.map_model.specs.declared.parts.Layer.{Layer}
@@ -16,17 +16,13 @@ use Rattle.map_model.specs.Lists.{change_first, first_some, or_empty}
 -- ---- the layers of a group
 -- those of a body, as it is seen from outside
 abbrev pub layers_by : seen.Body-F Body Layer → List Layer
-layers_by (seen.Tiles e cells) = []
-layers_by (seen.Objects os) = []
-layers_by seen.Other = []
 layers_by (seen.Group ls) = ls
+layers_by b = []
 
 -- they; another layer has no list of them
 abbrev pub group_in : Body → Option (List Layer)
-group_in (Tiles e cells) = None
-group_in (Objects os) = None
-group_in Other = None
 group_in (Group' s r) = Some (layers_by (out-Body (Group' s r)))
+group_in b = None
 
 abbrev pub group_of : Layer → Option (List Layer)
 group_of l = group_in l.body
@@ -37,10 +33,8 @@ inside l = or_empty (group_of l)
 
 -- a group with f of its layers; another layer as it is
 abbrev pub body_with_layers : (List Layer → List Layer) → Body → Body
-body_with_layers f (Tiles e cells) = Tiles e cells
-body_with_layers f (Objects os) = Objects os
-body_with_layers f Other = Other
 body_with_layers f (Group' s r) = Group (f (layers_by (out-Body (Group' s r))))
+body_with_layers f b = b
 
 abbrev pub layer_with_layers : (List Layer → List Layer) → Layer → Layer
 layer_with_layers f l = record l { body = body_with_layers f l.body }

@@ -6,10 +6,8 @@ use Rattle.map_model.specs.declared.edit.CellEdit.{CellEdit}
 use Rattle.map_model.specs.declared.edit.Side.{Side}
 use Rattle.map_model.specs.declared.limits.TheConstants.{MAX_GROUPS}
 use Rattle.map_model.specs.Groups.{layer_among, change_among}
-use Rattle.map_model.specs.Bodies.{IsTiles, tiles_of, tile_at}
+use Rattle.map_model.specs.Bodies.{IsTiles, tiles_of, tile_at, body_with_tiles}
 use Rattle.map_model.specs.CellEdits.{with_value, put_values}
-use Rattle.map_model.specs.declared.parts.Body.{Body}
-use Rattle.map_model.specs.declared.parts.Body.TheVariants.{Tiles, Objects, Other, Group'}
 
 -- the layer with the id
 abbrev pub layer_of : MapParts → ℕ → Option Layer
@@ -37,12 +35,6 @@ abbrev pub with_layer : ℕ → (Layer → Layer) → MapParts → MapParts
 with_layer id f m = record m { layers = change_among id MAX_GROUPS f m.layers }
 
 -- a tile layer with f of its values; another layer as it is
-abbrev pub body_with_tiles : (List ℕ → List ℕ) → Body → Body
-body_with_tiles f (Tiles e cells) = Tiles e (f cells)
-body_with_tiles f (Objects os) = Objects os
-body_with_tiles f Other = Other
-body_with_tiles f (Group' s r) = Group' s r
-
 abbrev pub layer_with_tiles : (List ℕ → List ℕ) → Layer → Layer
 layer_with_tiles f l = record l { body = body_with_tiles f l.body }
 

@@ -1,36 +1,23 @@
 -- Objects: where they stand, and layers with others.
-use Rattle.std.specs.Prelude.{ℕ, ◌≤◌, List, Bool, nat_eq, length, Option, Some, None, IsSomeAnd, option_and_then, slice_get, position, ℤ, ◌+ℤ◌}
+use Rattle.std.specs.Prelude.{ℕ, ◌≤◌, List, Bool, nat_eq, length, Option, IsSomeAnd, option_and_then, slice_get, position, ℤ, ◌+ℤ◌}
 use Rattle.std.specs.Option.{option_map}
 use Rattle.std.specs.List.{insert, remove}
-use Rattle.map_model.specs.declared.parts.Body.{Body}
-use Rattle.map_model.specs.declared.parts.Body.TheVariants.{Tiles, Objects, Other, Group'}
 use Rattle.map_model.specs.declared.parts.Layer.{Layer}
 use Rattle.map_model.specs.declared.parts.MapParts.{MapParts}
 use Rattle.map_model.specs.declared.parts.Object.{Object}
 use Rattle.map_model.specs.declared.parts.Placing.{Placing}
 use Rattle.map_model.specs.declared.place.ObjectPlace.{ObjectPlace}
+use Rattle.map_model.specs.Bodies.{body_with_objects, objects_in}
 use Rattle.map_model.specs.Groups.{all_drawn}
 use Rattle.map_model.specs.Lists.{change_at, first_some}
 use Rattle.map_model.specs.Lookups.{layer_of, with_layer}
 
 -- ---- the objects of a layer
 -- the objects of an object layer; another layer has no list of them
-abbrev pub objects_in : Body → Option (List Object)
-objects_in (Tiles e cells) = None
-objects_in (Objects os) = Some os
-objects_in Other = None
-objects_in (Group' s r) = None
-
 abbrev pub objects_of : Layer → Option (List Object)
 objects_of l = objects_in l.body
 
 -- an object layer with f of its objects; another layer as it is
-abbrev pub body_with_objects : (List Object → List Object) → Body → Body
-body_with_objects f (Tiles e cells) = Tiles e cells
-body_with_objects f (Objects os) = Objects (f os)
-body_with_objects f Other = Other
-body_with_objects f (Group' s r) = Group' s r
-
 abbrev pub layer_with_objects : (List Object → List Object) → Layer → Layer
 layer_with_objects f l = record l { body = body_with_objects f l.body }
 

@@ -1,9 +1,9 @@
 -- The tileset of a value.
 use Rattle.std.specs.Prelude.{ℕ, ◌<◌, ◌≤◌, List, [], ◌∷◌, Bool, false, nat_lt, nat_eq, if◌then◌else◌, Option, Some, None, is_some, Contains, slice_get}
-use Rattle.std.specs.Prelude.{position}
+use Rattle.std.specs.Prelude.{option_to_list, position}
 use Rattle.std.specs.List.{flat_map, list_any, insert, remove}
 use Rattle.map_model.specs.declared.parts.Body.{Body}
-use Rattle.map_model.specs.declared.parts.Body.TheVariants.{Tiles, Objects, Other, Group'}
+use Rattle.map_model.specs.declared.parts.Body.TheVariants.{Tiles, Objects}
 use Rattle.map_model.specs.declared.parts.Layer.{Layer}
 use Rattle.map_model.specs.declared.parts.Object.{Object}
 use Rattle.tile_id.specs.Gid.{base_of}
@@ -58,19 +58,14 @@ without_tileset_at at m = record m { tilesets = remove m.tilesets at }
 
 -- ---- tilesets in use
 -- the value of an object, where it has one
-abbrev pub gids_by : Option ℕ → List ℕ
-gids_by None = []
-gids_by (Some gid) = gid ∷ []
-
 abbrev pub gids_of : Object → List ℕ
-gids_of o = gids_by o.gid
+gids_of o = option_to_list o.gid
 
 -- the values of a layer: its cells, or those of its objects
 abbrev pub values_in : Body → List ℕ
 values_in (Tiles e cells) = cells
 values_in (Objects os) = flat_map gids_of os
-values_in Other = []
-values_in (Group' s r) = []
+values_in b = []
 
 abbrev pub values_of : ℕ × Layer → List ℕ
 values_of d = values_in d.1.body

@@ -13,8 +13,9 @@ use Rattle.map_model.specs.declared.parts.Body.TheVariants.{Tiles, Objects, Othe
 use Rattle.map_model.specs.declared.parts.Layer.{Layer}
 use Rattle.map_model.specs.declared.parts.Tileset.{Tileset}
 use Rattle.map_model.specs.declared.parts.MapParts.{MapParts}
+use Rattle.map_model.specs.Bodies.{objects_in}
 use Rattle.map_model.specs.Groups.{all_drawn}
-use Rattle.map_model.specs.Lists.{Each, Distinct}
+use Rattle.map_model.specs.Lists.{Each, Distinct, or_empty}
 use Rattle.map_model.specs.Keeping.{AreKept, IsKeptValue, map_tier, deepest_tier, object_tier, tileset_tier, property_tier}
 use Rattle.map_model.specs.Format.{map_names, layer_names}
 use Rattle.map_model.specs.Format.{object_names, tileset_names, property_names}
@@ -61,10 +62,7 @@ ids_of_object o = o.id ∷ []
 
 -- the ids of the objects in a layer, and of those in all layers
 abbrev pub object_ids_in : Body → List ℕ
-object_ids_in (Tiles e cells) = []
-object_ids_in (Objects os) = flat_map ids_of_object os
-object_ids_in Other = []
-object_ids_in (Group' s r) = []
+object_ids_in b = flat_map ids_of_object (or_empty (objects_in b))
 
 abbrev pub object_ids_of : ℕ × Layer → List ℕ
 object_ids_of d = object_ids_in d.1.body

@@ -1,7 +1,6 @@
 // The values of a layer's body.
 ghost use Rattle.std.specs.Prelude.{◌≡◌, ◌<◌, ◌↔◌, IsTrue, is_some, IfSome, length};
-ghost use Rattle.map_model.specs.Bodies.{IsTiles, tiles_of, tile_at};
-ghost use Rattle.map_model.specs.Lookups.{body_with_tiles};
+ghost use Rattle.map_model.specs.Bodies.{IsTiles, body_with_tiles, tiles_of, tile_at};
 ghost use Rattle.map_model.specs.Alike.{AreAlike};
 ghost use Rattle.map_model.specs.CellEdits.{AreInRowOrder, HaveRange, IsBelow, put_values, with_value};
 ghost use Rattle.map_model.specs.Lists.{Each};
