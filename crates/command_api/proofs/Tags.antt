@@ -2,13 +2,7 @@
 use Rattle.std.proofs.Common.{◌≡◌, ℕ, List, [], Option, Some, None, ap}
 use Rattle.map_model.specs.declared.owner.Owner.{Owner}
 use Rattle.map_model.specs.declared.owner.Owner.TheVariants as owners
-use Rattle.command_api.specs.Tag.{Subject, OfLayer, OfObject, OfName, Tag}
-
--- the id of a layer or an object
-abbrev subject_id : Subject → ℕ
-subject_id (OfLayer id) = id
-subject_id (OfObject id) = id
-subject_id (OfName owner name) = 0
+use Rattle.command_api.specs.Tag.{Subject, OfLayer, OfObject, OfName, Tag, of_tag}
 
 -- an owner, and a name at it
 abbrev subject_name : Subject → Owner × List ℕ
@@ -24,7 +18,7 @@ abbrev some_tag : ℕ → Subject → Option Tag
 some_tag kind subject = Some (record { kind = kind; subject = subject })
 
 pub OfObject-same : (kind own id : ℕ) → some_tag kind (OfObject own) ≡ some_tag kind (OfObject id) → own ≡ id
-OfObject-same kind own id e = ap (λ t. subject_id (tag_subject t)) e
+OfObject-same kind own id e = ap of_tag e
 
 pub OfName-same : (kind : ℕ) (own owner : Owner) (name text : List ℕ) → some_tag kind (OfName own name) ≡ some_tag kind (OfName owner text)
     → (own ≡ owner) × (name ≡ text)

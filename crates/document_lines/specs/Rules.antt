@@ -1,4 +1,4 @@
--- The machine: what each line may do.
+-- The table of rules: what each line may do.
 use Rattle.std.specs.Prelude.{List, ℕ, Result, Ok, Err}
 use Rattle.map_model.specs.Document.{DocumentParts}
 use Rattle.map_json.specs.Trees.{text_of}

@@ -29,7 +29,7 @@ pub enum Edit {
 pub enum Planned {
     /// Nothing, and no reply: a blank line or a comment.
     Quiet,
-    /// The line is done, and this is the reply.
+    /// The line is done or refused, and this is the reply.
     Reply(Reply),
     /// The edit is still to be put into a box and committed.
     Push(Edit),

@@ -59,8 +59,7 @@ fn seek_owner<C: Command>(stack: &mut Stack<C>, owner: Owner)
     }
 }
 
-// Does a line about the active document that is no edit: it is about the history, or asks what the document holds. These lines
-// and the edits stand apart, since a function clears at its entry all that its arms hand on.
+// Does a line about the active document that is no edit: it is about the history, or asks what the document holds.
 #[inline(always)]
 fn on_history<C: Command>(alloc: Global, stack: &mut Stack<C>, line: &Line<'_>) -> Planned
     requires sound { Holds C.change stack.old }

@@ -1,5 +1,5 @@
 -- Frames, by the facts of paints: both hold the difference of the documents on their two sides.
-use Rattle.std.proofs.Common.{◌≡◌, ℕ, ◌*◌, ◌≤◌, List, length, Bool, true, false, Option, None, Some, Result, refl, sym, ap, arith}
+use Rattle.std.proofs.Common.{◌≡◌, ℕ, ◌*◌, ◌≤◌, List, length, Bool, true, false, Some, Result, refl, sym, ap, arith}
 use Rattle.std.proofs.Math.Nat.{mul-le-mul, mul-mod_right}
 use Rattle.std.proofs.lemmas.List.FromFn.{length-map-range_with_len}
 use Rattle.map_model.specs.declared.limits.TheConstants.{MAX_SIDE}
@@ -17,7 +17,7 @@ use Rattle.command_api.specs.Exchange.{FitsTurn}
 use Rattle.command_api.specs.Making.{Makes}
 use Rattle.command_api.specs.Offers.{FitsCells, IsOfferOf}
 use Rattle.command_api.proofs.Offering.{follower-offered, nothing-offered}
-use Rattle.command_api.specs.Tag.{Subject, OfLayer, OfObject, OfName, Tag}
+use Rattle.command_api.specs.Tag.{OfLayer, of_tag}
 use Rattle.paint_commands.specs.declared.paint.PaintKind.TheVariants.{Stamp}
 use Rattle.paint_commands.specs.Painting.{side_of}
 use Rattle.paint_commands.specs.Names.{stamp_names}
@@ -57,16 +57,6 @@ pub frame-offered : (layer : ℕ) (follows made : Bool) (cells : List CellEdit)
     → IsOfferOf (frame_change (frame layer follows made cells)) (shown_frame follows layer cells)
 frame-offered layer false made cells = nothing-offered _ refl
 frame-offered layer true made cells = follower-offered _ _ refl refl (λ e. cc) (λ d f. cells-offered made layer cells d f.0 f.1.fits)
-
--- the id that a tag names
-abbrev of_subject : Subject → ℕ
-of_subject (OfLayer id) = id
-of_subject (OfObject id) = id
-of_subject (OfName owner name) = 0
-
-abbrev of_tag : Option Tag → ℕ
-of_tag None = 0
-of_tag (Some t) = of_subject t.subject
 
 -- a frame that has the tag of a layer is on this layer
 pub tag-layer : (own : ℕ) (follows : Bool) (kind layer : ℕ) → (frame_names own follows).tag ≡ Some (record { kind = kind; subject = OfLayer layer })

@@ -1,5 +1,5 @@
 -- What a paint shows, and a paint that takes a newer one in.
-use Rattle.std.proofs.Common.{◌≡◌, ℕ, ◌*◌, List, length, Bool, true, false, Option, None, Some, refl, sym, ap, ◌∙◌, subst, arith}
+use Rattle.std.proofs.Common.{◌≡◌, ℕ, ◌*◌, List, length, Bool, true, false, Some, refl, sym, ap, ◌∙◌, subst, arith}
 use Rattle.map_model.specs.declared.edit.CellEdit.{CellEdit}
 use Rattle.map_model.specs.declared.edit.Side.TheVariants.{Before}
 use Rattle.map_model.specs.CellEdits.{AreInRowOrder, put_values}
@@ -17,7 +17,7 @@ use Rattle.command_api.specs.Exchange.{FitsTurn}
 use Rattle.command_api.specs.Names.{WhenEqual}
 use Rattle.command_api.specs.Offers.{FitsCells, IsOfferOf}
 use Rattle.command_api.proofs.Offering.{follower-offered, nothing-offered}
-use Rattle.command_api.specs.Tag.{Subject, OfLayer, OfObject, OfName, Tag}
+use Rattle.command_api.specs.Tag.{OfLayer, of_tag}
 use Rattle.paint_commands.specs.declared.paint.PaintCommand.{PaintCommand}
 use Rattle.paint_commands.specs.declared.paint.PaintKind.{PaintKind}
 use Rattle.paint_commands.specs.declared.paint.PaintKind.TheVariants.{Stamp, Erase, Fill}
@@ -75,16 +75,6 @@ module _ (layer : ℕ) (older newer : List CellEdit) (d : DocumentParts) (n : Fi
       (omega (arith, n.well_formed.size.wide)))
 
 -- ---- the command
--- the id that a tag names
-abbrev of_subject : Subject → ℕ
-of_subject (OfLayer id) = id
-of_subject (OfObject id) = id
-of_subject (OfName owner name) = 0
-
-abbrev of_tag : Option Tag → ℕ
-of_tag None = 0
-of_tag (Some t) = of_subject t.subject
-
 -- a paint that has the tag of a layer paints this layer
 pub tag-layer : (k : PaintKind) (own : ℕ) (follows : Bool) (kind layer : ℕ)
     → (paint_names k own follows).tag ≡ Some (record { kind = kind; subject = OfLayer layer }) → layer ≡ own

@@ -103,7 +103,7 @@ pub enum Line<'a> {
         layer: u32,
         visible: bool,
     },
-    /// The layer goes to that place among the layers, where the first one is at 0.
+    /// The layer goes to that place in its group, where the first layer is at 0.
     MoveLayer {
         layer: u32,
         place: u32,
@@ -174,7 +174,7 @@ pub enum Line<'a> {
     Clean,
     /// No index is the clean one.
     Dirty,
-    /// The undo stack drops its steps.
+    /// The undo stack drops its steps and open macros, and is clean at index 0.
     Clear,
     /// A macro begins, with its text, and with the text of its action, where one was given.
     Begin {
@@ -191,9 +191,9 @@ pub enum Line<'a> {
     Show,
     /// How the active document stands.
     Status,
-    /// The text of the step that `undo` would undo.
+    /// The action text of the step that `undo` would undo, or an empty one.
     UndoText,
-    /// The text of the step that a redo makes again.
+    /// The action text of the step that `redo` would redo, or an empty one.
     RedoText,
     /// The text of the step with that number, where the first one has 0.
     StepText {

@@ -55,7 +55,7 @@ pub record IsSoundAt {C : Type 0} (f : C → Change) (d : DocumentParts) (q : Se
   pub count : 0 < q.limit → length q.entries.items ≤ q.limit
   pub depth : sequence_depth q.entries.items ≤ MAX_DEPTH
 
--- so is the sequence, and where has_free is false, it has no free command
+-- the sequence is sound at d, none of the entries es is obsolete, and where has_free is false, it has no free command
 pub record IsHeldBut {C : Type 0} (f : C → Change) (d : DocumentParts) (es : List (Entry C)) (q : Sequence C) : Type 0 where
   pub sound : IsSoundAt f d q
   pub live : AreLive f es

@@ -62,7 +62,7 @@ impl<C: Command> Sequence<C> {
         ensures clean { self.new.clean ≡ Some 0 }
         ensures limit { self.new.limit ≡ self.old.limit }
     {
-        // Entries, and the place of two positions among them, are all that a sequence keeps.
+        // Of what a sequence keeps only the limit outlives this.
         let Sequence {
             entries,
             index,

@@ -362,7 +362,7 @@ impl<C: Command> Stack<C> {
         ensures step { Clears (history C.change self.old) (history C.change self.new) }
         ensures nests { nestings self.new ≡ no_nestings }
     {
-        // One document, the steps and the macros that are open are all that a stack keeps.
+        // One document, the steps, the macros that are open and the allocator are all that a stack keeps.
         let Stack {
             document: _,
             sequences,

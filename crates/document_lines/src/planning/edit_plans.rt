@@ -1,4 +1,5 @@
-// The edits that lines ask for, each planned in a frame of its own: a function pays at its entry for the size of its locals.
+// The edits that lines ask for. Each but a stamp is planned in a frame of its own: a function pays at its entry for the size of
+// its locals.
 ghost use Rattle.std.specs.Prelude.{◌≡◌, IfOk};
 ghost use Rattle.edits.specs.Filling.{after_fill};
 ghost use Rattle.edits.specs.LayerEdits.{after_add, after_move, after_remove, after_rename, after_show};
@@ -57,6 +58,7 @@ pub struct SpelledBlock<'a> {
 }
 
 // ---- cells and the selection
+
 pub fn plan_stamp(
     alloc: Global,
     document: &Document,

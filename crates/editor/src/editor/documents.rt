@@ -111,8 +111,7 @@ fn documents_text<C: Command>(alloc: Global, group: &Group<C>) -> Result<String,
 }
 
 impl<C: Command> Editor<C> {
-    // Does what a line about the open documents and the files asks for. It stands apart, since a function clears at its
-    // entry all that its arms hand on.
+    // Does what a line about the open documents and the files asks for.
     #[inline(always)]
     pub(crate) fn on_documents<S: MapStore>(
         &mut self,
