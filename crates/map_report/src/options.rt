@@ -1,7 +1,7 @@
 // The command line.
 use crate::files::Form;
 use clap::builder::ValueParser;
-use clap::{Arg, ArgAction, Command, Error};
+use clap::{Arg, ArgAction, ArgMatches, Command, Error};
 use std::alloc::{AllocError, Global};
 use std::convert::AsStr;
 
@@ -32,12 +32,16 @@ pub struct Options<'a> {
     pub files: Vec<&'a str>,
 }
 
+// The argument of a list whose values are not empty. It stands alone, since its proof has an answer of its own.
+fn list_arg<'a>(alloc: Global, name: &'a str) -> Arg<'a> {
+    Arg::new(alloc, name).value_parser(ValueParser::NonEmptyString)
+}
+
 // The files.
 fn file_arg<'a>(alloc: Global) -> Result<Arg<'a>, AllocError> {
-    Arg::new(alloc, "file")
+    list_arg(alloc, "file")
         .value_name("FILE")
         .action(ArgAction::Append)
-        .value_parser(ValueParser::NonEmptyString)
         .help("The maps; - is standard input")
         .num_args(1..)
         .required_unless_present("table")
@@ -63,15 +67,43 @@ fn table_arg<'a>(alloc: Global) -> Result<Arg<'a>, AllocError> {
         .conflicts_with("json")
 }
 
-// The command with its options.
-fn whole_command<'a>(alloc: Global) -> Result<Command<'a>, AllocError> {
-    let with_files = Command::new(alloc, "map_report")
+// The command without options.
+fn bare_command<'a>(alloc: Global) -> Command<'a> {
+    Command::new(alloc, "map_report")
         .version("0.2.0")
         .about(ABOUT)
         .after_help(AFTER_HELP)
-        .arg(file_arg(alloc)?)?;
-    let with_json = with_files.arg(json_arg(alloc))?;
-    with_json.arg(table_arg(alloc)?)
+}
+
+// The command with the files alone. Each argument is made before the command, which has many parts to drop.
+fn with_files<'a>(alloc: Global) -> Result<Command<'a>, AllocError> {
+    let files = file_arg(alloc)?;
+    bare_command(alloc).arg(files)
+}
+
+fn with_json<'a>(alloc: Global) -> Result<Command<'a>, AllocError> {
+    with_files(alloc)?.arg(json_arg(alloc))
+}
+
+// The command with its options.
+fn whole_command<'a>(alloc: Global) -> Result<Command<'a>, AllocError> {
+    let table = table_arg(alloc)?;
+    with_json(alloc)?.arg(table)
+}
+
+// What the words of a command line ask for.
+fn options_in<'a>(alloc: Global, matches: &ArgMatches<'a>) -> Result<Options<'a>, AllocError> {
+    let form = if matches.get_flag("json") {
+        Form::Json
+    } else {
+        Form::Text
+    };
+    let files = Vec::from_slice(alloc, matches.get_strs("file").unwrap_or(&[]))?;
+    Ok(Options {
+        is_table: matches.get_flag("table"),
+        form,
+        files,
+    })
 }
 
 /// Reads a command line, whose first word is the program's name.
@@ -79,14 +111,5 @@ fn whole_command<'a>(alloc: Global) -> Result<Command<'a>, AllocError> {
 /// An error is a command line that is refused, a request for help or for the version, or out of memory.
 pub fn parse_options<'a, S: AsStr>(alloc: Global, words: &'a [S]) -> Result<Options<'a>, Error> {
     let matches = whole_command(alloc)?.try_get_matches_from(words)?;
-    let form = if matches.get_flag("json") {
-        Form::Json
-    } else {
-        Form::Text
-    };
-    Ok(Options {
-        is_table: matches.get_flag("table"),
-        form,
-        files: Vec::from_slice(alloc, matches.get_strs("file").unwrap_or(&[]))?,
-    })
+    Ok(options_in(alloc, &matches)?)
 }
