@@ -1,5 +1,5 @@
 -- Fine trees: their members, what is put in and taken out, and what was read.
-use Rattle.std.proofs.Common.{◌≡◌, ℕ, zero, suc, ◌≤◌, max, List, [], ◌∷◌, Option, Some, Ordering, Less, Equal, Greater, nat_cmp, true, false}
+use Rattle.std.proofs.Common.{◌≡◌, ℕ, zero, suc, ◌≤◌, max, List, [], ◌∷◌, Option, Some, Ordering, Less, Equal, Greater, nat_cmp, false}
 use Rattle.std.proofs.Common.{true≢false, refl, subst, arith}
 use Rattle.std.proofs.lemmas.Bool.{or_parts}
 use Rattle.std.specs.Cmp.Lexicographic.{slice_cmp}

@@ -1,6 +1,5 @@
 -- Elements read one after the other, as a loop does.
 use Rattle.std.proofs.Common.{◌≡◌, ℕ, List, [], ◌∷◌, ◌++◌, Result, Ok, Err, refl, sym, ap, ◌∙◌, append_assoc}
-use Rattle.std.proofs.Common.{◌+◌}
 use Rattle.std.proofs.lemmas.List.{append-nil}
 use Rattle.serde_json.proofs.Views.{items_len-items_view}
 use Rattle.serde_json.specs.Data.{Data, Items, no_items, item}

@@ -1,5 +1,5 @@
 -- A tree that a file can say is read from its own text.
-use Rattle.std.proofs.Common.{◌≡◌, ℕ, suc, ◌^◌, ◌<◌, pos, negsuc, List, [], ◌∷◌, get_or, option_map, option_and_then, Less, nat_cmp, decimal, true, false}
+use Rattle.std.proofs.Common.{◌≡◌, ℕ, suc, ◌^◌, ◌<◌, pos, negsuc, List, [], ◌∷◌, get_or, option_map, option_and_then, Less, nat_cmp, decimal, false}
 use Rattle.std.proofs.Common.{true≢false, refl, sym, ap, ◌∙◌, subst, arith}
 use Rattle.std.specs.Cmp.Lexicographic.{slice_cmp}
 use Rattle.std.specs.Fmt.{signed_decimal}

@@ -1,6 +1,5 @@
 -- What is written for a map: its tree, and the text of that tree. The own members of each owner stand in the reader's order.
 use Rattle.std.specs.Prelude.{ℕ, zero, suc, ◌++◌, List, [], ◌∷◌, codes, false, Option, Some, None}
-use Rattle.std.specs.Option.{option_map}
 use Rattle.base64.specs.Engines.{standard}
 use Rattle.base64.specs.GeneralPurpose.{encode_of}
 use Rattle.serde_json.specs.Data.{Data, boolean, number, string, array, object, no_items}
