@@ -1,6 +1,10 @@
 use Rattle.std.proofs.Common.{◌≡◌, Ok, Err, refl}
 use Rattle.session.specs.Grammar.{line_of}
+use Rattle.session.proofs.Laws.{given_spelled}
 use Rattle.session_run.proofs.running.step_given.Goals as goal
+
+pub carry_out-requires-clause-spelled : goal.carry_out-requires-clause-spelled
+carry_out-requires-clause-spelled g c = given_spelled c.args.bytes.now (Ok c.in-Ok.line) (rw c.in-Ok.is at c.requires.given)
 
 pub returns-in-Ok-clause-step : goal.returns-in-Ok-clause-step
 returns-in-Ok-clause-step g c =
