@@ -34,10 +34,6 @@ beginning_of_first a b xs ys p = (p.0, p.1 ++ ys, omega (arith, p.2, length-appe
 pub beginning_of_second : (a b c : Option (List ℕ)) (xs ys : List ℕ) → Appends a b xs → TakesBeginning ys b c → TakesBeginning (xs ++ ys) a c
 beginning_of_second a b c xs ys h p = (xs ++ p.0, p.1, p.2, ap (λ zs. xs ++ zs) p.3 ∙ sym (append_assoc xs p.0 p.1), appends_more a b c xs p.0 h p.4)
 
-pub on_err : {T E P : Type 0} (r : Result T E) → P → OnErr r P
-on_err (Ok x) p = tt
-on_err (Err e) p = p
-
 pub appends_nothing : (a : Option (List ℕ)) → Appends a a []
 appends_nothing None = tt
 appends_nothing (Some bytes) = sym (append-nil bytes)

@@ -1,4 +1,5 @@
-use Rattle.session_run.proofs.Appending.{appends_more, on_err, beginning_of_first, beginning_of_second}
+use Rattle.lines.proofs.Finding.{on_err}
+use Rattle.session_run.proofs.Appending.{appends_more, beginning_of_first, beginning_of_second}
 use Rattle.session_run.proofs.writing.write_pieces.Goals as goal
 
 pub returns-in_err-write_whole-clause-err : goal.returns-in_err-write_whole-clause-err
