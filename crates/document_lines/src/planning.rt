@@ -318,8 +318,6 @@ fn on_properties<C: Command>(alloc: Global, stack: &mut Stack<C>, line: &Line<'_
 }
 
 /// Plans a line about a document, the active one: an edit is left to be committed, and any other line is done.
-// (inlined, as `Editor::plan` is, since a caller may know which line it is)
-#[inline(always)]
 pub fn on_document<C: Command>(alloc: Global, stack: &mut Stack<C>, line: &Line<'_>) -> Planned
     requires sound { Holds C.change stack.old }
     requires spelled { CanBeSpelled line.now }

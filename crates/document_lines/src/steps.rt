@@ -57,7 +57,7 @@ pub fn answered<C: Command>(stack: &Stack<C>, answer: Result<(), StackFault>) ->
 }
 
 /// The plan of a line that was such a call.
-#[inline(always)]
+#[inline(never)]
 pub fn plan_answered<C: Command>(stack: &Stack<C>, answer: Result<(), StackFault>) -> Planned
     ensures { result ≡ planned.Reply (call_reply answer (history C.change stack.now)) }
 {

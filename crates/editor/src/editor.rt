@@ -69,8 +69,6 @@ impl<C: Command> Editor<C> {
     ///
     /// The editor is as it was after an edit that was planned and after every refusal. The store is called for the lines
     /// `open` and `save` alone, and at most once.
-    // (inlined, since a caller may know which line it is)
-    #[inline(always)]
     pub fn plan<S: MapStore>(&mut self, alloc: Global, store: &mut S, line: &Line<'_>) -> Planned
         requires held { IsHeld C.change self.old }
         requires spelled { CanBeSpelled line.now }

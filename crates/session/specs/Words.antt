@@ -1,31 +1,22 @@
 -- The words of a line, and what a word can be.
-use Rattle.std.specs.Prelude.{◌≡◌, ◌<◌, ◌≤◌, take, drop, ℕ, ◌+◌, ◌%◌, ◌^◌, Bool, true, false, not, ◌&&◌, ◌||◌, ◌==◌, nat_lt, nat_le, List, [], ◌∷◌}
-use Rattle.std.specs.Prelude.{◌++◌, length}
+use Rattle.std.specs.Prelude.{◌≡◌, ◌<◌, ◌≤◌, take, drop, ℕ, ◌+◌, ◌%◌, ◌^◌, Bool, true, false, not, ◌&&◌, ◌||◌, ◌==◌, nat_lt, nat_le, List, [], ◌∷◌, length}
 use Rattle.std.specs.Prelude.{Option, None, Some, ℤ, pos, negsuc, zero, suc, option_and_then, slice_index, codes, if◌then◌else◌}
 use Rattle.std.specs.Option.{option_map}
 use Rattle.std.specs.Borrow.{Bor}
 use Rattle.std.specs.List.{slice_split, list_all}
 use Rattle.std.specs.Char.{is_ascii_digit, is_ascii_alphanumeric}
-use Rattle.std.specs.Str.{bytes_eq, IsUtf8}
+use Rattle.std.specs.Str.{bytes_eq}
 use Rattle.std.specs.Str.Parse.{digits_value}
 use Rattle.map_model.specs.declared.parts.LayerKind.{LayerKind}
 use Rattle.map_model.specs.declared.parts.LayerKind.TheVariants as kinds
 use Rattle.map_model.specs.declared.owner.Owner.{Owner}
 use Rattle.map_model.specs.declared.owner.Owner.TheVariants as owners
-use Rattle.session.specs.declared.limits.TheConstants.{MAX_LINE, MAX_TEXT, MAX_KEY, MAX_COORDINATE, MAX_DOCUMENT_NAME}
+use Rattle.session.specs.declared.limits.TheConstants.{MAX_TEXT, MAX_KEY, MAX_COORDINATE, MAX_DOCUMENT_NAME}
 use Rattle.map_model.specs.declared.limits.TheConstants.{MAX_SIDE}
 
 -- the words of a text stand between its spaces
 abbrev pub words : List ℕ → List (List ℕ)
 words bytes = slice_split (λ b. b == 32) bytes
-
--- the words of the text behind that front, in bytes that are not too many for a line
-pub record AreBehind (front bytes : List ℕ) (ws : List (List ℕ)) : Type 0 where
-  pub behind : List ℕ
-  pub split : bytes ≡ front ++ behind
-  pub short : length bytes ≤ MAX_LINE
-  pub utf8 : IsUtf8 behind
-  pub words_are : ws ≡ words behind
 
 -- a byte, and no leading zero
 abbrev pub is_numeral_prefix : List ℕ → Bool

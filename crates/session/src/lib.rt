@@ -19,7 +19,7 @@ mod words;
 
 pub use gids::{Gids, Values};
 pub use line::Line;
-pub use parse::{parse_line, parse_stamp};
+pub use parse::parse_line;
 pub use refusals::{LineFault, Refusal};
 pub use reply::{LocalTile, Reply};
 pub use spelling::{long_is_not_read, quiet_is_read, read_is_spelled, spelled_is_read};

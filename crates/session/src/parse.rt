@@ -2,7 +2,6 @@ ghost use Rattle.session.specs.Grammar.{Gives, read, choose, Ends, line_form, ra
 ghost use Rattle.session.specs.Spelling.{Says, CanBeSpelled};
 ghost use Rattle.refusals.specs.declared.line_fault.LineFault.TheVariants.{UnknownCommand};
 ghost use Rattle.std.specs.Prelude.{◌≡◌, ◌==◌, ◌∷◌, IfOk, IfSome, IfNone};
-ghost use Rattle.session.specs.Words.{AreBehind};
 ghost use Rattle.std.specs.Str.{IsUtf8};
 ghost use Rattle.std.specs.List.{list_all};
 
@@ -78,7 +77,6 @@ fn choose_document<'a>(fields: &mut Fields<'a>) -> Result<Line<'a>, LineFault>
     Ok(Line::Use { choice })
 }
 
-#[inline(always)]
 fn stamp<'a>(follows: bool, fields: &mut Fields<'a>) -> Result<Line<'a>, LineFault>
     ensures { Gives (λ x. x) result (read (stamp_form follows) fields.old) }
 {
@@ -277,47 +275,6 @@ fn text_of(bytes: &[u8]) -> Option<&str>
         return Some(unsafe { str::from_utf8_unchecked(bytes) });
     }
     str::from_utf8(bytes).ok()
-}
-
-// The fields behind the front of a line, where the bytes begin with that, are not too many, and are text behind it.
-#[inline(always)]
-fn fields_behind<'a>(bytes: &'a [u8], front: &'static [u8]) -> Option<Fields<'a>>
-    ensures { IfSome result (AreBehind front.now bytes.now) }
-{
-    let Some(behind) = bytes.strip_prefix(front) else {
-        return None;
-    };
-    if bytes.len() > MAX_LINE {
-        return None;
-    }
-    match text_of(behind) {
-        Some(text) => Some(Fields::new(Some(text))),
-        None => None,
-    }
-}
-
-// Whether a stamp follows, and its fields, where the bytes begin as one.
-#[inline(always)]
-fn stamp_fields(bytes: &[u8]) -> Option<(bool, Fields<'_>)>
-    ensures { IfSome result (λ x. line_of bytes.now ≡ read (stamp_form x.0) x.1) }
-{
-    if let Some(fields) = fields_behind(bytes, b"stamp ") {
-        return Some((false, fields));
-    }
-    match fields_behind(bytes, b"stamp+ ") {
-        Some(fields) => Some((true, fields)),
-        None => None,
-    }
-}
-
-/// The stamp that the bytes are, or its fault, where they begin as one: what `parse_line` gives, and sooner. Other bytes may be
-/// any line.
-#[inline(always)]
-pub fn parse_stamp(bytes: &[u8]) -> Option<Result<Line<'_>, LineFault>>
-    ensures { IfSome result (λ given. Gives (λ x. x) given (line_of bytes.now)) }
-{
-    let (follows, mut fields) = stamp_fields(bytes)?;
-    Some(stamp(follows, &mut fields))
 }
 
 /// The line that the bytes are, without a newline.

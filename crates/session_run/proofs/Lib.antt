@@ -3,4 +3,3 @@ pub mod Progress
 pub mod Endings
 pub mod Ends
 pub mod Planned
-pub mod Frequent

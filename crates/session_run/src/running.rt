@@ -5,7 +5,6 @@ ghost use Rattle.document_lines.specs.Machine.{started_machine, workspace};
 ghost use Rattle.document_lines.specs.Rules.{MachineStep, MachineStepIn};
 ghost use Rattle.editor.specs.Editors.{IsSound, machine_of};
 ghost use Rattle.editor.specs.Kinds.{StepKinds, StepKindsIn, kinds_in};
-ghost use Rattle.session.specs.Grammar.{Gives, line_of};
 ghost use Rattle.session.specs.Spelling.{CanBeSpelled};
 ghost use Rattle.session_run.specs.Asking.{AsksIn, LineAsks};
 ghost use Rattle.session_run.specs.Runs.{RunsAll, RunsToUnread, RunsToWrite};
@@ -20,7 +19,7 @@ use editor::{Edit, Editor, Planned};
 use lines::{Found, LineReader};
 use map_store::MapStore;
 use refusals::{LineFault, Refusal};
-use session::{Line, Reply, parse_line, parse_stamp};
+use session::{Line, Reply, parse_line};
 use std::alloc::Global;
 use std::io::{Read, Write};
 use thiserror::Error;
@@ -100,32 +99,6 @@ fn carry_out<C: Command, S: MapStore, F: Fn(Edit) -> Option<C>>(
     }
 }
 
-// Does the step of bytes that were read, as a line or as none.
-#[inline(always)]
-fn step_given<C: Command, S: MapStore, F: Fn(Edit) -> Option<C>>(
-    alloc: Global,
-    editor: &mut Editor<C>,
-    store: &mut S,
-    bytes: &[u8],
-    given: &Result<Line<'_>, LineFault>,
-    put: &F,
-) -> Option<Reply>
-    requires sound { IsSound C.change editor.old }
-    requires given { Gives (λ x. x) given.now (line_of bytes.now) }
-    requires callable { F.IsAlwaysCallable put.now }
-    requires same { (edit : Edit) (command : Option C) → F.post put.now edit command → PutsSame C.change edit command }
-    ensures sound { IsSound C.change editor.new }
-    ensures step { MachineStepIn bytes.now
-        (workspace (machine_of C.change editor.old) (S.stored store.old)) result (workspace (machine_of C.change editor.new) (S.stored store.new)) }
-    ensures kinds { StepKindsIn bytes.now (machine_of C.change editor.old) result (machine_of C.change editor.new) (kinds_in editor.old) (kinds_in editor.new) }
-    ensures asks { AsksIn bytes.now (machine_of C.change editor.old) result (S.asked store.old) (S.asked store.new) }
-{
-    match given {
-        Ok(line) => carry_out(alloc, editor, store, line, put),
-        Err(fault) => Some(Reply::Refused(Refusal::Line(*fault))),
-    }
-}
-
 /// Does what a line asks for, and gives the reply to it, and none to a quiet one. The line has no newline at its end. What it
 /// plans is put into a command by `put`.
 ///
@@ -147,18 +120,9 @@ pub fn step<C: Command, S: MapStore, F: Fn(Edit) -> Option<C>>(
     ensures kinds { StepKindsIn line.now (machine_of C.change editor.old) result (machine_of C.change editor.new) (kinds_in editor.old) (kinds_in editor.new) }
     ensures asks { AsksIn line.now (machine_of C.change editor.old) result (S.asked store.old) (S.asked store.new) }
 {
-    // The most frequent lines are told by a few comparisons. Each is carried out at a place of its own, where the compiler
-    // knows which line it is.
-    match line {
-        b"undo" => step_given(alloc, editor, store, line, &Ok(Line::Undo), put),
-        b"redo" => step_given(alloc, editor, store, line, &Ok(Line::Redo), put),
-        b"status" => step_given(alloc, editor, store, line, &Ok(Line::Status), put),
-        b"undotext" => step_given(alloc, editor, store, line, &Ok(Line::UndoText), put),
-        b"redotext" => step_given(alloc, editor, store, line, &Ok(Line::RedoText), put),
-        _ => match &parse_stamp(line) {
-            Some(given) => step_given(alloc, editor, store, line, given, put),
-            None => step_given(alloc, editor, store, line, &parse_line(line), put),
-        },
+    match &parse_line(line) {
+        Ok(line) => carry_out(alloc, editor, store, line, put),
+        Err(fault) => Some(Reply::Refused(Refusal::Line(*fault))),
     }
 }
 

@@ -1,25 +1,33 @@
-use Rattle.std.proofs.Common.{arith, rules}
-use Rattle.std.specs.Prelude.{codes}
-use Rattle.std.proofs.lemmas.Slice.Eq.{text_from_reads}
-use Rattle.session_run.proofs.Frequent.{line_of-undo, line_of-redo, line_of-status, line_of-undotext, line_of-redotext}
+use Rattle.std.proofs.Common.{◌≡◌, Ok, Err, refl}
+use Rattle.session.specs.Grammar.{line_of}
 use Rattle.session_run.proofs.running.step.Goals as goal
 
-pub step_given-requires-clause-given : goal.step_given-requires-clause-given
-step_given-requires-clause-given g c =
-    rw (text_from_reads c.args.line.now (codes "undo") (omega (arith, c.in-undo.len_at_least, c.in-undo.len_below)) (search rules)) line_of-undo
+pub returns-in-Ok-clause-step : goal.returns-in-Ok-clause-step
+returns-in-Ok-clause-step g c =
+    let read : line_of c.args.line.now ≡ Ok c.in-Ok.line = rw c.in-Ok.is at c.parse_line.ensures.value in
+    rw read c.carry_out.ensures.step
 
-pub step_given-requires-in-redo-clause-given : goal.step_given-requires-in-redo-clause-given
-step_given-requires-in-redo-clause-given g c =
-    rw (text_from_reads c.args.line.now (codes "redo") (omega (arith, c.in-redo.len_at_least, c.in-redo.len_below)) (search rules)) line_of-redo
+pub returns-in-Err-clause-step : goal.returns-in-Err-clause-step
+returns-in-Err-clause-step g c =
+    let read : line_of c.args.line.now ≡ Err c.in-Err.fault = rw c.in-Err.is at c.parse_line.ensures.value in
+    rw read (refl, refl)
 
-pub step_given-requires-in-status-clause-given : goal.step_given-requires-in-status-clause-given
-step_given-requires-in-status-clause-given g c =
-    rw (text_from_reads c.args.line.now (codes "status") (omega (arith, c.in-status.len_at_least, c.in-status.len_below)) (search rules)) line_of-status
+pub returns-in-Ok-clause-asks : goal.returns-in-Ok-clause-asks
+returns-in-Ok-clause-asks g c =
+    let read : line_of c.args.line.now ≡ Ok c.in-Ok.line = rw c.in-Ok.is at c.parse_line.ensures.value in
+    rw read c.carry_out.ensures.asks
 
-pub step_given-requires-in-undotext-clause-given : goal.step_given-requires-in-undotext-clause-given
-step_given-requires-in-undotext-clause-given g c =
-    rw (text_from_reads c.args.line.now (codes "undotext") (omega (arith, c.in-undotext.len_at_least, c.in-undotext.len_below)) (search rules)) line_of-undotext
+pub returns-in-Err-clause-asks : goal.returns-in-Err-clause-asks
+returns-in-Err-clause-asks g c =
+    let read : line_of c.args.line.now ≡ Err c.in-Err.fault = rw c.in-Err.is at c.parse_line.ensures.value in
+    rw read refl
 
-pub step_given-requires-in-redotext-clause-given : goal.step_given-requires-in-redotext-clause-given
-step_given-requires-in-redotext-clause-given g c =
-    rw (text_from_reads c.args.line.now (codes "redotext") (omega (arith, c.in-redotext.len_at_least, c.in-redotext.len_below)) (search rules)) line_of-redotext
+pub returns-in-Ok-clause-kinds : goal.returns-in-Ok-clause-kinds
+returns-in-Ok-clause-kinds g c =
+    let read : line_of c.args.line.now ≡ Ok c.in-Ok.line = rw c.in-Ok.is at c.parse_line.ensures.value in
+    rw read c.carry_out.ensures.kinds
+
+pub returns-in-Err-clause-kinds : goal.returns-in-Err-clause-kinds
+returns-in-Err-clause-kinds g c =
+    let read : line_of c.args.line.now ≡ Err c.in-Err.fault = rw c.in-Err.is at c.parse_line.ensures.value in
+    rw read refl
