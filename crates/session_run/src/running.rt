@@ -20,7 +20,7 @@ use editor::{Edit, Editor, Planned};
 use lines::{Found, LineReader};
 use map_store::MapStore;
 use refusals::{LineFault, Refusal};
-use session::{Line, Reply, parse_line, parse_stamp};
+use session::{Line, Reply, parse_line};
 use std::alloc::Global;
 use std::io::{Read, Write};
 use thiserror::Error;
@@ -126,6 +126,27 @@ fn step_given<C: Command, S: MapStore, F: Fn(Edit) -> Option<C>>(
     }
 }
 
+// Does the step of bytes that may be any line. It stands apart, since a function clears at its entry all that its arms hand on.
+#[inline(always)]
+fn step_parsed<C: Command, S: MapStore, F: Fn(Edit) -> Option<C>>(
+    alloc: Global,
+    editor: &mut Editor<C>,
+    store: &mut S,
+    line: &[u8],
+    put: &F,
+) -> Option<Reply>
+    requires sound { IsSound C.change editor.old }
+    requires callable { F.IsAlwaysCallable put.now }
+    requires same { (edit : Edit) (command : Option C) → F.post put.now edit command → PutsSame C.change edit command }
+    ensures sound { IsSound C.change editor.new }
+    ensures step { MachineStepIn line.now
+        (workspace (machine_of C.change editor.old) (S.stored store.old)) result (workspace (machine_of C.change editor.new) (S.stored store.new)) }
+    ensures kinds { StepKindsIn line.now (machine_of C.change editor.old) result (machine_of C.change editor.new) (kinds_in editor.old) (kinds_in editor.new) }
+    ensures asks { AsksIn line.now (machine_of C.change editor.old) result (S.asked store.old) (S.asked store.new) }
+{
+    step_given(alloc, editor, store, line, &parse_line(line), put)
+}
+
 /// Does what a line asks for, and gives the reply to it, and none to a quiet one. The line has no newline at its end. What it
 /// plans is put into a command by `put`.
 ///
@@ -147,18 +168,15 @@ pub fn step<C: Command, S: MapStore, F: Fn(Edit) -> Option<C>>(
     ensures kinds { StepKindsIn line.now (machine_of C.change editor.old) result (machine_of C.change editor.new) (kinds_in editor.old) (kinds_in editor.new) }
     ensures asks { AsksIn line.now (machine_of C.change editor.old) result (S.asked store.old) (S.asked store.new) }
 {
-    // The most frequent lines are told by a few comparisons. Each is carried out at a place of its own, where the compiler
-    // knows which line it is.
+    // The most frequent lines of one word are told by a comparison. Each is carried out at a place of its own, where the
+    // compiler knows which line it is.
     match line {
         b"undo" => step_given(alloc, editor, store, line, &Ok(Line::Undo), put),
         b"redo" => step_given(alloc, editor, store, line, &Ok(Line::Redo), put),
         b"status" => step_given(alloc, editor, store, line, &Ok(Line::Status), put),
         b"undotext" => step_given(alloc, editor, store, line, &Ok(Line::UndoText), put),
         b"redotext" => step_given(alloc, editor, store, line, &Ok(Line::RedoText), put),
-        _ => match &parse_stamp(line) {
-            Some(given) => step_given(alloc, editor, store, line, given, put),
-            None => step_given(alloc, editor, store, line, &parse_line(line), put),
-        },
+        _ => step_parsed(alloc, editor, store, line, put),
     }
 }
 
