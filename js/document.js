@@ -85,7 +85,7 @@ export class Document {
     return this._editor._seen;
   }
 
-  // The same for a text of it, which makes no document active, and throws nothing.
+  // What `_look` gives, for a text of the document: no document becomes active, and nothing is thrown.
   _peek(answer) {
     try {
       return this._editor._restored(() => this._look(answer));

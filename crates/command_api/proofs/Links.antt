@@ -3,7 +3,7 @@ use Rattle.std.proofs.Common.{◌≡◌, ℕ, ◌≤◌, List, length, Option, S
 use Rattle.std.specs.List.{insert}
 use Rattle.map_model.specs.Document.{DocumentParts}
 use Rattle.map_model.specs.Lens.{Lens, IsLawfulLens}
-use Rattle.map_model.specs.Slot.{Slot, IsLawfulSlot, place_in}
+use Rattle.map_model.specs.Slot.{Slot, IsLawfulSlot, slot_in}
 use Rattle.map_model.proofs.Changes.{length-insert}
 use Rattle.command_api.specs.Names.{Names, Never}
 use Rattle.command_api.specs.Making.{Makes}
@@ -44,7 +44,7 @@ linked_out {s = s} {d = d} laws fits holds given is =
     rw (holds, given, found.1, is) (
     record {
       document = refl;
-      fits = record { ready = laws.freed x d f.ready found.1; before = f.after; after = rw back f.before };
+      fits = record { ready = laws.vacated x d f.ready found.1; before = f.after; after = rw back f.before };
       back = back;
       names = refl;
       obsolete = refl;
@@ -63,10 +63,10 @@ link_made never fits is = record {
 }
 
 -- a thing more in a list changes the document
-pub place_in-differs : {X : Type 0} (p : Lens DocumentParts (List X)) → IsLawfulLens p → (k : ℕ) (x : X) (d : DocumentParts)
+pub slot_in-differs : {X : Type 0} (p : Lens DocumentParts (List X)) → IsLawfulLens p → (k : ℕ) (x : X) (d : DocumentParts)
     → IsSomeAnd (p.get d) (λ xs. k ≤ length xs)
-    → (place_in p k).with_item x d ≡ d → ⊥
-place_in-differs {X = X} p laws k x d free same = by_list (p.get d) refl free
+    → (slot_in p k).with_item x d ≡ d → ⊥
+slot_in-differs {X = X} p laws k x d free same = by_list (p.get d) refl free
   where
     some-eq : (ys zs : List X) → Some ys ≡ Some zs → ys ≡ zs
     some-eq ys zs e = cc

@@ -16,7 +16,7 @@ linked s (Some (Some x)) d = s.with_item x d
 abbrev pub IsReady : {X : Type 0} → Slot X → Option (Option X) → DocumentParts → Type 0
 IsReady s None d = s.is_filled d
 IsReady s (Some None) d = ⊥
-IsReady s (Some (Some x)) d = s.is_free d
+IsReady s (Some (Some x)) d = s.is_vacant d
 
 -- the slot is ready for the turn, and the maps on its two sides are well formed
 pub record FitsLink {X : Type 0} (s : Slot X) (held : Option (Option X)) (d : DocumentParts) : Type 0 where

@@ -13,7 +13,7 @@ use Rattle.map_model.specs.Properties.{layer_properties, object_properties, prop
 use Rattle.map_model.specs.PropertyLenses.{properties, property_slot, setting, setting_at}
 use Rattle.map_model.specs.Slot.{IsLawfulSlot}
 use Rattle.map_model.proofs.LensLaws.{whole-laws, inner-laws, of_place-laws, of_layer-laws, of_object-laws}
-use Rattle.map_model.proofs.SlotLaws.{place_in-laws}
+use Rattle.map_model.proofs.SlotLaws.{slot_in-laws}
 
 -- ---- lenses
 -- a lens that is read in another way keeps the laws
@@ -68,4 +68,4 @@ setting_at-laws owner at = inner-laws (properties owner) _ (properties-laws owne
 
 -- ---- slots
 pub property_slot-laws : (owner : OwnerPlace) (at : ℕ) → IsLawfulSlot (property_slot owner at)
-property_slot-laws owner at = place_in-laws (properties owner) (properties-laws owner) at
+property_slot-laws owner at = slot_in-laws (properties owner) (properties-laws owner) at

@@ -51,7 +51,7 @@ side_by_side-to e (f ∷ fs) (suc k) d h l y x =
     let next : (f.y ≡ e.y) × (f.x ≡ suc e.x) = next_column k e f (get_or (f ∷ fs) k d) (before-behind e f h.0) (behind_at f fs k d h.1 (omega arith)) y x in
     (next, side_by_side-to f fs k d h.1 (omega arith) (y ∙ sym next.0) (omega (arith, next.1, x)))
 
--- the same of two cells of a list
+-- two cells of a list, one k cells to the right of the other in its row, have side by side what stands between them
 pub row_to : (es : List CellEdit) (k : ℕ) (from to : CellEdit) → AreInRowOrder es → k < length es → from ≡ get_or es 0 from → to ≡ get_or es k to
     → to.y ≡ from.y → to.x ≡ from.x + k → AreSideBySide (take (k + 1) es)
 row_to [] k from to h l f t y x = absurd (omega arith)
@@ -148,7 +148,7 @@ row-inside width count e (f ∷ fs) h i =
     let later : cell_number width f + length (f ∷ fs) ≤ count = row-inside width count f fs h.1 i.1 in
     omega (arith, at, later)
 
--- the same of a row and its first cell
+-- a row that is set from its first cell on is filled with the value
 pub row-set : (width value : ℕ) (first : CellEdit) (es : List CellEdit) (vs : List ℕ) → AreSideBySide es → 1 ≤ length es → first ≡ get_or es 0 first
     → set_from value (cell_number width first) (length es) vs ≡ fill_values width value es vs
 row-set width value first [] vs h l f = absurd (omega arith)

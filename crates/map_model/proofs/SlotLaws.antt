@@ -6,21 +6,21 @@ use Rattle.map_model.specs.declared.place.LayerPlace.{LayerPlace}
 use Rattle.map_model.specs.declared.place.ObjectPlace.{ObjectPlace}
 use Rattle.map_model.specs.Document.{DocumentParts}
 use Rattle.map_model.specs.Lens.{Lens, IsLawfulLens, AreApart, layers, siblings, next_layer_id, tilesets, layer_objects, next_object_id}
-use Rattle.map_model.specs.Slot.{IsLawfulSlot, place_in, next_in, layer_slot, next_layer_slot, tileset_slot, object_slot, next_object_slot}
+use Rattle.map_model.specs.Slot.{IsLawfulSlot, slot_in, next_slot_in, layer_slot, next_layer_slot, tileset_slot, object_slot, next_object_slot}
 use Rattle.map_model.proofs.LensLaws.{layers-laws, siblings-laws, next_layer_id-laws, layers-next_layer_id, tilesets-laws, layer_objects-laws}
 use Rattle.map_model.proofs.LensLaws.{next_object_id-laws, layer_objects-next_object_id}
 use Rattle.map_model.proofs.Changes.{remove-insert, insert-remove, slice_get-insert, length-insert, slice_get-within, slice_get-Some, within-removed}
 
 -- ---- places in a list
-pub place_in-laws : {X : Type 0} (p : Lens DocumentParts (List X)) → IsLawfulLens p → (k : ℕ) → IsLawfulSlot (place_in p k)
-place_in-laws {X = X} p laws k = record {
+pub slot_in-laws : {X : Type 0} (p : Lens DocumentParts (List X)) → IsLawfulLens p → (k : ℕ) → IsLawfulSlot (slot_in p k)
+slot_in-laws {X = X} p laws k = record {
   there = λ d h. h;
   filled = λ x d h. let s = room (p.get d) h in
       rw (laws.get-update (λ xs. insert xs k x) s.0 d s.1.0) (rw (slice_get-insert s.0 k x s.1.1) refl);
   without-with = λ x d h. let s = room (p.get d) h in
       laws.update-update (λ xs. remove xs k) (λ xs. insert xs k x) d
       ∙ laws.update-same (λ xs. remove (insert xs k x) k) s.0 d s.1.0 (remove-insert s.0 k x s.1.1);
-  freed = λ x d h e. let s = place x (p.get d) e in
+  vacated = λ x d h e. let s = place x (p.get d) e in
       rw (laws.get-update (λ xs. remove xs k) s.0 d s.1.0) (within-removed s.0 k (slice_get-within s.0 k x s.1.1)).0;
   with-without = λ x d h e. let s = place x (p.get d) e in
       laws.update-update (λ xs. insert xs k x) (λ xs. remove xs k) d
@@ -51,9 +51,10 @@ module _ {X : Type 0} (xs : List X) (x : X) where
       let place : length (remove xs (length xs - 1)) ≡ length xs - 1 = let less = length-remove xs (length xs - 1) within in omega arith in
       ap (λ k. insert (remove xs (length xs - 1)) k x) place ∙ insert-remove xs (length xs - 1) x there
 
-pub next_in-laws : {X : Type 0} (p : Lens DocumentParts (List X)) (ids : Lens DocumentParts ℕ) → IsLawfulLens p → IsLawfulLens ids → AreApart p ids → (id : ℕ)
-    → IsLawfulSlot (next_in p ids id)
-next_in-laws {X = X} p ids laws id-laws apart id = record {
+pub next_slot_in-laws : {X : Type 0} (p : Lens DocumentParts (List X)) (ids : Lens DocumentParts ℕ) → IsLawfulLens p → IsLawfulLens ids → AreApart p ids
+    → (id : ℕ)
+    → IsLawfulSlot (next_slot_in p ids id)
+next_slot_in-laws {X = X} p ids laws id-laws apart id = record {
   there = λ d h. let s = some_list (p.get d) h.1 in rw s.1.0 (last_there s.0 s.1.1);
   filled = λ x d h. let s = some (p.get d) h.1 in (
     id-laws.get-update (λ n. n + 1) id (p.update (more x) d) (apart.get-right (more x) d ∙ h.0),
@@ -63,7 +64,7 @@ next_in-laws {X = X} p ids laws id-laws apart id = record {
       ap (ids.update (λ n. id)) (apart.swapped less (λ n. n + 1) (p.update (more x) d) ∙ ap (ids.update (λ n. n + 1)) (
       laws.update-update less (more x) d ∙ laws.update-same (λ xs. less (more x xs)) s.0 d s.1 (remove-last s.0 x)))
       ∙ id-laws.update-update (λ n. id) (λ n. n + 1) d ∙ id-laws.update-same (λ n. id) id d h.0 refl;
-  freed = λ x d h e. let s = some_list (p.get d) h.1 in (
+  vacated = λ x d h e. let s = some_list (p.get d) h.1 in (
     id-laws.get-update (λ n. id) (id + 1) (p.update less d) (apart.get-right less d ∙ h.0),
     rw (apart.get-left (λ n. id) (p.update less d), laws.get-update less s.0 d s.1.0) refl,
   );
@@ -94,19 +95,19 @@ next_in-laws {X = X} p ids laws id-laws apart id = record {
 
 -- ---- slots of layers
 pub layer_slot-laws : (place : LayerPlace) → IsLawfulSlot (layer_slot place)
-layer_slot-laws place = place_in-laws (siblings place.parent) (siblings-laws place.parent) place.at
+layer_slot-laws place = slot_in-laws (siblings place.parent) (siblings-laws place.parent) place.at
 
 pub next_layer_slot-laws : (id : ℕ) → IsLawfulSlot (next_layer_slot id)
-next_layer_slot-laws = next_in-laws layers next_layer_id layers-laws next_layer_id-laws layers-next_layer_id
+next_layer_slot-laws = next_slot_in-laws layers next_layer_id layers-laws next_layer_id-laws layers-next_layer_id
 
 -- ---- the place of a tileset
 pub tileset_slot-laws : (at : ℕ) → IsLawfulSlot (tileset_slot at)
-tileset_slot-laws = place_in-laws tilesets tilesets-laws
+tileset_slot-laws = slot_in-laws tilesets tilesets-laws
 
 -- ---- slots of objects
 pub object_slot-laws : (place : ObjectPlace) → IsLawfulSlot (object_slot place)
-object_slot-laws place = place_in-laws (layer_objects place.layer) (layer_objects-laws place.layer) place.at
+object_slot-laws place = slot_in-laws (layer_objects place.layer) (layer_objects-laws place.layer) place.at
 
 pub next_object_slot-laws : (layer id : ℕ) → IsLawfulSlot (next_object_slot layer id)
-next_object_slot-laws layer = next_in-laws (layer_objects layer) next_object_id (layer_objects-laws layer) next_object_id-laws
+next_object_slot-laws layer = next_slot_in-laws (layer_objects layer) next_object_id (layer_objects-laws layer) next_object_id-laws
     (layer_objects-next_object_id layer)

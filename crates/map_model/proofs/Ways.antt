@@ -57,6 +57,11 @@ pub way-some : (id groups : ℕ) (ls : List Layer) (way : List ℕ) → IsWay id
 way-some id groups ls [] h = absurd h
 way-some id groups ls (at ∷ way) h = omega arith
 
+-- where there is a way, the layer is among those of the list or in one of them
+pub way-held : (id groups : ℕ) (ls : List Layer) (way : List ℕ) → IsWay id groups way ls → is_some (position (holds id groups) ls) ≡ true
+way-held id groups ls [] h = absurd h
+way-held id groups ls (at ∷ way) h = ap is_some h.0
+
 -- the outermost place is one of the list's
 pub way-within : (id groups : ℕ) (ls : List Layer) (way : List ℕ) (at : ℕ) → IsWay id groups (at ∷ way) ls → at < length ls
 way-within id groups ls way at h = by_found (slice_get ls at) refl h.1

@@ -8,7 +8,7 @@ use Rattle.map_model.specs.declared.setting.Setting.{Setting}
 use Rattle.map_model.specs.Document.{DocumentParts, with_map}
 use Rattle.map_model.specs.Lens.{Lens, whole, inner, of_place, found}
 use Rattle.map_model.specs.Properties.{owner_place, properties_of, property_place, property_with_setting, setting_of, with_properties, without_property_at}
-use Rattle.map_model.specs.Slot.{Slot, place_in}
+use Rattle.map_model.specs.Slot.{Slot, slot_in}
 
 -- the properties of the owner at a place
 abbrev pub properties : OwnerPlace → Lens DocumentParts (List Property)
@@ -24,7 +24,7 @@ setting_at owner at = inner (properties owner) (of_place at setting)
 
 -- the place of a property among the owner's
 abbrev pub property_slot : OwnerPlace → ℕ → Slot Property
-property_slot owner at = place_in (properties owner) at
+property_slot owner at = slot_in (properties owner) at
 
 -- ---- the property of an owner with a name
 -- where its owner stands, and its place among the owner's

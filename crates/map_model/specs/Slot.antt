@@ -9,60 +9,60 @@ use Rattle.map_model.specs.declared.place.ObjectPlace.{ObjectPlace}
 use Rattle.map_model.specs.Document.{DocumentParts}
 use Rattle.map_model.specs.Lens.{Lens, layers, siblings, next_layer_id, tilesets, layer_objects, next_object_id}
 
--- a place at which a thing can stand: the document with one there and without it, and when it is free and filled
+-- a place at which a thing can stand: the document with one there and without it, and when it is vacant and filled
 pub record Slot (X : Type 0) : Type 1 where
   pub item : DocumentParts → Option X
   pub with_item : X → DocumentParts → DocumentParts
   pub without_item : DocumentParts → DocumentParts
-  pub is_free : DocumentParts → Type 0
+  pub is_vacant : DocumentParts → Type 0
   pub is_filled : DocumentParts → Type 0
 
 -- the laws of a slot
 pub record IsLawfulSlot {X : Type 0} (s : Slot X) : Type 0 where
   pub there : (d : DocumentParts) → s.is_filled d → IsSome (s.item d)
-  pub filled : (x : X) (d : DocumentParts) → s.is_free d → s.is_filled (s.with_item x d)
-  pub without-with : (x : X) (d : DocumentParts) → s.is_free d → s.without_item (s.with_item x d) ≡ d
-  pub freed : (x : X) (d : DocumentParts) → s.is_filled d → s.item d ≡ Some x → s.is_free (s.without_item d)
+  pub filled : (x : X) (d : DocumentParts) → s.is_vacant d → s.is_filled (s.with_item x d)
+  pub without-with : (x : X) (d : DocumentParts) → s.is_vacant d → s.without_item (s.with_item x d) ≡ d
+  pub vacated : (x : X) (d : DocumentParts) → s.is_filled d → s.item d ≡ Some x → s.is_vacant (s.without_item d)
   pub with-without : (x : X) (d : DocumentParts) → s.is_filled d → s.item d ≡ Some x → s.with_item x (s.without_item d) ≡ d
 
 -- the place k of a list
-abbrev pub place_in : {X : Type 0} → Lens DocumentParts (List X) → ℕ → Slot X
-place_in p k = record {
+abbrev pub slot_in : {X : Type 0} → Lens DocumentParts (List X) → ℕ → Slot X
+slot_in p k = record {
   item = λ d. option_and_then (λ xs. slice_get xs k) (p.get d);
   with_item = λ x. p.update (λ xs. insert xs k x);
   without_item = p.update (λ xs. remove xs k);
-  is_free = λ d. IsSomeAnd (p.get d) (λ xs. k ≤ length xs);
+  is_vacant = λ d. IsSomeAnd (p.get d) (λ xs. k ≤ length xs);
   is_filled = λ d. IsSome (option_and_then (λ xs. slice_get xs k) (p.get d));
 }
 
 -- the place behind a list, for a thing with the next id, which is one higher once it is there
-abbrev pub next_in : {X : Type 0} → Lens DocumentParts (List X) → Lens DocumentParts ℕ → ℕ → Slot X
-next_in p ids id = record {
+abbrev pub next_slot_in : {X : Type 0} → Lens DocumentParts (List X) → Lens DocumentParts ℕ → ℕ → Slot X
+next_slot_in p ids id = record {
   item = λ d. option_and_then (λ xs. slice_get xs (length xs - 1)) (p.get d);
   with_item = λ x d. ids.update (λ n. n + 1) (p.update (λ xs. insert xs (length xs) x) d);
   without_item = λ d. ids.update (λ n. id) (p.update (λ xs. remove xs (length xs - 1)) d);
-  is_free = λ d. (ids.get d ≡ Some id) × IsSome (p.get d);
+  is_vacant = λ d. (ids.get d ≡ Some id) × IsSome (p.get d);
   is_filled = λ d. (ids.get d ≡ Some (id + 1)) × IsSomeAnd (p.get d) (λ xs. 0 < length xs);
 }
 
 -- ---- slots of layers
 -- the place of a layer among its siblings
 abbrev pub layer_slot : LayerPlace → Slot Layer
-layer_slot place = place_in (siblings place.parent) place.at
+layer_slot place = slot_in (siblings place.parent) place.at
 
 -- the place behind the last layer that stands in no group
 abbrev pub next_layer_slot : ℕ → Slot Layer
-next_layer_slot id = next_in layers next_layer_id id
+next_layer_slot id = next_slot_in layers next_layer_id id
 
 -- ---- the place of a tileset
 abbrev pub tileset_slot : ℕ → Slot Tileset
-tileset_slot at = place_in tilesets at
+tileset_slot at = slot_in tilesets at
 
 -- ---- slots of objects
 -- the place of an object in its layer
 abbrev pub object_slot : ObjectPlace → Slot Object
-object_slot place = place_in (layer_objects place.layer) place.at
+object_slot place = slot_in (layer_objects place.layer) place.at
 
 -- the place behind the last object of a layer
 abbrev pub next_object_slot : ℕ → ℕ → Slot Object
-next_object_slot layer id = next_in (layer_objects layer) next_object_id id
+next_object_slot layer id = next_slot_in (layer_objects layer) next_object_id id

@@ -1,5 +1,5 @@
 // What is made new: layers, objects, and the first parts of a map.
-ghost use Rattle.std.specs.Prelude.{◌≡◌, ◌∷◌, [], codes, IfOk};
+ghost use Rattle.std.specs.Prelude.{◌≡◌, ◌∷◌, [], codes, IfOk, IsSome, Some};
 ghost use Rattle.serde_json.specs.Find.{as_object};
 ghost use Rattle.serde_json.specs.View.{view as data_of};
 ghost use Rattle.map_model.specs.NewMap.{new_layer, empty_layer, empty_object_layer, new_object, tile_layer_members, object_layer_members, object_members, map_members};
@@ -12,17 +12,18 @@ use serde_json::{Value, json};
 use std::alloc::{AllocError, Global};
 use tile_id::Gid;
 
-// The members of a value, where it is an object.
-fn members_of(value: Value) -> Option<Kept>
-    ensures { result ≡ as_object (data_of value) }
+// The members of an object.
+fn kept_of(object: Value) -> Kept
+    requires { IsSome (as_object (data_of object)) }
+    ensures { Some result ≡ as_object (data_of object) }
 {
-    match value {
-        Value::Object(members) => Some(Kept::new(members)),
-        Value::Null => None,
-        Value::Bool(_) => None,
-        Value::Number(_) => None,
-        Value::String(_) => None,
-        Value::Array(_) => None,
+    match object {
+        Value::Object(members) => Kept::new(members),
+        Value::Null => unreachable!(),
+        Value::Bool(_) => unreachable!(),
+        Value::Number(_) => unreachable!(),
+        Value::String(_) => unreachable!(),
+        Value::Array(_) => unreachable!(),
     }
 }
 
@@ -30,33 +31,24 @@ fn members_of(value: Value) -> Option<Kept>
 fn kept_by_tile_layer(alloc: Global) -> Result<Kept, AllocError>
     ensures { IfOk result (λ kept. kept ≡ tile_layer_members) }
 {
-    let value = json!(in alloc; {"opacity": 1u32, "x": 0u32, "y": 0u32})?;
-    match members_of(value) {
-        Some(kept) => Ok(kept),
-        None => unreachable!(),
-    }
+    let object = json!(in alloc; {"opacity": 1u32, "x": 0u32, "y": 0u32})?;
+    Ok(kept_of(object))
 }
 
 // What a new object layer keeps.
 fn kept_by_object_layer(alloc: Global) -> Result<Kept, AllocError>
     ensures { IfOk result (λ kept. kept ≡ object_layer_members) }
 {
-    let value = json!(in alloc; {"draworder": "topdown", "opacity": 1u32, "x": 0u32, "y": 0u32})?;
-    match members_of(value) {
-        Some(kept) => Ok(kept),
-        None => unreachable!(),
-    }
+    let object = json!(in alloc; {"draworder": "topdown", "opacity": 1u32, "x": 0u32, "y": 0u32})?;
+    Ok(kept_of(object))
 }
 
 /// What a new map keeps.
 pub fn kept_by_map(alloc: Global) -> Result<Kept, AllocError>
     ensures { IfOk result (λ kept. kept ≡ map_members) }
 {
-    let value = json!(in alloc; {"orientation": "orthogonal", "renderorder": "right-down"})?;
-    match members_of(value) {
-        Some(kept) => Ok(kept),
-        None => unreachable!(),
-    }
+    let object = json!(in alloc; {"orientation": "orthogonal", "renderorder": "right-down"})?;
+    Ok(kept_of(object))
 }
 
 // A tile layer of so many empty cells.
@@ -110,11 +102,8 @@ impl Layer {
 fn kept_by_object(alloc: Global) -> Result<Kept, AllocError>
     ensures { IfOk result (λ kept. kept ≡ object_members) }
 {
-    let value = json!(in alloc; {"rotation": 0u32, "type": ""})?;
-    match members_of(value) {
-        Some(kept) => Ok(kept),
-        None => unreachable!(),
-    }
+    let object = json!(in alloc; {"rotation": 0u32, "type": ""})?;
+    Ok(kept_of(object))
 }
 
 impl Object {

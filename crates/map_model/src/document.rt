@@ -14,10 +14,12 @@ mod tilesets;
 
 use crate::contents::MapText;
 use crate::edit::{CellEdit, Side};
-use crate::here::seek_layer_in;
+use crate::groups::walk_to;
+use crate::here::find_here;
 use crate::layers::{
     insert_layer_in, put_alike_in, put_in, rename_in, set_in, show_in, take_layer_in,
 };
+use crate::limits::MAX_GROUPS;
 use crate::map::Map;
 use crate::parts::Layer;
 use crate::place::LayerPlace;
@@ -157,7 +159,10 @@ impl Document {
         ensures document { self.new ≡ self.old }
         ensures well_formed { IsDocument self.new }
     {
-        seek_layer_in(&mut self.map.parts.layers, id);
+        let layers = &mut self.map.parts.layers;
+        if find_here(layers, id, MAX_GROUPS).is_none() {
+            walk_to(layers, id);
+        }
     }
 
     /// Exchanges the name of the layer with an id and another name.

@@ -6,14 +6,10 @@
 // | Name           | Starts from           | Gives                                     | May walk       |
 // |----------------|-----------------------|-------------------------------------------|----------------|
 // | find_in        | a list                | the layer with an id                      | yes            |
-// | find_under     | a layer               | the layer with an id: it or one in it     | yes            |
 // | find_way       | a list                | the way to the layer with an id           | yes            |
-// | find_way_from  | a layer               | the way to the layer with an id           | yes            |
 // | find_way_here  | a list                | that way, if it leads by what stands here | no             |
-// | place_in       | a list and its parent | the parent and place of the layer         | yes            |
-// | place_within   | the groups of a list  | the parent and place of the layer         | yes            |
+// | find_place     | a list and its parent | the parent and place of the layer         | yes            |
 // | own_place      | a list                | the place of the layer in that list       | the list alone |
-// | place_here     | a list                | that place, if the layer stands here      | no             |
 // | count_in       | a list                | how many layers, those in groups too      | all            |
 // | count_under    | a layer               | it, and how many stand in it              | all            |
 // | change_layer   | a map's layers        | the layer with an id, changed             | if not here    |
@@ -21,17 +17,13 @@
 // | change_along   | a list and a way      | the layer at its end, changed             | no             |
 // | change_inside  | a body and a way      | the layer at its end, changed             | no             |
 // | changed        | the layer             | the layer, changed                        | no             |
+// | walk_to        | a map's layers        | nothing; goes to the layer                | yes            |
 //
 // In `here.rt`:
 //
 // | find_here      | a list                | the layer with an id, if it stands here   | no             |
 // | innermost_here | a list                | the innermost layer that stands here      | no             |
-// | find_layer     | a map's layers        | the layer with an id                      | if not here    |
-// | seek_layer_in  | a map's layers        | nothing; goes to the layer                | if not here    |
-// | walk_to        | a map's layers        | nothing; goes to the layer                | yes            |
-// | go_along       | a list and a way      | nothing; goes along the way               | no             |
-// | go_inside      | a body and a way      | nothing; goes along the way               | no             |
-ghost use Rattle.std.specs.Prelude.{◌≡◌, ◌^◌, ◌<◌, ◌≤◌, ◌+◌, [], Some, IfSome, IsFalse, IsSome, IsSomeAnd, IsTrue, is_some, length, option_and_then, position, slice_get};
+ghost use Rattle.std.specs.Prelude.{◌≡◌, ◌^◌, ◌<◌, ◌≤◌, ◌+◌, [], Some, IfSome, IsFalse, IsSome, IsSomeAnd, IsTrue, None, is_some, length, option_and_then, position, slice_get};
 ghost use Rattle.std.specs.Fn.{FnOnceReturnsAtMut, FnOnceTakesAtMut};
 ghost use Rattle.std.specs.Option.{option_copied};
 ghost use mathlib.Core.List.{reverse};
@@ -74,13 +66,11 @@ impl Body {
 
 /// Finds the way to the layer with an id, where there is one: the place in the innermost group first, and the place among these
 /// layers last.
-#[cycle(ways)]
 pub fn find_way(layers: &Chain<Layer>, id: u32, groups: usize, way: &mut Way) -> bool
     requires empty { way.old.items ≡ [] }
     requires groups { groups ≤ MAX_GROUPS }
-    ensures there { result ≡ is_some (position (holds id groups) layers.now) }
     ensures way { IsTrue result → IsWay id groups (reverse way.new.items) layers.now }
-    ensures none { IsFalse result → way.new.items ≡ [] }
+    ensures none { IsFalse result → (position (holds id groups) layers.now ≡ None) × (way.new.items ≡ []) }
     ensures short { array_vec_len way.new ≤ groups + 1 }
 {
     // That a length is a `usize` bounds the places.
@@ -88,7 +78,12 @@ pub fn find_way(layers: &Chain<Layer>, id: u32, groups: usize, way: &mut Way) ->
         return false;
     }
     for (at, layer) in layers.iter().enumerate() {
-        if find_way_from(layer, id, groups, way) {
+        let leads = layer.id == id
+            || match layer.body.layers() {
+                Some(inside) if groups > 0 => find_way(inside, id, groups - 1, way),
+                _ => false,
+            };
+        if leads {
             way.push(at);
             return true;
         }
@@ -96,61 +91,28 @@ pub fn find_way(layers: &Chain<Layer>, id: u32, groups: usize, way: &mut Way) ->
     false
 }
 
-// Finds the way from a layer, which may have the id itself.
-#[cycle(ways)]
-fn find_way_from(layer: &Layer, id: u32, groups: usize, way: &mut Way) -> bool
-    requires empty { way.old.items ≡ [] }
-    requires groups { groups ≤ MAX_GROUPS }
-    ensures there { result ≡ holds id groups layer.now }
-    ensures way { IsTrue result → LeadsFrom id groups (reverse way.new.items) layer.now }
-    ensures none { IsFalse result → way.new.items ≡ [] }
-    ensures short { array_vec_len way.new ≤ groups }
-{
-    if layer.id == id {
-        return true;
-    }
-    if groups == 0 {
-        return false;
-    }
-    match layer.body.layers() {
-        Some(inside) => find_way(inside, id, groups - 1, way),
-        None => false,
-    }
-}
-
 /// The layer with an id, in layers that may have so many groups in one another.
-#[cycle(found)]
 pub fn find_in(layers: &Chain<Layer>, id: u32, groups: usize) -> Option<&Layer>
     ensures { option_copied result ≡ layer_among id groups layers.now }
 {
     for layer in layers.iter() {
-        if let Some(found) = find_under(layer, id, groups) {
-            return Some(found);
+        if layer.id == id {
+            return Some(layer);
+        }
+        if groups == 0 {
+            continue;
+        }
+        if let Some(inside) = layer.body.layers() {
+            if let Some(found) = find_in(inside, id, groups - 1) {
+                return Some(found);
+            }
         }
     }
     None
 }
 
-// The layer with an id, of a layer and those that stand in it.
-#[cycle(found)]
-fn find_under(layer: &Layer, id: u32, groups: usize) -> Option<&Layer>
-    ensures { option_copied result ≡ find_one id groups layer.now }
-{
-    if layer.id == id {
-        return Some(layer);
-    }
-    if groups == 0 {
-        return None;
-    }
-    match layer.body.layers() {
-        Some(inside) => find_in(inside, id, groups - 1),
-        None => None,
-    }
-}
-
 /// The place of the layer with an id: among these layers, which have this parent, or else in one that stands in them.
-#[cycle(places)]
-pub fn place_in(
+pub fn find_place(
     layers: &Chain<Layer>,
     id: u32,
     parent: Option<u32>,
@@ -164,17 +126,9 @@ pub fn place_in(
     if groups == 0 {
         return None;
     }
-    place_within(layers, id, groups - 1)
-}
-
-// The place of the layer with an id, in the groups among these layers.
-#[cycle(places)]
-fn place_within(layers: &Chain<Layer>, id: u32, groups: usize) -> Option<LayerPlace>
-    ensures { result ≡ first_some (place_inside id groups) layers.now }
-{
     for layer in layers.iter() {
         if let Some(inside) = layer.body.layers() {
-            if let Some(place) = place_in(inside, id, Some(layer.id), groups) {
+            if let Some(place) = find_place(inside, id, Some(layer.id), groups - 1) {
                 return Some(place);
             }
         }
@@ -319,18 +273,20 @@ pub fn change_layer<R, F: FnOnce(&mut Layer) -> R>(
     requires callable { (l : Layer) → layer_among id MAX_GROUPS layers.old ≡ Some l → FnOnceTakesAtMut F.FnOnce change l }
     ensures { ChangesLayer F.FnOnce change id MAX_GROUPS layers.old result layers.new }
 {
-    match place_here(layers, id) {
-        Some(at) => changed(layers.get_mut(at), change),
-        None => change_found(layers, id, change),
+    match layers.here() {
+        Some((at, layer)) if layer.id == id => changed(layers.get_mut(at), change),
+        _ => change_found(layers, id, change),
     }
 }
 
-// The place that was last changed, where the layer with the id stands there.
-fn place_here(layers: &Chain<Layer>, id: u32) -> Option<usize>
-    requires { Distinct (layer_ids layers.now) }
-    ensures first { IfSome result (λ at. position (holds id MAX_GROUPS) layers.now ≡ Some at) }
-    ensures own { IfSome result (λ at. IsSomeAnd (slice_get layers.now at) (λ l. l.id ≡ id)) }
+/// Goes to the layer with an id by a walk, where there is one, so that it is found and changed at once. No layer changes.
+#[inline(never)]
+pub fn walk_to(layers: &mut Chain<Layer>, id: u32)
+    ensures { layers.new ≡ layers.old }
 {
-    let (place, layer) = layers.here()?;
-    if layer.id == id { Some(place) } else { None }
+    let mut way = Way::new();
+    if find_way(layers, id, MAX_GROUPS, &mut way) {
+        // A change goes to what it changes, also one that does nothing.
+        change_along(layers, way.as_slice(), id, MAX_GROUPS, |_layer| {});
+    }
 }

@@ -12,8 +12,8 @@ mod properties;
 
 use crate::contents::MapText;
 use crate::create::{first_layer, kept_by_map, one};
-use crate::groups::{count_in, place_in};
-use crate::here::find_layer;
+use crate::groups::{count_in, find_in, find_place};
+use crate::here::find_here;
 use crate::limits::MAX_GROUPS;
 use crate::parts::{Layer, MapParts, Tileset};
 use crate::place::LayerPlace;
@@ -63,7 +63,10 @@ impl Map {
     pub fn layer(&self, id: u32) -> Option<&Layer>
         ensures { option_copied result ≡ layer_of self.now id }
     {
-        find_layer(&self.parts.layers, id)
+        match find_here(&self.parts.layers, id, MAX_GROUPS) {
+            Some(layer) => Some(layer),
+            None => find_in(&self.parts.layers, id, MAX_GROUPS),
+        }
     }
 
     /// The place of the layer with an id.
@@ -71,7 +74,7 @@ impl Map {
         ensures place { result ≡ layer_place self.now id }
         ensures well_formed { IsWellFormed self.now }
     {
-        place_in(&self.parts.layers, id, None, MAX_GROUPS)
+        find_place(&self.parts.layers, id, None, MAX_GROUPS)
     }
 
     /// The tileset of a value: the one with the greatest first id that is not above the value's base.

@@ -29,7 +29,7 @@ use Rattle.refusals.specs.declared.edit_fault.EditFault.{EditFault}
 use Rattle.refusals.specs.declared.edit_fault.EditFault.TheVariants.{NoSuchLayer, NoSuchObject}
 use Rattle.command_api.specs.Exchange.{change_of}
 use Rattle.command_api.specs.Making.{Makes}
-use Rattle.command_api.proofs.Links.{place_in-differs}
+use Rattle.command_api.proofs.Links.{slot_in-differs}
 use Rattle.command_api.proofs.Swaps.{shown_made}
 use Rattle.edits.specs.PropertyEdits.{after_set_property, owner_or_fault}
 use Rattle.property_commands.specs.declared.set.PropertySet.{PropertySet}
@@ -128,7 +128,7 @@ module _ (d : DocumentParts) (owner : Owner) (name kind : List ℕ) (value : Pro
               };
               new = (refl, record { stands = owner-there d.map owner place found; new = none; last = count });
             };
-            settled = (λ e. cc, λ e. absurd (place_in-differs (properties place) (properties-laws place) (length ps) p d free e));
+            settled = (λ e. cc, λ e. absurd (slot_in-differs (properties place) (properties-laws place) (length ps) p d free e));
           },
         );
         document = rw (found, none, are, lt-ltb (length ps) MAX_PROPERTIES few) refl;

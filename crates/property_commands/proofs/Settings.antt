@@ -27,7 +27,7 @@ use Rattle.command_api.specs.Names.{Names, WhenEqual}
 use Rattle.command_api.specs.Link.{link, turned_link}
 use Rattle.command_api.specs.Offers.{FitsNew, FitsPut, FitsSetting, IsMerged, IsOfferOf, Shown, Value, offer_undone, setting_undone}
 use Rattle.command_api.specs.Swap.{FitsShown}
-use Rattle.command_api.proofs.Links.{place_in-differs}
+use Rattle.command_api.proofs.Links.{slot_in-differs}
 use Rattle.command_api.proofs.Offering.{follower-offered, nothing-offered}
 use Rattle.command_api.proofs.Swaps.{shown_merged, shown_offered}
 use Rattle.property_commands.specs.declared.set.PropertySet.{PropertySet}
@@ -181,7 +181,7 @@ module _ (owner : Owner) (name : List ℕ) (place : OwnerPlace) (at : ℕ) where
         let ps = properties_before e h.new.1 in
         let behind : at ≤ length ps.0 = omega (arith, ps.1.1.0) in
         let free : IsSomeAnd (properties_of e.map place) (λ qs. at ≤ length qs) = rw ps.1.0 behind in
-        place_in-differs (properties place) (properties-laws place) at (new_property name s) e free (sym put_in-is ∙ sym same)
+        slot_in-differs (properties place) (properties-laws place) at (new_property name s) e free (sym put_in-is ∙ sym same)
 
   -- a newer setting of the property is taken in
   pub new_link-merged : (names : Names) (s before newer : Setting) (d : DocumentParts) (o : Shown) → names.vanishing ≡ WhenEqual

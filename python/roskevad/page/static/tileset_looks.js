@@ -10,7 +10,7 @@ const MOST_PIXELS = 16 * 1024 * 1024;
 
 const numberOf = value => (Number.isFinite(Number(value)) ? Math.max(-FARTHEST, Math.min(FARTHEST, Math.round(Number(value)))) : 0);
 
-// The same of a tileset in XML, in the words of one in JSON.
+// What a tileset in XML tells of this, in the words of one in JSON.
 export function looksInXml(root, image, tiles) {
   const offset = [...root.children].find(child => child.tagName === "tileoffset");
   const animated = tiles.filter(each => each.querySelector(":scope > animation > frame"));
