@@ -5,4 +5,4 @@ mod laws;
 mod reader;
 
 pub use laws::lines_are_cut;
-pub use reader::{Found, LineReader, ReadFault};
+pub use reader::{FlushFault, Found, LineReader, ReadFault};

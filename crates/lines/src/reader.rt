@@ -8,7 +8,7 @@ ghost use Rattle.lines.specs.Reading.{Reading, fresh, budget, HasLine, first_new
 
 use memchr::memchr;
 use std::alloc::{AllocError, Global};
-use std::io::Read;
+use std::io::{Read, Write};
 use std::marker::Model;
 use std::simd::prelude::*;
 
@@ -33,6 +33,10 @@ pub enum Found {
 /// A call of `read` failed, or there were too many.
 #[derive(Clone, Copy, Debug, PartialEq, Eq)]
 pub struct ReadFault;
+
+/// A call of `flush` failed.
+#[derive(Clone, Copy, Debug, PartialEq, Eq)]
+pub struct FlushFault;
 
 /// Reads lines into a buffer that is allocated once.
 #[derive(Drop)]
@@ -176,11 +180,18 @@ impl LineReader {
         &self.buffer[self.line_start..self.line_end]
     }
 
-    /// Whether a whole further line was read, so that `next` will not call `read`.
-    pub fn has_line(&self) -> bool
-        ensures { IsTrue result ↔ HasLine self.now }
+    /// Flushes a writer where `next` may call `read`, which may wait.
+    pub fn flush_before_read<W: Write>(&self, writer: &mut W) -> Result<(), FlushFault>
+        ensures bytes { Keeps (W.contents writer.old) (W.contents writer.new) }
+
+        // With a whole line at hand nothing is flushed.
+        ensures ready { HasLine self.now → writer.new ≡ writer.old }
+        ensures needed { OnErr result (HasNoNewline self.now.pending) }
     {
-        self.newline().is_some()
+        if !self.has_line() {
+            return writer.flush().map_err(|_| FlushFault);
+        }
+        Ok(())
     }
 
     /// Finds the next line, if there is one: with the same reader at each call.
@@ -216,6 +227,13 @@ impl LineReader {
             return Ok(Some(Found::Line));
         }
         self.read_on(reader)
+    }
+
+    /// Whether a whole further line was read, so that `next` will not call `read`.
+    fn has_line(&self) -> bool
+        ensures { IsTrue result ↔ HasLine self.now }
+    {
+        self.newline().is_some()
     }
 
     /// Where the first newline is among the bytes that are pending.

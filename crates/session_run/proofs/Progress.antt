@@ -1,10 +1,10 @@
 -- How a run goes on.
 use Rattle.std.proofs.Common.{◌≡◌, ◌≢◌, ℕ, ◌+◌, ◌^◌, ◌≤◌, IsTrue, List, [], ◌∷◌, ◌++◌, length, Option, Some, None, Err, refl, sym, ap, subst, ◌∙◌, inl, inr}
 use Rattle.std.proofs.Common.{◌⊎◌, append_assoc, arith}
-use Rattle.std.specs.Prelude.{option_to_list, All, Bool, Contains, IfSome, false, not, true, ◌↔◌}
+use Rattle.std.specs.Prelude.{option_to_list, All, Bool, IfSome}
 use Rattle.std.specs.Io.KnownBytes.{Appends, Keeps, prepend_known}
 use Rattle.std.proofs.lemmas.Bool.{lt-ltb}
-use Rattle.std.proofs.lemmas.List.{append-nil, get_or_default, length-append}
+use Rattle.std.proofs.lemmas.List.{append-nil, length-append}
 use Rattle.std.proofs.lemmas.List.Elements.{All-append, All-nil, All-cons}
 use Rattle.std.proofs.lemmas.Grind.{flat_map-append}
 use Rattle.lines.specs.declared.reader.Found.{Found}
@@ -58,14 +58,6 @@ refusal_of-Some reply refusal e = by_reply reply e
     by_reply : (r : Reply) → refusal_of r ≡ Some refusal → r ≡ Refused refusal
     by_reply (Refused own) h = let same : own ≡ refusal = cc in ap Refused same
     by_reply r h = absurd cc
-
--- where a reader of lines has no whole line, its bytes have no newline
-pub no_line-HasNoNewline : (has : Bool) (bytes : List ℕ) → (IsTrue has ↔ Contains bytes 10) → IsTrue (not has) → HasNoNewline bytes
-no_line-HasNoNewline true bytes h wanted = absurd (let bad : false ≡ true = wanted in cc)
-no_line-HasNoNewline false bytes h wanted = λ k d lt e.
-    let found : Contains bytes 10 = (k, lt, get_or_default bytes k 10 d lt ∙ e) in
-    let bad : false ≡ true = h.1 found in
-    cc
 
 -- nothing of the next line is gone
 stops_before : (left : Option (List ℕ)) → StopsInLine left left

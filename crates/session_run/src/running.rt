@@ -12,7 +12,7 @@ ghost use Rattle.session_run.specs.StrictRuns.{Tells};
 ghost use Rattle.session_run.specs.WithinRuns.{EndsAs, EndsInWrite, PutsSame, StepFound, Stops, StopsInWrite, StopsUnread, TellsEnd};
 
 use crate::strict::{End, Nobody, Report, end_over, end_refused, ending};
-use crate::writing::{flush_if, write_reply};
+use crate::writing::write_reply;
 use arrayvec::ArrayString;
 use command_api::Command;
 use editor::{Edit, Editor, Planned};
@@ -185,7 +185,7 @@ fn step_all<C: Command, R: Read, W: Write, S: MapStore, F: Fn(Edit) -> Option<C>
     };
     'session: loop {
         // What was written is shown before a read may wait.
-        if flush_if(writer, !lines.has_line()).is_err() {
+        if lines.flush_before_read(writer).is_err() {
             return Err(RunFault::Write);
         }
         let found = match lines.next(reader) {

@@ -12,7 +12,7 @@ ghost use Rattle.session_run.specs.StrictEnds.{TellsFault};
 ghost use Rattle.session_run.specs.WithinRuns.{EndsOver};
 
 use crate::running::{RunFault, Summary, run_lines};
-use crate::writing::{WriteFault, flush_if};
+use crate::writing::WriteFault;
 use command_api::Command;
 use lines::LineReader;
 use map_store::MapStore;
@@ -125,7 +125,7 @@ pub fn end_refused<W: Write>(
     ensures told { OnOk result (Tells (told report.old) (told report.new) (RefusedLine number (refused_text lines.now.line refusal) refusal ∷ [])) }
     ensures untold { OnErr result (Tells (told report.old) (told report.new) []) }
 {
-    flush_if(writer, true)?;
+    writer.flush().map_err(|_| WriteFault)?;
     report.refused(number, text_of(lines.line(), refusal), refusal);
     Ok(())
 }

@@ -1,5 +1,5 @@
-ghost use Rattle.std.specs.Prelude.{◌∷◌, ◌++◌, [], IsTrue, OnOk, OnErr};
-ghost use Rattle.std.specs.Io.KnownBytes.{Appends, Keeps};
+ghost use Rattle.std.specs.Prelude.{◌∷◌, ◌++◌, [], OnOk, OnErr};
+ghost use Rattle.std.specs.Io.KnownBytes.{Appends};
 ghost use Rattle.session_run.specs.Runs.{reply_line, TakesBeginning};
 
 use arrayvec::ArrayString;
@@ -65,15 +65,4 @@ pub fn write_reply<W: Write>(
     }
     head.push('\n');
     write_whole(writer, head.as_str().as_bytes())
-}
-
-/// Flushes the writer, where that is wanted.
-pub fn flush_if<W: Write>(writer: &mut W, is_wanted: bool) -> Result<(), WriteFault>
-    ensures bytes { Keeps (W.contents writer.old) (W.contents writer.new) }
-    ensures wanted { OnErr result (IsTrue is_wanted) }
-{
-    if is_wanted {
-        return writer.flush().map_err(|_| WriteFault);
-    }
-    Ok(())
 }
