@@ -1,6 +1,7 @@
 // The reports of files, one after the other.
 use crate::json_lines::{Outcome, line_of};
 use crate::listing::write_listing;
+use crate::output::Output;
 use crate::place::Place;
 use crate::refused::write_refusal;
 use map_json::read_map_along;
@@ -55,6 +56,28 @@ fn write_line<W: Write>(
     })
 }
 
+// Writes the lines of a file, and gives whether it is a map.
+fn write_lines<W: Write>(
+    alloc: Global,
+    file: &str,
+    outcome: Outcome<'_>,
+    out: &mut Output<'_, W>,
+) -> bool {
+    match outcome {
+        Outcome::Map(map) => {
+            write_listing(file, map.parts(), out);
+            true
+        }
+        Outcome::Refused(bytes, fault, place) => {
+            out.text(file);
+            out.text(": ");
+            write_refusal(alloc, bytes, fault, place, out);
+            false
+        }
+        Outcome::Unread(_) => false,
+    }
+}
+
 // Writes what came of a file, and gives whether it is a map.
 fn write_outcome<W: Write>(
     alloc: Global,
@@ -66,16 +89,40 @@ fn write_outcome<W: Write>(
     if form == Form::Json {
         return write_line(alloc, file, outcome, output);
     }
-    match outcome {
-        Outcome::Map(map) => {
-            write_listing(file, map.parts(), output)?;
-            Ok(true)
+    let mut out = Output::new(output);
+    let is_map = write_lines(alloc, file, outcome, &mut out);
+    out.end()?;
+    Ok(is_map)
+}
+
+// Reports a file that could not be read.
+fn report_unread<R: Eprint, W: Write>(
+    rt: &R,
+    alloc: Global,
+    form: Form,
+    file: &str,
+    error: &io::Error,
+    output: &mut W,
+) -> io::Result<bool> {
+    eprintln!(rt; "map_report: {file}: {error}")?;
+    write_outcome(alloc, form, file, Outcome::Unread(error), output)
+}
+
+// Reports the bytes of a file.
+fn report_bytes<W: Write>(
+    alloc: Global,
+    form: Form,
+    file: &str,
+    bytes: &[u8],
+    output: &mut W,
+) -> io::Result<bool> {
+    let mut place = Place::new(alloc);
+    match read_map_along(alloc, bytes, &mut place) {
+        Ok(map) => write_outcome(alloc, form, file, Outcome::Map(&map), output),
+        Err(fault) => {
+            let outcome = Outcome::Refused(bytes, fault, &place);
+            write_outcome(alloc, form, file, outcome, output)
         }
-        Outcome::Refused(bytes, fault, place) => {
-            write_refusal(alloc, file, bytes, fault, place, output)?;
-            Ok(false)
-        }
-        Outcome::Unread(_) => Ok(false),
     }
 }
 
@@ -87,21 +134,9 @@ fn report_file<R: Files + AllocGlobal + Eprint, I: Read, W: Write>(
     input: &mut I,
     output: &mut W,
 ) -> io::Result<bool> {
-    let alloc = rt.alloc();
-    let bytes = match read_file(rt, input, file) {
-        Ok(bytes) => bytes,
-        Err(error) => {
-            eprintln!(rt; "map_report: {file}: {error}")?;
-            return write_outcome(alloc, form, file, Outcome::Unread(&error), output);
-        }
-    };
-    let mut place = Place::new(alloc);
-    match read_map_along(alloc, &bytes, &mut place) {
-        Ok(map) => write_outcome(alloc, form, file, Outcome::Map(&map), output),
-        Err(fault) => {
-            let outcome = Outcome::Refused(&bytes, fault, &place);
-            write_outcome(alloc, form, file, outcome, output)
-        }
+    match read_file(rt, input, file) {
+        Ok(bytes) => report_bytes(rt.alloc(), form, file, &bytes, output),
+        Err(error) => report_unread(rt, rt.alloc(), form, file, &error, output),
     }
 }
 

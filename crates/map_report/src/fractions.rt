@@ -1,10 +1,11 @@
 // The fractions of a map that is refused for one: each with its place, and the layer or the object that has it.
+use crate::output::Output;
 use crate::place::Place;
 use crate::shown::write_short;
 use map_json::{Segment, Trail};
 use serde_json::{Map, Value};
-use std::alloc::{AllocError, Global};
-use std::io::{self, Write};
+use std::alloc::Global;
+use std::io::Write;
 
 /// What a value of the tree is.
 #[derive(Clone, Copy, PartialEq, Eq)]
@@ -57,51 +58,43 @@ impl<'a> Owner<'a> {
 }
 
 // Writes what an owner is, with its id and its name, where it has them.
-fn write_kind<W: Write>(
-    alloc: Global,
-    kind: &str,
-    owner: &Value,
-    output: &mut W,
-) -> io::Result<()> {
-    output.write_all(kind.as_bytes())?;
+fn write_kind<W: Write>(alloc: Global, kind: &str, owner: &Value, out: &mut Output<'_, W>) {
+    out.text(kind);
     if let Some(id) = owner.get("id").and_then(Value::as_u64) {
-        write!(output, " {id}")?;
+        out.value(" ", &id);
     }
-    match owner.get("name").and_then(Value::as_str) {
-        Some(name) if !name.is_empty() => {
-            output.write_all(b" ")?;
-            write_short(alloc, name, output)?;
-        }
-        _ => {}
+    let name = owner.get("name").and_then(Value::as_str).unwrap_or("");
+    if !name.is_empty() {
+        out.text(" ");
+        write_short(alloc, name, out);
     }
-    output.write_all(b": ")
+    out.text(": ");
 }
 
 /// Writes what a fraction stands in, where that is a layer or an object.
-pub fn write_owner<W: Write>(alloc: Global, owner: Owner<'_>, output: &mut W) -> io::Result<()> {
+pub fn write_owner<W: Write>(alloc: Global, owner: Owner<'_>, out: &mut Output<'_, W>) {
     match owner {
-        Owner::Map => Ok(()),
-        Owner::Layer(layer) => write_kind(alloc, "layer", layer, output),
-        Owner::Object(object) => write_kind(alloc, "object", object, output),
+        Owner::Map => {}
+        Owner::Layer(layer) => write_kind(alloc, "layer", layer, out),
+        Owner::Object(object) => write_kind(alloc, "object", object, out),
     }
 }
 
 /// What takes the fractions of a map, one after the other.
 pub trait Fractions {
     /// Takes the fraction at a place in the tree of a map.
-    fn take(&mut self, root: &Value, owner: Owner<'_>, place: &Place) -> io::Result<()>;
+    fn take(&mut self, root: &Value, owner: Owner<'_>, place: &Place);
+
+    /// Hears that there was no memory for a place.
+    fn lose_place(&mut self);
 }
 
-fn take_fraction<F: Fractions>(
-    root: &Value,
-    owner: Owner<'_>,
-    place: &Place,
-    fractions: &mut F,
-) -> io::Result<()> {
+fn take_fraction<F: Fractions>(root: &Value, owner: Owner<'_>, place: &Place, fractions: &mut F) {
     if place.is_lost() {
-        return Err(AllocError.into());
+        fractions.lose_place();
+    } else {
+        fractions.take(root, owner, place);
     }
-    fractions.take(root, owner, place)
 }
 
 // Takes each fraction in a value at a place, and gives how many there are. The value comes first: it gets less deep.
@@ -113,16 +106,16 @@ fn find_in_value<F: Fractions>(
     owner: Owner<'_>,
     place: &mut Place,
     fractions: &mut F,
-) -> io::Result<u64> {
+) -> u64 {
     let owner = owner.within(part, value);
     match value {
-        Value::Null | Value::Bool(_) | Value::String(_) => Ok(0),
+        Value::Null | Value::Bool(_) | Value::String(_) => 0,
         Value::Number(number) => {
             if !number.is_f64() {
-                return Ok(0);
+                return 0;
             }
-            take_fraction(root, owner, place, fractions)?;
-            Ok(1)
+            take_fraction(root, owner, place, fractions);
+            1
         }
         Value::Array(items) => { find_in_items(items, root, part.entry(), owner, place, fractions) }
         Value::Object(members) => { find_in_members(members, root, part, owner, place, fractions) }
@@ -137,15 +130,15 @@ fn find_in_items<F: Fractions>(
     owner: Owner<'_>,
     place: &mut Place,
     fractions: &mut F,
-) -> io::Result<u64> {
+) -> u64 {
     let mut count = 0u64;
     for (at, item) in items.iter().enumerate() {
         place.enter(Segment::Element(at));
-        let more = find_in_value(item, root, part, owner, place, fractions)?;
+        let more = find_in_value(item, root, part, owner, place, fractions);
         count = count.saturating_add(more);
         place.leave();
     }
-    Ok(count)
+    count
 }
 
 #[cycle(fractions)]
@@ -156,7 +149,7 @@ fn find_in_members<F: Fractions>(
     owner: Owner<'_>,
     place: &mut Place,
     fractions: &mut F,
-) -> io::Result<u64> {
+) -> u64 {
     let mut count = 0u64;
     for (name, member) in members.iter() {
         let name = name.as_str();
@@ -164,23 +157,19 @@ fn find_in_members<F: Fractions>(
         if part != Part::Map || name != "version" {
             place.enter(Segment::Member(name));
             let inner = part.member(name);
-            let more = find_in_value(member, root, inner, owner, place, fractions)?;
+            let more = find_in_value(member, root, inner, owner, place, fractions);
             count = count.saturating_add(more);
             place.leave();
         }
     }
-    Ok(count)
+    count
 }
 
 // Takes the fractions in a version that is no number.
-fn find_in_version<F: Fractions>(
-    alloc: Global,
-    root: &Value,
-    fractions: &mut F,
-) -> io::Result<u64> {
+fn find_in_version<F: Fractions>(alloc: Global, root: &Value, fractions: &mut F) -> u64 {
     let mut place = Place::new(alloc);
     match root.get("version") {
-        None | Some(Value::Number(_)) => Ok(0),
+        None | Some(Value::Number(_)) => 0,
         Some(version) => {
             place.enter(Segment::Member("version"));
             find_in_value(
@@ -196,13 +185,9 @@ fn find_in_version<F: Fractions>(
 }
 
 /// Hands on each fraction of a map's tree, in the order in which the reader seeks them, and gives how many there are.
-pub fn find_fractions<F: Fractions>(
-    alloc: Global,
-    root: &Value,
-    fractions: &mut F,
-) -> io::Result<u64> {
+pub fn find_fractions<F: Fractions>(alloc: Global, root: &Value, fractions: &mut F) -> u64 {
     let mut place = Place::new(alloc);
-    let count = find_in_value(root, root, Part::Map, Owner::Map, &mut place, fractions)?;
-    let more = find_in_version(alloc, root, fractions)?;
-    Ok(count.saturating_add(more))
+    let count = find_in_value(root, root, Part::Map, Owner::Map, &mut place, fractions);
+    let more = find_in_version(alloc, root, fractions);
+    count.saturating_add(more)
 }

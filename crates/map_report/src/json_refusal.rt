@@ -1,9 +1,10 @@
 // Why a file is refused, as an object of JSON: the code, its words, and the places of the fault.
 use crate::fractions::{Fractions, Owner, find_fractions, write_owner};
 use crate::json_fault::{LineColumn, place_of_fault};
+use crate::members::Members;
+use crate::output::Output;
 use crate::place::Place;
 use crate::refused::TOO_LONG;
-use json::Writer;
 use map_json::{MapFault, read_map_along};
 use refusals::{MapRefusal, Refusal, StoreFault};
 use serde_json::{Error, Value};
@@ -12,230 +13,213 @@ use std::io::{self, ErrorKind};
 use tiled_maps::{Fault, LONGEST, set_aside};
 
 // Puts the code and the words of a refusal, which are told together.
-fn put_code(out: &mut Writer, told: &str) -> Result<(), AllocError> {
+fn put_code(out: &mut Members, told: &str) {
     let (code, words) = told.split_once(' ').unwrap_or(("0", told));
-    out.key("code")?;
-    out.u64(code.parse::<u64>().unwrap_or(0))?;
-    out.key("words")?;
-    out.string(words)
+    out.key("code");
+    out.u64(code.parse::<u64>().unwrap_or(0));
+    out.text("words", words);
 }
 
 // ---- places
 
-// Puts what a place is called in words, behind what it stands in.
-fn put_place_text(
-    alloc: Global,
-    root: &Value,
-    owner: Owner<'_>,
-    place: &Place,
-    out: &mut Writer,
-) -> io::Result<()> {
-    let mut text = Vec::new(alloc);
-    write_owner(alloc, owner, &mut text)?;
-    place.write(root, &mut text)?;
-    out.key("text")?;
-    out.string(str::from_utf8(&text).unwrap_or(""))?;
-    Ok(())
+// What a place is called in words, behind what it stands in.
+fn place_text(root: &Value, owner: Owner<'_>, place: &Place) -> io::Result<Vec<u8>> {
+    let mut text = Vec::new(place.alloc());
+    let mut words = Output::new(&mut text);
+    write_owner(place.alloc(), owner, &mut words);
+    place.write(root, &mut words);
+    words.end()?;
+    Ok(text)
 }
 
 // Puts the id of a layer or an object, where it has one.
-fn put_owner(out: &mut Writer, kind: &str, owner: &Value) -> Result<(), AllocError> {
+fn put_owner(out: &mut Members, kind: &str, owner: &Value) {
     if let Some(id) = owner.get("id").and_then(Value::as_u64) {
-        out.key(kind)?;
-        out.u64(id)?;
+        out.key(kind);
+        out.u64(id);
     }
-    Ok(())
 }
 
 // Puts a place in the tree of a file.
-fn put_place(
-    alloc: Global,
-    root: &Value,
-    owner: Owner<'_>,
-    place: &Place,
-    out: &mut Writer,
-) -> io::Result<()> {
-    out.begin_object()?;
-    out.key("path")?;
-    place.put_path(out)?;
+fn put_place(root: &Value, owner: Owner<'_>, place: &Place, out: &mut Members) {
+    out.begin_object();
+    out.key("path");
+    place.put_path(out);
     match owner {
         Owner::Map => {}
-        Owner::Layer(layer) => put_owner(out, "layer", layer)?,
-        Owner::Object(object) => put_owner(out, "object", object)?,
+        Owner::Layer(layer) => put_owner(out, "layer", layer),
+        Owner::Object(object) => put_owner(out, "object", object),
     }
-    put_place_text(alloc, root, owner, place, out)?;
-    out.end_object()?;
-    Ok(())
+    match place_text(root, owner, place) {
+        Ok(text) => out.text("text", str::from_utf8(&text).unwrap_or("")),
+        Err(_) => out.lose(),
+    }
+    out.end_object();
 }
 
-// Puts the place of each fraction.
-#[derive(Drop)]
-struct FractionPlaces<'a> {
-    alloc: Global,
-    out: &'a mut Writer,
+// The place of each fraction.
+impl Fractions for Members {
+    fn take(&mut self, root: &Value, owner: Owner<'_>, place: &Place) {
+        put_place(root, owner, place, self);
+    }
+
+    fn lose_place(&mut self) {
+        self.lose();
+    }
 }
 
-impl<'a> Fractions for FractionPlaces<'a> {
-    fn take(&mut self, root: &Value, owner: Owner<'_>, place: &Place) -> io::Result<()> {
-        put_place(self.alloc, root, owner, place, self.out)
+fn line_text(alloc: Global, place: LineColumn) -> Result<String, AllocError> {
+    let LineColumn { line, column } = place;
+    format!(in alloc; "line {line}, column {column}")
+}
+
+fn put_line_column(alloc: Global, place: LineColumn, out: &mut Members) {
+    out.begin_object();
+    out.count("line", place.line);
+    out.count("column", place.column);
+    match line_text(alloc, place) {
+        Ok(text) => out.text("text", text.as_str()),
+        Err(_) => out.lose(),
     }
+    out.end_object();
 }
 
 // Puts where a text ceases to be JSON.
-fn put_line(alloc: Global, bytes: &[u8], error: &Error, out: &mut Writer) -> io::Result<()> {
+fn put_line(alloc: Global, bytes: &[u8], error: &Error, out: &mut Members) {
     if error.is_memory() {
-        return Err(AllocError.into());
+        return out.lose();
     }
-    let LineColumn { line, column } = place_of_fault(alloc, bytes, error)?;
-    let text = format!(in alloc; "line {line}, column {column}")?;
-    out.begin_object()?;
-    out.key("line")?;
-    out.u64(line as u64)?;
-    out.key("column")?;
-    out.u64(column as u64)?;
-    out.key("text")?;
-    out.string(text.as_str())?;
-    out.end_object()?;
-    Ok(())
+    match place_of_fault(alloc, bytes, error) {
+        Ok(place) => put_line_column(alloc, place, out),
+        Err(_) => out.lose(),
+    }
 }
 
-// Puts the places of a fault: that at which the reader stopped, or all fractions.
-fn put_places(
+// Puts the places of a fault in a tree: that at which the reader stopped, or all fractions.
+fn put_places_in(
     alloc: Global,
-    bytes: &[u8],
+    root: &Value,
     refusal: MapRefusal,
     place: &Place,
-    out: &mut Writer,
-) -> io::Result<()> {
-    let root = match Value::from_slice(alloc, bytes) {
-        Ok(root) => root,
-        Err(error) => return put_line(alloc, bytes, &error, out),
-    };
-    if refusal != MapRefusal::Fraction {
-        return put_place(alloc, &root, Owner::Map, place, out);
+    out: &mut Members,
+) {
+    if refusal == MapRefusal::Fraction {
+        find_fractions(alloc, root, out);
+    } else {
+        put_place(root, Owner::Map, place, out);
     }
-    let mut places = FractionPlaces { alloc, out };
-    find_fractions(alloc, &root, &mut places)?;
-    Ok(())
+}
+
+// Puts the places of a fault.
+fn put_places(alloc: Global, bytes: &[u8], refusal: MapRefusal, place: &Place, out: &mut Members) {
+    match Value::from_slice(alloc, bytes) {
+        Ok(root) => put_places_in(alloc, &root, refusal, place, out),
+        Err(error) => put_line(alloc, bytes, &error, out),
+    }
 }
 
 // Puts the code, the words and the places of a refusal.
-fn put_refused(
-    alloc: Global,
-    bytes: &[u8],
-    refusal: MapRefusal,
-    place: &Place,
-    out: &mut Writer,
-) -> io::Result<()> {
-    put_code(out, refusal.words())?;
-    out.key("places")?;
-    out.begin_array()?;
-    put_places(alloc, bytes, refusal, place, out)?;
-    out.end_array()?;
-    Ok(())
+fn put_refused(alloc: Global, bytes: &[u8], refusal: MapRefusal, place: &Place, out: &mut Members) {
+    put_code(out, refusal.words());
+    out.begin_list("places");
+    put_places(alloc, bytes, refusal, place, out);
+    out.end_array();
 }
 
 // Puts a refusal that has no place, and why, where there is a reason in words.
-fn put_placeless(out: &mut Writer, told: &str, reason: Option<&str>) -> Result<(), AllocError> {
-    out.begin_object()?;
-    put_code(out, told)?;
-    out.key("places")?;
-    out.begin_array()?;
-    out.end_array()?;
+fn put_placeless(out: &mut Members, told: &str, reason: Option<&str>) {
+    out.begin_object();
+    put_code(out, told);
+    out.begin_list("places");
+    out.end_array();
     if let Some(reason) = reason {
-        out.key("reason")?;
-        out.string(reason)?;
+        out.text("reason", reason);
     }
-    out.end_object()
+    out.end_object();
 }
 
 // ---- with --all-maps
 
-// Puts whether the editor opens a map with `--all-maps`.
-fn put_opens(out: &mut Writer, opens: bool) -> Result<(), AllocError> {
-    out.key("opens")?;
-    out.boolean(opens)
+// Puts that the editor does not open a map, since it can't be set aside.
+fn put_not_set_aside(out: &mut Members, why: &str) {
+    out.truth("opens", false);
+    out.key("refused");
+    put_placeless(out, StoreFault::Device.words(), Some(why));
 }
 
-// Puts that the editor does not open a map, since it can't be set aside.
-fn put_not_set_aside(out: &mut Writer, why: &str) -> Result<(), AllocError> {
-    put_opens(out, false)?;
-    out.key("refused")?;
-    put_placeless(out, StoreFault::Device.words(), Some(why))
+// Puts why the editor does not open a map that is set aside.
+fn put_not_opened(
+    alloc: Global,
+    text: &[u8],
+    refusal: MapRefusal,
+    place: &Place,
+    out: &mut Members,
+) {
+    out.truth("opens", false);
+    out.key("refused");
+    out.begin_object();
+    put_refused(alloc, text, refusal, place, out);
+    out.end_object();
 }
 
 // Puts what the editor answers with `--all-maps` to a map that is set aside.
-fn put_aside(alloc: Global, text: &[u8], out: &mut Writer) -> io::Result<()> {
+fn put_aside(alloc: Global, text: &[u8], out: &mut Members) {
     let mut place = Place::new(alloc);
     match read_map_along(alloc, text, &mut place) {
-        Ok(_) => put_opens(out, true)?,
+        Ok(_) => out.truth("opens", true),
         Err(MapFault::Refused(refusal)) if !place.is_lost() => {
-            put_opens(out, false)?;
-            out.key("refused")?;
-            out.begin_object()?;
-            put_refused(alloc, text, refusal, &place, out)?;
-            out.end_object()?;
+            put_not_opened(alloc, text, refusal, &place, out);
         }
-        Err(_) => return Err(AllocError.into()),
+        Err(_) => out.lose(),
     }
-    Ok(())
 }
 
 // Puts what the editor answers with `--all-maps` to a map with fractions, or to an infinite one.
-fn put_with_all_maps(alloc: Global, bytes: &[u8], out: &mut Writer) -> io::Result<()> {
-    let text = set_aside(alloc, bytes);
-    out.key("allmaps")?;
-    out.begin_object()?;
-    match text {
-        Ok(Some(text)) if text.len() > LONGEST => put_not_set_aside(out, TOO_LONG)?,
-        Ok(Some(text)) => put_aside(alloc, &text, out)?,
-        Ok(None) => put_opens(out, true)?,
-        Err(Fault::Memory) => return Err(AllocError.into()),
-        Err(fault) => put_not_set_aside(out, fault.words())?,
+fn put_with_all_maps(alloc: Global, bytes: &[u8], out: &mut Members) {
+    out.key("allmaps");
+    out.begin_object();
+    match set_aside(alloc, bytes) {
+        Ok(Some(text)) if text.len() > LONGEST => put_not_set_aside(out, TOO_LONG),
+        Ok(Some(text)) => put_aside(alloc, &text, out),
+        Ok(None) => out.truth("opens", true),
+        Err(Fault::Memory) => out.lose(),
+        Err(fault) => put_not_set_aside(out, fault.words()),
     }
-    out.end_object()?;
-    Ok(())
+    out.end_object();
 }
 
 // ---- files
 
-/// Puts why a map is refused, with the place at which the reader stopped. It fails where there is no memory, and also where
+/// Puts why a map is refused, with the place at which the reader stopped. All is lost where there is no memory, and also where
 /// there was none for the map or for the place.
-pub fn put_refusal(
-    alloc: Global,
-    bytes: &[u8],
-    fault: MapFault,
-    place: &Place,
-    out: &mut Writer,
-) -> io::Result<()> {
+pub fn put_refusal(alloc: Global, bytes: &[u8], fault: MapFault, place: &Place, out: &mut Members) {
     let refusal = match fault {
         MapFault::Refused(refusal) if !place.is_lost() => refusal,
-        MapFault::Refused(_) | MapFault::Memory => return Err(AllocError.into()),
+        MapFault::Refused(_) | MapFault::Memory => return out.lose(),
     };
-    out.begin_object()?;
-    put_refused(alloc, bytes, refusal, place, out)?;
+    out.begin_object();
+    put_refused(alloc, bytes, refusal, place, out);
     match refusal {
-        MapRefusal::Fraction | MapRefusal::Infinite => put_with_all_maps(alloc, bytes, out)?,
+        MapRefusal::Fraction | MapRefusal::Infinite => put_with_all_maps(alloc, bytes, out),
         _ => {}
     }
-    out.end_object()?;
-    Ok(())
+    out.end_object();
 }
 
 /// Puts why a file could not be read.
-pub fn put_unread(alloc: Global, error: &io::Error, out: &mut Writer) -> io::Result<()> {
+pub fn put_unread(alloc: Global, error: &io::Error, out: &mut Members) {
     let told = match error.kind() {
         ErrorKind::NotFound => StoreFault::Missing.words(),
         ErrorKind::OutOfMemory => Refusal::NoMemory.words(),
         _ => StoreFault::Device.words(),
     };
-    let reason = format!(in alloc; "{error}")?;
-    put_placeless(out, told, Some(reason.as_str()))?;
-    Ok(())
+    match format!(in alloc; "{error}") {
+        Ok(reason) => put_placeless(out, told, Some(reason.as_str())),
+        Err(_) => out.lose(),
+    }
 }
 
 /// Puts that there was no memory.
-pub fn put_no_memory(out: &mut Writer) -> io::Result<()> {
-    put_placeless(out, Refusal::NoMemory.words(), None)?;
-    Ok(())
+pub fn put_no_memory(out: &mut Members) {
+    put_placeless(out, Refusal::NoMemory.words(), None);
 }

@@ -75,24 +75,21 @@ fn bare_command<'a>(alloc: Global) -> Command<'a> {
         .after_help(AFTER_HELP)
 }
 
-// The command with the files alone. Each argument is made before the command, which has many parts to drop.
-fn with_files<'a>(alloc: Global) -> Result<Command<'a>, AllocError> {
-    let files = file_arg(alloc)?;
-    bare_command(alloc).arg(files)
-}
-
-fn with_json<'a>(alloc: Global) -> Result<Command<'a>, AllocError> {
-    with_files(alloc)?.arg(json_arg(alloc))
-}
-
-// The command with its options.
-fn whole_command<'a>(alloc: Global) -> Result<Command<'a>, AllocError> {
+// The arguments, in the order of the help.
+fn all_args<'a>(alloc: Global) -> Result<Vec<Arg<'a>>, AllocError> {
     let table = table_arg(alloc)?;
-    with_json(alloc)?.arg(table)
+    let files = file_arg(alloc)?;
+    Ok(Vec::from_array(alloc, [files, json_arg(alloc), table])?)
+}
+
+// The command with its options. The arguments are made before the command, which has many parts to drop.
+fn whole_command<'a>(alloc: Global) -> Result<Command<'a>, AllocError> {
+    let args = all_args(alloc)?;
+    bare_command(alloc).args(args)
 }
 
 // What the words of a command line ask for.
-fn options_in<'a>(alloc: Global, matches: &ArgMatches<'a>) -> Result<Options<'a>, AllocError> {
+fn options_in<'a>(alloc: Global, matches: &ArgMatches<'a>) -> Result<Options<'a>, Error> {
     let form = if matches.get_flag("json") {
         Form::Json
     } else {
@@ -110,6 +107,9 @@ fn options_in<'a>(alloc: Global, matches: &ArgMatches<'a>) -> Result<Options<'a>
 ///
 /// An error is a command line that is refused, a request for help or for the version, or out of memory.
 pub fn parse_options<'a, S: AsStr>(alloc: Global, words: &'a [S]) -> Result<Options<'a>, Error> {
-    let matches = whole_command(alloc)?.try_get_matches_from(words)?;
-    Ok(options_in(alloc, &matches)?)
+    let command = whole_command(alloc)?;
+    match command.try_get_matches_from(words) {
+        Ok(matches) => options_in(alloc, &matches),
+        Err(error) => Err(error),
+    }
 }

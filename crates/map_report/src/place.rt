@@ -1,10 +1,11 @@
 // The place of a fault in the tree of a file, and what stands there.
+use crate::members::Members;
+use crate::output::Output;
 use crate::shown::{is_shown_plain, write_short};
-use json::Writer;
 use map_json::{Segment, Trail};
 use serde_json::Value;
 use std::alloc::{AllocError, Global};
-use std::io::{self, Write};
+use std::io::Write;
 
 // A step from a value to one in it, with a name of its own.
 #[derive(Drop)]
@@ -31,6 +32,11 @@ impl Place {
         }
     }
 
+    /// What its steps take memory from.
+    pub fn alloc(&self) -> Global {
+        self.alloc
+    }
+
     /// Whether there was no memory for a step.
     pub fn is_lost(&self) -> bool {
         self.is_lost
@@ -55,26 +61,26 @@ impl Place {
     }
 
     /// Writes the steps and what stands here in a tree.
-    pub fn write<W: Write>(&self, root: &Value, output: &mut W) -> io::Result<()> {
+    pub fn write<W: Write>(&self, root: &Value, out: &mut Output<'_, W>) {
         if self.steps.is_empty() {
-            output.write_all(b"the root")?;
+            out.text("the root");
         }
         for (at, step) in self.steps.iter().enumerate() {
-            write_step(self.alloc, step, at == 0, output)?;
+            write_step(self.alloc, step, at == 0, out);
         }
-        write_value(self.alloc, self.value_in(root), output)
+        write_value(self.alloc, self.value_in(root), out);
     }
 
     /// Puts the steps as an array of JSON: the names of members, whole, and the indexes of elements.
-    pub fn put_path(&self, out: &mut Writer) -> Result<(), AllocError> {
-        out.begin_array()?;
+    pub fn put_path(&self, out: &mut Members) {
+        out.begin_array();
         for step in &self.steps {
             match step {
-                OwnSegment::Member(name) => out.string(name.as_str())?,
-                OwnSegment::Element(at) => out.u64(*at as u64)?,
+                OwnSegment::Member(name) => out.string(name.as_str()),
+                OwnSegment::Element(at) => out.u64(*at as u64),
             }
         }
-        out.end_array()
+        out.end_array();
     }
 }
 
@@ -98,40 +104,38 @@ fn step_into<'a>(value: &'a Value, step: &OwnSegment) -> Option<&'a Value> {
     }
 }
 
-fn write_step<W: Write>(
-    alloc: Global,
-    step: &OwnSegment,
-    is_first: bool,
-    output: &mut W,
-) -> io::Result<()> {
-    let name = match step {
-        OwnSegment::Element(at) => return write!(output, "[{at}]"),
-        OwnSegment::Member(name) => name.as_str(),
-    };
-    if !is_shown_plain(name) {
-        output.write_all(b"[")?;
-        write_short(alloc, name, output)?;
-        output.write_all(b"]")
-    } else if is_first {
-        write!(output, "{name}")
+// Writes the name of a member.
+fn write_name<W: Write>(alloc: Global, name: &str, is_first: bool, out: &mut Output<'_, W>) {
+    if is_shown_plain(name) {
+        out.text(if is_first { "" } else { "." });
+        out.text(name);
     } else {
-        write!(output, ".{name}")
+        out.text("[");
+        write_short(alloc, name, out);
+        out.text("]");
+    }
+}
+
+fn write_step<W: Write>(alloc: Global, step: &OwnSegment, is_first: bool, out: &mut Output<'_, W>) {
+    match step {
+        OwnSegment::Member(name) => write_name(alloc, name.as_str(), is_first, out),
+        OwnSegment::Element(at) => {
+            out.value("[", at);
+            out.text("]");
+        }
     }
 }
 
 // Writes what stands at a place: a list or an object only by its kind.
-fn write_value<W: Write>(alloc: Global, value: Option<&Value>, output: &mut W) -> io::Result<()> {
+fn write_value<W: Write>(alloc: Global, value: Option<&Value>, out: &mut Output<'_, W>) {
     match value {
-        None => write!(output, " is absent"),
-        Some(Value::Array(elements)) => {
-            let count = elements.len();
-            write!(output, " is an array of length {count}")
-        }
-        Some(Value::Object(_)) => write!(output, " is an object"),
+        None => out.text(" is absent"),
+        Some(Value::Array(elements)) => out.value(" is an array of length ", &elements.len()),
+        Some(Value::Object(_)) => out.text(" is an object"),
         Some(Value::String(text)) => {
-            output.write_all(b" is ")?;
-            write_short(alloc, text.as_str(), output)
+            out.text(" is ");
+            write_short(alloc, text.as_str(), out);
         }
-        Some(other) => write!(output, " is {other}"),
+        Some(other) => out.value(" is ", other),
     }
 }

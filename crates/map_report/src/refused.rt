@@ -1,30 +1,26 @@
 // Why a map is refused: the code, its words, and the place of the fault.
 use crate::fractions::{Fractions, Owner, find_fractions, write_owner};
-use crate::json_fault::{LineColumn, place_of_fault};
+use crate::json_fault::place_of_fault;
+use crate::output::Output;
 use crate::place::Place;
 use map_json::{MapFault, read_map_along};
 use refusals::{MapRefusal, Refusal};
 use serde_json::{Error, Value};
 use std::alloc::Global;
-use std::io::{self, Write};
+use std::io::Write;
 use tiled_maps::{Fault, LONGEST, set_aside};
 
 /// Why a map can't be set aside, if its text would be longer than `LONGEST`.
 pub const TOO_LONG: &str = "set aside, it would be longer than 67,108,864 bytes";
 
 // Writes where a text ceases to be JSON, where there is memory to know it.
-fn write_line<W: Write>(
-    alloc: Global,
-    bytes: &[u8],
-    error: &Error,
-    output: &mut W,
-) -> io::Result<()> {
+fn write_line<W: Write>(alloc: Global, bytes: &[u8], error: &Error, out: &mut Output<'_, W>) {
     if error.is_memory() {
-        return Ok(());
+        return;
     }
-    match place_of_fault(alloc, bytes, error) {
-        Ok(LineColumn { line, column }) => write!(output, ": line {line}, column {column}"),
-        Err(_) => Ok(()),
+    if let Ok(place) = place_of_fault(alloc, bytes, error) {
+        out.value(": line ", &place.line);
+        out.value(", column ", &place.column);
     }
 }
 
@@ -34,72 +30,70 @@ fn write_refused<W: Write>(
     bytes: &[u8],
     refusal: MapRefusal,
     place: &Place,
-    output: &mut W,
-) -> io::Result<()> {
-    let words = refusal.words();
-    write!(output, "no {words}")?;
+    out: &mut Output<'_, W>,
+) {
+    out.text("no ");
+    out.text(refusal.words());
     match Value::from_slice(alloc, bytes) {
         Ok(root) => {
-            output.write_all(b": ")?;
-            place.write(&root, output)
+            out.text(": ");
+            place.write(&root, out);
         }
-        Err(error) => write_line(alloc, bytes, &error, output),
+        Err(error) => write_line(alloc, bytes, &error, out),
     }
 }
 
 // Writes what the editor answers with `--all-maps` to a map that is set aside, where there is memory to know it.
-fn write_aside<W: Write>(alloc: Global, text: &[u8], output: &mut W) -> io::Result<()> {
+fn write_aside<W: Write>(alloc: Global, text: &[u8], out: &mut Output<'_, W>) {
     let mut place = Place::new(alloc);
     match read_map_along(alloc, text, &mut place) {
-        Ok(_) => output.write_all(b"\n  with --all-maps the editor opens this map"),
+        Ok(_) => out.text("\n  with --all-maps the editor opens this map"),
         Err(MapFault::Refused(refusal)) if !place.is_lost() => {
-            output.write_all(b"\n  with --all-maps: ")?;
-            write_refused(alloc, text, refusal, &place, output)
+            out.text("\n  with --all-maps: ");
+            write_refused(alloc, text, refusal, &place, out);
         }
-        Err(_) => Ok(()),
+        Err(_) => {}
     }
+}
+
+// Writes why a map is not set aside.
+fn write_not_set_aside<W: Write>(why: &str, out: &mut Output<'_, W>) {
+    out.text("\n  with --all-maps: ");
+    out.text(why);
 }
 
 // Writes what the editor answers with `--all-maps` to a map with fractions, or to an infinite one.
-fn write_with_all_maps<W: Write>(alloc: Global, bytes: &[u8], output: &mut W) -> io::Result<()> {
+fn write_with_all_maps<W: Write>(alloc: Global, bytes: &[u8], out: &mut Output<'_, W>) {
     match set_aside(alloc, bytes) {
-        Ok(Some(text)) if text.len() > LONGEST => {
-            write!(output, "\n  with --all-maps: {TOO_LONG}")
-        }
-        Ok(Some(text)) => write_aside(alloc, &text, output),
-        Ok(None) | Err(Fault::Memory) => Ok(()),
-        Err(fault) => {
-            let words = fault.words();
-            write!(output, "\n  with --all-maps: {words}")
-        }
+        Ok(Some(text)) if text.len() > LONGEST => write_not_set_aside(TOO_LONG, out),
+        Ok(Some(text)) => write_aside(alloc, &text, out),
+        Ok(None) | Err(Fault::Memory) => {}
+        Err(fault) => write_not_set_aside(fault.words(), out),
     }
 }
 
-// Writes a line for each fraction.
-#[derive(Drop)]
-struct FractionLines<'a, W> {
-    alloc: Global,
-    output: &'a mut W,
-}
+// A line for each fraction.
+impl<'a, W: Write> Fractions for Output<'a, W> {
+    fn take(&mut self, root: &Value, owner: Owner<'_>, place: &Place) {
+        self.text("\n  ");
+        write_owner(place.alloc(), owner, self);
+        place.write(root, self);
+    }
 
-impl<'a, W: Write> Fractions for FractionLines<'a, W> {
-    fn take(&mut self, root: &Value, owner: Owner<'_>, place: &Place) -> io::Result<()> {
-        self.output.write_all(b"\n  ")?;
-        write_owner(self.alloc, owner, self.output)?;
-        place.write(root, self.output)
+    fn lose_place(&mut self) {
+        self.lose();
     }
 }
 
 // Writes all fractions of a map that is refused for one, and whether `--all-maps` opens it.
-fn write_all_fractions<W: Write>(alloc: Global, bytes: &[u8], output: &mut W) -> io::Result<()> {
+fn write_all_fractions<W: Write>(alloc: Global, bytes: &[u8], out: &mut Output<'_, W>) {
     let Ok(root) = Value::from_slice(alloc, bytes) else {
-        return Ok(());
+        return;
     };
-    let mut lines = FractionLines { alloc, output };
-    let count = find_fractions(alloc, &root, &mut lines)?;
+    let count = find_fractions(alloc, &root, out);
     drop(root);
-    write!(output, "\n  fractions: {count}")?;
-    write_with_all_maps(alloc, bytes, output)
+    out.value("\n  fractions: ", &count);
+    write_with_all_maps(alloc, bytes, out);
 }
 
 /// Writes the line of a map that is refused, with the place at which the reader stopped. Where that is lost, there was no
@@ -107,27 +101,24 @@ fn write_all_fractions<W: Write>(alloc: Global, bytes: &[u8], output: &mut W) ->
 /// infinite, what the editor answers with `--all-maps` follows.
 pub fn write_refusal<W: Write>(
     alloc: Global,
-    file: &str,
     bytes: &[u8],
     fault: MapFault,
     place: &Place,
-    output: &mut W,
-) -> io::Result<()> {
-    write!(output, "{file}: ")?;
+    out: &mut Output<'_, W>,
+) {
     match fault {
         MapFault::Refused(refusal) if !place.is_lost() => {
-            write_refused(alloc, bytes, refusal, place, output)?;
+            write_refused(alloc, bytes, refusal, place, out);
             match refusal {
-                MapRefusal::Fraction => write_all_fractions(alloc, bytes, output)?,
-                MapRefusal::Infinite => write_with_all_maps(alloc, bytes, output)?,
+                MapRefusal::Fraction => write_all_fractions(alloc, bytes, out),
+                MapRefusal::Infinite => write_with_all_maps(alloc, bytes, out),
                 _ => {}
             }
         }
-        MapFault::Refused(_) | MapFault::Memory => write!(
-            output,
-            "no {}",
-            Refusal::NoMemory.words()
-        )?,
+        MapFault::Refused(_) | MapFault::Memory => {
+            out.text("no ");
+            out.text(Refusal::NoMemory.words());
+        }
     }
-    output.write_all(b"\n")
+    out.text("\n");
 }

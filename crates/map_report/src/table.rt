@@ -4,10 +4,12 @@ mod asides;
 mod report;
 mod texts;
 
+use crate::output::Output;
 use crate::table::answers::{write_answer, write_prefixes};
 use crate::table::asides::{write_put_back, write_set_aside};
 use crate::table::report::write_report;
 use crate::table::texts::Texts;
+use std::alloc::Global;
 use std::fs;
 use std::io::{self, Read, Write};
 use std::rt::Files;
@@ -24,27 +26,60 @@ fn load<R: Files + AllocGlobal>(
     Ok(())
 }
 
+// Gives a text a name.
+fn let_be(alloc: Global, texts: &mut Texts, name: &str, text: &str) -> io::Result<()> {
+    let bytes = text.as_bytes().to_vec(alloc)?;
+    texts.put(alloc, name, bytes)?;
+    Ok(())
+}
+
+// Writes what a line asks of the text with a name.
+fn write_asked_of<W: Write>(
+    alloc: Global,
+    texts: &Texts,
+    word: &str,
+    name: &str,
+    behind: &str,
+    out: &mut Output<'_, W>,
+) {
+    match word {
+        "read" => write_answer(alloc, texts, name, behind, out),
+        "prefixes" => write_prefixes(alloc, texts.get(name), out),
+        "aside" => write_set_aside(alloc, texts.get(name), out),
+        "back" => write_put_back(alloc, texts.get(name), out),
+        "report" => write_report(alloc, texts.get(name), out),
+        _ => {}
+    }
+}
+
 // Does what a line asks for.
 fn hear<R: Files + AllocGlobal, W: Write>(
     rt: &R,
     texts: &mut Texts,
     line: &str,
-    output: &mut W,
-) -> io::Result<()> {
-    let alloc = rt.alloc();
+    out: &mut Output<'_, W>,
+) {
     let (word, rest) = line.split_once(' ').unwrap_or((line, ""));
     let (name, behind) = rest.split_once(' ').unwrap_or((rest, ""));
     match word {
-        "let" => texts.put(alloc, name, behind.as_bytes().to_vec(alloc)?)?,
-        "load" => load(rt, texts, name, behind)?,
-        "read" => write_answer(alloc, texts, name, behind, output)?,
-        "prefixes" => write_prefixes(alloc, texts.get(name), output)?,
-        "aside" => write_set_aside(alloc, texts.get(name), output)?,
-        "back" => write_put_back(alloc, texts.get(name), output)?,
-        "report" => write_report(alloc, texts.get(name), output)?,
-        _ => {}
+        "let" => out.note(let_be(rt.alloc(), texts, name, behind)),
+        "load" => out.note(load(rt, texts, name, behind)),
+        _ => write_asked_of(rt.alloc(), texts, word, name, behind, out),
     }
-    Ok(())
+}
+
+// Repeats a line, with what it asks for.
+fn write_heard<R: Files + AllocGlobal, W: Write>(
+    rt: &R,
+    texts: &mut Texts,
+    line: &str,
+    output: &mut W,
+) -> io::Result<()> {
+    let mut out = Output::new(output);
+    out.text(line);
+    hear(rt, texts, line, &mut out);
+    out.text("\n");
+    out.end()
 }
 
 /// Repeats the lines of the input, each with what it asks for.
@@ -57,9 +92,7 @@ pub fn write_table<R: Files + AllocGlobal, I: Read + Drop, W: Write>(
     let input = io::read_to_string(alloc, input)?;
     let mut texts = Texts::new(alloc);
     for line in input.lines() {
-        output.write_all(line.as_bytes())?;
-        hear(rt, &mut texts, line, output)?;
-        output.write_all(b"\n")?;
+        write_heard(rt, &mut texts, line, output)?;
     }
     Ok(())
 }

@@ -1,9 +1,11 @@
 // What is read of a text: what is written for its map, or why there is none.
+use crate::output::Output;
 use crate::table::texts::Texts;
 use map_json::{MapFault, read_map, write_map};
+use map_model::Map;
 use refusals::MapRefusal;
 use std::alloc::{AllocError, Global};
-use std::io::{self, Write};
+use std::io::Write;
 
 /// Why there is no map, in words.
 pub fn answer_of(fault: MapFault) -> &'static str {
@@ -13,29 +15,35 @@ pub fn answer_of(fault: MapFault) -> &'static str {
     }
 }
 
+/// The text of a map, or why there is no map.
+type Written = Result<Result<Vec<u8>, MapFault>, AllocError>;
+
+fn written(alloc: Global, map: &Map) -> Written {
+    Ok(Ok(write_map(alloc, map)?))
+}
+
 /// The text that is written for the map that some bytes are read as, or why there is no map.
-pub fn read_back(alloc: Global, bytes: &[u8]) -> Result<Result<Vec<u8>, MapFault>, AllocError> {
+pub fn read_back(alloc: Global, bytes: &[u8]) -> Written {
     match read_map(alloc, bytes) {
-        Ok(map) => Ok(Ok(write_map(alloc, &map)?)),
+        Ok(map) => written(alloc, &map),
         Err(fault) => Ok(Err(fault)),
     }
 }
 
-// Writes what some bytes are read as: the text that is written for the map, or that text's name where it has one.
-fn write_read<W: Write>(
-    alloc: Global,
-    texts: &Texts,
-    bytes: &[u8],
-    output: &mut W,
-) -> io::Result<()> {
-    let written = match read_back(alloc, bytes) {
-        Ok(Ok(written)) => written,
-        Ok(Err(fault)) => return output.write_all(answer_of(fault).as_bytes()),
-        Err(_) => return output.write_all(b"no memory"),
-    };
-    match texts.name_of(&written) {
-        Some(name) => output.write_all(name.as_bytes()),
-        None => output.write_all(&written),
+// Writes the text that is written for a map, or that text's name where it has one.
+fn write_written<W: Write>(texts: &Texts, written: &[u8], out: &mut Output<'_, W>) {
+    match texts.name_of(written) {
+        Some(name) => out.text(name),
+        None => out.bytes(written),
+    }
+}
+
+// Writes what some bytes are read as.
+fn write_read<W: Write>(alloc: Global, texts: &Texts, bytes: &[u8], out: &mut Output<'_, W>) {
+    match read_back(alloc, bytes) {
+        Ok(Ok(written)) => write_written(texts, &written, out),
+        Ok(Err(fault)) => out.text(answer_of(fault)),
+        Err(_) => out.text("no memory"),
     }
 }
 
@@ -51,21 +59,35 @@ fn changed(alloc: Global, bytes: &[u8], change: &str) -> Result<Option<String>, 
     Ok(Some(format!(in alloc; "{before}{to}{rest}")?))
 }
 
+// Writes what a text with a change is read as.
+fn write_changed<W: Write>(
+    alloc: Global,
+    texts: &Texts,
+    bytes: &[u8],
+    change: &str,
+    out: &mut Output<'_, W>,
+) {
+    match changed(alloc, bytes, change) {
+        Ok(Some(text)) => write_read(alloc, texts, text.as_bytes(), out),
+        Ok(None) => out.text("no such part"),
+        Err(_) => out.lose(),
+    }
+}
+
 /// Writes what a text is read as, or the text with a change, where there is one.
 pub fn write_answer<W: Write>(
     alloc: Global,
     texts: &Texts,
     name: &str,
     change: &str,
-    output: &mut W,
-) -> io::Result<()> {
-    output.write_all(b" => ")?;
+    out: &mut Output<'_, W>,
+) {
+    out.text(" => ");
+    let bytes = texts.get(name);
     if change.is_empty() {
-        return write_read(alloc, texts, texts.get(name), output);
-    }
-    match changed(alloc, texts.get(name), change)? {
-        Some(text) => write_read(alloc, texts, text.as_bytes(), output),
-        None => output.write_all(b"no such part"),
+        write_read(alloc, texts, bytes, out);
+    } else {
+        write_changed(alloc, texts, bytes, change, out);
     }
 }
 
@@ -77,11 +99,12 @@ fn is_not_json(alloc: Global, bytes: &[u8]) -> bool {
 }
 
 /// Writes whether no proper prefix of a text is JSON.
-pub fn write_prefixes<W: Write>(alloc: Global, bytes: &[u8], output: &mut W) -> io::Result<()> {
+pub fn write_prefixes<W: Write>(alloc: Global, bytes: &[u8], out: &mut Output<'_, W>) {
     for end in 0..bytes.len() {
         if !is_not_json(alloc, &bytes[..end]) {
-            return write!(output, " => not so the first {end} bytes");
+            out.value(" => not so the first ", &end);
+            return out.text(" bytes");
         }
     }
-    write!(output, " => each is 60 not JSON")
+    out.text(" => each is 60 not JSON");
 }

@@ -1,23 +1,24 @@
 // What a text becomes that is set aside, or put back.
+use crate::output::Output;
 use std::alloc::Global;
-use std::io::{self, Write};
+use std::io::Write;
 use tiled_maps::{Fault, put_back, set_aside};
 
-fn write_text<W: Write>(text: Result<Option<Vec<u8>>, Fault>, output: &mut W) -> io::Result<()> {
-    output.write_all(b" => ")?;
+fn write_text<W: Write>(text: Result<Option<Vec<u8>>, Fault>, out: &mut Output<'_, W>) {
+    out.text(" => ");
     match text {
-        Ok(Some(text)) => output.write_all(&text),
-        Ok(None) => output.write_all(b"as it is"),
-        Err(fault) => output.write_all(fault.words().as_bytes()),
+        Ok(Some(text)) => out.bytes(&text),
+        Ok(None) => out.text("as it is"),
+        Err(fault) => out.text(fault.words()),
     }
 }
 
 /// Writes the text as it is set aside, or why there is none.
-pub fn write_set_aside<W: Write>(alloc: Global, bytes: &[u8], output: &mut W) -> io::Result<()> {
-    write_text(set_aside(alloc, bytes), output)
+pub fn write_set_aside<W: Write>(alloc: Global, bytes: &[u8], out: &mut Output<'_, W>) {
+    write_text(set_aside(alloc, bytes), out);
 }
 
 /// Writes the text in which what was set aside is put back, or why there is none.
-pub fn write_put_back<W: Write>(alloc: Global, bytes: &[u8], output: &mut W) -> io::Result<()> {
-    write_text(put_back(alloc, bytes), output)
+pub fn write_put_back<W: Write>(alloc: Global, bytes: &[u8], out: &mut Output<'_, W>) {
+    write_text(put_back(alloc, bytes), out);
 }

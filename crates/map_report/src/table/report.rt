@@ -1,110 +1,114 @@
 // What is in a map.
 use crate::listing::write_sizes;
+use crate::output::Output;
 use crate::table::answers::{answer_of, read_back};
 use link_chain::Chain;
+use link_tree::LinkTree;
 use map_json::{read_map, write_map};
 use map_model::limits::MAX_GROUPS;
 use map_model::{Body, Encoding, Layer, Map, MapParts, Object, PropValue, Property, Tileset};
 use std::alloc::Global;
-use std::io::{self, Write};
+use std::io::Write;
 use tile_id::Gid;
 
-fn write_properties<W: Write>(properties: &Chain<Property>, output: &mut W) -> io::Result<()> {
-    for property in properties.iter() {
-        let name = property.name.as_str();
-        let kind = property.kind.as_str();
-        write!(output, "\n    property \"{name}\", {kind}")?;
-        match &property.value {
-            PropValue::Text(_) => write!(output, ", a text")?,
-            PropValue::Whole(whole) => write!(output, ", {whole}")?,
-            PropValue::Truth(truth) => write!(output, ", {truth}")?,
-            PropValue::Other(_) => write!(output, ", kept")?,
-        }
+fn write_property<W: Write>(property: &Property, out: &mut Output<'_, W>) {
+    out.text("\n    property \"");
+    out.text(property.name.as_str());
+    out.text("\", ");
+    out.text(property.kind.as_str());
+    match &property.value {
+        PropValue::Text(_) => out.text(", a text"),
+        PropValue::Whole(whole) => out.value(", ", whole),
+        PropValue::Truth(truth) => out.value(", ", truth),
+        PropValue::Other(_) => out.text(", kept"),
     }
-    Ok(())
+}
+
+fn write_properties<W: Write>(properties: &Chain<Property>, out: &mut Output<'_, W>) {
+    for property in properties.iter() {
+        write_property(property, out);
+    }
 }
 
 // Writes a number that may be absent.
-fn write_number<W: Write>(name: &str, number: Option<i32>, output: &mut W) -> io::Result<()> {
-    match number {
-        Some(number) => write!(output, ", {name} {number}"),
-        None => Ok(()),
+fn write_number<W: Write>(before: &str, number: Option<i32>, out: &mut Output<'_, W>) {
+    if let Some(number) = number {
+        out.value(before, &number);
     }
 }
 
-fn write_object<W: Write>(object: &Object, output: &mut W) -> io::Result<()> {
-    let id = object.id;
-    write!(output, "\n  object {id}")?;
+// Writes a name in quotes.
+fn write_name<W: Write>(name: &str, out: &mut Output<'_, W>) {
+    out.text(" \"");
+    out.text(name);
+    out.text("\"");
+}
+
+fn write_object<W: Write>(object: &Object, out: &mut Output<'_, W>) {
+    out.value("\n  object ", &object.id);
     if let Some(name) = &object.name {
-        let name = name.as_str();
-        write!(output, " \"{name}\"")?;
+        write_name(name.as_str(), out);
     }
-    write_number("x", object.placing.x, output)?;
-    write_number("y", object.placing.y, output)?;
-    write_number("width", object.placing.width, output)?;
-    write_number("height", object.placing.height, output)?;
+    write_number(", x ", object.placing.x, out);
+    write_number(", y ", object.placing.y, out);
+    write_number(", width ", object.placing.width, out);
+    write_number(", height ", object.placing.height, out);
     if let Some(Gid(value)) = object.gid {
-        write!(output, ", tile {value}")?;
+        out.value(", tile ", &value);
     }
     if object.visible == Some(false) {
-        write!(output, ", hidden")?;
+        out.text(", hidden");
     }
-    write_properties(&object.properties, output)
+    write_properties(&object.properties, out);
 }
 
-// Writes the values of the first row.
-fn write_row<W: Write>(width: u32, cells: &[Gid], output: &mut W) -> io::Result<()> {
-    write!(output, "\n    first row")?;
+fn write_objects<W: Write>(objects: &LinkTree<Object>, out: &mut Output<'_, W>) {
+    out.value("", &objects.len());
+    out.text(" objects");
+    for object in objects.iter() {
+        write_object(object, out);
+    }
+}
+
+// Writes how many cells there are, and the values of the first row.
+fn write_cells<W: Write>(width: u32, encoding: Encoding, cells: &[Gid], out: &mut Output<'_, W>) {
+    out.value("", &cells.len());
+    out.text(match encoding {
+        Encoding::Array => " cells as numbers",
+        Encoding::Base64 => " cells in base64",
+    });
+    out.text("\n    first row");
     for cell in cells.iter().take(width as usize) {
-        let value = cell.0;
-        write!(output, " {value}")?;
+        out.value(" ", &cell.0);
     }
-    Ok(())
 }
 
-fn write_body<W: Write>(width: u32, body: &Body, output: &mut W) -> io::Result<()> {
+fn write_body<W: Write>(width: u32, body: &Body, out: &mut Output<'_, W>) {
     match body {
-        Body::Tiles(encoding, cells) => {
-            let count = cells.as_slice().len();
-            match encoding {
-                Encoding::Array => write!(output, "{count} cells as numbers")?,
-                Encoding::Base64 => write!(output, "{count} cells in base64")?,
-            }
-            write_row(width, cells.as_slice(), output)
-        }
-        Body::Objects(objects) => {
-            let count = objects.len();
-            write!(output, "{count} objects")?;
-            for object in objects.iter() {
-                write_object(object, output)?;
-            }
-            Ok(())
-        }
-        Body::Other => write!(output, "an image"),
+        Body::Tiles(encoding, cells) => write_cells(width, *encoding, cells.as_slice(), out),
+        Body::Objects(objects) => write_objects(objects, out),
+        Body::Other => out.text("an image"),
         Body::Group(layers) => {
-            let count = layers.len();
-            write!(output, "a group of {count} layers")
+            out.value("a group of ", &layers.len());
+            out.text(" layers");
         }
     }
 }
 
 // Writes a layer, and in which group it stands.
-fn write_layer<W: Write>(
-    width: u32,
-    layer: &Layer,
-    group: Option<u32>,
-    output: &mut W,
-) -> io::Result<()> {
-    let id = layer.id;
-    let name = layer.name.as_str();
-    let state = if layer.visible { "shown" } else { "hidden" };
-    write!(output, "\nlayer {id} \"{name}\"")?;
+fn write_layer<W: Write>(width: u32, layer: &Layer, group: Option<u32>, out: &mut Output<'_, W>) {
+    out.value("\nlayer ", &layer.id);
+    write_name(layer.name.as_str(), out);
     if let Some(group) = group {
-        write!(output, " in layer {group}")?;
+        out.value(" in layer ", &group);
     }
-    write!(output, ", {state}, ")?;
-    write_body(width, &layer.body, output)?;
-    write_properties(&layer.properties, output)
+    out.text(if layer.visible {
+        ", shown, "
+    } else {
+        ", hidden, "
+    });
+    write_body(width, &layer.body, out);
+    write_properties(&layer.properties, out);
 }
 
 // Writes layers and those in them, where so many groups may stand in one another.
@@ -113,65 +117,72 @@ fn write_layers<W: Write>(
     layers: &Chain<Layer>,
     group: Option<u32>,
     groups: usize,
-    output: &mut W,
-) -> io::Result<()> {
+    out: &mut Output<'_, W>,
+) {
     for layer in layers.iter() {
-        write_layer(width, layer, group, output)?;
+        write_layer(width, layer, group, out);
         if let Some(inside) = layer.body.layers() {
             if groups > 0 {
-                write_layers(width, inside, Some(layer.id), groups - 1, output)?;
+                write_layers(width, inside, Some(layer.id), groups - 1, out);
             }
         }
     }
-    Ok(())
 }
 
-fn write_tileset<W: Write>(tileset: &Tileset, output: &mut W) -> io::Result<()> {
-    let first_id = tileset.first_id;
-    write!(output, "\ntileset from {first_id}: ")?;
+fn write_tileset<W: Write>(tileset: &Tileset, out: &mut Output<'_, W>) {
+    out.value("\ntileset from ", &tileset.first_id);
+    out.text(": ");
     match &tileset.source {
-        Some(source) => output.write_all(source.as_str().as_bytes()),
-        None => write!(output, "in the map"),
+        Some(source) => out.text(source.as_str()),
+        None => out.text("in the map"),
     }
 }
 
-fn write_parts<W: Write>(map: &MapParts, output: &mut W) -> io::Result<()> {
-    output.write_all(b"\n")?;
-    write_sizes(map, output)?;
-    write_properties(&map.properties, output)?;
-    write_layers(map.width, &map.layers, None, MAX_GROUPS, output)?;
+fn write_parts<W: Write>(map: &MapParts, out: &mut Output<'_, W>) {
+    out.text("\n");
+    write_sizes(map, out);
+    write_properties(&map.properties, out);
+    write_layers(map.width, &map.layers, None, MAX_GROUPS, out);
     for tileset in map.tilesets.iter() {
-        write_tileset(tileset, output)?;
+        write_tileset(tileset, out);
     }
-    Ok(())
+}
+
+// Whether two texts are the same, in words.
+fn sameness(text: &[u8], again: &[u8]) -> &'static str {
+    if again == text {
+        "which read as the same"
+    } else {
+        "which read as another map"
+    }
 }
 
 // Writes how long the map's text is, and whether it reads as a map with the same text.
-fn write_again<W: Write>(alloc: Global, map: &Map, output: &mut W) -> io::Result<()> {
-    let text = write_map(alloc, map)?;
-    let len = text.len();
-    write!(output, "\nwritten in {len} bytes, ")?;
-    let again = match read_back(alloc, &text)? {
-        Ok(again) => again,
-        Err(fault) => return output.write_all(answer_of(fault).as_bytes()),
-    };
-    output.write_all(if again.as_slice() == text.as_slice() {
-        b"which read as the same"
-    } else {
-        b"which read as another map"
-    })
+fn write_again<W: Write>(alloc: Global, text: &[u8], out: &mut Output<'_, W>) {
+    out.value("\nwritten in ", &text.len());
+    out.text(" bytes, ");
+    match read_back(alloc, text) {
+        Ok(Ok(again)) => out.text(sameness(text, &again)),
+        Ok(Err(fault)) => out.text(answer_of(fault)),
+        Err(_) => out.lose(),
+    }
+}
+
+fn write_map_report<W: Write>(alloc: Global, map: &Map, out: &mut Output<'_, W>) {
+    write_parts(map.parts(), out);
+    match write_map(alloc, map) {
+        Ok(text) => write_again(alloc, &text, out),
+        Err(_) => out.lose(),
+    }
 }
 
 /// Writes what is in the map that some bytes spell, or why there is none.
-pub fn write_report<W: Write>(alloc: Global, bytes: &[u8], output: &mut W) -> io::Result<()> {
+pub fn write_report<W: Write>(alloc: Global, bytes: &[u8], out: &mut Output<'_, W>) {
     match read_map(alloc, bytes) {
-        Ok(map) => {
-            write_parts(map.parts(), output)?;
-            write_again(alloc, &map, output)
-        }
+        Ok(map) => write_map_report(alloc, &map, out),
         Err(fault) => {
-            output.write_all(b" => ")?;
-            output.write_all(answer_of(fault).as_bytes())
+            out.text(" => ");
+            out.text(answer_of(fault));
         }
     }
 }
