@@ -1,5 +1,5 @@
 -- A command of a test, which changes nothing. It is free, and over once no turn is left.
-use Rattle.std.specs.Prelude.{ℕ, [], Bool, nat_eq}
+use Rattle.std.specs.Prelude.{ℕ, [], nat_eq}
 use Rattle.map_model.specs.Document.{DocumentParts}
 use Rattle.command_api.specs.Law.{Change}
 use Rattle.command_api.specs.Names.{Free, untagged}

@@ -1,75 +1,38 @@
 // A document that is closed drops what its steps own.
-ghost use Rattle.std.specs.Prelude.{◌≡◌, [], false, IfOk, refl};
-ghost use Rattle.command_api.specs.Names.{untagged, Never};
-ghost use Rattle.library_tests.specs.Still.{still};
+ghost use Rattle.std.specs.Prelude.{IfOk};
 ghost use Rattle.map_model.specs.Document.{DocumentParts};
 ghost use Rattle.undo_group.specs.Stacks.{AreHeld};
 ghost use Rattle.undo_stack.specs.Stacks.{Holds};
 
-use command_api::{Command, Exchange, Label, Lone};
-use map_model::{Document, Map, MapText};
+use crate::stacks::{Counts, blank, two_counts, two_probes};
+use command_api::Command;
 use std::alloc::{AllocError, Global};
-use std::cell::Cell;
 use std::rc::Rc;
 use undo_group::Group;
 use undo_stack::Stack;
 
-// A command that leaves the document as it is, and counts when it is dropped.
-struct Probe {
-    dropped: Rc<Cell<u32>>,
-}
-
-impl Drop for Probe {
-    fn drop(self) {
-        self.dropped.set(self.dropped.get().wrapping_add(1));
-        let Probe { dropped: _ } = self;
+// A stack with one step.
+fn stack_with<C: Command>(alloc: Global, command: C) -> Result<Stack<C>, AllocError>
+    requires { (d : DocumentParts) → (C.change command).fits_redo d }
+    ensures { IfOk result (λ stack. Holds C.change stack) }
+{
+    let mut stack = Stack::new(alloc, blank(alloc)?, 0);
+    match stack.push(command) {
+        Ok(()) => Ok(stack),
+        Err(error) => Err(error),
     }
 }
 
-impl Exchange for Probe {
-    ghost exchange_parts = { λ _. still (untagged [] [] Never) false };
-
-    fn label(&self) -> Label {
-        Label::untagged("", "")
-    }
-
-    fn is_obsolete(&self) -> bool {
-        false
-    }
-
-    fn exchange(&mut self, document: &mut Document) {
-        let _ = document;
-    }
-}
-
-impl Lone for Probe {
-    ghost alone = { λ _. record { tag = refl; follows = refl; bound = refl } };
-}
-
-fn new_probe(alloc: Global, dropped: &Rc<Cell<u32>>) -> Result<Box<Probe>, AllocError> {
-    let dropped = dropped.clone()?;
-    Ok(Box::new(alloc, Probe { dropped })?)
-}
-
-fn blank(alloc: Global) -> Result<Document, AllocError> {
-    let source = MapText::new(String::new(alloc));
-    Ok(Document::new(alloc, Map::create(alloc, 1, 1, 1, 1, source)?))
-}
-
-// Adds a document with one step. The proof of the test needs only that the group stays whole.
-fn add<C: Command>(
-    alloc: Global,
-    group: &mut Group<C>,
-    name: &str,
-    command: C,
-) -> Result<(), AllocError>
+// Adds a document with one step, and says whether it could. The proof of the test needs only that the group stays whole.
+fn add<C: Command>(alloc: Global, group: &mut Group<C>, name: &str, command: C) -> bool
     requires sound { AreHeld C.change group.old }
     requires fits { (d : DocumentParts) → (C.change command).fits_redo d }
     ensures { AreHeld C.change group.new }
 {
-    let mut stack = Stack::new(alloc, blank(alloc)?, 0);
-    stack.push(command)?;
-    group.add(alloc, name, stack).map_err(|_| AllocError)
+    match stack_with(alloc, command) {
+        Ok(stack) => group.add(alloc, name, stack).is_ok(),
+        Err(_) => false,
+    }
 }
 
 // Takes a document out, and drops it.
@@ -88,30 +51,28 @@ fn closed<C: Command>(
     alloc: Global,
     below: C,
     other: C,
-    first: &Rc<Cell<u32>>,
-    second: &Rc<Cell<u32>>,
+    first: &Rc<Counts>,
+    second: &Rc<Counts>,
 ) -> Closed
     requires below { (d : DocumentParts) → (C.change below).fits_redo d }
     requires other { (d : DocumentParts) → (C.change other).fits_redo d }
 {
     let mut group: Group<C> = Group::new(alloc);
     let are_open = [
-        add(alloc, &mut group, "a", below).is_ok(),
-        add(alloc, &mut group, "b", other).is_ok(),
+        add(alloc, &mut group, "a", below),
+        add(alloc, &mut group, "b", other),
     ];
-    let before = (first.get(), second.get());
+    let before = (first.dropped.get(), second.dropped.get());
     let is_closed = close(&mut group, "a");
-    let between = (first.get(), second.get());
+    let between = (first.dropped.get(), second.dropped.get());
     drop(group);
-    let after = (first.get(), second.get());
+    let after = (first.dropped.get(), second.dropped.get());
     (are_open, before, is_closed, between, after)
 }
 
 fn boxes_closed(alloc: Global) -> Option<Closed> {
-    let first = Rc::new(alloc, Cell::new(0)).ok()?;
-    let second = Rc::new(alloc, Cell::new(0)).ok()?;
-    let below = new_probe(alloc, &first).ok()?;
-    let other = new_probe(alloc, &second).ok()?;
+    let (first, second) = two_counts(alloc)?;
+    let (below, other) = two_probes(alloc, &first, &second)?;
     let below: Box<dyn Command> = below;
     let other: Box<dyn Command> = other;
     Some(closed(alloc, below, other, &first, &second))

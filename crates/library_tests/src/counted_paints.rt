@@ -4,14 +4,13 @@ ghost use Rattle.paint_commands.specs.Painting.{paint_change, paint_shown};
 ghost use Rattle.undo_stack.specs.Stacks.{Holds};
 
 use crate::paints::town;
-use crate::stacks::{Counts, add_one, push, undo};
+use crate::stacks::{Counted, Counts, Told, add_one, push, two_counts, undo};
 use command_api::{Command, Offer};
 use edits::Block;
 use map_model::Document;
 use paint_commands::PaintCommand;
 use std::alloc::{AllocError, Global};
 use std::rc::Rc;
-use std::test::Fail;
 use tile_id::Gid;
 use undo_stack::Stack;
 
@@ -118,21 +117,23 @@ fn stamp(
     }
 }
 
-// The newer one is made and dropped, the older one turns both back at once.
-#[test]
-fn merged_paint_is_one_turn(rt: HostRuntime) -> Result<(), Fail> {
-    let alloc = rt.alloc();
-    let older = Counts::new(alloc)?;
-    let newer = Counts::new(alloc)?;
-    let mut stack: Stack<CountedPaint> = Stack::new(alloc, town(alloc)?, 0);
+// What a test does with a stack is a function of its own: where a stack may be dropped behind an assertion, the proof is long.
+
+/// Turns, and how often both paints were turned and dropped after each; the index and the count; and how often both were turned
+/// and dropped once the stack is dropped.
+type Turns = ([Told; 3], (usize, usize), [Counted; 2]);
+
+// Two stamps, of which the second merges into the first, and an undo.
+fn merged(alloc: Global, document: Document, older: &Rc<Counts>, newer: &Rc<Counts>) -> Turns {
+    let mut stack: Stack<CountedPaint> = Stack::new(alloc, document, 0);
     let told = [
         (
-            stamp(alloc, &mut stack, &older, 0, false),
+            stamp(alloc, &mut stack, older, 0, false),
             older.all(),
             newer.all(),
         ),
         (
-            stamp(alloc, &mut stack, &newer, 1, true),
+            stamp(alloc, &mut stack, newer, 1, true),
             older.all(),
             newer.all(),
         ),
@@ -140,69 +141,99 @@ fn merged_paint_is_one_turn(rt: HostRuntime) -> Result<(), Fail> {
     ];
     let stands = (stack.index(), stack.count());
     drop(stack);
-    let wanted = [
+    (told, stands, [older.all(), newer.all()])
+}
+
+fn merged_on_town(alloc: Global) -> Option<Turns> {
+    let (older, newer) = two_counts(alloc)?;
+    let document = town(alloc).ok()?;
+    Some(merged(alloc, document, &older, &newer))
+}
+
+// The newer one is made and dropped, the older one turns both back at once.
+#[test]
+fn merged_paint_is_one_turn(rt: HostRuntime) {
+    let told = [
         (true, (1, 0, 0), (0, 0, 0)),
         (true, (1, 0, 0), (1, 0, 1)),
         (true, (1, 1, 0), (1, 0, 1)),
     ];
-    assert_eq!(rt; (told, stands), (wanted, (0, 1)));
-    assert_eq!(rt; (older.all(), newer.all()), ((1, 1, 1), (1, 0, 1)));
-    Ok(())
+    let wanted = (told, (0, 1), [(1, 1, 1), (1, 0, 1)]);
+    assert_eq!(rt; merged_on_town(rt.alloc()), Some(wanted));
 }
 
-#[test]
-fn limit_lets_go_of_the_first_paint(rt: HostRuntime) -> Result<(), Fail> {
-    let alloc = rt.alloc();
-    let first = Counts::new(alloc)?;
-    let second = Counts::new(alloc)?;
-    let mut stack: Stack<CountedPaint> = Stack::new(alloc, town(alloc)?, 0);
-    let is_set = stack.set_undo_limit(1).is_ok();
+// The limit, and then two stamps, of which none merges.
+fn limited(alloc: Global, document: Document, first: &Rc<Counts>, second: &Rc<Counts>) -> Turns {
+    let mut stack: Stack<CountedPaint> = Stack::new(alloc, document, 0);
     let told = [
+        (stack.set_undo_limit(1).is_ok(), first.all(), second.all()),
         (
-            stamp(alloc, &mut stack, &first, 0, false),
+            stamp(alloc, &mut stack, first, 0, false),
             first.all(),
             second.all(),
         ),
         (
-            stamp(alloc, &mut stack, &second, 1, false),
+            stamp(alloc, &mut stack, second, 1, false),
             first.all(),
             second.all(),
         ),
     ];
     let stands = (stack.index(), stack.count());
     drop(stack);
-    let wanted = [(true, (1, 0, 0), (0, 0, 0)), (true, (1, 0, 1), (1, 0, 0))];
-    assert_eq!(rt; (is_set, told, stands), (true, wanted, (1, 1)));
-    assert_eq!(rt; (first.all(), second.all()), ((1, 0, 1), (1, 0, 1)));
-    Ok(())
+    (told, stands, [first.all(), second.all()])
 }
 
-// What a push leaves where the merge is refused: the index, the count, and how often both paints were turned and dropped.
+fn limited_on_town(alloc: Global) -> Option<Turns> {
+    let (first, second) = two_counts(alloc)?;
+    let document = town(alloc).ok()?;
+    Some(limited(alloc, document, &first, &second))
+}
+
+#[test]
+fn limit_lets_go_of_the_first_paint(rt: HostRuntime) {
+    let told = [
+        (true, (0, 0, 0), (0, 0, 0)),
+        (true, (1, 0, 0), (0, 0, 0)),
+        (true, (1, 0, 1), (1, 0, 0)),
+    ];
+    let wanted = (told, (1, 1), [(1, 0, 1), (1, 0, 1)]);
+    assert_eq!(rt; limited_on_town(rt.alloc()), Some(wanted));
+}
+
+/// What a push leaves where it is refused: the index, the count, and how often both paints were turned and dropped.
+type Left = ((usize, usize), Counted, Counted);
+
 fn refused_merge(
     alloc: Global,
+    document: Document,
     older: &Rc<Counts>,
     newer: &Rc<Counts>,
-    document: Document,
-) -> Option<((usize, usize), (u32, u32, u32), (u32, u32, u32))> {
+) -> Option<Left> {
     let mut stack: Stack<CountedPaint> = Stack::new(alloc, document, 0);
     let is_first = stamp(alloc, &mut stack, older, 0, false);
     let is_refused = match new_stamp(alloc, stack.document(), newer, 1, true) {
         Some(paint) => push(&mut stack, paint).is_err(),
         None => false,
     };
-    let stands = (stack.index(), stack.count());
-    (is_first && is_refused).then_some((stands, older.all(), newer.all()))
+    let told = ((stack.index(), stack.count()), older.all(), newer.all());
+    drop(stack);
+    if is_first && is_refused {
+        Some(told)
+    } else {
+        None
+    }
+}
+
+fn refused_merge_on_town(alloc: Global) -> Option<Left> {
+    let (older, newer) = two_counts(alloc)?;
+    let document = town(alloc).ok()?;
+    refused_merge(alloc, document, &older, &newer)
 }
 
 // As each `refused_` test of stacks, this one ends well whichever growth is refused.
 #[test]
 fn refused_merge_turns_the_newer_paint_back(rt: HostRuntime) {
-    let alloc = rt.alloc();
-    let (Ok(older), Ok(newer), Ok(document)) = (Counts::new(alloc), Counts::new(alloc), town(alloc))
-    else {
-        return;
-    };
-    if let Some(seen) = refused_merge(alloc, &older, &newer, document) {
+    if let Some(seen) = refused_merge_on_town(rt.alloc()) {
         assert_eq!(rt; seen, ((1, 1), (1, 0, 0), (1, 1, 1)));
     }
 }

@@ -1,36 +1,66 @@
 // Free commands among others: which of them go, what stands behind that, and which boxes were turned and dropped.
-ghost use Rattle.std.specs.Prelude.{◌≡◌, IfOk, false};
+ghost use Rattle.std.specs.Prelude.{◌≡◌, IfSome, false};
 ghost use Rattle.command_api.specs.Names.{is_free};
 ghost use Rattle.command_api.specs.Offers.{Nothing};
 ghost use Rattle.library_tests.specs.Fading.{fading};
+ghost use Rattle.map_model.specs.Document.{DocumentParts};
 ghost use Rattle.paint_commands.specs.Painting.{paint_change};
-ghost use Rattle.undo_stack.specs.Stacks.{Holds};
+ghost use Rattle.undo_stack.specs.History.{current};
+ghost use Rattle.undo_stack.specs.Stacks.{history, Holds};
 
 use crate::counted_paints::{CountedPaint, new_stamp};
 use crate::paints::town;
-use crate::stacks::{Counts, add_one, begin_macro, end_macro, push, redo, set_index, undo};
+use crate::stacks::{
+    Counted, Counts, add_one, begin_macro, end_macro, push, redo, set_index, undo,
+};
 use command_api::{Command, Offer};
 use map_model::Document;
 use std::alloc::{AllocError, Global};
 use std::rc::Rc;
 use undo_stack::Stack;
 
-// A case is the turns of a free command, the calls behind its push, and what they leave: the index, the count, the clean
-// index, and how often each command was redone, undone and dropped, in order of the pushes. The free command is pushed
-// between two stamps of one cell each, and is obsolete from that turn on, of which its push is the first.
+/// How a stack stands: the index, the count and the clean index.
+type Stands = (usize, usize, Option<usize>);
+
+/// How a stack of so many commands stands, and how often each was redone, undone and dropped, in order of the pushes.
+type Left<const N: usize> = (Stands, [Counted; N]);
+
+// A case is the turns of a free command, the calls behind its push, and what they leave. The free command is pushed between two
+// stamps of one cell each, and is obsolete from that turn on, of which its push is the first.
 //
 // A free command that undo, redo or a goto leaves obsolete goes, and with it a clean index above it.
-const AMONG_STAMPS: [(u32, &str, &str); 4] = [
-    (2, "clean undo undo", "1 2 lost 1/0/0 1/1/1 1/1/0"),
-    (2, "clean undo undo redo", "2 2 lost 1/0/0 1/1/1 2/1/0"),
-    (3, "undo undo redo", "1 2 0 1/0/0 2/1/1 1/1/0"),
-    (3, "undo undo third", "2 2 0 1/0/0 2/1/1 2/1/0"),
+const AMONG_STAMPS: [(u32, &str, Left<3>); 4] = [
+    (
+        2,
+        "clean undo undo",
+        ((1, 2, None), [(1, 0, 0), (1, 1, 1), (1, 1, 0)]),
+    ),
+    (
+        2,
+        "clean undo undo redo",
+        ((2, 2, None), [(1, 0, 0), (1, 1, 1), (2, 1, 0)]),
+    ),
+    (
+        3,
+        "undo undo redo",
+        ((1, 2, Some(0)), [(1, 0, 0), (2, 1, 1), (1, 1, 0)]),
+    ),
+    (
+        3,
+        "undo undo third",
+        ((2, 2, Some(0)), [(1, 0, 0), (2, 1, 1), (2, 1, 0)]),
+    ),
 ];
 
 // The same behind one stamp, with calls before it. One that is obsolete at its push is no step, and one in a macro stays.
-const BEHIND_A_STAMP: [(&str, u32, &str, &str); 2] = [
-    ("", 1, "", "1 1 0 1/0/0 1/0/1"),
-    ("begin", 2, "end undo redo", "1 1 0 2/1/0 2/1/0"),
+const BEHIND_A_STAMP: [(&str, u32, &str, Left<2>); 2] = [
+    ("", 1, "", ((1, 1, Some(0)), [(1, 0, 0), (1, 0, 1)])),
+    (
+        "begin",
+        2,
+        "end undo redo",
+        ((1, 1, Some(0)), [(2, 1, 0), (2, 1, 0)]),
+    ),
 ];
 
 // A free command that leaves the document as it is, and is obsolete once no turn is left.
@@ -114,16 +144,11 @@ impl Command for Fading {
     }
 }
 
-// A free command in a box, not made yet. It fits each document.
 fn new_fading(
     alloc: Global,
-    document: &Document,
     counts: &Rc<Counts>,
     turns_left: u32,
-) -> Result<Box<Fading>, AllocError>
-    ensures { IfOk result (λ b. (fading b.value.turns_left).fits_redo document.now) }
-{
-    let _ = document;
+) -> Result<Box<Fading>, AllocError> {
     let fading = Fading {
         counts: counts.clone()?,
         is_made: false,
@@ -132,18 +157,37 @@ fn new_fading(
     Ok(Box::new(alloc, fading)?)
 }
 
+// A free command in a box, not made yet. It fits each document.
+fn boxed_fading(alloc: Global, counts: &Rc<Counts>, turns: u32) -> Option<Box<dyn Command>>
+    ensures { IfSome result (λ command. (d : DocumentParts) → (change command).fits_redo d) }
+{
+    let fading: Box<dyn Command> = new_fading(alloc, counts, turns).ok()?;
+    Some(fading)
+}
+
 // A stamp of one cell of the first row in a box, not made yet.
 fn boxed_stamp(
     alloc: Global,
     document: &Document,
     counts: &Rc<Counts>,
     column: i32,
-) -> Result<Box<CountedPaint>, AllocError>
-    ensures { IfOk result (λ b. (paint_change b.value.paint).fits_redo document.now) }
+) -> Option<Box<dyn Command>>
+    ensures { IfSome result (λ command. (change command).fits_redo document.now) }
 {
-    match new_stamp(alloc, document, counts, column, false) {
-        Some(paint) => Ok(Box::new(alloc, paint)?),
-        None => Err(AllocError),
+    let stamp = new_stamp(alloc, document, counts, column, false)?;
+    let boxed: Box<dyn Command> = Box::new(alloc, stamp).ok()?;
+    Some(boxed)
+}
+
+// Pushes a command where it could be made, and says whether it was pushed.
+fn push_made<C: Command>(stack: &mut Stack<C>, made: Option<C>) -> bool
+    requires sound { Holds C.change stack.old }
+    requires fits { IfSome made (λ command. (C.change command).fits_redo (current (history C.change stack.old))) }
+    ensures { Holds C.change stack.new }
+{
+    match made {
+        Some(command) => push(stack, command).is_ok(),
+        None => false,
     }
 }
 
@@ -175,67 +219,42 @@ fn call_all<C: Command>(stack: &mut Stack<C>, words: &str) -> bool
     are_done
 }
 
-// How a stack stands, and how often each command was turned and dropped.
-fn told_of<C: Command>(
-    alloc: Global,
-    stack: &Stack<C>,
-    pushed: &[&Rc<Counts>],
-) -> Result<String, AllocError> {
-    let (index, count) = (stack.index(), stack.count());
-    let mut told = match stack.clean_index() {
-        Some(clean) => format!(in alloc; "{index} {count} {clean}")?,
-        None => format!(in alloc; "{index} {count} lost")?,
-    };
-    for counts in pushed {
-        let (redone, undone, dropped) = counts.all();
-        told.push_str(&format!(in alloc; " {redone}/{undone}/{dropped}")?)?;
-    }
-    Ok(told)
+fn stands<C: Command>(stack: &Stack<C>) -> Stands {
+    (stack.index(), stack.count(), stack.clean_index())
 }
 
-// What a stamp, a free command, another stamp and calls behind them leave; `None` where one was not answered well. Each arm
-// goes on behind it: a stack that may be dropped makes a long proof.
+// What a stamp, a free command, another stamp and calls behind them leave; `None` where one was not answered well.
 fn left_among_stamps(
     alloc: Global,
+    document: Document,
     turns: u32,
     calls: &str,
     pushed: [&Rc<Counts>; 3],
-) -> Option<String> {
-    let mut stack: Stack<Box<dyn Command>> = Stack::new(alloc, town(alloc).ok()?, 0);
+) -> Option<Left<3>> {
+    let mut stack: Stack<Box<dyn Command>> = Stack::new(alloc, document, 0);
     let [first, free, last] = pushed;
-    let is_below = match boxed_stamp(alloc, stack.document(), first, 0) {
-        Ok(stamp) => {
-            let below: Box<dyn Command> = stamp;
-            push(&mut stack, below).is_ok()
-        }
-        Err(_) => false,
-    };
-    let is_free = match new_fading(alloc, stack.document(), free, turns) {
-        Ok(made) => {
-            let fading: Box<dyn Command> = made;
-            push(&mut stack, fading).is_ok()
-        }
-        Err(_) => false,
-    };
-    let is_above = match boxed_stamp(alloc, stack.document(), last, 1) {
-        Ok(stamp) => {
-            let above: Box<dyn Command> = stamp;
-            push(&mut stack, above).is_ok()
-        }
-        Err(_) => false,
-    };
-    let are_done = call_all(&mut stack, calls);
-    let told = told_of(alloc, &stack, &pushed).ok();
-    let is_each = is_below && is_free && is_above && are_done;
-    if is_each { told } else { None }
+    let below = boxed_stamp(alloc, stack.document(), first, 0);
+    let is_below = push_made(&mut stack, below);
+    let is_free = push_made(&mut stack, boxed_fading(alloc, free, turns));
+    let above = boxed_stamp(alloc, stack.document(), last, 1);
+    let is_above = push_made(&mut stack, above);
+    let are_done = [is_below, is_free, is_above, call_all(&mut stack, calls)];
+    let left = (stands(&stack), [first.all(), free.all(), last.all()]);
+    drop(stack);
+    if are_done == [true; 4] {
+        Some(left)
+    } else {
+        None
+    }
 }
 
 // The same; `None` also where the stack, once it is dropped, has not dropped each command once.
-fn told_among_stamps(alloc: Global, turns: u32, calls: &str) -> Option<String> {
+fn told_among_stamps(alloc: Global, turns: u32, calls: &str) -> Option<Left<3>> {
     let first = Counts::new(alloc).ok()?;
     let free = Counts::new(alloc).ok()?;
     let last = Counts::new(alloc).ok()?;
-    let told = left_among_stamps(alloc, turns, calls, [&first, &free, &last]);
+    let document = town(alloc).ok()?;
+    let told = left_among_stamps(alloc, document, turns, calls, [&first, &free, &last]);
     let are_gone = [first.dropped.get(), free.dropped.get(), last.dropped.get()] == [1, 1, 1];
     if are_gone { told } else { None }
 }
@@ -243,55 +262,58 @@ fn told_among_stamps(alloc: Global, turns: u32, calls: &str) -> Option<String> {
 // The same of calls, a stamp, a free command and further calls.
 fn left_behind_a_stamp(
     alloc: Global,
+    document: Document,
     before: &str,
     turns: u32,
     calls: &str,
     pushed: [&Rc<Counts>; 2],
-) -> Option<String> {
-    let mut stack: Stack<Box<dyn Command>> = Stack::new(alloc, town(alloc).ok()?, 0);
+) -> Option<Left<2>> {
+    let mut stack: Stack<Box<dyn Command>> = Stack::new(alloc, document, 0);
     let [first, free] = pushed;
     let is_begun = call_all(&mut stack, before);
-    let is_below = match boxed_stamp(alloc, stack.document(), first, 0) {
-        Ok(stamp) => {
-            let below: Box<dyn Command> = stamp;
-            push(&mut stack, below).is_ok()
-        }
-        Err(_) => false,
-    };
-    let is_free = match new_fading(alloc, stack.document(), free, turns) {
-        Ok(made) => {
-            let fading: Box<dyn Command> = made;
-            push(&mut stack, fading).is_ok()
-        }
-        Err(_) => false,
-    };
-    let are_done = call_all(&mut stack, calls);
-    let told = told_of(alloc, &stack, &pushed).ok();
-    let is_each = is_begun && is_below && is_free && are_done;
-    if is_each { told } else { None }
+    let below = boxed_stamp(alloc, stack.document(), first, 0);
+    let is_below = push_made(&mut stack, below);
+    let is_free = push_made(&mut stack, boxed_fading(alloc, free, turns));
+    let are_done = [is_begun, is_below, is_free, call_all(&mut stack, calls)];
+    let left = (stands(&stack), [first.all(), free.all()]);
+    drop(stack);
+    if are_done == [true; 4] {
+        Some(left)
+    } else {
+        None
+    }
 }
 
-fn told_behind_a_stamp(alloc: Global, before: &str, turns: u32, calls: &str) -> Option<String> {
+fn told_behind_a_stamp(alloc: Global, before: &str, turns: u32, calls: &str) -> Option<Left<2>> {
     let first = Counts::new(alloc).ok()?;
     let free = Counts::new(alloc).ok()?;
-    let told = left_behind_a_stamp(alloc, before, turns, calls, [&first, &free]);
+    let document = town(alloc).ok()?;
+    let told = left_behind_a_stamp(alloc, document, before, turns, calls, [&first, &free]);
     let are_gone = [first.dropped.get(), free.dropped.get()] == [1, 1];
     if are_gone { told } else { None }
 }
 
+// The turns and the calls of the first case that leaves something else.
+fn first_other_among_stamps(alloc: Global) -> Option<(u32, &'static str)> {
+    for (turns, calls, wanted) in AMONG_STAMPS {
+        if told_among_stamps(alloc, turns, calls) != Some(wanted) {
+            return Some((turns, calls));
+        }
+    }
+    None
+}
+
+fn first_other_behind_a_stamp(alloc: Global) -> Option<(u32, &'static str)> {
+    for (before, turns, calls, wanted) in BEHIND_A_STAMP {
+        if told_behind_a_stamp(alloc, before, turns, calls) != Some(wanted) {
+            return Some((turns, calls));
+        }
+    }
+    None
+}
+
 #[test]
 fn free_commands_that_are_obsolete_go(rt: HostRuntime) {
-    let alloc = rt.alloc();
-    for (turns, calls, wanted) in AMONG_STAMPS {
-        let told = told_among_stamps(alloc, turns, calls);
-        assert_eq!(rt; told.as_deref(), Some(wanted), "at {turns} {calls}");
-    }
-    for (before, turns, calls, wanted) in BEHIND_A_STAMP {
-        let told = told_behind_a_stamp(alloc, before, turns, calls);
-        assert_eq!(rt;
-            told.as_deref(),
-            Some(wanted),
-            "at {before} {turns} {calls}"
-        );
-    }
+    assert_eq!(rt; first_other_among_stamps(rt.alloc()), None);
+    assert_eq!(rt; first_other_behind_a_stamp(rt.alloc()), None);
 }

@@ -39,16 +39,20 @@ const PERHAPS: [&str; 24] = [
     "",
 ];
 
+// The first of some texts of which a look does not say that, or says that, it needs nothing.
+fn first_other<'a>(texts: &[&'a str], needs_none: bool) -> Option<&'a str> {
+    let other = texts
+        .iter()
+        .find(|text| needs_nothing(text.as_bytes()) != needs_none)?;
+    Some(*other)
+}
+
 #[test]
 fn what_needs_nothing(rt: HostRuntime) {
-    for text in NEEDS_NOTHING {
-        assert!(rt; needs_nothing(text.as_bytes()), "at {text}");
-    }
+    assert_eq!(rt; first_other(&NEEDS_NOTHING, true), None);
 }
 
 #[test]
 fn what_may_need_something(rt: HostRuntime) {
-    for text in PERHAPS {
-        assert!(rt; !needs_nothing(text.as_bytes()), "at {text}");
-    }
+    assert_eq!(rt; first_other(&PERHAPS, false), None);
 }

@@ -1,6 +1,6 @@
 // Of a stack, what no clause says: which boxes are dropped and turned, and what a refused push leaves.
 
-ghost use Rattle.std.specs.Prelude.{◌≡◌, [], true, false, refl};
+ghost use Rattle.std.specs.Prelude.{◌≡◌, [], true, false, IfSome, refl};
 ghost use Rattle.command_api.specs.Names.{untagged, Never, WhenEqual};
 ghost use Rattle.library_tests.specs.Still.{still};
 ghost use Rattle.map_model.specs.Document.{DocumentParts};
@@ -22,7 +22,7 @@ pub(crate) fn blank(alloc: Global) -> Result<Document, AllocError> {
 }
 
 /// How often a command was redone, undone and dropped.
-type Counted = (u32, u32, u32);
+pub(crate) type Counted = (u32, u32, u32);
 
 // How often a command was turned and dropped.
 #[derive(Drop)]
@@ -58,7 +58,7 @@ pub(crate) fn add_one(count: &Cell<u32>) {
 }
 
 // A command that leaves the document as it is and never vanishes. It owns a layer in a link, as a removal does.
-struct Probe {
+pub(crate) struct Probe {
     counts: Rc<Counts>,
     is_made: bool,
     layer: Loose<Layer>,
@@ -208,16 +208,26 @@ pub(crate) fn end_macro<C: Command>(stack: &mut Stack<C>) -> Result<(), StackFau
     Ok(())
 }
 
+// A stack of a document, with no step yet.
+fn new_stack<C: Command>(alloc: Global) -> Option<Stack<C>>
+    ensures { IfSome result (λ stack. Holds C.change stack) }
+{
+    match blank(alloc) {
+        Ok(document) => Some(Stack::new(alloc, document, 0)),
+        Err(_) => None,
+    }
+}
+
 // What a test does with a stack is a function of the commands, of any type: where they are boxes, the proof of each call is
 // long, and longer still where a box, a stack or a document may be dropped behind it. So little is alive where memory may
 // be wanting. Want of it ends each test well, so that each allocation can be refused in turn.
-fn two_counts(alloc: Global) -> Option<(Rc<Counts>, Rc<Counts>)> {
+pub(crate) fn two_counts(alloc: Global) -> Option<(Rc<Counts>, Rc<Counts>)> {
     let first = Counts::new(alloc).ok()?;
     let second = Counts::new(alloc).ok()?;
     Some((first, second))
 }
 
-fn two_probes(
+pub(crate) fn two_probes(
     alloc: Global,
     first: &Rc<Counts>,
     second: &Rc<Counts>,
@@ -228,28 +238,50 @@ fn two_probes(
 }
 
 /// A turn, and how often both commands were turned and dropped behind it.
-type Told = (bool, Counted, Counted);
+pub(crate) type Told = (bool, Counted, Counted);
+
+fn pushed<C: Command>(stack: &mut Stack<C>, command: C, first: &Counts, second: &Counts) -> Told
+    requires sound { Holds C.change stack.old }
+    requires fits { (C.change command).fits_redo (current (history C.change stack.old)) }
+    ensures sound { Holds C.change stack.new }
+{
+    (push(stack, command).is_ok(), first.all(), second.all())
+}
+
+pub(crate) fn undone<C: Command>(stack: &mut Stack<C>, first: &Counts, second: &Counts) -> Told
+    requires { Holds C.change stack.old }
+    ensures { Holds C.change stack.new }
+{
+    (undo(stack).is_ok(), first.all(), second.all())
+}
+
+fn redone<C: Command>(stack: &mut Stack<C>, first: &Counts, second: &Counts) -> Told
+    requires { Holds C.change stack.old }
+    ensures { Holds C.change stack.new }
+{
+    (redo(stack).is_ok(), first.all(), second.all())
+}
 
 // Each turn, and how often the two commands were turned and dropped after it; and how the stack stands.
 fn turns_of<C: Command>(
     alloc: Global,
     below: C,
     above: C,
-    first: &Rc<Counts>,
-    second: &Rc<Counts>,
+    first: &Counts,
+    second: &Counts,
 ) -> Option<([Told; 7], (usize, usize, usize, bool))>
     requires below { (d : DocumentParts) → (C.change below).fits_redo d }
     requires above { (d : DocumentParts) → (C.change above).fits_redo d }
 {
-    let mut stack = Stack::new(alloc, blank(alloc).ok()?, 0);
+    let mut stack = new_stack(alloc)?;
     let told = [
-        (undo(&mut stack).is_ok(), first.all(), second.all()),
-        (push(&mut stack, below).is_ok(), first.all(), second.all()),
-        (push(&mut stack, above).is_ok(), first.all(), second.all()),
-        (redo(&mut stack).is_ok(), first.all(), second.all()),
-        (undo(&mut stack).is_ok(), first.all(), second.all()),
-        (undo(&mut stack).is_ok(), first.all(), second.all()),
-        (redo(&mut stack).is_ok(), first.all(), second.all()),
+        undone(&mut stack, first, second),
+        pushed(&mut stack, below, first, second),
+        pushed(&mut stack, above, first, second),
+        redone(&mut stack, first, second),
+        undone(&mut stack, first, second),
+        undone(&mut stack, first, second),
+        redone(&mut stack, first, second),
     ];
     let stands = (
         stack.index(),
@@ -303,7 +335,7 @@ fn let_go<C: Command>(
     requires above { (d : DocumentParts) → (C.change above).fits_redo d }
     requires idle { (d : DocumentParts) → (C.change idle).fits_redo d }
 {
-    let mut stack = Stack::new(alloc, blank(alloc).ok()?, 0);
+    let mut stack = new_stack(alloc)?;
     let are_done = [
         push(&mut stack, below).is_ok(),
         push(&mut stack, above).is_ok(),
@@ -346,11 +378,13 @@ fn refused_at_first<C: Command>(
 ) -> Option<((usize, usize), bool, Counted)>
     requires { (d : DocumentParts) → (C.change command).fits_redo d }
 {
-    let mut stack = Stack::new(alloc, blank(alloc).ok()?, 0);
+    let mut stack = new_stack(alloc)?;
     let is_refused = push(&mut stack, command).is_err();
     let has_no_more = redo(&mut stack).is_err();
     let stands = (stack.index(), stack.count());
-    is_refused.then_some((stands, has_no_more, counts.all()))
+    let told = (stands, has_no_more, counts.all());
+    drop(stack);
+    if is_refused { Some(told) } else { None }
 }
 
 fn box_refused_at_first(alloc: Global) -> Option<((usize, usize), bool, Counted)> {
@@ -371,12 +405,17 @@ fn refused_below_a_step<C: Command>(
     requires step { (d : DocumentParts) → (C.change step).fits_redo d }
     requires command { (d : DocumentParts) → (C.change command).fits_redo d }
 {
-    let mut stack = Stack::new(alloc, blank(alloc).ok()?, 0);
-    let is_there = push(&mut stack, step).is_ok() && undo(&mut stack).is_ok();
+    let mut stack = new_stack(alloc)?;
+    let are_done = [push(&mut stack, step).is_ok(), undo(&mut stack).is_ok()];
     let is_refused = push(&mut stack, command).is_err();
     let is_redone = redo(&mut stack).is_ok();
     let told = (is_redone, first.all(), second.all());
-    (is_there && is_refused).then_some(told)
+    drop(stack);
+    if is_refused && are_done == [true; 2] {
+        Some(told)
+    } else {
+        None
+    }
 }
 
 fn box_refused_below_a_step(alloc: Global) -> Option<Told> {
@@ -399,13 +438,21 @@ fn refused_in_a_macro<C: Command>(
     requires step { (d : DocumentParts) → (C.change step).fits_redo d }
     requires command { (d : DocumentParts) → (C.change command).fits_redo d }
 {
-    let mut stack = Stack::new(alloc, blank(alloc).ok()?, 0);
-    let is_begun = push(&mut stack, step).is_ok() && begin_macro(&mut stack).is_ok();
+    let mut stack = new_stack(alloc)?;
+    let are_done = [
+        push(&mut stack, step).is_ok(),
+        begin_macro(&mut stack).is_ok(),
+    ];
     let is_refused = push(&mut stack, command).is_err();
     let is_ended = end_macro(&mut stack).is_ok();
     let stands = (stack.index(), stack.count(), stack.depth());
-    let told = (is_ended, first.all(), second.all());
-    (is_begun && is_refused).then_some((told, stands))
+    let told = ((is_ended, first.all(), second.all()), stands);
+    drop(stack);
+    if is_refused && are_done == [true; 2] {
+        Some(told)
+    } else {
+        None
+    }
 }
 
 fn box_refused_in_a_macro(alloc: Global) -> Option<(Told, (usize, usize, usize))> {
@@ -452,7 +499,7 @@ fn cleared<C: Command>(
     requires below { (d : DocumentParts) → (C.change below).fits_redo d }
     requires above { (d : DocumentParts) → (C.change above).fits_redo d }
 {
-    let mut stack = Stack::new(alloc, blank(alloc).ok()?, 0);
+    let mut stack = new_stack(alloc)?;
     let are_done = [
         push(&mut stack, below).is_ok(),
         push(&mut stack, above).is_ok(),
@@ -483,7 +530,12 @@ fn clear_lets_go_of_each_box_and_undoes_none(rt: HostRuntime) {
 
 /// What is left of two commands in macros: which calls were answered well, how the stack stands, and how often both were
 /// turned and dropped before the stack is dropped, and behind that.
-type Nested = ([bool; 8], (usize, usize, usize), [Counted; 2], [Counted; 2]);
+type Nested = (
+    [bool; 11],
+    (usize, usize, usize),
+    [Counted; 2],
+    [Counted; 2],
+);
 
 // Three macros, each in the one before: the inner one with a command, the next with one too, the outer one with no other.
 fn nested<C: Command>(
@@ -496,16 +548,19 @@ fn nested<C: Command>(
     requires inner { (d : DocumentParts) → (C.change inner).fits_redo d }
     requires next { (d : DocumentParts) → (C.change next).fits_redo d }
 {
-    let mut stack = Stack::new(alloc, blank(alloc).ok()?, 0);
+    let mut stack = new_stack(alloc)?;
     let are_done = [
         begin_macro(&mut stack).is_ok(),
         begin_macro(&mut stack).is_ok(),
         begin_macro(&mut stack).is_ok(),
-        push(&mut stack, inner).is_ok() && end_macro(&mut stack).is_ok(),
-        push(&mut stack, next).is_ok() && end_macro(&mut stack).is_ok(),
+        push(&mut stack, inner).is_ok(),
+        end_macro(&mut stack).is_ok(),
+        push(&mut stack, next).is_ok(),
         end_macro(&mut stack).is_ok(),
         end_macro(&mut stack).is_ok(),
-        undo(&mut stack).is_ok() && redo(&mut stack).is_ok(),
+        end_macro(&mut stack).is_ok(),
+        undo(&mut stack).is_ok(),
+        redo(&mut stack).is_ok(),
     ];
     let stands = (stack.index(), stack.count(), stack.depth());
     let before = [first.all(), second.all()];
@@ -521,10 +576,12 @@ fn boxes_nested(alloc: Global) -> Option<Nested> {
     nested(alloc, inner, next, &first, &second)
 }
 
-// The last end but one is that of the outer macro, behind which none is open.
+// The last end comes behind that of the outer macro, where none is open.
 #[test]
 fn each_box_in_a_macro_is_let_go_of_once(rt: HostRuntime) {
-    let are_done = [true, true, true, true, true, true, false, true];
+    let are_done = [
+        true, true, true, true, true, true, true, true, false, true, true,
+    ];
     let wanted = (are_done, (1, 1, 0), [(2, 1, 0); 2], [(2, 1, 1); 2]);
     assert_eq!(rt; boxes_nested(rt.alloc()), Some(wanted));
 }
@@ -534,7 +591,7 @@ fn each_box_in_a_macro_is_let_go_of_once(rt: HostRuntime) {
 fn ended<C: Command>(alloc: Global, command: C) -> Option<(bool, usize, bool)>
     requires { (d : DocumentParts) → (C.change command).fits_redo d }
 {
-    let mut stack = Stack::new(alloc, blank(alloc).ok()?, 0);
+    let mut stack = new_stack(alloc)?;
     let are_done = [
         begin_macro(&mut stack).is_ok(),
         begin_macro(&mut stack).is_ok(),
@@ -547,9 +604,11 @@ fn ended<C: Command>(alloc: Global, command: C) -> Option<(bool, usize, bool)>
         end_macro(&mut stack).is_ok(),
         end_macro(&mut stack).is_ok(),
     ];
+    let (depth_behind, count) = (stack.depth(), stack.count());
+    drop(stack);
     let is_step = are_done != [false; 4];
     let are_ended = ends == [depth > 0, depth > 1, depth > 2];
-    Some((are_ended, stack.depth(), is_step == (stack.count() > 0)))
+    Some((are_ended, depth_behind, is_step == (count > 0)))
 }
 
 fn box_ended(alloc: Global) -> Option<(bool, usize, bool)> {
