@@ -1,5 +1,5 @@
 -- From how lines end to how runs end.
-use Rattle.std.proofs.Common.{◌≡◌, ◌∙◌, ℕ, ◌+◌, Bool, true, false, IsTrue, List, [], ◌∷◌, Option, Some, None, Err, refl, sym, ap, subst, inl, inr, ◌⊎◌}
+use Rattle.std.proofs.Common.{◌≡◌, ℕ, Bool, true, IsTrue, List, [], ◌∷◌, Option, Some, None, Err, refl, ap, subst, inl, inr, ◌⊎◌}
 use Rattle.std.specs.Prelude.{IfSome, IsErrOf}
 use Rattle.std.specs.Io.KnownBytes.{Keeps}
 use Rattle.refusals.specs.declared.refusal.Refusal.{Refusal}
@@ -7,8 +7,8 @@ use Rattle.undo_group.specs.Groups.{GroupParts}
 use Rattle.session.specs.declared.reply.Reply.TheVariants.{Refused}
 use Rattle.map_store.specs.Files.{StoreParts}
 use Rattle.document_lines.specs.Machine.{Machine, Workspace, workspace}
-use Rattle.session_run.specs.Runs.{RunsAll, RunsToUnread, RunsToWrite, reply_line}
-use Rattle.session_run.specs.StrictRuns.{RefusedLine, RunsClean, RunsStrictlyToUnread, RunsStrictlyToWrite, RunsToRefused, Tells, TellsRefused, TellsUnsaved}
+use Rattle.session_run.specs.Runs.{reply_line}
+use Rattle.session_run.specs.StrictRuns.{RefusedLine, RunsClean, RunsStrictlyToUnread, RunsStrictlyToWrite, RunsToRefused, Tells, TellsRefused}
 use Rattle.session_run.specs.StrictRuns.{Told, refused_text}
 use Rattle.session_run.specs.WithinRuns.{EndsAll, EndsAs, EndsInWrite, EndsOver, Going, StopsInWrite, StopsRefused, StopsUnread}
 use Rattle.session_run.specs.declared.strict.End.{End}
