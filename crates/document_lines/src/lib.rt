@@ -9,4 +9,4 @@ mod tile;
 
 pub use planned::{Edit, Planned};
 pub use planning::{on_document, refused};
-pub use steps::{state_of, text_reply};
+pub use steps::{answered, state_of, text_reply};

@@ -1,15 +1,20 @@
-ghost use Rattle.std.specs.Prelude.{◌≡◌, ℕ, ◌≤◌, [], length, false};
+ghost use Rattle.std.specs.Prelude.{◌≡◌, ℕ, ◌≤◌, [], Some, length, false};
 ghost use Rattle.command_api.specs.Names.{is_free};
+ghost use Rattle.map_store.specs.Files.{StoreParts};
 ghost use Rattle.session.specs.Spelling.{CanBeSpelled};
+ghost use Rattle.session.specs.declared.line.Line.TheVariants.{Redo, Undo};
 ghost use Rattle.undo_stack.specs.declared.limits.TheConstants.{MAX_LIMIT};
 ghost use Rattle.undo_stack.specs.History.{History};
 ghost use Rattle.undo_stack.specs.Moving.{Answer, GoesTo, StepsBack, StepsOn};
 ghost use Rattle.undo_stack.specs.Turning.{IsSteady, Redoes, SetsIndex, Undoes};
 ghost use Rattle.undo_group.specs.Stacks.{group_of, stacks_of, AreHeld};
 ghost use Rattle.document_lines.specs.Machine.{active_of, started_machine, workspace};
+ghost use Rattle.document_lines.specs.Planning.{KeepsReply};
+ghost use Rattle.document_lines.specs.Rules.{Allows, MachineStep};
+ghost use Rattle.document_lines.specs.Turns.{turning_rule_of};
 ghost use Rattle.editor.specs.Asking.{PlanAsks};
 ghost use Rattle.editor.specs.Editors.{machine_of, stacks_in, IsHeld, IsSound};
-ghost use Rattle.editor.specs.Kinds.{CommitKinds, PlanKinds, kinds_in};
+ghost use Rattle.editor.specs.Kinds.{CommitKinds, PlanKinds, StepKinds, kinds_in};
 ghost use Rattle.editor.specs.Planning.{Commits, FitsActive, FitsPlan, KeepsPlan, Plans};
 ghost use Rattle.editor.specs.Turns.{PlansTurns, ReportsPush};
 
@@ -17,7 +22,7 @@ mod documents;
 mod files;
 
 use command_api::Command;
-use document_lines::{Planned, on_document, refused, state_of};
+use document_lines::{Planned, answered, on_document, refused, state_of};
 use map_store::MapStore;
 use refusals::Refusal;
 use session::{Line, Reply};
@@ -103,6 +108,57 @@ impl<C: Command> Editor<C> {
                 Some(stack) => on_document(alloc, stack, line),
                 None => refused(Refusal::NoActiveDocument),
             },
+        }
+    }
+
+    /// Does the line `undo`, as `plan` does, and gives its reply: a shorter way for a frequent line.
+    // (inlined, like `redo` and `status`, so that the reply is not written to memory and read again)
+    #[inline(always)]
+    pub fn undo(&mut self) -> Reply
+        requires { IsHeld C.change self.old }
+        ensures held { IsHeld C.change self.new }
+        ensures turns { (stored : StoreParts)
+            → Allows (turning_rule_of Undo) (workspace (machine_of C.change self.old) stored) (Some result) (workspace (machine_of C.change self.new) stored) }
+        ensures unchanged { KeepsReply result (machine_of C.change self.old) (machine_of C.change self.new) }
+
+        // Where no step is that of a free command, this is the machine's step, whatever the store keeps.
+        ensures sound { IsSound C.change self.old → IsSound C.change self.new }
+        ensures step { IsSound C.change self.old → (stored : StoreParts)
+            → MachineStep Undo (workspace (machine_of C.change self.old) stored) (Some result) (workspace (machine_of C.change self.new) stored) }
+        ensures kinds { IsSound C.change self.old
+            → StepKinds Undo (machine_of C.change self.old) (Some result) (machine_of C.change self.new) (kinds_in self.old) (kinds_in self.new) }
+    {
+        match self.group.active_mut() {
+            Some(stack) => {
+                let answer = stack.undo();
+                answered(stack, answer)
+            }
+            None => Reply::Refused(Refusal::NoActiveDocument),
+        }
+    }
+
+    /// Does the line `redo`, as `plan` does, and gives its reply.
+    #[inline(always)]
+    pub fn redo(&mut self) -> Reply
+        requires { IsHeld C.change self.old }
+        ensures held { IsHeld C.change self.new }
+        ensures turns { (stored : StoreParts)
+            → Allows (turning_rule_of Redo) (workspace (machine_of C.change self.old) stored) (Some result) (workspace (machine_of C.change self.new) stored) }
+        ensures unchanged { KeepsReply result (machine_of C.change self.old) (machine_of C.change self.new) }
+
+        // Where no step is that of a free command, this is the machine's step, whatever the store keeps.
+        ensures sound { IsSound C.change self.old → IsSound C.change self.new }
+        ensures step { IsSound C.change self.old → (stored : StoreParts)
+            → MachineStep Redo (workspace (machine_of C.change self.old) stored) (Some result) (workspace (machine_of C.change self.new) stored) }
+        ensures kinds { IsSound C.change self.old
+            → StepKinds Redo (machine_of C.change self.old) (Some result) (machine_of C.change self.new) (kinds_in self.old) (kinds_in self.new) }
+    {
+        match self.group.active_mut() {
+            Some(stack) => {
+                let answer = stack.redo();
+                answered(stack, answer)
+            }
+            None => Reply::Refused(Refusal::NoActiveDocument),
         }
     }
 

@@ -11,6 +11,7 @@ ghost use Rattle.session_run.specs.Runs.{RunsAll, RunsToUnread, RunsToWrite};
 ghost use Rattle.session_run.specs.StrictRuns.{Tells};
 ghost use Rattle.session_run.specs.WithinRuns.{EndsAs, EndsInWrite, PutsSame, StepFound, Stops, StopsInWrite, StopsUnread, TellsEnd};
 
+use crate::frequent::{FrequentLine, frequent_line};
 use crate::strict::{End, Nobody, Report, end_over, end_refused, ending};
 use crate::writing::write_reply;
 use arrayvec::ArrayString;
@@ -99,6 +100,30 @@ fn carry_out<C: Command, S: MapStore, F: Fn(Edit) -> Option<C>>(
     }
 }
 
+// Does the step of bytes that may be any line.
+#[inline(always)]
+fn step_parsed<C: Command, S: MapStore, F: Fn(Edit) -> Option<C>>(
+    alloc: Global,
+    editor: &mut Editor<C>,
+    store: &mut S,
+    line: &[u8],
+    put: &F,
+) -> Option<Reply>
+    requires sound { IsSound C.change editor.old }
+    requires callable { F.IsAlwaysCallable put.now }
+    requires same { (edit : Edit) (command : Option C) → F.post put.now edit command → PutsSame C.change edit command }
+    ensures sound { IsSound C.change editor.new }
+    ensures step { MachineStepIn line.now
+        (workspace (machine_of C.change editor.old) (S.stored store.old)) result (workspace (machine_of C.change editor.new) (S.stored store.new)) }
+    ensures kinds { StepKindsIn line.now (machine_of C.change editor.old) result (machine_of C.change editor.new) (kinds_in editor.old) (kinds_in editor.new) }
+    ensures asks { AsksIn line.now (machine_of C.change editor.old) result (S.asked store.old) (S.asked store.new) }
+{
+    match &parse_line(line) {
+        Ok(line) => carry_out(alloc, editor, store, line, put),
+        Err(fault) => Some(Reply::Refused(Refusal::Line(*fault))),
+    }
+}
+
 /// Does what a line asks for, and gives the reply to it, and none to a quiet one. The line has no newline at its end. What it
 /// plans is put into a command by `put`.
 ///
@@ -120,9 +145,12 @@ pub fn step<C: Command, S: MapStore, F: Fn(Edit) -> Option<C>>(
     ensures kinds { StepKindsIn line.now (machine_of C.change editor.old) result (machine_of C.change editor.new) (kinds_in editor.old) (kinds_in editor.new) }
     ensures asks { AsksIn line.now (machine_of C.change editor.old) result (S.asked store.old) (S.asked store.new) }
 {
-    match &parse_line(line) {
-        Ok(line) => carry_out(alloc, editor, store, line, put),
-        Err(fault) => Some(Reply::Refused(Refusal::Line(*fault))),
+    // A frequent line is done without a parsed line and a plan.
+    match frequent_line(line) {
+        Some(FrequentLine::Undo) => Some(editor.undo()),
+        Some(FrequentLine::Redo) => Some(editor.redo()),
+        Some(FrequentLine::Status) => Some(editor.status()),
+        None => step_parsed(alloc, editor, store, line, put),
     }
 }
 

@@ -269,8 +269,9 @@ impl<C: Command> Editor<C> {
         }
     }
 
-    // How the active document stands.
-    fn status(&self) -> Reply
+    /// How the active document stands: the reply to the line `status`.
+    #[inline(always)]
+    pub fn status(&self) -> Reply
         requires { IsHeld C.change self.now }
         ensures { result ≡ status_reply (active_of (machine_of C.change self.now)) }
     {

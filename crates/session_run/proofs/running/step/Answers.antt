@@ -1,33 +1,14 @@
-use Rattle.std.proofs.Common.{◌≡◌, Ok, Err, refl}
+use Rattle.std.proofs.Common.{◌≡◌, Ok}
 use Rattle.session.specs.Grammar.{line_of}
+use Rattle.session.specs.declared.line.Line.TheVariants.{Undo, Redo}
 use Rattle.session_run.proofs.running.step.Goals as goal
 
-pub returns-in-Ok-clause-step : goal.returns-in-Ok-clause-step
-returns-in-Ok-clause-step g c =
-    let read : line_of c.args.line.now ≡ Ok c.in-Ok.line = rw c.in-Ok.is at c.parse_line.ensures.value in
-    rw read c.carry_out.ensures.step
+pub returns-in-Some-Undo-clause-step : goal.returns-in-Some-Undo-clause-step
+returns-in-Some-Undo-clause-step g c =
+    let read : line_of c.args.line.now ≡ Ok Undo = rw c.in-Some-Undo.field-0-is at c.in-Some-Undo.ensures in
+    rw read (c.undo.ensures.step c.requires.sound (g.S.MapStore.stored c.args.store.now))
 
-pub returns-in-Err-clause-step : goal.returns-in-Err-clause-step
-returns-in-Err-clause-step g c =
-    let read : line_of c.args.line.now ≡ Err c.in-Err.fault = rw c.in-Err.is at c.parse_line.ensures.value in
-    rw read (refl, refl)
-
-pub returns-in-Ok-clause-asks : goal.returns-in-Ok-clause-asks
-returns-in-Ok-clause-asks g c =
-    let read : line_of c.args.line.now ≡ Ok c.in-Ok.line = rw c.in-Ok.is at c.parse_line.ensures.value in
-    rw read c.carry_out.ensures.asks
-
-pub returns-in-Err-clause-asks : goal.returns-in-Err-clause-asks
-returns-in-Err-clause-asks g c =
-    let read : line_of c.args.line.now ≡ Err c.in-Err.fault = rw c.in-Err.is at c.parse_line.ensures.value in
-    rw read refl
-
-pub returns-in-Ok-clause-kinds : goal.returns-in-Ok-clause-kinds
-returns-in-Ok-clause-kinds g c =
-    let read : line_of c.args.line.now ≡ Ok c.in-Ok.line = rw c.in-Ok.is at c.parse_line.ensures.value in
-    rw read c.carry_out.ensures.kinds
-
-pub returns-in-Err-clause-kinds : goal.returns-in-Err-clause-kinds
-returns-in-Err-clause-kinds g c =
-    let read : line_of c.args.line.now ≡ Err c.in-Err.fault = rw c.in-Err.is at c.parse_line.ensures.value in
-    rw read refl
+pub returns-in-Some-Redo-clause-step : goal.returns-in-Some-Redo-clause-step
+returns-in-Some-Redo-clause-step g c =
+    let read : line_of c.args.line.now ≡ Ok Redo = rw c.in-Some-Redo.field-0-is at c.in-Some-Redo.ensures in
+    rw read (c.redo.ensures.step c.requires.sound (g.S.MapStore.stored c.args.store.now))
