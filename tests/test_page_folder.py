@@ -30,7 +30,7 @@ def draw(page, row=20):
 def focus(page):
     """The window gets the focus, as when its user comes back from another one."""
     page.js('dispatchEvent(new Event("focus"))')
-    page.wait(lambda: not page.js('return roskevad.documents.isLooking'), 'it has looked')
+    page.wait(lambda: not page.js('return roskevad.documents.outside.isLooking'), 'it has looked')
     page.settle()
 
 

@@ -1,11 +1,12 @@
-// The open documents as tabs, and what is done with whole maps: new, open, save, close, resize, reload.
-import { ask, byId, element } from "./dom.js";
+// The open documents as tabs, and what is done with whole maps: new, open, save, close, resize.
+import { ask, byId, destroying, element } from "./dom.js";
 import { iconButton } from "./icons.js";
 import { KINDS } from "./kinds.js";
 import { FileList } from "./file_list.js";
 import { MapProbe } from "./map_probe.js";
 import { lastOf } from "./names.js";
-import { endNotice, hasNotice, notice } from "./notices.js";
+import { endNotice } from "./notices.js";
+import { OutsideChanges } from "./outside_changes.js";
 import { IN_XML, isXmlMapName } from "./places.js";
 import { saidOf } from "./refusals.js";
 import { NEVER_SAVED } from "./status_bar.js";
@@ -16,6 +17,12 @@ const titleOf = ({ name, path }) => (path ? lastOf(path) : name);
 // Sizes of a new map, in cells, and of its tiles, in pixels.
 const SIZES = [["Room 20 × 15", 20, 15], ["Screen 40 × 30", 40, 30], ["World 100 × 100", 100, 100]];
 const SIDES = [8, 16, 32, 64];
+
+// What may be answered where a document is closed.
+const SAVE = "Save and close";
+const DISCARD = destroying("Discard");
+const WAIT = "Wait, then close";
+const LEAVE = destroying("Leave it");
 
 export class Documents {
   constructor(bench) {
@@ -29,12 +36,7 @@ export class Documents {
       iconButton("saveAs", "Save as", "Save as: the map into another file (Ctrl+Shift+S)", () => this.saveAs(), { id: "save-as" }),
       iconButton("resize", "Resize", "Resize: another size of the map", () => this.resize(), { id: "resize" }),
     );
-    this.editor.mayReplace = (path, isOwn) => this.mayReplace(path, isOwn);
-    // The hash of each file that was kept as it is in the page though it is another one outside.
-    this.kept = new Map();
-    const look = () => document.hidden || this.lookOutside();
-    addEventListener("focus", look);
-    document.addEventListener("visibilitychange", look);
+    this.outside = new OutsideChanges(bench, document => this.saveAs(document), new MapProbe());
   }
 
   show() {
@@ -48,8 +50,8 @@ export class Documents {
     byId("folder").textContent = this.editor.place.title;
   }
 
-  tab({ name, isActive, isClean, path }) {
-    const saved = path === null ? NEVER_SAVED : isClean ? "saved" : "not saved";
+  tab({ name, isActive, isClean, isWriting, path }) {
+    const saved = isWriting ? "is being saved" : path === null ? NEVER_SAVED : isClean ? "saved" : "not saved";
     const mark = element("span", { className: "mark", textContent: isClean ? "" : "•", title: saved });
     const close = iconButton("close", `Close ${titleOf({ name, path })}`, `Close ${titleOf({ name, path })}`, event => {
       event.stopPropagation();
@@ -74,7 +76,15 @@ export class Documents {
       { name: "side", label: "Width of a tile in pixels", value: 16, kind: KINDS.side },
       { name: "tall", label: "Height of a tile in pixels", value: 16, kind: KINDS.side },
       { name: "source", label: "Its tileset", value: this.bench.map?.data.tilesets.find(set => set.source)?.source ?? "tiles.tsx", kind: KINDS.text },
-    ], ["OK"], made => this.bench.attempt([`new ${made.name} ${made.width} ${made.height} ${made.side} ${made.tall} ${made.source}`], { 11: "name" }));
+    ], ["OK"], made => this.made(made));
+  }
+
+  // Makes a map for the dialog. It would be saved under its name, which no file may have.
+  async made({ name, width, height, side, tall, source }) {
+    const file = `${name}.tmj`;
+    const names = await this.editor.place.names().catch(() => []);
+    if (names.some(({ path }) => path === file)) return { words: `The file ${file} is there already. Choose another name.`, field: "name" };
+    return this.bench.attempt([`new ${name} ${width} ${height} ${side} ${tall} ${source}`], { 11: "name" });
   }
 
   // ---- opening
@@ -82,10 +92,10 @@ export class Documents {
     const { place } = this.editor;
     const maps = await place.maps().catch(fault => this.bench.say(fault.message) ?? []);
     const known = new Map(this.editor.documents().map(each => [each.path, "open"]));
-    const probe = new MapProbe(place);
+    const probe = new MapProbe();
     const inXml = await this.namesInXml();
     const fields = inXml ? [element("p", { id: "in-xml", textContent: inXml })] : [];
-    const path = await new FileList("Open a map", maps, { known, look: path => probe.look(path), none: "There is no map here.", fields }).ask();
+    const path = await new FileList("Open a map", maps, { known, look: path => probe.look(place, path), none: "There is no map here.", fields }).ask();
     if (path) await this.openPath(path);
   }
 
@@ -108,96 +118,53 @@ export class Documents {
     const { file, active, isClean } = this.editor.standing();
     if (!active) return this.bench.act(["save map.tmj"]);
     if (!file) return this.saveAs();
-    if (!isClean) return this.saveTo(file);
+    if (!isClean) return this.saveTo(this.editor.notes.document, file);
     this.bench.say(`${file} is saved already.`);
     return { isHeard: true };
   }
 
-  async saveTo(path) {
-    return this.bench.act([`save ${await this.editor.wordOf(path)}`]);
+  // Saves a document, into its file or into one that is asked for.
+  saveOf(document) {
+    return document.file ? this.saveTo(document, document.file.path) : this.saveAs(document);
   }
 
-  // Asks for a name and saves under it. Where that is refused it asks anew, with why; but not where the user kept a file as it is.
-  async saveAs(typed = null, refusal = null) {
-    const { file, active } = this.editor.state;
-    const field = { name: "file", label: "File", value: typed ?? file ?? `${active ?? "map"}.tmj`, kind: KINDS.path };
+  async saveTo(document, path) {
+    return this.bench.sayRefusal(await this.editor.saveInto(document, path));
+  }
+
+  // Asks for a name and saves a document under it. Where that is refused it asks anew, with why; but not where the user kept a file as it is.
+  async saveAs(document = this.editor.notes.document, typed = null, refusal = null) {
+    if (!document) return this.bench.act(["save map.tmj"]);
+    const field = { name: "file", label: "File", value: typed ?? document.file?.path ?? `${document.name}.tmj`, kind: KINDS.path };
     const told = await ask("Save the map", [field], ["OK"], undefined, refusal);
     if (!told) return { isHeard: false };
-    this.isKept = false;
-    const done = await this.saveTo(told.file);
-    return done.isHeard || this.isKept ? done : this.saveAs(told.file, { words: saidOf(done) });
-  }
-
-  // Whether a file may be replaced that is another one than the document has.
-  async mayReplace(path, isOwn) {
-    const words = isOwn ? `${path} has changed since it was opened or saved.` : `${path} is there already.`;
-    const told = await ask(words, [], isOwn ? ["Replace it", "Reload", "Save as"] : ["Replace it"]);
-    this.isKept = told?.answer !== "Replace it";
-    // Each of the two begins once this save has ended.
-    if (told?.answer === "Reload") setTimeout(() => this.reload(path));
-    if (told?.answer === "Save as") setTimeout(() => this.saveAs());
-    return told?.answer === "Replace it";
-  }
-
-  // ---- files that change outside
-  async lookOutside() {
-    if (this.isLooking) return;
-    this.isLooking = true;
-    for (const [name, file] of this.editor.notes.files) {
-      const isChanged = !this.editor.notes.isWriting(name) && (await this.editor.isChanged(file).catch(() => false));
-      if (isChanged && this.editor.notes.files.get(name) === file) this.sayChanged(name, file);
-      else endNotice(`file ${name}`);
-    }
-    this.isLooking = false;
-  }
-
-  sayChanged(name, file) {
-    if (hasNotice(`file ${name}`) || this.kept.get(name) === file.mark) return;
-    notice(`file ${name}`, `${file.path} has changed outside of this page.`, [
-      ["Reload", () => this.reload(file.path), "Show what the file has; the steps of the document end"],
-      ["Save as", async () => {
-        await this.bench.act([`use ${name}`]);
-        return (await this.saveAs()).isHeard;
-      }, "Save what the page has into another file"],
-      ["Not now", () => this.kept.set(name, file.mark)],
-    ]);
-  }
-
-  // Opens a file anew, in the place of the document that has it.
-  async reload(path) {
-    const open = this.editor.documents().find(each => each.path === path);
-    if (!open) return true;
-    if (!open.isClean) {
-      const told = await ask(`${titleOf(open)} has changes that are not saved.`, [], ["Discard and reload"]);
-      if (!told) return false;
-    }
-    try {
-      await this.editor.place.read(path);
-    } catch (fault) {
-      this.bench.say(`${path}: ${fault.message}.`);
-      return false;
-    }
-    const { word } = this.editor.notes.files.get(open.name);
-    await this.bench.act([`discard ${open.name}`, `open ${open.name} ${word}`]);
-    return true;
+    const done = await this.saveTo(document, told.file);
+    return done.isHeard || done.isKept || !done.refusal ? done : this.saveAs(document, told.file, { words: saidOf(done) });
   }
 
   // ---- closing
-  // Closes a document; where it is not saved, asks first.
+  // Closes a document; where it is not saved, or is being saved, asks first.
   async close(name) {
+    const document = this.editor.notes.documents.get(name);
     const found = this.editor.documents().find(each => each.name === name);
-    if (found?.isClean) return this.closed(name);
-    const told = await ask(`${titleOf(found)} has changes that are not saved.`, [], ["Save and close", "Discard"]);
-    if (told?.answer === "Discard") return this.closed(name, "discard");
-    if (told?.answer !== "Save and close") return null;
-    if (name !== this.editor.notes.active && !(await this.bench.act([`use ${name}`])).isHeard) return null;
-    const path = this.editor.notes.file?.path;
-    const saved = await (path ? this.saveTo(path) : this.saveAs());
-    return saved.isHeard ? this.closed(name) : null;
+    if (!document) return null;
+    if (found.isClean) return this.closed(document);
+    const told = await (found.isWriting ? this.askWriting(found) : ask(`${titleOf(found)} has changes that are not saved.`, [], [SAVE, DISCARD]));
+    if (told?.answer === DISCARD.text || told?.answer === LEAVE.text) return this.closed(document, "discard");
+    if (told?.answer === WAIT) return document.written().then(() => this.close(name));
+    if (told?.answer !== SAVE) return null;
+    const saved = await this.saveOf(document);
+    return saved.isHeard ? this.closed(document) : null;
+  }
+
+  askWriting(found) {
+    return ask(`${titleOf(found)} is being saved. If it is left now, nobody tells whether the file was written.`, [], [WAIT, LEAVE]);
   }
 
   // Where it was the active one, its neighbour is active then: the one to the right, or else to the left.
-  async closed(name, word = "close") {
+  async closed(document, word = "close") {
+    const { name } = document;
+    if (!this.editor.notes.isOpen(document)) return null;
     const documents = this.editor.documents();
     const at = documents.findIndex(each => each.name === name);
     const neighbour = documents[at]?.isActive ? documents[at + 1] ?? documents[at - 1] : null;

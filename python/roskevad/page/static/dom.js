@@ -119,19 +119,25 @@ function listFor(input, rows) {
   return { box, narrow };
 }
 
+// An answer that destroys something. It never has the focus, and Enter does not give it.
+export const destroying = text => ({ text, isDestroying: true });
+
 // A dialog that asks for fields, and stays open while what was typed is refused.
 class Question {
   constructor(title, fields, answers, take) {
     Object.assign(this, { fields, take });
+    const all = answers.map(answer => (answer.isDestroying ? answer : { text: answer, isDestroying: false }));
+    const safe = all.find(each => !each.isDestroying)?.text ?? "";
     this.form = element("form", { method: "dialog", noValidate: true }, element("h2", { textContent: title }), ...fields.map(fieldOf));
     this.dialog = element("dialog", {}, this.form);
     this.said = element("p", { className: "fault", role: "alert" });
-    const buttons = answers.map(answer => element("button", { type: "submit", value: answer, textContent: answer }));
+    const buttons = all.map(({ text }) => element("button", { type: "submit", value: text, textContent: text }));
     const cancel = button("Cancel", "Esc", () => this.dialog.close(""));
+    if (!fields.length) (buttons.find(each => each.value === safe) ?? cancel).autofocus = true;
     this.form.append(this.said, element("div", { className: "answers" }, ...buttons, cancel));
     this.form.onsubmit = event => {
       event.preventDefault();
-      this.answer(event.submitter?.value ?? answers[0]);
+      this.answer(event.submitter?.value ?? safe);
     };
   }
 
@@ -151,6 +157,7 @@ class Question {
 
   async answer(answer) {
     if (this.isBusy) return;
+    if (!answer) return this.dialog.close("");
     const told = this.told(answer);
     const wrong = this.fields.find(({ name, kind }) => kind?.fault(told[name]));
     if (wrong) return this.refuse({ words: wrong.kind.fault(told[wrong.name]), field: wrong.name });
@@ -174,8 +181,8 @@ class Question {
 }
 
 // Asks for fields, and gives what was typed by their names, with the answer that was clicked; null where nothing was wanted. A field is
-// { name, label, value, kind }, with one of KINDS, which says what it takes. `take` does what was asked for; where that is refused, it
-// gives { words, field }: the dialog stays open, and marks the field. With a `refusal` it begins with one.
+// { name, label, value, kind }, with one of KINDS, which says what it takes. An answer is a text, or a `destroying` one. `take` does what was
+// asked for; where that is refused, it gives { words, field }: the dialog stays open, and marks the field. With a `refusal` it begins with one.
 export function ask(title, fields, answers = ["OK"], take = () => null, refusal = null) {
   return new Question(title, fields, answers, take).ask(refusal);
 }

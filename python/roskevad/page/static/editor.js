@@ -6,9 +6,10 @@ import { Journal } from "./journal.js";
 import { cellsIn } from "./log_words.js";
 import { ALL, NOTHING, bothChanges, changesOf, isAboutDocuments, isLook, isQuiet, wordOf } from "./line_kinds.js";
 import { MapModel } from "./map_model.js";
+import { hashOf } from "./hashes.js";
 import { FileNames, freeName } from "./names.js";
 import { Notes } from "./notes.js";
-import { Changed, ChosenFiles, Failed } from "./places.js";
+import { Changed, ChosenFiles } from "./places.js";
 import { shortHintOf } from "./refusals.js";
 
 const OPEN = /^open ([A-Za-z0-9_][A-Za-z0-9_.-]{0,63}) ([A-Za-z0-9_][A-Za-z0-9_.-]{0,99})$/;
@@ -48,6 +49,9 @@ async function opened(session, name, bytes) {
   }
 }
 
+// A file that the user has kept as it is.
+class NotReplaced extends Error {}
+
 // A journal that gives other replies than those that it has.
 export class Otherwise extends Error {}
 
@@ -78,7 +82,7 @@ export class Editor extends EventTarget {
     // Writes that have not ended, by their paths, and how many calls wait for something.
     this.writes = new Map();
     this.underWay = 0;
-    // Asked where a file is another one than that which a save may replace: gives whether it is to be replaced.
+    // Asked where a file is another one than that which a save of a document may replace: gives whether it is to be replaced.
     this.mayReplace = async () => false;
   }
 
@@ -164,9 +168,9 @@ export class Editor extends EventTarget {
     return reply;
   }
 
-  // Takes an accepted line that does not only look. `file` is what an `open` has read.
-  take(line, reply, changes, { file = null, gesture = null } = {}) {
-    const entry = { line, reply, ...(file && { file }), ...(gesture && { gesture }) };
+  // Takes an accepted line that does not only look. `file` is what an `open` has read, and `instead` the document whose place it takes.
+  take(line, reply, changes, { file = null, gesture = null, instead = null } = {}) {
+    const entry = { line, reply, ...(file && { file }), ...(gesture && { gesture }), ...(instead && { instead }) };
     this.notes.note(entry);
     this.journal.add(entry);
     this.changed = bothChanges(this.changed, changes);
@@ -174,7 +178,11 @@ export class Editor extends EventTarget {
 
   // Whether a line would close a document whose save has not ended.
   isHeld(line) {
-    return wordOf(line) === "close" && this.notes.isWriting(line.split(" ")[1]);
+    return wordOf(line) === "close" && this.isWriting(line.split(" ")[1]);
+  }
+
+  isWriting(name) {
+    return this.notes.documents.get(name)?.isWriting ?? false;
   }
 
   // The engine has broken the editor off: what was accepted is in the journal.
@@ -232,18 +240,32 @@ export class Editor extends EventTarget {
       return this.failed(line, "no 51 store failed", `${path}: ${fault.message}`);
     }
     if (!found) return this.failed(line, "no 50 no such file", path);
-    const { bytes, mark } = found;
+    return this.openFound(name, word, found);
+  }
+
+  // Opens the bytes that a file had. `instead` names the document whose place and file the new one takes.
+  async openFound(name, word, { bytes, mark }, instead = null) {
+    const line = `open ${name} ${word}`;
+    const path = this.names.pathOf(word);
     const [reply, why] = await opened(this.session, name, bytes);
     this.list(line, reply);
-    if (!isRefusal(reply)) this.take(line, reply, ALL, { file: { path, bytes, ...mark } });
+    if (!isRefusal(reply)) this.take(line, reply, ALL, { file: { path, bytes, ...mark }, instead });
     this.settle();
     return { replies: [reply], isHeard: !isRefusal(reply), refusal: isRefusal(reply) ? reply : null, why };
   }
 
+  // Opens bytes of a document's file in the place of that document, which is still open then, without its file.
+  reopen({ name, file }, found) {
+    return this.during(this.openFound(this.freeNameFor(file.path), file.word, found, name));
+  }
+
+  freeNameFor(path) {
+    return freeName(documentName(path), made => this.notes.documents.has(made));
+  }
+
   // Opens a file of any name, as a document of a name made from it.
   openPath(path) {
-    const name = freeName(documentName(path), made => this.notes.sessions.has(made));
-    return this.during(this.wordOf(path).then(word => this.send([`open ${name} ${word}`])));
+    return this.during(this.wordOf(path).then(word => this.send([`open ${this.freeNameFor(path)} ${word}`])));
   }
 
   // The words of the files that may be maps.
@@ -254,26 +276,42 @@ export class Editor extends EventTarget {
 
   // The word for a file, whose path no line may spell.
   async wordOf(path) {
-    if (this.notes.file?.path === path) return this.notes.file.word;
+    const known = this.notes.withFile(path);
+    if (known) return known.file.word;
     const maps = await this.during(this.place.maps().catch(() => []));
     return this.names.wordOf(path, name => maps.some(each => each.path === name));
+  }
+
+  // Saves a document into a file: the one that was asked for, whichever is active by now.
+  saveInto(document, path) {
+    return this.during(this.wordOf(path).then(word => {
+      const { active } = this.notes;
+      if (this.isBroken) return { ...UNHEARD, barred: this.barred };
+      if (!this.notes.isOpen(document)) return UNHEARD;
+      if (document.name === active) return this.save(word);
+      this.doLines([`use ${document.name}`]);
+      const saved = this.save(word);
+      this.doLines([`use ${active ?? "-"}`]);
+      return saved;
+    }));
   }
 
   // Writes the active map into a file. The clean mark is set first, so that no later edit goes into the step that is written; where the
   // file cannot be written it is taken away.
   async save(word) {
-    const [line, path, document] = [`save ${word}`, this.names.pathOf(word), this.notes.active];
+    const [line, path, { document }] = [`save ${word}`, this.names.pathOf(word), this.notes];
     const { depth } = this.stand();
     if (document === null || depth) return this.failed(line, document === null ? "no 10 no active document" : "no 20 macro open");
     const saved = this.session.saveMap();
     this.take(line, SAVED, NOTHING);
-    this.notes.beginWrite(document);
-    this.tellSoon();
     // Saves of one file come one behind the other.
     const turn = Promise.all([saved, this.writes.get(path)]).then(([bytes]) => this.write(document, path, word, bytes), fault => fault);
     const ended = turn.catch(fault => fault);
     this.writes.set(path, ended);
+    document.saves.add(ended);
+    this.tellSoon();
     const came = await ended;
+    document.saves.delete(ended);
     if (this.writes.get(path) === ended) this.writes.delete(path);
     return this.endSave(line, document, path, came);
   }
@@ -282,52 +320,67 @@ export class Editor extends EventTarget {
   endSave(line, document, path, came) {
     const isWritten = typeof came === "number";
     const reply = isWritten ? `saved ${line.slice("save ".length)} ${came}` : "no 51 store failed";
-    this.notes.endWrite(document);
     this.list(line, reply);
-    if (!isWritten) {
-      this.notes.unwritten(document, line);
+    if (!isWritten && this.notes.isOpen(document)) {
+      document.unwritten(line);
       this.unsave(document);
     }
     this.settle();
-    return { replies: [reply], isHeard: isWritten, refusal: isWritten ? null : reply, why: isWritten ? null : `${path}: ${came.message}` };
+    const told = { replies: [reply], isHeard: isWritten, refusal: isWritten ? null : reply, isKept: came instanceof NotReplaced };
+    return { ...told, why: isWritten ? null : `${path}: ${came.message}` };
   }
 
-  // Writes bytes, and gives how many they are.
+  // Writes bytes, and gives how many they are. The journal has their hash before the file does, so that they are known where the page ends
+  // before it hears that they have arrived.
   async write(document, path, word, bytes) {
-    const mark = await this.written(document, path, bytes);
-    this.notes.written({ document, path, word, mark });
-    this.journal.add({ written: { document, path, word, mark } });
+    this.sends(document, { path, word, hash: await hashOf(bytes), size: bytes.length });
+    await this.journal.kept();
+    this.arrives(document, { path, word, mark: await this.written(document, path, bytes) });
     return bytes.length;
+  }
+
+  sends(document, sent) {
+    document.send(sent);
+    if (this.notes.isOpen(document)) this.journal.add({ sent: { document: document.name, life: document.life, ...sent } });
+  }
+
+  arrives(document, file) {
+    document.arrive(file);
+    if (this.notes.isOpen(document)) this.journal.add({ written: { document: document.name, life: document.life, ...file } });
   }
 
   // The mark of a file that is written. It replaces what the document was read from or written to last, and another file where the user
   // says so.
   async written(document, path, bytes) {
-    const own = this.notes.files.get(document);
-    try {
-      return await this.place.write(path, bytes, own?.path === path ? own.mark : null);
-    } catch (fault) {
-      if (!(fault instanceof Changed)) throw fault;
-      if (!(await this.mayReplace(path, own?.path === path))) throw new Failed("it was not replaced");
+    for (let mark = document.own(path)?.mark ?? null; ;) {
+      try {
+        return await this.place.write(path, bytes, mark);
+      } catch (fault) {
+        if (!(fault instanceof Changed)) throw fault;
+      }
+      const found = await this.place.read(path);
+      const isKnown = found !== null && document.knows(path, found.mark.hash);
+      if (!isKnown && !(await this.mayReplace(document, path))) throw new NotReplaced("it was not replaced");
+      mark = found?.mark ?? null;
     }
-    const found = await this.place.read(path);
-    return this.place.write(path, bytes, found?.mark ?? null);
   }
 
   // Takes the clean mark of a document away.
   unsave(document) {
-    if (!this.notes.sessions.has(document)) return;
-    const back = this.notes.active;
-    this.doLines(document === back ? ["dirty"] : [`use ${document}`, "dirty", `use ${back ?? "-"}`]);
+    if (!this.notes.isOpen(document)) return;
+    const [name, back] = [document.name, this.notes.active];
+    this.doLines(name === back ? ["dirty"] : [`use ${name}`, "dirty", `use ${back ?? "-"}`]);
   }
 
-  // Whether a file is another one than the document knows.
-  async isChanged({ path, mark }) {
+  // Whether the file of a document has other bytes than the document knows.
+  async isChanged(document) {
+    const { path, mark } = document.file;
     const now = mark && (await this.place.look(path));
     if (!now || (now.size === mark.size && now.time === mark.time)) return false;
     const found = await this.place.read(path).catch(() => null);
-    if (found?.mark.hash === mark.hash) mark.time = found.mark.time;
-    return found?.mark.hash !== mark.hash;
+    if (!found || !document.knows(path, found.mark.hash)) return true;
+    document.file.mark = found.mark;
+    return false;
   }
 
   // ---- what is told
@@ -347,7 +400,7 @@ export class Editor extends EventTarget {
     }
     this.telling = null;
     // What is closed is kept no more.
-    if (!this.notes.sessions.size && this.journal.row?.count) this.journal.restart([]);
+    if (!this.notes.documents.size && this.journal.row?.count) this.journal.restart([]);
   }
 
   // Whether nothing is written, or about to be told.
@@ -362,7 +415,7 @@ export class Editor extends EventTarget {
     const last = Math.min(stands.count, stands.index + this.steps);
     const steps = Array.from({ length: Math.max(0, last - first) }, (_, at) => this.step(first + at));
     const { active, file } = this.notes;
-    const isWriting = this.notes.isWriting(active);
+    const isWriting = this.isWriting(active);
     return { ...stands, documents: this.documents(), active, file: file?.path ?? null, cleanIndex: this.session.cleanIndex(), firstStep: first, steps,
       isWriting, isClean: stands.isClean && !isWriting };
   }
@@ -373,18 +426,19 @@ export class Editor extends EventTarget {
   }
 
   step(at) {
-    const subject = this.notes.subjects.get(this.notes.active)?.of(at) ?? null;
+    const subject = this.notes.document?.subjects.of(at) ?? null;
     return { text: replyOf(this.session, `text ${at}`).slice("text ".length), isMacro: this.session.isMacro(at) !== false, subject };
   }
 
-  // The open documents in their order. No line tells how one stands that is not active, so each is made the active one for a moment.
+  // The open documents in the order of the tabs. No line tells how one stands that is not active, so each is made the active one for a
+  // moment.
   documents() {
-    const names = replyOf(this.session, "list").split(" ").slice(1).map(name => name.replace(/^\*/, ""));
-    const { active, files } = this.notes;
+    const { active, order: names } = this.notes;
     const all = names.map(name => {
       if (name !== active || names.length > 1) this.session.step(`use ${name}`);
       const { index, count, isClean } = this.stand();
-      return { name, isActive: name === active, isClean: isClean && !this.notes.isWriting(name), index, count, path: files.get(name)?.path ?? null };
+      const path = this.notes.fileOf(name)?.path ?? null;
+      return { name, isActive: name === active, isClean: isClean && !this.isWriting(name), isWriting: this.isWriting(name), index, count, path };
     });
     if (names.length > 1 || active === null) this.session.step(`use ${active ?? "-"}`);
     return all;
@@ -393,7 +447,7 @@ export class Editor extends EventTarget {
   // What the journal tells of the documents, for who finds it later.
   summary() {
     if (this.isBroken) return this.journal.row.documents;
-    const linesOf = name => this.notes.sessions.get(name)?.length ?? 0;
+    const linesOf = name => this.notes.documents.get(name)?.lines.length ?? 0;
     return this.documents().map(({ name, path, count, isClean }) => ({ name, path, steps: count, isClean, lines: linesOf(name) }));
   }
 
@@ -403,26 +457,23 @@ export class Editor extends EventTarget {
   }
 
   // ---- the journal
-  // Does the lines of a journal anew, in a session of its own, which then stands in the place of this one. Throws Damaged, Otherwise.
+  // Does the lines of a journal anew, in a session of its own, which then stands in the place of this one. Gives the saves of which the
+  // journal does not say that they have arrived: [{ document, row, sent }]. Throws Damaged, Otherwise.
   async replay(row, entries, onLines = () => {}) {
     const session = new Session(this.module, { limit: row.limit });
     const [notes, names, pending, listed] = [new Notes(row.limit), new FileNames(), new Map(), []];
     try {
       for await (const entry of entries) {
-        if (entry.written) {
-          const { document, word, path, mark } = entry.written;
-          notes.written(entry.written);
-          names.take(word, path);
-          if (pending.has(document)) pending.get(document)[2] = `saved ${word} ${mark.size}`;
-          pending.delete(document);
+        if (entry.sent || entry.written) {
+          this.noteFile(entry, notes, names, pending);
           continue;
         }
         await this.replayLine(session, entry);
         if (entry.file) names.take(entry.line.split(" ")[2], entry.file.path);
         notes.note(entry);
         const row = [listed.length + 1, cut(entry.line), entry.reply === SAVED ? "no 51 store failed" : entry.reply, null, cellsIn(entry.line), entry.gesture];
-        if (wordOf(entry.line) === "save") pending.set(notes.active, row);
-        if (wordOf(entry.line) === "dirty") pending.delete(notes.active);
+        if (wordOf(entry.line) === "save") pending.set(notes.document, { row });
+        if (wordOf(entry.line) === "dirty") pending.delete(notes.document);
         listed.push(row);
         if (listed.length % MOST_AT_ONCE === 0) await pause(onLines(listed.length));
       }
@@ -434,8 +485,36 @@ export class Editor extends EventTarget {
     this.heard = listed.length;
     this.listed = listed;
     this.changed = ALL;
-    // A save of which the journal does not say that it was written need not be: its document is not clean.
-    return [...pending.keys()].filter(document => notes.sessions.has(document));
+    return [...pending].filter(([document]) => notes.isOpen(document)).map(([document, told]) => ({ document, ...told }));
+  }
+
+  // Takes what a journal tells of a file: that a save has sent bytes there, or that they have arrived.
+  noteFile({ sent, written }, notes, names, pending) {
+    const { word, path, mark } = sent ?? written;
+    names.take(word, path);
+    const document = notes.found(sent ?? written);
+    if (document && sent) {
+      document.send(sent);
+      if (pending.has(document)) pending.get(document).sent = sent;
+    } else if (document) {
+      document.arrive(written);
+      if (pending.has(document)) pending.get(document).row[2] = `saved ${word} ${mark.size}`;
+      pending.delete(document);
+    }
+  }
+
+  // Looks whether the saves have arrived of which the journal does not say so, and gives the documents of those that have not: they are not
+  // saved.
+  async lostSaves(pending) {
+    const lost = [];
+    for (const { document, row, sent } of pending) {
+      const found = sent ? await this.place.read(sent.path).catch(() => null) : null;
+      if (found && found.mark.hash === sent.hash) {
+        this.arrives(document, { path: sent.path, word: sent.word, mark: found.mark });
+        row[2] = `saved ${sent.word} ${sent.size}`;
+      } else lost.push(document);
+    }
+    return lost;
   }
 
   // Does a line of a journal. A save marks the map, and writes no file.
@@ -461,7 +540,7 @@ export class Editor extends EventTarget {
     const notes = new Notes(this.limit);
     const entries = [];
     for (const { name } of this.documents()) {
-      const { path, word, mark } = this.notes.files.get(name);
+      const { path, word, mark } = this.notes.fileOf(name);
       this.session.step(`use ${name}`);
       const bytes = await this.session.saveMap();
       const file = { path, bytes, ...mark };

@@ -30,7 +30,7 @@ export class Layouts {
   }
 
   keyOf(document) {
-    const path = this.editor.notes.files.get(document)?.path;
+    const path = this.editor.notes.fileOf(document)?.path;
     return path === undefined ? `map ${document}` : `file ${path}`;
   }
 
@@ -60,7 +60,7 @@ export class Layouts {
 
   // A map that has no file is kept for as long as it is open.
   store() {
-    const open = new Set([...this.editor.notes.sessions.keys()].map(document => this.keyOf(document)));
+    const open = new Set([...this.editor.notes.documents.keys()].map(document => this.keyOf(document)));
     for (const key of this.all.keys()) if (key.startsWith("map ") && !open.has(key)) this.all.delete(key);
     const isSmall = stamp => stamp.values.length <= LARGEST_STAMP;
     const last = [...this.all].slice(-MOST_MAPS).map(([key, each]) => [key, isSmall(each.stamp) ? each : { ...each, stamp: null }]);

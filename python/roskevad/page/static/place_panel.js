@@ -4,8 +4,9 @@ import { iconButton } from "./icons.js";
 import { endNotice, notice } from "./notices.js";
 import { ChosenFiles, FolderFiles, IN_XML, chosen, isMapName, isTilesetName, isXmlMapName } from "./places.js";
 
-// What a notice is about; how many files it names.
+// What notices are about; how many files one names.
 const OTHERS = "other files";
+const PERMISSION = "permission";
 const MOST_NAMED = 3;
 const IMAGE = /\.(png|jpe?g|gif|webp|bmp|svg|avif)$/i;
 
@@ -48,7 +49,7 @@ export class PlacePanel {
   async takeFolder(folder) {
     this.take(new FolderFiles(folder));
     this.editor.journal.keepSource();
-    if (!this.editor.notes.sessions.size) await this.documents.open();
+    if (!this.editor.notes.documents.size) await this.documents.open();
   }
 
   // Files of the user's choice: those that are maps are opened.
@@ -81,10 +82,18 @@ export class PlacePanel {
 
   take(place) {
     this.editor.place = place;
+    if (place.kind === "folder") this.sayAsking(place);
     this.tilesets.forget();
     endNotice("tilesets");
     this.onTilesets();
     this.editor.tellSoon();
+  }
+
+  // Says for as long as the browser asks for a folder that saves wait for the answer.
+  sayAsking(place) {
+    const words = `The browser asks whether this page may write into the folder ${place.title}. What is saved waits for your answer; the maps can be worked on.`;
+    place.addEventListener("asks", () => notice(PERMISSION, words));
+    place.addEventListener("answered", () => endNotice(PERMISSION));
   }
 
   async drop(event) {

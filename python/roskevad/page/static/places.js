@@ -127,9 +127,11 @@ export async function chosen(files) {
   return found;
 }
 
-// A folder of this machine that the user has chosen, with what is below it.
-export class FolderFiles {
+// A folder of this machine that the user has chosen, with what is below it. Events: `asks` where a save waits for the browser's own
+// question, and `answered`.
+export class FolderFiles extends EventTarget {
   constructor(folder) {
+    super();
     this.kind = "folder";
     this.isDownload = false;
     this.folder = folder;
@@ -145,13 +147,17 @@ export class FolderFiles {
     return (await this.folder.requestPermission({ mode: "readwrite" })) === "granted";
   }
 
+  // The handle of the folder that a file stands in.
+  async folderOf(path) {
+    let folder = this.folder;
+    for (const part of (joined("", path) ?? "").split("/").slice(0, -1)) folder = await folder.getDirectoryHandle(part);
+    return folder;
+  }
+
   // The handle of a file, or null.
   async handle(path, create = false) {
-    const parts = (joined("", path) ?? "").split("/");
     try {
-      let folder = this.folder;
-      for (const part of parts.slice(0, -1)) folder = await folder.getDirectoryHandle(part);
-      return await folder.getFileHandle(parts[parts.length - 1], { create });
+      return await (await this.folderOf(path)).getFileHandle(lastOf(joined("", path) ?? ""), { create });
     } catch (fault) {
       if (["NotFoundError", "TypeMismatchError", "TypeError"].includes(fault.name) && !create) return null;
       throw new Failed(fault.message);
@@ -204,18 +210,44 @@ export class FolderFiles {
     return file ? bytesOf(file) : null;
   }
 
-  // The browser writes a file beside it, and puts that in its place as it is closed.
+  // The browser writes a file beside it, and puts that in its place as it is closed. Where that fails, a file that was made for it is taken
+  // away.
   async write(path, bytes, mark) {
     await this.see(path, mark);
+    await this.allowed();
     const handle = await this.handle(path, true);
     try {
       const to = await handle.createWritable();
       await to.write(bytes);
       await to.close();
     } catch (fault) {
+      if (mark === null) await this.removeEmpty(path);
       throw new Failed(fault.message);
     }
     return markOf(bytes, (await handle.getFile()).lastModified);
+  }
+
+  // Resolves once the page may write. Throws Failed where the user does not allow it.
+  async allowed() {
+    if (await this.isAllowed()) return;
+    this.dispatchEvent(new Event("asks"));
+    try {
+      if (!(await this.ask())) throw new Failed(`the browser was told that this page may not write into the folder ${this.title}`);
+    } catch (fault) {
+      throw fault instanceof Failed ? fault : new Failed("the browser asks only behind a click or a key: save again");
+    } finally {
+      this.dispatchEvent(new Event("answered"));
+    }
+  }
+
+  // Takes a file away that has no bytes. Where even that fails it stays.
+  async removeEmpty(path) {
+    try {
+      const file = await this.handle(path);
+      if ((await file?.getFile())?.size === 0) await (await this.folderOf(path)).removeEntry(file.name);
+    } catch (fault) {
+      console.warn(`${path} stays: ${fault.message}`);
+    }
   }
 
   // Sees that the file is the one that it must be, by its time and size, and where they differ by its bytes.

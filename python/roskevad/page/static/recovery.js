@@ -1,5 +1,5 @@
 // What the journals are for: at the start of the page the documents of windows that live no more are offered, with all their steps.
-import { ask, byId } from "./dom.js";
+import { ask, byId, destroying } from "./dom.js";
 import { lock } from "./journal.js";
 import { lastOf } from "./names.js";
 import { endNotice, notice } from "./notices.js";
@@ -72,10 +72,10 @@ export class Recovery {
     if (!giveBack) return this.keep(row, "Its window lives.");
     const end = this.journal.replaying(row.id);
     document.body.inert = true;
-    let unwritten;
+    let pending;
     try {
       const told = lines => (byId("standing").textContent = `${lines} lines ..`);
-      unwritten = await this.editor.replay(row, this.journal.entriesOf(row), told);
+      pending = await this.editor.replay(row, this.journal.entriesOf(row), told);
     } catch (fault) {
       giveBack();
       return this.keep(row, `It cannot be restored: ${fault.message}.`);
@@ -86,9 +86,10 @@ export class Recovery {
     await this.journal.end();
     this.journal.adopt(row);
     await this.restorePlace(row);
+    const lost = await this.editor.lostSaves(pending);
     this.editor.settle();
-    for (const document of unwritten) this.editor.unsave(document);
-    await this.panel.documents.lookOutside();
+    for (const document of lost) this.editor.unsave(document);
+    await this.panel.documents.outside.look();
     return true;
   }
 
@@ -140,7 +141,7 @@ export class Recovery {
   }
 
   async forget(row) {
-    const told = await ask(`Forget ${namesOf(row)}?`, [], ["Forget"]);
+    const told = await ask(`Forget ${namesOf(row)}?`, [], [destroying("Forget")]);
     if (!told) return false;
     await this.journal.forget(row.id);
     return true;
@@ -168,8 +169,7 @@ export class Recovery {
   async beginAnew() {
     for (const { name, isClean, path } of this.editor.documents()) {
       if (isClean && path) continue;
-      await this.bench.act([`use ${name}`]);
-      const done = await (path ? this.panel.documents.saveTo(path) : this.panel.documents.saveAs());
+      const done = await this.panel.documents.saveOf(this.editor.notes.documents.get(name));
       if (!done.isHeard) return false;
     }
     await this.editor.beginAnew();

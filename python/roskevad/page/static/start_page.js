@@ -14,7 +14,7 @@ const WAYS = [["new", "New map", "new"], ["folder", "Open folder", "open-folder"
 
 export class StartPage {
   constructor(bench, documents) {
-    Object.assign(this, { bench, documents, editor: bench.editor, waiting: [], isBusy: false, said: "", place: null });
+    Object.assign(this, { bench, documents, editor: bench.editor, probe: new MapProbe(), waiting: [], isBusy: false, said: "", place: null });
     this.box = byId("empty");
     this.list = element("ul", { id: "start-maps" });
     this.ways = element("div", { id: "start-ways" });
@@ -97,9 +97,8 @@ export class StartPage {
   async draw(card) {
     const { place } = this;
     const { path, size } = card.dataset;
-    if (this.probe?.place !== place) this.probe = new MapProbe(place);
     const isOver = () => !card.isConnected || !this.isShown;
-    const looked = await this.probe.look(path, session => sketch(session, place, path, card.querySelector("canvas"), isOver));
+    const looked = await this.probe.look(place, path, session => sketch(session, place, path, card.querySelector("canvas"), isOver));
     card.classList.toggle("refused", looked.isRefused);
     const map = looked.found;
     card.querySelector(".told").textContent = map ? `${map.width} × ${map.height} · ${sizeOf(Number(size))}` : looked.words;

@@ -63,14 +63,14 @@ export class StepPanel {
   }
 
   row(place, text, isMacro) {
-    const { index, cleanIndex, count, depth, file } = this.editor.state;
-    const isSaved = place === cleanIndex && file !== null;
+    const { index, cleanIndex, count, depth, file, isWriting } = this.editor.state;
+    const saved = place !== cleanIndex ? "" : isWriting ? "is being saved" : file === null ? "" : "saved";
     const isOpen = depth > 0 && place === count;
     const row = element("li", { data: { place }, onclick: () => this.bench.act([`goto ${place}`]) },
       element("span", { className: "number", textContent: place }),
       element("span", { className: "name", textContent: text, title: text }),
       element("span", { className: "kind", textContent: isOpen ? "open macro" : isMacro ? "macro" : "" }),
-      element("span", { className: "clean", textContent: isSaved ? "saved" : "" }));
+      element("span", { className: "clean", textContent: saved }));
     row.classList.toggle("now", place === index);
     row.classList.toggle("undone", place > index && !isOpen);
     return row;
