@@ -2,18 +2,13 @@
 slow, refused or over another file, files of any name and in sub-folders, tilesets beside the maps, and
 a server that ends. And on a folder that the browser gives, which is one of its own here, since its
 chooser takes no answer from a test."""
-import contextlib
-import functools
-import http.server
 import json
 import shutil
-import tempfile
-import threading
-from pathlib import Path
 
 from lib.places import EXAMPLE_MAPS
-from page.bench import PAGE, Bench, cells_with, choose, spelled, standing, take_tile
+from page.bench import Bench, cells_with, choose, spelled, standing, take_tile
 from page.browser import Keys, Page, Server, browser, started
+from page.own_folder import bytes_in, put, site, take_folder
 
 NEEDS_BROWSER = True
 IS_LONG = True
@@ -295,49 +290,6 @@ def test_two_windows_of_a_folder():
 # ---- a folder that the browser gives
 
 
-@contextlib.contextmanager
-def site():
-    """The page's one file at an address of this machine, from a server that gives nothing else."""
-    with tempfile.TemporaryDirectory() as top:
-        shutil.copy(PAGE, top)
-        (Path(top) / 'blank.html').write_text('<!doctype html>')
-
-        class Quiet(http.server.SimpleHTTPRequestHandler):
-            def log_message(self, *_):
-                """Tells nothing."""
-
-        served = functools.partial(Quiet, directory=top)
-        with http.server.ThreadingHTTPServer(('127.0.0.1', 0), served) as server:
-            threading.Thread(target=server.serve_forever, daemon=True).start()
-            yield f'http://127.0.0.1:{server.server_address[1]}'
-            server.shutdown()
-
-
-PUT = '''
-const [files, done] = arguments;
-(async () => {
-  const top = await navigator.storage.getDirectory();
-  for (const [path, bytes] of Object.entries(files)) {
-    let folder = top;
-    for (const part of path.split("/").slice(0, -1)) folder = await folder.getDirectoryHandle(part, {create: true});
-    const to = await (await folder.getFileHandle(path.split("/").pop(), {create: true})).createWritable();
-    await to.write(new Uint8Array(bytes));
-    await to.close();
-  }
-})().then(() => done(""), fault => done(String(fault)));'''
-READ = '''
-const [path, done] = arguments;
-roskevad.editor.place.read(path).then(found => done(found && [...found.bytes]), fault => done(String(fault)));'''
-TAKE = '''
-const done = arguments[0];
-navigator.storage.getDirectory().then(folder => roskevad.panel.takeFolder(folder));
-setTimeout(done, 500);'''
-
-
-def bytes_in(page, path):
-    return bytes(page.driver.execute_async_script(READ, path))
-
-
 def test_a_folder_of_the_browser():
     """Maps of the folder and of those in it are opened and saved in their places; a file that has changed
     or come is not replaced without a question; and a page that is loaded anew has the folder."""
@@ -349,8 +301,8 @@ def test_a_folder_of_the_browser():
         town = files['town.tmj'].replace(b'"tiles.tsx"', b'"../tiles.tsx"')
         page.open()
         given = {**files, 'deep/my town.tmj': town}
-        assert page.driver.execute_async_script(PUT, {k: list(v) for k, v in given.items()}) == ''
-        page.driver.execute_async_script(TAKE)
+        put(page, given)
+        take_folder(page)
         page.fill_in(file='deep/my town.tmj')
         assert page.js('return roskevad.tilesets.all.map(set => set.image !== null)') == [True]
         draw(page)
@@ -366,8 +318,7 @@ def test_a_folder_of_the_browser():
         page.reload()
         assert page.notices() == [] and standing(page) == (2, 2)
         assert page.js('return roskevad.editor.place.kind') == 'folder'
-        changed = {'deep/my town.tmj': list(OTHER)}
-        assert page.driver.execute_async_script(PUT, changed) == ''
+        put(page, {'deep/my town.tmj': OTHER})
         focus(page)
         assert 'deep/my town.tmj has changed outside' in page.notices()[0]
         page.ctrl('s')

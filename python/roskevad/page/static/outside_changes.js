@@ -79,6 +79,8 @@ export class OutsideChanges {
     const isKept = await this.keeps(document);
     if (isKept === null) return false;
     const lines = document.lines.length;
+    // How the map is shown is kept under its file, and so goes over.
+    this.bench.tell("layout");
     const done = await this.editor.reopen(document, found);
     if (!done.isHeard) return this.sayNotLoaded(document, saidOf(done));
     endNotice(aboutOf(document));
