@@ -1,9 +1,8 @@
 // Draws a tile into a box of a canvas: a part of its tileset's image, flipped and turned as Tiled does; or a colour with a number.
-import { TILE } from "./map_model.js";
+import { DIAGONAL, HEXAGON, TILE, TO_SIDE, UP_DOWN, idIn } from "./tile_numbers.js";
 import { colourOf } from "./tilesets.js";
 
 const SMALLEST_NUMBER = 15;
-const [TO_SIDE, UP_DOWN, DIAGONAL, HEXAGON] = [0x80000000, 0x40000000, 0x20000000, 0x10000000];
 
 // How a tile is flipped and turned: first over its diagonal, then to the other side, then upside down.
 function matrixOf(value) {
@@ -21,9 +20,9 @@ function hexagonMatrixOf(value) {
 // `tinted(image)` gives the image to take it from.
 export function drawTile(pen, tilesets, value, x, y, width, height, tinted = null, isHexagonal = false) {
   const tileset = tilesets.of(value);
-  const tile = (value & TILE) - (tileset?.first ?? 0);
+  const tile = idIn(value, tileset);
   if (!tileset?.has(tile)) {
-    drawNumber(pen, value, tileset ? tile : value & TILE, x, y, width, height);
+    drawNumber(pen, value, tile, x, y, width, height);
     return;
   }
   const [fromX, fromY] = tileset.placeOf(tile);

@@ -1,7 +1,7 @@
 // Paints the layers of a map into a part of the screen, in their order: tiles, images, and of objects those that are tiles or texts.
 import { drawTile } from "./draw_tile.js";
 import { paintFar } from "./far_painter.js";
-import { TILE } from "./map_model.js";
+import { DIAGONAL, idIn } from "./tile_numbers.js";
 import { paintThing } from "./thing_painter.js";
 import { Tints } from "./tints.js";
 
@@ -144,7 +144,7 @@ export class LayerPainter {
   isLarge(value) {
     const { map, tilesets } = this.view;
     const tileset = tilesets.of(value);
-    const tile = (value & TILE) - (tileset?.first ?? 0);
+    const tile = idIn(value, tileset);
     if (!tileset?.has(tile)) return false;
     const [width, height] = tileset.sizeOf(tile);
     return width !== map.tileWidth || height !== map.tileHeight || tileset.offsetX !== 0 || tileset.offsetY !== 0;
@@ -161,8 +161,8 @@ export class LayerPainter {
     const [width, height] = [view.screenX(cornerX + tileWidth) + asideX - left, view.screenY(cornerY + tileHeight) + asideY - top];
     if (!this.isLarge(value)) return drawTile(pen, tilesets, value, left, top, width, height, tinted, map.isHexagonal);
     const tileset = tilesets.of(value);
-    const isTurned = value & 0x20000000 && !map.isHexagonal;
-    const [wide, high] = tileset.sizeOf((value & TILE) - tileset.first).map(side => Math.round(side * scale));
+    const isTurned = value & DIAGONAL && !map.isHexagonal;
+    const [wide, high] = tileset.sizeOf(idIn(value, tileset)).map(side => Math.round(side * scale));
     const [across, down] = isTurned ? [high, wide] : [wide, high];
     const [toLeft, toTop] = [left + Math.round(tileset.offsetX * scale), top + height - down + Math.round(tileset.offsetY * scale)];
     return drawTile(pen, tilesets, value, toLeft, toTop, across, down, tinted, map.isHexagonal);

@@ -2,8 +2,6 @@
 import { projectionOf } from "./projections.js";
 import { bothTints, partsOfColour } from "./tints.js";
 
-export const TILE = 0x0fffffff;
-
 // How far a layer may be moved aside, in pixels.
 const FARTHEST = 1_000_000;
 

@@ -1,8 +1,8 @@
 // The palette: the tiles of a tileset, to click at one or to drag over several; and the stamp that the brush has. Only what is seen of it
 // is drawn.
 import { byId } from "./dom.js";
-import { TILE } from "./map_model.js";
 import { drawTile } from "./map_view.js";
+import { TILE, idIn } from "./tile_numbers.js";
 import { wordsOf } from "./tile_words.js";
 
 // How wide a tile may be, in pixels of the page; and how many stand in a row where no image tells.
@@ -170,7 +170,7 @@ export class Palette {
     const value = this.bench.stamp.values.find(each => each !== 0) ?? 0;
     this.framed = new Set(this.bench.stamp.values.filter(each => each !== 0).map(each => each & TILE));
     const tileset = this.tilesets.of(value);
-    if (!this.from && tileset && value) this.reveal(tileset, (value & TILE) - tileset.first);
+    if (!this.from && tileset && value) this.reveal(tileset, idIn(value, tileset));
     this.show();
   }
 

@@ -1,8 +1,5 @@
 // Flips and turns a stamp, as Tiled does with its keys X, Y and Z.
-
-const SIDE_FLIP = 0x80000000;
-const UP_FLIP = 0x40000000;
-const DIAGONAL = 0x20000000;
+import { DIAGONAL, HEXAGON, TILE, TO_SIDE, UP_DOWN } from "./tile_numbers.js";
 
 // The stamp whose value at x, y is what `from` says of the old one, each value changed by `change`.
 function remade({ values, width }, newWidth, newHeight, from, change) {
@@ -18,18 +15,18 @@ function remade({ values, width }, newWidth, newHeight, from, change) {
 }
 
 export function flippedToSide(stamp) {
-  return remade(stamp, stamp.width, stamp.height, (x, y) => [stamp.width - 1 - x, y], value => (value ^ SIDE_FLIP) >>> 0);
+  return remade(stamp, stamp.width, stamp.height, (x, y) => [stamp.width - 1 - x, y], value => (value ^ TO_SIDE) >>> 0);
 }
 
 export function flippedUpDown(stamp) {
-  return remade(stamp, stamp.width, stamp.height, (x, y) => [x, stamp.height - 1 - y], value => (value ^ UP_FLIP) >>> 0);
+  return remade(stamp, stamp.width, stamp.height, (x, y) => [x, stamp.height - 1 - y], value => (value ^ UP_DOWN) >>> 0);
 }
 
 // A quarter turn of a tile to the right: a flip over the diagonal and then to the side, behind the flips that it has.
 function turnedTile(value) {
-  const [toSide, upDown] = [value & SIDE_FLIP, value & UP_FLIP];
-  const flips = (upDown ? 0 : SIDE_FLIP) | (toSide ? UP_FLIP : 0) | (value & DIAGONAL ? 0 : DIAGONAL);
-  return ((value & 0x1fffffff) | flips) >>> 0;
+  const [toSide, upDown] = [value & TO_SIDE, value & UP_DOWN];
+  const flips = (upDown ? 0 : TO_SIDE) | (toSide ? UP_DOWN : 0) | (value & DIAGONAL ? 0 : DIAGONAL);
+  return ((value & (TILE | HEXAGON)) | flips) >>> 0;
 }
 
 export function turnedRight(stamp) {

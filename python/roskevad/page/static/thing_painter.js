@@ -1,6 +1,6 @@
 // Paints the objects of a map that are tiles or texts, where the tiles of the map are painted: so a later layer may hide them.
 import { drawTile } from "./draw_tile.js";
-import { TILE } from "./map_model.js";
+import { idIn } from "./tile_numbers.js";
 import { colourOfText } from "./tints.js";
 
 const LINE = 1.17;
@@ -33,7 +33,7 @@ function paintTile(view, tints, layer, object, pen) {
   const tileset = tilesets.of(object.gid);
   const [width, height] = [(object.width ?? 0) * scale, (object.height ?? 0) * scale];
   const [left, top] = alignedAt(tileset, map);
-  const tile = (object.gid & TILE) - (tileset?.first ?? 0);
+  const tile = idIn(object.gid, tileset);
   const [wide, high] = tileset?.has(tile) ? tileset.sizeOf(tile) : [1, 1];
   const [toRight, down] = [(tileset?.offsetX ?? 0) * width / wide, (tileset?.offsetY ?? 0) * height / high];
   const tinted = layer.tint ? image => tints.of(image, layer.tint) : null;

@@ -1,6 +1,6 @@
 // How tiles look from afar: the mean colour of each, and whether it hides all that is below it. That is found when a tile is first drawn,
 // of a bounded number of pixels a frame.
-import { TILE } from "./map_model.js";
+import { TILE } from "./tile_numbers.js";
 
 // Tiles below this one have their looks in a table.
 const TABLE = 65_536;

@@ -3,8 +3,8 @@ import { byId, element } from "./dom.js";
 import { iconButton } from "./icons.js";
 import { FileList } from "./file_list.js";
 import { folderOf, pathFrom } from "./names.js";
-import { TILE } from "./map_model.js";
 import { endNotice, notice } from "./notices.js";
+import { TILE } from "./tile_numbers.js";
 import { checked, readTileset } from "./tileset_files.js";
 
 const ABOUT = "wrong tilesets";

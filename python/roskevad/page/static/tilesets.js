@@ -1,8 +1,8 @@
 // The tilesets of a map with their images, where those can be had: a tileset is a `.tsx` or `.tsj` file with one image, or stands in the
 // map itself.
-import { TILE } from "./map_model.js";
 import { folderOf } from "./names.js";
 import { TileLooks } from "./tile_looks.js";
+import { DIAGONAL, TILE, setOf } from "./tile_numbers.js";
 import { withoutColour } from "./tileset_looks.js";
 import { Wrong, checked, claimOf, heldBy, imageOf, readTileset } from "./tileset_files.js";
 
@@ -193,19 +193,13 @@ export class Tilesets {
 
   // The tileset that has a value, or null.
   of(value) {
-    const tile = value & TILE;
-    let found = null;
-    for (const tileset of this.all) {
-      if (tileset.first > tile) break;
-      found = tileset;
-    }
-    return found;
+    return setOf(value, this.all);
   }
 
   // Whether a tile hides all that is below it in a cell of this size.
   hides(value, width, height) {
     const tileset = this.of(value);
-    if (tileset?.tileWidth !== width || tileset.tileHeight !== height || (value & 0x20000000 && width !== height)) return false;
+    if (tileset?.tileWidth !== width || tileset.tileHeight !== height || (value & DIAGONAL && width !== height)) return false;
     return this.looks.hides(value);
   }
 
