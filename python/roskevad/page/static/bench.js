@@ -1,5 +1,7 @@
 // What the hand works with: the editor, the drawn map, the layer, the stamp, the object that was chosen, and words at the hand.
 import { Bubble } from "./bubble.js";
+import { CarriedTiles } from "./carried_tiles.js";
+import { Clipboard } from "./clipboard.js";
 import { isField } from "./dom.js";
 import { LayerBars, whyBarred, whyNoTiles } from "./layer_bars.js";
 import { saidOf } from "./refusals.js";
@@ -11,7 +13,12 @@ export class Bench extends EventTarget {
     this.layerId = null;
     this.objectId = null;
     this.brushSize = 1;
-    this.stamp = { width: 1, height: 1, values: [1] };
+    this.carried = new CarriedTiles(this);
+    this.clipboard = new Clipboard(this);
+    // The stamp in hand: the numbers that its tiles have on the active map; and what it is, as a copy (see tile_numbers.js).
+    this.stamp = null;
+    this.hand = null;
+    this.carried.takeUsual();
     // Whether a button is down on the map: the panels wait until it is up.
     this.isHeld = false;
     this.bubble = new Bubble(() => view.drawnBox());
@@ -78,13 +85,14 @@ export class Bench extends EventTarget {
     return why !== "" || this.bars.bars();
   }
 
-  // The value of a fill: the first tile of the stamp. (Its first cell may be one that leaves the map as it is.)
+  // The value of a fill: the first tile of the stamp; 0 where it has none. (Its first cell may be one that leaves the map as it is.)
   get fillValue() {
-    return this.stamp.values.find(value => value !== 0);
+    return this.stamp.values.find(value => value !== 0) ?? 0;
   }
 
+  // Takes tiles into the hand, by the numbers that they have on the active map.
   takeStamp(stamp) {
-    this.stamp = stamp;
+    this.carried.put(stamp);
     this.tell("stamp");
   }
 
@@ -118,6 +126,7 @@ export class Bench extends EventTarget {
 
   // The stamp of the selected cells; null where there are none, which is said.
   selectedStamp() {
+    if (!this.map) return this.say("Open a map first.");
     const box = this.selectedBox;
     return box ? this.stampOf(...box, true) : this.say("Select cells first, with the tool Select.");
   }
@@ -148,6 +157,11 @@ export class Bench extends EventTarget {
     if (done.barred || done.refusal) this.say(saidOf(done));
     else this.bubble.hide();
     return done;
+  }
+
+  // Says more behind what stands there.
+  sayMore(words) {
+    return this.say(`${this.bubble.words} ${words}`);
   }
 
   moveHand(x, y) {

@@ -47,6 +47,11 @@ export class Bubble {
     this.timer = setTimeout(() => this.hide(), SHOWN_FOR);
   }
 
+  // What it says; "" where it is gone.
+  get words() {
+    return this.box.hidden ? "" : this.box.textContent;
+  }
+
   hide() {
     this.box.hidden = true;
     clearTimeout(this.timer);

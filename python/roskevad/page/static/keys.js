@@ -36,18 +36,16 @@ function stampRows({ toolbar, stamps }) {
   ];
 }
 
-function editRows({ toolbar, tools, clips, bench }) {
-  // What the tool in hand does with a key, and else the clips of cells.
-  const either = name => () => tools.now[name]?.() === true || clips[name]?.();
+function editRows({ toolbar, clips, bench }) {
   const redo = event => toolbar.turn("redo", event);
   return [
     [["Ctrl+z"], "Undoes a step", (_, event) => toolbar.turn("undo", event)],
     [["Ctrl+Shift+z", "Ctrl+y"], "Redoes a step", (_, event) => redo(event)],
-    [["Ctrl+c"], "Copies the selected cells, and takes them as the stamp", either("copy")],
-    [["Ctrl+x"], "Cuts the selected cells", either("cut")],
-    [["Ctrl+v"], "Takes what was copied as the stamp, and drops the selection", either("paste")],
-    [["Ctrl+d"], "Makes a copy of the chosen object", either("duplicate")],
-    [["delete", "backspace"], "Removes the chosen object, or empties the selected cells", either("remove")],
+    [["Ctrl+c"], "Copies the selected cells, and takes them as the stamp; or the chosen object", () => clips.copy()],
+    [["Ctrl+x"], "Cuts the selected cells, or the chosen object", () => clips.cut()],
+    [["Ctrl+v"], "Takes copied cells as the stamp, and drops the selection; or pastes a copied object", () => clips.paste()],
+    [["Ctrl+d"], "Makes a copy of the chosen object", () => clips.duplicate()],
+    [["delete", "backspace"], "Removes the chosen object, or empties the selected cells", () => clips.remove()],
     [["Ctrl+a"], "Selects all cells", () => bench.map && bench.act([`select replace 0 0 ${bench.map.width} ${bench.map.height}`])],
     [["Ctrl+Shift+a"], "Selects nothing", () => bench.act(["select none"])],
   ];

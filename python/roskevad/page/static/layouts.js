@@ -1,9 +1,11 @@
 // How each map is shown and worked on: its zoom, its place, its layer, the tool, the stamp and the panels. That is kept for as long as this
 // tab lives, also where the page is loaded anew.
+import { withUsedSets } from "./tile_numbers.js";
 
 const STORED = "roskevad-layouts";
-// The largest stamp that is stored, how many maps are, and how long behind a change that is done.
+// The largest stamp that is stored, the longest text of its tilesets, how many maps are, and how long behind a change that is done.
 const LARGEST_STAMP = 1024;
+const LONGEST_SETS = 16_384;
 const MOST_MAPS = 100;
 const LATER = 300;
 
@@ -13,6 +15,16 @@ const tilesOf = ({ stamp, tileset, side }) => ({ stamp, tileset, side });
 
 function isStamp(stamp) {
   return Boolean(stamp) && stamp.width > 0 && stamp.values?.length === stamp.width * stamp.height && stamp.values.every(isNumber);
+}
+
+const areSets = sets => Array.isArray(sets) && sets.every(set => isNumber(set?.first) && typeof set.key === "string" && typeof set.name === "string");
+
+// A stamp as it is stored. A large one is not. One of an earlier version, which has not been taken up, stays as it is.
+function storedStamp(stamp) {
+  if (!stamp || stamp.values.length > LARGEST_STAMP) return null;
+  if (!stamp.sets) return stamp;
+  const stored = withUsedSets(stamp);
+  return JSON.stringify(stored.sets).length > LONGEST_SETS ? null : stored;
 }
 
 export class Layouts {
@@ -52,7 +64,7 @@ export class Layouts {
   now() {
     const { bench, view, tools, palette, layers, properties, objects, panels } = this.page;
     return {
-      view: [view.scale, view.originX, view.originY], layer: bench.layerId, tool: tools.name, brush: bench.brushSize, stamp: bench.stamp,
+      view: [view.scale, view.originX, view.originY], layer: bench.layerId, tool: tools.name, brush: bench.brushSize, stamp: bench.hand,
       tileset: palette.first, side: palette.side, folded: [...layers.folded], owner: properties.kind, left: objects.side,
       panels: panels.state(), ...(this.pending && tilesOf(this.pending)),
     };
@@ -62,8 +74,7 @@ export class Layouts {
   store() {
     const open = new Set([...this.editor.notes.documents.keys()].map(document => this.keyOf(document)));
     for (const key of this.all.keys()) if (key.startsWith("map ") && !open.has(key)) this.all.delete(key);
-    const isSmall = stamp => stamp.values.length <= LARGEST_STAMP;
-    const last = [...this.all].slice(-MOST_MAPS).map(([key, each]) => [key, isSmall(each.stamp) ? each : { ...each, stamp: null }]);
+    const last = [...this.all].slice(-MOST_MAPS).map(([key, each]) => [key, { ...each, stamp: storedStamp(each.stamp) }]);
     try {
       sessionStorage.setItem(STORED, JSON.stringify(last));
     } catch (fault) {
@@ -114,10 +125,18 @@ export class Layouts {
 
   // The tileset that the palette shows, and the stamp.
   enterTiles(kept) {
-    const { bench, palette, tilesets } = this.page;
+    const { palette, tilesets } = this.page;
     this.pending = null;
-    if (isStamp(kept.stamp)) bench.takeStamp(kept.stamp);
+    if (isStamp(kept.stamp)) this.enterStamp(kept.stamp);
     palette.zoomTo(kept.side);
     if (kept.tileset !== palette.first && tilesets.all.some(set => set.first === kept.tileset)) palette.choose(kept.tileset);
+  }
+  // The stamp that a map had. What an earlier version of the page has kept are numbers without tilesets: those of this map alone.
+  enterStamp(stamp) {
+    const { bench } = this.page;
+    const { carried } = bench;
+    const { why } = stamp.isUsual ? carried.takeUsual() : carried.carry(areSets(stamp.sets) ? stamp : carried.numbers.copyOf(stamp));
+    bench.tell("stamp");
+    if (why) bench.say(why);
   }
 }

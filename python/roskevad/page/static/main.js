@@ -120,13 +120,18 @@ class Page {
     const isOther = active !== this.shownDocument;
     this.shownDocument = active;
     const kept = isOther ? this.layouts.enter(active) : null;
+    const { isOther: isOtherStamp, why } = this.bench.carried.follow();
     this.bench.settle();
     if (isOther && !kept) this.view.fit();
     this.view.takeMap();
     this.showNotDrawn();
     this.marks.redraw();
     await this.editor.during(this.showTilesets());
-    if (kept && this.shownDocument === active) this.layouts.enterTiles(kept);
+    if (this.shownDocument !== active) return;
+    if (kept) this.layouts.enterTiles(kept);
+    else if (isOtherStamp) this.bench.tell("stamp");
+    // What is said of the lines that have led here comes first.
+    if (why && !kept?.stamp) await this.editor.during(new Promise(done => setTimeout(() => done(this.bench.say(why)))));
   }
 
   async showTilesets() {
@@ -138,7 +143,6 @@ class Page {
     this.miniMap.change();
     this.showNotDrawn();
     this.panel.showMissing();
-    if (bench.map && !tilesets.of(bench.fillValue)) bench.takeStamp({ width: 1, height: 1, values: [tilesets.all[0]?.first ?? 1] });
   }
 
   showNotDrawn() {

@@ -10,15 +10,20 @@ export const lastOf = path => path.slice(path.lastIndexOf("/") + 1);
 // The folder that a path stands in, with its slash; "" where it stands in none.
 export const folderOf = path => path.slice(0, path.lastIndexOf("/") + 1);
 
-// A path from a folder, where `.` and `..` are gone; null where it leads out of the top.
-export function joined(folder, path) {
+// A path without `.`, and with `..` at its beginning alone, where it leads out of the top.
+export function plainPath(path) {
   const parts = [];
-  for (const part of (folder + path).split("/")) {
-    if (part === ".." && !parts.length) return null;
-    if (part === "..") parts.pop();
+  for (const part of path.split("/")) {
+    if (part === ".." && parts.length && parts[parts.length - 1] !== "..") parts.pop();
     else if (part !== "." && part !== "") parts.push(part);
   }
   return parts.join("/");
+}
+
+// A path from a folder, where `.` and `..` are gone; null where it leads out of the top.
+export function joined(folder, path) {
+  const made = plainPath(folder + path);
+  return made.split("/")[0] === ".." ? null : made;
 }
 
 // The path that leads from a folder, with its slash or "", to a path beside it.

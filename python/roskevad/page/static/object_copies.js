@@ -20,12 +20,22 @@ function linesOf(object, id, layer, x, y, name) {
   ];
 }
 
+// The layer that takes a new object: the one in hand, or else the only one of the map. null where there is none, or several: it is said.
+export function layerForObjects(bench) {
+  const all = bench.map.layers.filter(each => each.type === "objectgroup");
+  if (bench.layer?.type === "objectgroup") return bench.layer;
+  if (all.length === 1) return all[0];
+  const names = all.map(each => each.data.name || "(no name)");
+  const words = all.length ? `Choose an object layer first: ${listed(names, "or")}.` : "Add an object layer first, by 'Add an object layer' below the layers.";
+  return bench.say(words);
+}
+
 // The place one cell to the right and down of an object.
 const besides = (object, { projection }) => [(object.x ?? 0) + projection.side[0], (object.y ?? 0) + projection.side[1]];
 
 export class ObjectCopies {
   constructor(bench) {
-    Object.assign(this, { bench, copied: null });
+    Object.assign(this, { bench });
     bench.addEventListener("object chosen", () => endNotice(ABOUT));
   }
 
@@ -46,7 +56,7 @@ export class ObjectCopies {
   }
 
   take(object, layer) {
-    this.copied = { object: structuredClone(object), layer: layer.id };
+    this.bench.clipboard.keepObject(object, layer);
     this.bench.say(`${nameOf(object)} is copied: Ctrl+V puts it where the mouse is.`);
     return true;
   }
@@ -59,16 +69,22 @@ export class ObjectCopies {
 
   // Puts what was kept where the hand is, or else beside where it was.
   paste() {
-    const { bench, copied } = this;
-    const { object } = copied;
-    const layer = bench.layer?.type === "objectgroup" ? bench.layer : bench.map.layer(copied.layer);
-    if (layer?.type !== "objectgroup") return bench.say("Choose an object layer first.");
-    if (bench.barsObjects(layer, "pasted")) return null;
+    const { bench } = this;
+    const { object } = bench.clipboard.object;
+    const layer = this.layerForPaste(bench.clipboard.object);
+    if (!layer || bench.barsObjects(layer, "pasted")) return null;
     const at = bench.place;
     const up = object.gid ? -1 : 1;
     const [x, y] = at ? bench.marks.inLayer(layer, at.pixelX, at.pixelY) : besides(object, bench.map);
     const [left, top] = at ? [x - (object.width ?? 0) / 2, y - up * (object.height ?? 0) / 2] : [x, y];
     return this.put(object, layer.id, left, top, "Paste Object || paste object");
+  }
+
+  // The layer in hand, or else that of the object, where this is its map; of another map it is none that has the same id by chance.
+  layerForPaste({ layer, document }) {
+    const { bench } = this;
+    const own = document === bench.editor.notes.document ? bench.map.layer(layer) : null;
+    return bench.layer?.type !== "objectgroup" && own?.type === "objectgroup" ? own : layerForObjects(bench);
   }
 
   async put(object, layer, x, y, step) {

@@ -1,7 +1,7 @@
 // The tools of the hand for objects: one that chooses, drags and resizes them, and one that adds them.
 import { ask } from "./dom.js";
 import { KINDS } from "./kinds.js";
-import { ObjectCopies, listed, nameOf } from "./object_copies.js";
+import { ObjectCopies, layerForObjects, nameOf } from "./object_copies.js";
 import { handleAt, resized } from "./object_shapes.js";
 
 // How far the hand moves before a press is a drag, in pixels of the screen.
@@ -42,6 +42,7 @@ export class ObjectTool {
     const handle = this.handleAt(place);
     const found = handle ? bench.chosenObject : bench.marks.objectAt(place.pixelX, place.pixelY, bench.layerId);
     if (!handle) bench.chooseObject(found?.object.id ?? null);
+    if (!found && !bench.map.layers.some(layer => layer.data.objects?.length)) bench.say("This map has no objects. The tool Insert (I) makes one.");
     this.drag = found && { ...found, handle, from: place, isMoved: false };
   }
 
@@ -138,25 +139,29 @@ export class ObjectTool {
     return true;
   }
 
+  // Where no object is chosen and cells of the layer in hand are selected, copies, cuts and removals are about these.
+  get isAboutCells() {
+    const { chosenObject, layer, map } = this.bench;
+    return !chosenObject && Boolean(map?.selected && layer?.isTiles);
+  }
+
   remove() {
-    return this.onChosen("removed", object => this.bench.act([`object remove ${object.id}`]));
+    return !this.isAboutCells && this.onChosen("removed", object => this.bench.act([`object remove ${object.id}`]));
   }
 
   copy() {
-    return this.onChosen("copied", (object, layer) => this.copies.keep(object, layer));
+    return !this.isAboutCells && this.onChosen("copied", (object, layer) => this.copies.keep(object, layer));
   }
 
   cut() {
-    return this.onChosen("cut", (object, layer) => this.copies.whole(object, "cut", () => {
+    return !this.isAboutCells && this.onChosen("cut", (object, layer) => this.copies.whole(object, "cut", () => {
       this.copies.take(object, layer);
       this.bench.act([`object remove ${object.id}`]);
     }));
   }
 
   paste() {
-    if (!this.copies.copied || !this.bench.map) return false;
-    this.copies.paste();
-    return true;
+    return this.copies.paste();
   }
 
   duplicate() {
@@ -169,16 +174,6 @@ export class ObjectTool {
     this.bench.chooseObject(null);
     return true;
   }
-}
-
-// The layer that takes a new object: the one in hand, or else the only one of the map. null where there is none, or several: it is said.
-export function layerForObjects(bench) {
-  const all = bench.map.layers.filter(each => each.type === "objectgroup");
-  if (bench.layer?.type === "objectgroup") return bench.layer;
-  if (all.length === 1) return all[0];
-  const names = all.map(each => each.data.name || "(no name)");
-  const words = all.length ? `Choose an object layer first: ${listed(names, "or")}.` : "Add an object layer first, by 'Add an object layer' below the layers.";
-  return bench.say(words);
 }
 
 // Adds an object over a rectangle of cells, under a name that is asked for, and chooses it.

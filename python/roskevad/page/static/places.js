@@ -8,10 +8,11 @@
 //   look(path)        the size and the time of a file; null where there is none, or where that cannot be told
 //   read(path)        the bytes of a file and its mark: { bytes, mark }; null where there is none
 //   bytes(path)       the bytes of a tileset or of an image; null where there is none
+//   fileOf(path)      a text that tells the file of a path from all others that the page has seen, here and in other places
 //   write(path, bytes, mark)  writes a file whole, and gives its new mark. `mark` tells what must be there: null that no file is.
 //   advice(path)      what to do where a tileset is not there
 import { hashOf } from "./hashes.js";
-import { joined, lastOf } from "./names.js";
+import { joined, lastOf, plainPath } from "./names.js";
 
 // The longest file that is read.
 export const LONGEST_FILE = 64 * 1024 * 1024;
@@ -104,6 +105,12 @@ export class ChosenFiles {
 
   async bytes(path) {
     return this.found(path)?.bytes ?? null;
+  }
+
+  fileOf(path) {
+    const plain = plainPath(path);
+    const isNamed = !this.files.has(plain) && this.files.has(lastOf(plain));
+    return `chosen ${isNamed ? lastOf(plain) : plain}`;
   }
 
   async write(path, bytes) {
@@ -208,6 +215,10 @@ export class FolderFiles extends EventTarget {
   async bytes(path) {
     const file = await (await this.handle(path))?.getFile();
     return file ? bytesOf(file) : null;
+  }
+
+  fileOf(path) {
+    return `folder ${plainPath(`${this.title}/${path}`)}`;
   }
 
   // The browser writes a file beside it, and puts that in its place as it is closed. Where that fails, a file that was made for it is taken
@@ -366,6 +377,11 @@ export class ServedFiles extends EventTarget {
   async bytes(path) {
     const answer = await this.answerWith(path);
     return answer && new Uint8Array(await answer.arrayBuffer());
+  }
+
+  // The server tells where its folder is.
+  fileOf(path) {
+    return `served ${plainPath(`${this.title}/${path}`)}`;
   }
 
   async write(path, bytes, mark) {

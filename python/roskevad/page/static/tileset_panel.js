@@ -4,7 +4,6 @@ import { iconButton } from "./icons.js";
 import { FileList } from "./file_list.js";
 import { folderOf, pathFrom } from "./names.js";
 import { endNotice, notice } from "./notices.js";
-import { TILE } from "./tile_numbers.js";
 import { checked, readTileset } from "./tileset_files.js";
 
 const ABOUT = "wrong tilesets";
@@ -48,22 +47,6 @@ export class TilesetPanel {
   }
 
   // ---- adding and removing
-  // The first id for a tileset that is added: behind all tiles of those that are there, and behind all that the map uses.
-  nextFirst() {
-    const ends = this.tilesets.all.map(set => set.first + (set.span ?? 1));
-    return Math.max(1, ...ends, this.greatestUsed() + 1);
-  }
-
-  greatestUsed() {
-    return this.bench.map.layers.reduce((greatest, layer) => Math.max(greatest, this.greatestIn(layer)), 0);
-  }
-
-  greatestIn(layer) {
-    const { map } = this.bench;
-    const values = layer.isTiles ? map.cells(layer.id, 0, 0, map.width, map.height) : (layer.data.objects ?? []).map(each => each.gid ?? 0);
-    return values.reduce((greatest, value) => Math.max(greatest, value & TILE), 0);
-  }
-
   async add() {
     const { map } = this.bench;
     if (!map) return this.bench.say("Open a map first.");
@@ -72,7 +55,7 @@ export class TilesetPanel {
     const folder = folderOf(this.editor.notes.file?.path ?? "");
     const has = new Set(map.data.tilesets.map(set => set.source));
     const known = new Map(files.filter(each => has.has(pathFrom(folder, each.path))).map(each => [each.path, "in the map already"]));
-    const first = element("input", { name: "first", type: "number", min: 1, value: this.nextFirst() });
+    const first = element("input", { name: "first", type: "number", min: 1, value: this.bench.carried.numbers.nextFirst() });
     const unknown = this.tilesets.all.filter(set => set.span === null).length;
     const doubt = unknown ? ` Of ${unknown} of them it is not known how many tiles they have.` : "";
     const label = element("label", {}, element("span", { textContent: `Its first id, behind the tiles of the others.${doubt}` }), first);

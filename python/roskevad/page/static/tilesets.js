@@ -1,8 +1,8 @@
 // The tilesets of a map with their images, where those can be had: a tileset is a `.tsx` or `.tsj` file with one image, or stands in the
 // map itself.
-import { folderOf } from "./names.js";
+import { folderOf, lastOf } from "./names.js";
 import { TileLooks } from "./tile_looks.js";
-import { DIAGONAL, TILE, setOf } from "./tile_numbers.js";
+import { DIAGONAL, TILE, keyOf, setOf, setsOf } from "./tile_numbers.js";
 import { withoutColour } from "./tileset_looks.js";
 import { Wrong, checked, claimOf, heldBy, imageOf, readTileset } from "./tileset_files.js";
 
@@ -38,14 +38,21 @@ class Tileset {
     const { told, image } = this;
     const held = heldBy(image, { ...this, columns: told.columns });
     this.why = claimOf(image, { ...this, columns: told.columns }, held, told.tilecount ?? 0);
+    this.held = Math.min(told.tilecount || held.count, held.count);
     if (held.count > 0) Object.assign(this, { columns: held.columns, count: Math.min(told.tilecount || held.count, held.count, most) });
     else Object.assign(this, { image: null, columns: 8, count: Math.min(this.count, USUAL), tileWidth: map.tileWidth, tileHeight: map.tileHeight });
   }
 
   // How many values it takes of those of the map, as Tiled reckons the first id of the next one; null where that is not known.
   get span() {
-    const known = this.image ? this.count : this.told.tiles || null;
+    const known = this.held || this.told.tiles || null;
     return this.why ? known : Math.max(this.told.tilecount ?? 0, known ?? 0) || null;
+  }
+
+  // How many tiles it has; null where that is not known, as where its image alone tells it, and is not there.
+  get size() {
+    const isTold = this.held > 0 || !this.told.image || (this.told.tilecount > 0 && !this.why);
+    return isTold ? this.span : null;
   }
 
   // The image that has a tile, and the size of the tile there.
@@ -106,10 +113,12 @@ export class Tilesets {
   constructor(editor) {
     this.editor = editor;
     this.all = [];
+    // How many tiles each tileset has that was read, by its key; null where that is not known.
+    this.sizes = new Map();
     // Called where a colour is known that was not when the map was drawn.
     this.onLooks = () => {};
     this.forgetLooks();
-    this.said = "[]";
+    this.said = this.taken = "[]";
     // The paths of the files that cannot be had, and the tilesets that are wrong: { name, why }.
     this.missing = [];
     this.wrong = [];
@@ -118,6 +127,23 @@ export class Tilesets {
   // Asks for the files anew with the next map: others can be had by now.
   forget() {
     this.said = "[]";
+    this.known = null;
+  }
+
+  // Those of the active map, as tile numbers are read by them, also while their files are being read.
+  get sets() {
+    const { map, notes, place } = this.editor;
+    const path = notes.file?.path ?? "";
+    if (this.known?.map === map && this.known.path === path) return this.known.sets;
+    const said = JSON.stringify([map?.data.tilesets ?? [], path, notes.active]);
+    const sets = this.known?.said === said ? this.known.sets : setsOf(map?.data.tilesets ?? [], folderOf(path), place, lastOf(path) || notes.active);
+    this.known = { map, path, said, sets };
+    return sets;
+  }
+
+  // Whether the files have been read of the map that was taken last.
+  get isRead() {
+    return this.taken === this.said;
   }
 
   // Takes the tilesets of a map, and says whether they are others than before.
@@ -130,9 +156,10 @@ export class Tilesets {
     this.folder = folder;
     const found = { missing: [], wrong: [] };
     const sorted = [...wanted].sort((one, other) => one.firstgid - other.firstgid);
-    const all = await Promise.all(sorted.map((data, at) => this.read(data, sorted[at + 1]?.firstgid ?? TILE + 1, map, found)));
+    this.reading = Promise.all(sorted.map((data, at) => this.read(data, sorted[at + 1]?.firstgid ?? TILE + 1, map, found)));
+    const all = await this.reading;
     if (said !== this.said) return false;
-    Object.assign(this, found, { all });
+    Object.assign(this, found, { all, taken: said });
     this.forgetLooks();
     return true;
   }
@@ -147,6 +174,7 @@ export class Tilesets {
     let image = null;
     let pictures = null;
     let why = "";
+    const key = keyOf(data, this.folder, this.editor.place);
     try {
       told = checked(data.source ? await this.readFile(this.folder + data.source, found) : data);
       const path = told.image && this.folder + folderOf(data.source ?? "") + told.image;
@@ -162,6 +190,7 @@ export class Tilesets {
       ? new PictureSet(data.firstgid, next - 1, data.source, told, pictures, map)
       : new Tileset(data.firstgid, next - 1, data.source, why ? { name: told.name } : told, image, map);
     tileset.why ||= why;
+    this.sizes.set(key, tileset.size);
     if (tileset.why) found.wrong.push({ name: data.source ?? tileset.name, why: tileset.why });
     return tileset;
   }

@@ -36,7 +36,7 @@ export class Toolbar {
     byId("page-actions").append(iconButton("keys", "Keys", "Keys: lists them (F1)", () => this.keys.list(), { id: "list-keys" }));
     const clips = new Clips(bench, tools);
     showIcon(byId("take"), "take");
-    byId("take").onclick = () => clips.copy();
+    byId("take").onclick = () => bench.clipboard.during(() => clips.copyCells());
     byId("macro").onclick = () => this.turnMacro();
     byId("macro-name").onkeydown = onEnter(() => this.turnMacro());
     const sizes = Array.from({ length: LARGEST_BRUSH }, (_, at) => element("option", { value: at + 1, textContent: `${at + 1} × ${at + 1}` }));

@@ -6,9 +6,9 @@ import { ViewHand } from "./view_hand.js";
 
 const DRAWN = "#7fd67f";
 const COLOURS = { brush: DRAWN, eraser: "#ff8f8f", fill: DRAWN, rectangle: DRAWN, select: "#8cc8ff", insert: "#ffd34d", capture: "#d8b4ff" };
-// The tools that draw on the layer in hand, and those with which the right button takes tiles.
+// The tools that draw on the layer in hand, and those that draw the stamp: with these the right button takes tiles.
 const PAINTING = new Set(["brush", "eraser", "fill", "rectangle"]);
-const TAKING = new Set(["brush", "fill", "rectangle"]);
+const STAMPING = new Set(["brush", "fill", "rectangle"]);
 // Those whose cells are those of the layer in hand, where it lies.
 const ON_LAYER = new Set([...PAINTING, "capture"]);
 
@@ -106,7 +106,7 @@ export class Tools {
   // The tool of a press: the middle button or the space bar moves the view, the right button takes tiles.
   toolOf(event) {
     if (event.button === 1 || this.isSpace) return "pan";
-    if (event.button === 2) return TAKING.has(this.name) ? "capture" : null;
+    if (event.button === 2) return STAMPING.has(this.name) ? "capture" : null;
     return event.button === 0 ? this.name : null;
   }
 
@@ -116,6 +116,7 @@ export class Tools {
     const name = this.toolOf(event);
     if (!name || this.held || (name !== "pan" && !this.isReady())) return;
     if (PAINTING.has(name) && this.bench.barredLayer()) return;
+    if (STAMPING.has(name) && this.bench.carried.bars()) return;
     event.preventDefault();
     // A press by keys has no pointer.
     if (event.isTrusted) this.bench.view.box.setPointerCapture(event.pointerId);

@@ -1,0 +1,493 @@
+"""Copies, keeps and pastes tiles and objects on the page in Chromium, between maps whose tilesets stand in
+another order, at other first ids, in another folder, in the map itself, or not at all: a tile stays the
+tile that it was, or is refused by name. A copy that is refused leaves nothing older to be pasted."""
+import json
+
+from lib.cases import passed
+from lib.maps import objects_in
+from lib.places import EXAMPLE_MAPS
+from page.bench import Bench, choose, middle_of, spelled, standing
+from page.browser import Keys
+
+NEEDS_BROWSER = True
+IS_LONG = True
+WIDTH, HEIGHT = 8, 6
+# Tiles of `tiles.tsx` by their numbers where its first id is 1: in several flips and turns.
+FLIPS = (0x80000000, 0x40000000, 0x20000000, 0x10000000)
+TILES = [5, FLIPS[0] | 12, FLIPS[1] | 1, sum(FLIPS[:3]) | 32, FLIPS[3] | 3]
+# A tileset that a map has in itself.
+BRICKS = {'columns': 8, 'image': 'tiles.png', 'imageheight': 64, 'imagewidth': 128, 'margin': 0, 'name': 'bricks', 'spacing': 0,
+          'tilecount': 32, 'tileheight': 16, 'tilewidth': 16}  # fmt: skip
+# Maps by their names: their tilesets, each with its first id, and the first of their cells.
+MAPS = {
+    'one': ([(1, 'tiles.tsx')], TILES),
+    'two': ([(1, 'furniture.tsx'), (5, 'town.tsj'), (37, 'tiles.tsx')], []),
+    'twice': ([(1, 'tiles.tsx'), (33, 'tiles.tsx')], [37]),
+    'third': ([(1, 'furniture.tsx'), (5, 'tiles.tsx'), (37, 'tiles.tsx')], []),
+    'few': ([(1, 'furniture.tsx')], [2, FLIPS[0] | 9]),
+    'both': ([(1, 'tiles.tsx'), (33, 'walls.tsj')], [6, 35]),
+    'embedded': ([(1, 'tiles.tsx'), (33, BRICKS)], [37, FLIPS[0] | 38]),
+    'turned': ([(1, dict(reversed(BRICKS.items())))], []),
+    'other': ([(1, {**BRICKS, 'margin': 1})], []),
+    'far': ([(1, 'tiles.tsx')], [40, 5]),
+    'near': ([(1, 'furniture.tsx'), (5, 'tiles.tsx'), (37, 'town.tsj')], []),
+    'lost': ([(1, 'gone.tsx')], [20]),
+    'tight': ([(1, 'gone.tsx'), (11, 'tiles.tsx')], []),
+    'loose': ([(1, 'tiles.tsx'), (33, 'gone.tsx')], []),
+    'sub/deep': ([(1, '../furniture.tsx'), (5, '../tiles.tsx')], []),
+    'sub/bare': ([(1, '../furniture.tsx')], []),
+    'sub/alike': ([(1, 'tiles.tsx')], []),
+}
+
+
+def map_with(tilesets, cells=()):
+    """The text of a map of one tile layer, with these cells in front."""
+    told = json.loads((EXAMPLE_MAPS / 'layers.tmj').read_text())
+    layer = {**told['layers'][0], 'data': [*cells, *[0] * (WIDTH * HEIGHT - len(cells))]}
+    sets = [{'firstgid': first, **({'source': each} if isinstance(each, str) else each)} for first, each in tilesets]
+    return json.dumps({**told, 'layers': [layer], 'tilesets': sets})
+
+
+def put_maps(folder, *names):
+    for name in names:
+        (folder / f'{name}.tmj').write_text(map_with(*MAPS[name]))
+
+
+class Maps(Bench):
+    """The page with some of the maps open, the first one shown."""
+
+    def __init__(self, *names, **options):
+        super().__init__(empty=True, has_log=False, **options)
+        (self.folder / 'sub').mkdir()
+        put_maps(self.folder, *names)
+        other = (EXAMPLE_MAPS / 'furniture.tsx').read_text().replace('furniture.png', '../furniture.png')
+        (self.folder / 'sub' / 'tiles.tsx').write_text(other)
+        for name in names:
+            path = f'{name}.tmj'
+            if self.server is None:
+                self.page.js('roskevad.editor.place.take([{path: arguments[0], bytes: new TextEncoder().encode(arguments[1])}])',
+                             path, (self.folder / path).read_text())  # fmt: skip
+            open_map(self.page, path)
+        go(self.page, names[0])
+
+
+def open_map(page, path):
+    page.js('return roskevad.documents.openPath(arguments[0]).then(() => null)', path)
+    page.settle()
+
+
+def go(page, name):
+    """Shows a map by its tab."""
+    document = name.rpartition('/')[2]
+    page.click(f'.tab[data-document="{document}"]')
+    assert page.editor.state()['active'] == document
+
+
+def cells(page, row, count=WIDTH):
+    return page.editor.map()['layers'][0]['data'][row * WIDTH :][:count]
+
+
+def copy(page, count, key='c'):
+    """Selects the first cells of the map, copies them, and selects nothing."""
+    page.editor.lines(f'select replace 0 0 {count} 1')
+    page.ctrl(key)
+    page.editor.lines('select none')
+
+
+def draw(page, row, count=1):
+    """Draws the stamp, which is so wide, from the first cell of a row on."""
+    page.stroke([(count // 2, row)])
+
+
+def hand(page):
+    return page.js('return roskevad.bench.stamp.values')
+
+
+def say_nothing(page):
+    page.js('roskevad.bench.bubble.hide()')
+
+
+def notices_of(page, word):
+    return [each for each in page.notices() if word in each]
+
+
+def moved(values, by):
+    return [value + by for value in values]
+
+
+# ---- what a tile is on another map
+
+
+def test_other_order():
+    """A copied tile is the same tile of the same tileset, with its flips, on a map whose tilesets stand in
+    another order, and back. Where one stands twice it is the first, but on the map that it is of."""
+    with Maps('one', 'two', 'twice', 'third') as page:
+        copy(page, 5)
+        go(page, 'two')
+        page.ctrl('v')
+        draw(page, 2, 5)
+        assert cells(page, 2, 5) == moved(TILES, 36), cells(page, 2)
+        page.editor.lines('select replace 0 2 5 1')
+        page.ctrl('c')
+        go(page, 'one')
+        page.ctrl('v')
+        draw(page, 3, 5)
+        assert cells(page, 3, 5) == TILES and not page.bubble() and not page.notices()
+        passed()
+        for name, wanted in (('twice', 5), ('third', 9)):
+            copy(page, 1)
+            go(page, name)
+            page.ctrl('v')
+            draw(page, 2)
+            assert cells(page, 2, 1) == [wanted], (name, cells(page, 2))
+            go(page, 'one')
+            passed()
+        go(page, 'twice')
+        copy(page, 1)
+        page.ctrl('v')
+        draw(page, 3)
+        assert cells(page, 3, 1) == [37], 'it stays as it is on its own map'
+        go(page, 'third')
+        page.ctrl('v')
+        draw(page, 3)
+        assert cells(page, 3, 1) == [9]
+
+
+def test_missing_tileset():
+    """A tileset that the map does not have is named, nothing is pasted, and it is offered: its first id is
+    behind all that is known or used. Several are added as one step. One that is taken away again takes the
+    stamp with it."""
+    with Maps('one', 'few', 'both') as page:
+        copy(page, 5)
+        go(page, 'few')
+        say_nothing(page)
+        page.ctrl('v')
+        assert 'tiles.tsx' in page.bubble() and 'Nothing was pasted' in page.bubble(), page.bubble()
+        draw(page, 2, 5)
+        assert standing(page) == (0, 0), (spelled(page), hand(page))
+        page.answer('OK')
+        page.ctrl('v')
+        page.answer('Add it')
+        assert spelled(page) == ['tileset add 10 tiles.tsx'] and not page.notices()
+        draw(page, 2, 5)
+        assert cells(page, 2, 5) == moved(TILES, 9)
+        passed()
+        page.ctrl('z')
+        page.ctrl('z')
+        assert standing(page) == (0, 2) and 'tiles.tsx' in page.bubble() and hand(page) == [0], page.bubble()
+        draw(page, 3)
+        assert standing(page) == (0, 2), 'a number past the end of another tileset is not drawn'
+        go(page, 'both')
+        copy(page, 2)
+        go(page, 'few')
+        page.ctrl('v')
+        [told] = notices_of(page, 'walls.tsj')
+        assert 'tiles.tsx and walls.tsj' in told, told
+        page.answer('Add them')
+        wanted = ['begin Add Tilesets || add tilesets', 'tileset add 10 tiles.tsx', 'tileset add 42 walls.tsj', 'end']
+        assert spelled(page)[-4:] == wanted, spelled(page)
+        draw(page, 2, 2)
+        assert cells(page, 2, 2) == [15, 44] and standing(page) == (2, 2)
+        passed()
+
+
+def test_folders():
+    """A tileset is known by its file, from whichever folder a map names it: the same file by another path, and
+    another file by the same path."""
+    with Maps('one', 'sub/deep', 'sub/bare', 'sub/alike', served=True) as page:
+        copy(page, 5)
+        go(page, 'sub/deep')
+        page.ctrl('v')
+        draw(page, 2, 5)
+        assert cells(page, 2, 5) == moved(TILES, 4)
+        go(page, 'sub/bare')
+        page.ctrl('v')
+        page.answer('Add it')
+        assert spelled(page)[-1] == 'tileset add 5 ../tiles.tsx', spelled(page)
+        draw(page, 2, 5)
+        assert cells(page, 2, 5) == moved(TILES, 4)
+        go(page, 'sub/alike')
+        say_nothing(page)
+        page.ctrl('v')
+        assert 'does not have the tileset tiles.tsx' in page.bubble(), page.bubble()
+        draw(page, 2, 5)
+        assert standing(page) == (0, 0), spelled(page)
+
+
+def test_tilesets_in_maps():
+    """A tileset that a map has in itself is known by its members, in whatever order. No line adds it to another
+    map, so there it is refused by name."""
+    with Maps('embedded', 'turned', 'other') as page:
+        copy(page, 2)
+        go(page, 'turned')
+        page.ctrl('v')
+        draw(page, 2, 2)
+        assert cells(page, 2, 2) == [5, FLIPS[0] | 6]
+        go(page, 'other')
+        say_nothing(page)
+        page.ctrl('v')
+        assert 'bricks, which embedded.tmj has in itself' in page.bubble(), page.bubble()
+        draw(page, 2, 2)
+        assert not spelled(page) and not notices_of(page, 'embedded')
+
+
+def test_past_the_end():
+    """A tile past the end of its tileset is not pasted on another map, where its number would be another tile,
+    also where only the next tileset tells where it ends. On its own map it is drawn where the user says so."""
+    with Maps('far', 'near', 'lost', 'tight', 'loose') as page:
+        copy(page, 2)
+        draw(page, 2, 2)
+        assert 'tiles.tsx has 32 tiles, and no tile 39' in page.bubble() and cells(page, 2, 2) == [0, 0], page.bubble()
+        page.answer('Draw it all the same')
+        draw(page, 2, 2)
+        assert cells(page, 2, 2) == [40, 5]
+        passed()
+        go(page, 'near')
+        say_nothing(page)
+        page.ctrl('v')
+        assert 'tiles.tsx has 32 tiles, and no tile 39' in page.bubble(), page.bubble()
+        draw(page, 2, 2)
+        assert not spelled(page) and not page.notices()
+        passed()
+        go(page, 'lost')
+        copy(page, 1)
+        go(page, 'tight')
+        say_nothing(page)
+        page.ctrl('v')
+        assert 'Tile 19 of gone.tsx' in page.bubble(), page.bubble()
+        draw(page, 2)
+        assert not spelled(page)
+        passed()
+        go(page, 'loose')
+        page.ctrl('v')
+        draw(page, 2)
+        assert cells(page, 2, 1) == [52]
+
+
+# ---- the hand, and what is kept
+
+
+def test_hand():
+    """Behind a change of tab the hand has the same tiles, by their numbers there; where that map does not have
+    them it has none, and the tileset is named. Nobody has taken the first tile of a map, so it goes without a
+    word."""
+    with Maps('one', 'two', 'few', 'both') as page:
+        assert [hand(page), page.bubble()] == [[1], '']
+        page.js('roskevad.bench.takeStamp({width: 2, height: 1, values: arguments[0]})', TILES[:2])
+        page.editor.lines('new fresh 8 6 16 16 town.tsj', 'tileset add 33 tiles.tsx')
+        page.editor.lines('use one', 'layer add tile Upper')
+        page.js('roskevad.layouts.all.clear()')
+        go(page, 'two')
+        assert hand(page) == moved(TILES[:2], 36)
+        draw(page, 2, 2)
+        assert cells(page, 2, 2) == moved(TILES[:2], 36)
+        page.keys('x')
+        passed()
+        page.js('roskevad.layouts.all.clear()')
+        go(page, 'few')
+        assert 'put down' in page.bubble() and 'tiles.tsx' in page.bubble(), page.bubble()
+        for key in 'bfp':
+            page.keys(key)
+            draw(page, 2)
+            assert hand(page) == [0] and not spelled(page) and 'No tile' in page.bubble(), key
+        page.ctrl('5')
+        assert 'no stamp is kept' in page.bubble()
+        passed()
+        go(page, 'two')
+        assert hand(page) == [FLIPS[0] ^ value for value in moved(TILES[1::-1], 36)], 'it has its own stamp'
+        page.js('roskevad.layouts.all.clear()')
+        go(page, 'fresh')
+        assert hand(page) == [FLIPS[0] ^ value for value in moved(TILES[1::-1], 32)]
+        page.editor.lines('undo')
+        assert 'put down' in page.bubble() and hand(page) == [0], page.bubble()
+
+
+def test_digits():
+    """A stamp that is kept on a digit is the same tiles on each map; a missing tileset is offered."""
+    with Maps('one', 'two', 'few') as page:
+        page.js('roskevad.bench.takeStamp({width: 2, height: 1, values: arguments[0]})', TILES[:2])
+        page.ctrl('2')
+        go(page, 'two')
+        page.keys('2', Keys.SHIFT)
+        assert hand(page) == moved(TILES[:2], 36)
+        go(page, 'few')
+        say_nothing(page)
+        page.keys('2', Keys.SHIFT)
+        assert 'tiles.tsx' in page.bubble() and 'Nothing was taken' in page.bubble(), page.bubble()
+        page.answer('Add it')
+        assert spelled(page) == ['tileset add 10 tiles.tsx'] and hand(page) == moved(TILES[:2], 9)
+        go(page, 'one')
+        page.ctrl('c')
+        page.keys('2', Keys.SHIFT)
+        assert hand(page) == TILES[:2]
+
+
+OLD = '''
+addEventListener("pagehide", () => {
+  const all = JSON.parse(sessionStorage.getItem("roskevad-layouts"));
+  for (const [, each] of all) each.stamp = each.stamp && {width: each.stamp.width, height: each.stamp.height, values: each.stamp.values};
+  sessionStorage.setItem("roskevad-layouts", JSON.stringify(all));
+});'''
+
+
+def test_stored_stamps():
+    """The stamp that a map keeps is the same tiles behind a reload, also where the map's file has them under
+    other numbers by then. One that an earlier version has stored, as numbers alone, is for its own map."""
+    bench = Maps('one', 'two', 'few', served=True)
+    with bench as page:
+        go(page, 'two')
+        page.js('roskevad.bench.takeStamp({width: 2, height: 1, values: arguments[0]})', moved(TILES[:2], 36))
+        go(page, 'one')
+        page.js('roskevad.bench.takeStamp({width: 1, height: 1, values: [12]})')
+        page.editor.lines('discard two')
+        (bench.folder / 'two.tmj').write_text(map_with(*MAPS['third']))
+        page.reload()
+        open_map(page, 'two.tmj')
+        assert hand(page) == moved(TILES[:2], 4)
+        go(page, 'one')
+        assert hand(page) == [12]
+        page.editor.lines('discard two')
+        (bench.folder / 'two.tmj').write_text(map_with(*MAPS['few']))
+        page.reload()
+        open_map(page, 'two.tmj')
+        assert hand(page) == [0] and 'tiles.tsx' in page.bubble(), page.bubble()
+        passed()
+        go(page, 'one')
+        page.js(OLD)
+        page.reload()
+        assert hand(page) == [12]
+        page.js('roskevad.layouts.all.delete([...roskevad.layouts.all.keys()].find(key => key.endsWith("few.tmj")))')
+        go(page, 'few')
+        assert hand(page) == [0] and 'tiles.tsx' in page.bubble(), page.bubble()
+
+
+# ---- copies that are refused, and what the clipboard has
+
+
+def test_refused_cells():
+    """Behind a copy of cells that is refused nothing older is pasted, and that is said: nothing is selected, the
+    cells are empty, no map is open. A cut that the layer bars copies all the same."""
+    with Maps('one') as page:
+        copy(page, 2)
+        page.keys('r')
+        page.ctrl('c')
+        assert 'Select cells first' in page.bubble() and 'Nothing is copied any more' in page.bubble(), page.bubble()
+        page.ctrl('v')
+        assert page.bubble().startswith('Nothing is copied.') and page.js('return roskevad.tools.name') == 'select', page.bubble()
+        passed()
+        for key in 'cx':
+            copy(page, 2)
+            page.editor.lines('select replace 0 4 3 2')
+            page.ctrl(key)
+            assert 'empty' in page.bubble() and 'Nothing is copied any more' in page.bubble(), (key, page.bubble())
+            page.ctrl('v')
+            assert page.bubble().startswith('Nothing is copied.') and page.editor.state()['selection'], key
+            passed()
+        copy(page, 2)
+        page.editor.lines('layer show 1 no', 'select replace 2 0 2 1')
+        lines = spelled(page)
+        page.ctrl('x')
+        assert spelled(page) == lines and 'hidden' in page.bubble(), page.bubble()
+        page.editor.lines('layer show 1 yes')
+        page.ctrl('v')
+        draw(page, 3, 2)
+        assert cells(page, 3, 2) == TILES[2:4]
+        passed()
+        page.editor.lines('discard one')
+        page.ctrl('c')
+        assert 'Open a map first' in page.bubble(), page.bubble()
+        page.ctrl('v')
+        open_map(page, 'one.tmj')
+        page.ctrl('v')
+        assert page.bubble().startswith('Nothing is copied.'), page.bubble()
+
+
+INN = 2
+
+
+def test_refused_objects():
+    """Behind a copy of an object that is refused no other one is pasted; the rest of it is, where that was
+    asked for."""
+    with Bench(has_log=False) as page:
+        layer = choose(page, 'Places')
+        page.editor.lines(f'object add {layer} 32 400 32 16 trap')
+        page.keys('s')
+        page.js('roskevad.bench.chooseObject(7)')
+        page.ctrl('c')
+        count = len(objects_in(page.editor.map()))
+        page.drag_points([middle_of(page, INN)])
+        for key in 'cx':
+            page.ctrl(key)
+            assert 'class Door' in page.notices()[0], key
+        page.ctrl('v')
+        assert len(objects_in(page.editor.map())) == count and page.bubble().startswith('Nothing is copied.'), page.bubble()
+        page.ctrl('c')
+        page.answer('Copy the rest')
+        page.ctrl('v')
+        assert objects_in(page.editor.map())[-1]['name'] == 'Inn'
+        page.keys('s')
+        page.js('roskevad.bench.chooseObject(null)')
+        page.ctrl('c')
+        assert 'Choose an object first' in page.bubble() and 'Nothing is copied any more' in page.bubble(), page.bubble()
+
+
+def test_kinds():
+    """What was copied last is pasted, whatever tool is in hand: an object into an object layer, cells into the
+    hand. Selected cells of a tile layer are copied with Objects, too, where no object is chosen."""
+    with Bench('town.tmj', 'objects.tmj', 'flips.tmj', has_log=False) as page:
+        page.click('.tab[data-document="objects"]')
+        [layer] = [each['id'] for each in page.editor.map()['layers'] if each['type'] == 'objectgroup']
+        number = page.editor.map()['nextobjectid']
+        page.editor.lines(f'object add {layer} 16 16 16 16 crate')
+        page.keys('s')
+        page.js('roskevad.bench.chooseObject(arguments[0])', number)
+        page.ctrl('c')
+        page.click('.tab[data-document="town"]')
+        things, ground = choose(page, 'Things'), choose(page, 'Ground')
+        page.keys('b')
+        page.js('return roskevad.bench.act(arguments[0]).then(() => null)', ['layer add object Third'])
+        say_nothing(page)
+        page.ctrl('v')
+        assert 'Choose an object layer first' in page.bubble() and len(spelled(page)) == 1, page.bubble()
+        choose(page, 'Things')
+        page.keys('b')
+        page.ctrl('v')
+        [_, added, _] = spelled(page)[1:]
+        assert added.startswith(f'object add {things} ') and added.endswith(' 16 16 crate'), added
+        passed()
+        choose(page, 'Ground')
+        page.js('roskevad.bench.chooseObject(null)')
+        page.js('roskevad.bench.chooseLayer(arguments[0])', ground)
+        page.keys('s')
+        page.editor.lines('select replace 3 20 3 1')
+        page.ctrl('c')
+        assert len(hand(page)) == 3 and page.js('return roskevad.tools.name') == 'brush', page.bubble()
+        page.keys('s')
+        lines = len(spelled(page))
+        page.ctrl('v')
+        assert spelled(page)[lines:] == ['select none'] and page.js('return roskevad.tools.name') == 'brush'
+        passed()
+        page.click('.tab[data-document="flips"]')
+        page.keys('s')
+        say_nothing(page)
+        page.stroke([(1, 1)])
+        assert 'no objects' in page.bubble()
+
+
+def test_tile_objects():
+    """No line makes a tile object, so no number of one reaches another map: what is copied of it is named, and
+    pasted without its tile."""
+    with Bench('objects.tmj', 'town.tmj', has_log=False) as page:
+        page.click('.tab[data-document="objects"]')
+        [number] = [each['id'] for each in objects_in(page.editor.map()) if each.get('gid')]
+        page.keys('s')
+        page.js('roskevad.bench.chooseObject(arguments[0])', number)
+        page.ctrl('c')
+        assert 'its tile' in page.notices()[0]
+        page.answer('Copy the rest')
+        page.click('.tab[data-document="town"]')
+        choose(page, 'Things')
+        page.ctrl('v')
+        page.fill_in(name='sign')
+        added = max(objects_in(page.editor.map()), key=lambda each: each['id'])
+        assert standing(page) == (1, 1) and added['id'] == 7 and 'gid' not in added, added
