@@ -407,8 +407,9 @@ INN = 2
 
 def test_refused_objects():
     """Behind a copy of an object that is refused no other one is pasted; the rest of it is, where that was
-    asked for."""
-    with Bench(has_log=False) as page:
+    asked for, and while its map is shown."""
+    with Bench('objects.tmj', 'town.tmj', has_log=False) as page:
+        page.click('.tab[data-document="town"]')
         layer = choose(page, 'Places')
         page.editor.lines(f'object add {layer} 32 400 32 16 trap')
         page.keys('s')
@@ -429,6 +430,11 @@ def test_refused_objects():
         page.js('roskevad.bench.chooseObject(null)')
         page.ctrl('c')
         assert 'Choose an object first' in page.bubble() and 'Nothing is copied any more' in page.bubble(), page.bubble()
+        page.js('roskevad.bench.chooseObject(arguments[0])', INN)
+        page.ctrl('d')
+        assert 'class Door' in page.notices()[0]
+        page.click('.tab[data-document="objects"]')
+        assert not page.notices(), 'the rest would go into a layer of another map'
 
 
 def test_kinds():
@@ -438,7 +444,7 @@ def test_kinds():
         page.click('.tab[data-document="objects"]')
         [layer] = [each['id'] for each in page.editor.map()['layers'] if each['type'] == 'objectgroup']
         number = page.editor.map()['nextobjectid']
-        page.editor.lines(f'object add {layer} 16 16 16 16 crate')
+        page.editor.lines(f'object add {layer} 16 16 16 16 crate', f'prop set object:{number} key object 1', f'prop set object:{number} lid bool true')
         page.keys('s')
         page.js('roskevad.bench.chooseObject(arguments[0])', number)
         page.ctrl('c')
@@ -452,8 +458,10 @@ def test_kinds():
         choose(page, 'Things')
         page.keys('b')
         page.ctrl('v')
-        [_, added, _] = spelled(page)[1:]
+        [_, added, *properties, _] = spelled(page)[1:]
         assert added.startswith(f'object add {things} ') and added.endswith(' 16 16 crate'), added
+        assert [each.partition(' object:')[2].partition(' ')[2] for each in properties] == ['lid bool true'], properties
+        assert page.bubble().startswith('Without key'), page.bubble()
         passed()
         choose(page, 'Ground')
         page.js('roskevad.bench.chooseObject(null)')

@@ -23,6 +23,7 @@ export class CarriedTiles {
     // The stamp of the hand that is drawn though tiles of it are past the end.
     this.allowed = null;
     bench.addEventListener("stamp", () => endNotice(PAST));
+    bench.addEventListener("document", () => [MISSING, PAST].forEach(about => endNotice(about)));
   }
 
   // ---- words
@@ -58,7 +59,6 @@ export class CarriedTiles {
   // now, and why it has none: { isOther, why }.
   follow() {
     const { hand, map } = this.bench;
-    if (!this.numbers.isHome(hand)) [MISSING, PAST].forEach(about => endNotice(about));
     if (!map || this.numbers.isOfMap(hand)) return { isOther: false, why: "" };
     return hand.isUsual ? this.takeUsual() : this.carry(hand);
   }

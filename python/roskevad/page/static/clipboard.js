@@ -10,10 +10,10 @@ export class Clipboard {
     Object.assign(this, { tiles, object: null });
   }
 
-  // Keeps an object of the active map.
+  // Keeps an object of the active map, and what stands for that, as in a copy of tiles.
   keepObject(object, layer) {
     this.tiles = null;
-    this.object = { object: structuredClone(object), layer: layer.id, document: this.bench.editor.notes.document };
+    this.object = { object: structuredClone(object), layer: layer.id, home: this.bench.carried.numbers.home };
   }
 
   // Does what copies something. Where that is refused, which it says, what was copied before is dropped: it would be pasted in its place.

@@ -119,6 +119,7 @@ class Page {
     const { active } = this.editor.notes;
     const isOther = active !== this.shownDocument;
     this.shownDocument = active;
+    if (isOther) this.bench.tell("document");
     const kept = isOther ? this.layouts.enter(active) : null;
     const { isOther: isOtherStamp, why } = this.bench.carried.follow();
     this.bench.settle();

@@ -36,7 +36,7 @@ const besides = (object, { projection }) => [(object.x ?? 0) + projection.side[0
 export class ObjectCopies {
   constructor(bench) {
     Object.assign(this, { bench });
-    bench.addEventListener("object chosen", () => endNotice(ABOUT));
+    for (const name of ["object chosen", "document"]) bench.addEventListener(name, () => endNotice(ABOUT));
   }
 
   // Calls `go` where lines can copy an object whole. Else it says what they cannot, and offers to copy the rest.
@@ -68,33 +68,45 @@ export class ObjectCopies {
   }
 
   // Puts what was kept where the hand is, or else beside where it was.
-  paste() {
+  async paste() {
     const { bench } = this;
-    const { object } = bench.clipboard.object;
+    const [object, left] = this.objectForPaste(bench.clipboard.object);
     const layer = this.layerForPaste(bench.clipboard.object);
     if (!layer || bench.barsObjects(layer, "pasted")) return null;
     const at = bench.place;
     const up = object.gid ? -1 : 1;
     const [x, y] = at ? bench.marks.inLayer(layer, at.pixelX, at.pixelY) : besides(object, bench.map);
-    const [left, top] = at ? [x - (object.width ?? 0) / 2, y - up * (object.height ?? 0) / 2] : [x, y];
-    return this.put(object, layer.id, left, top, "Paste Object || paste object");
+    const place = at ? [x - (object.width ?? 0) / 2, y - up * (object.height ?? 0) / 2] : [x, y];
+    const isThere = await this.put(object, layer.id, ...place, "Paste Object || paste object");
+    if (isThere && left.length) bench.say(`Without ${listed(left.map(each => each.name))}: an object of the other map is named there.`);
+    return null;
+  }
+
+  // An object as the active map takes it, and the properties that it leaves: an id of an object of another map would name any object here.
+  objectForPaste(kept) {
+    const { object } = kept;
+    const isAbroad = !this.bench.carried.numbers.isHome(kept);
+    const left = (object.properties ?? []).filter(({ type, value }) => isAbroad && type === "object" && value !== 0);
+    return [left.length ? { ...object, properties: object.properties.filter(each => !left.includes(each)) } : object, left];
   }
 
   // The layer in hand, or else that of the object, where this is its map; of another map it is none that has the same id by chance.
-  layerForPaste({ layer, document }) {
+  layerForPaste(kept) {
     const { bench } = this;
-    const own = document === bench.editor.notes.document ? bench.map.layer(layer) : null;
+    const own = bench.carried.numbers.isHome(kept) ? bench.map.layer(kept.layer) : null;
     return bench.layer?.type !== "objectgroup" && own?.type === "objectgroup" ? own : layerForObjects(bench);
   }
 
+  // Adds a copy, and gives whether it is there.
   async put(object, layer, x, y, step) {
     const { bench } = this;
     const name = await this.nameFor(object);
-    if (name === null) return;
+    if (name === null) return false;
     const id = bench.map.data.nextobjectid;
-    if (!bench.doAsOne(step, linesOf(object, id, layer, x, y, name)).isHeard) return;
+    if (!bench.doAsOne(step, linesOf(object, id, layer, x, y, name)).isHeard) return false;
     bench.chooseObject(id);
     if (object.point) bench.say("The copy is a rectangle of no size: no line makes a point.");
+    return true;
   }
 
   // The name of a copy. No line adds an object without one.

@@ -101,12 +101,17 @@ export class TileNumbers {
 
   // A copy of numbers of the active map.
   copyOf({ width, height, values }) {
-    return { width, height, values, sets: this.tilesets.sets, home: homeOf(this.editor.notes.document) };
+    return { width, height, values, sets: this.tilesets.sets, home: this.home };
+  }
+
+  // What stands for the active document.
+  get home() {
+    return homeOf(this.editor.notes.document);
   }
 
   // Whether a copy was taken from the active map.
   isHome({ home }) {
-    return Boolean(home) && home === homeOf(this.editor.notes.document);
+    return Boolean(home) && home === this.home;
   }
 
   // Whether the numbers of a copy are those of the active map, as they stand.
