@@ -169,6 +169,7 @@ def test_missing_tileset():
         page.ctrl('v')
         page.answer('Add it')
         assert spelled(page) == ['tileset add 10 tiles.tsx'] and not page.notices()
+        assert page.js('return roskevad.palette.tileset.first') == 10, 'its tiles are shown'
         draw(page, 2, 5)
         assert cells(page, 2, 5) == moved(TILES, 9)
         passed()
@@ -264,6 +265,19 @@ def test_past_the_end():
         assert cells(page, 2, 1) == [52]
 
 
+def test_shorter_file():
+    """A tile is refused by name where the file of its tileset has become shorter since it was copied."""
+    bench = Maps('one', 'two', served=True)
+    with bench as page:
+        copy(page, 5)
+        (bench.folder / 'tiles.tsx').write_text((EXAMPLE_MAPS / 'furniture.tsx').read_text())
+        go(page, 'two')
+        page.ctrl('v')
+        assert 'tiles.tsx has 4 tiles, and no tile ' in page.bubble(), page.bubble()
+        draw(page, 2, 5)
+        assert standing(page) == (0, 0), spelled(page)
+
+
 # ---- the hand, and what is kept
 
 
@@ -300,6 +314,32 @@ def test_hand():
         assert hand(page) == [FLIPS[0] ^ value for value in moved(TILES[1::-1], 32)]
         page.editor.lines('undo')
         assert 'put down' in page.bubble() and hand(page) == [0], page.bubble()
+
+
+SLOW = '''
+const {place} = roskevad.editor, bytes = place.bytes;
+const read = new Promise(done => globalThis.letRead = done);
+place.bytes = async path => {
+  await read;
+  return bytes.call(place, path);
+};'''
+
+
+def test_slow_files():
+    """While the tilesets of another map are read the hand has its tiles already; the tiles that are still shown are
+    those of the map before, and none of them is taken."""
+    with Maps('one', 'two') as page:
+        page.js('roskevad.bench.takeStamp({width: 1, height: 1, values: arguments[0]}); roskevad.layouts.all.clear()', TILES[:1])
+        page.js(SLOW + 'roskevad.bench.act(["use two"])')
+        page.wait(lambda: page.js('return roskevad.editor.notes.active') == 'two', 'the other map')
+        assert hand(page) == moved(TILES[:1], 36)
+        page.js('roskevad.palette.takeTiles([3, 0], [3, 0])')
+        assert 'still being read' in page.bubble() and hand(page) == moved(TILES[:1], 36), page.bubble()
+        page.js('letRead()')
+        page.settle()
+        page.js('roskevad.palette.choose(5)')
+        page.js('roskevad.palette.takeTiles([3, 0], [3, 0])')
+        assert hand(page) == [8]
 
 
 def test_digits():
@@ -346,16 +386,22 @@ def test_stored_stamps():
         assert hand(page) == moved(TILES[:2], 4)
         go(page, 'one')
         assert hand(page) == [12]
+        (bench.folder / 'one.tmj').write_text(map_with(*MAPS['two']))
+        page.js('window.dispatchEvent(new Event("focus"))')
+        page.wait(lambda: notices_of(page, 'one.tmj has changed'), 'the change is told of')
+        page.answer('Reload')
+        assert hand(page) == [48], 'the map has other tilesets by now'
+        passed()
         page.editor.lines('discard two')
         (bench.folder / 'two.tmj').write_text(map_with(*MAPS['few']))
         page.reload()
         open_map(page, 'two.tmj')
         assert hand(page) == [0] and 'tiles.tsx' in page.bubble(), page.bubble()
         passed()
-        go(page, 'one')
+        page.click('.tab')
         page.js(OLD)
         page.reload()
-        assert hand(page) == [12]
+        assert hand(page) == [48]
         page.js('roskevad.layouts.all.delete([...roskevad.layouts.all.keys()].find(key => key.endsWith("few.tmj")))')
         go(page, 'few')
         assert hand(page) == [0] and 'tiles.tsx' in page.bubble(), page.bubble()
@@ -444,7 +490,11 @@ def test_kinds():
         page.click('.tab[data-document="objects"]')
         [layer] = [each['id'] for each in page.editor.map()['layers'] if each['type'] == 'objectgroup']
         number = page.editor.map()['nextobjectid']
-        page.editor.lines(f'object add {layer} 16 16 16 16 crate', f'prop set object:{number} key object 1', f'prop set object:{number} lid bool true')
+        page.editor.lines(
+            f'object add {layer} 16 16 16 16 crate',
+            f'prop set object:{number} key object 1',
+            f'prop set object:{number} lid bool true',
+        )
         page.keys('s')
         page.js('roskevad.bench.chooseObject(arguments[0])', number)
         page.ctrl('c')
