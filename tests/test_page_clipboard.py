@@ -2,6 +2,7 @@
 another order, at other first ids, in another folder, in the map itself, or not at all: a tile stays the
 tile that it was, or is refused by name. A copy that is refused leaves nothing older to be pasted."""
 import json
+import random
 
 from lib.cases import passed
 from lib.maps import objects_in
@@ -40,6 +41,9 @@ MAPS = {
 }
 
 
+TAKEN = 'roskevad.editor.place.take([{path: arguments[0], bytes: new TextEncoder().encode(arguments[1])}])'
+
+
 def map_with(tilesets, cells=()):
     """The text of a map of one tile layer, with these cells in front."""
     told = json.loads((EXAMPLE_MAPS / 'layers.tmj').read_text())
@@ -65,8 +69,7 @@ class Maps(Bench):
         for name in names:
             path = f'{name}.tmj'
             if self.server is None:
-                self.page.js('roskevad.editor.place.take([{path: arguments[0], bytes: new TextEncoder().encode(arguments[1])}])',
-                             path, (self.folder / path).read_text())  # fmt: skip
+                self.page.js(TAKEN, path, (self.folder / path).read_text())
             open_map(self.page, path)
         go(self.page, names[0])
 
@@ -276,6 +279,78 @@ def test_shorter_file():
         assert 'tiles.tsx has 4 tiles, and no tile ' in page.bubble(), page.bubble()
         draw(page, 2, 5)
         assert standing(page) == (0, 0), spelled(page)
+
+
+# The tilesets of maps by chance, and how many tiles each has; of one nobody knows it.
+SIZES = {'tiles.tsx': 32, 'furniture.tsx': 4, 'town.tsj': 32, 'gone.tsx': None, 'bricks': 32}
+COPIED = '''
+const {numbers} = roskevad.bench.carried, [values] = arguments;
+(globalThis.copies ??= []).push(numbers.copyOf({width: values.length, height: 1, values}));'''
+READ = '''
+return copies.map(copy => {
+  const {values, lost, past} = roskevad.bench.carried.numbers.read(copy);
+  return values ?? {lost: lost.length, past: past.length};
+});'''
+
+
+def random_map(numbers):
+    """Some tilesets, each with its first id, and some numbers of their tiles, of which a few are past the end."""
+    names, first, sets, values = list(SIZES), 1, [], []
+    for _ in range(numbers.randrange(1, 5)):
+        name = numbers.choice(names)
+        end = first + numbers.choice([2, 4, 32, 40])
+        sets.append((first, name))
+        values += [numbers.randrange(16) << 28 | numbers.randrange(first, end) for _ in range(numbers.randrange(3))]
+        first = end
+    return sets, values or [sets[0][0]]
+
+
+def tile_of(value, sets):
+    """The tileset of a number, and the tile's id there."""
+    first, name = max(each for each in sets if each[0] <= value & 0x0FFFFFFF)
+    return name, (value & 0x0FFFFFFF) - first
+
+
+def number_of(value, sets, others):
+    """The number that a tile has on a map with other tilesets; `lost` or `past` where it has none."""
+    name, tile = tile_of(value, sets)
+    first = min((first for first, each in others if each == name), default=None)
+    if SIZES[name] is not None and tile >= SIZES[name]:
+        return 'past'
+    if first is None:
+        return 'lost'
+    return value & 0xF0000000 | first + tile if tile_of(first + tile, others) == (name, tile) else 'past'
+
+
+def is_read(told, values, sets, others):
+    """Whether what the page makes of a copy is what it must be."""
+    wanted = [number_of(value, sets, others) for value in values]
+    if not {'lost', 'past'} & set(wanted):
+        return told == wanted
+    lost = {tile_of(value, sets)[0] for value, each in zip(values, wanted) if each == 'lost'}
+    return isinstance(told, dict) and told['lost'] >= len(lost) and bool(told['past']) == ('past' in wanted)
+
+
+def test_maps_by_chance():
+    """Between maps with tilesets by chance each number is that of the same tile, or there is none."""
+    numbers = random.Random(20261128)
+    made = [random_map(numbers) for _ in range(14)]
+    with Maps('one') as page:
+        for at, (sets, _) in enumerate(made):
+            text = map_with([(first, BRICKS if name == 'bricks' else name) for first, name in sets])
+            page.js(TAKEN, f'map{at}.tmj', text)
+            open_map(page, f'map{at}.tmj')
+            page.js(COPIED, made[at][1])
+        whole = 0
+        for at, (others, values) in enumerate(made):
+            page.editor.lines(f'use map{at}')
+            told = page.js(READ)
+            assert told[at] == values, 'on its own map a number stays'
+            for other, (sets, copied) in enumerate(made):
+                assert other == at or is_read(told[other], copied, sets, others), (sets, copied, others, told[other])
+                whole += other != at and isinstance(told[other], list)
+                passed()
+        assert 20 < whole < 140, whole
 
 
 # ---- the hand, and what is kept
