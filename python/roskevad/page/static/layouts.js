@@ -123,20 +123,23 @@ export class Layouts {
     }
   }
 
-  // The tileset that the palette shows, and the stamp.
+  // The stamp, and the tileset that the palette shows. Gives why the stamp is put down, or "".
   enterTiles(kept) {
     const { palette, tilesets } = this.page;
     this.pending = null;
-    if (isStamp(kept.stamp)) this.enterStamp(kept.stamp);
+    const why = this.enterStamp(kept.stamp);
     palette.zoomTo(kept.side);
     if (kept.tileset !== palette.first && tilesets.all.some(set => set.first === kept.tileset)) palette.choose(kept.tileset);
+    return why;
   }
-  // The stamp that a map had. What an earlier version of the page has kept are numbers without tilesets: those of this map alone.
+
+  // Takes the stamp that a map had. What an earlier version of the page has kept are numbers without tilesets: those of this map alone.
   enterStamp(stamp) {
     const { bench } = this.page;
+    if (!isStamp(stamp)) return "";
     const { carried } = bench;
     const { why } = stamp.isUsual ? carried.takeUsual() : carried.carry(areSets(stamp.sets) ? stamp : carried.numbers.copyOf(stamp));
     bench.tell("stamp");
-    if (why) bench.say(why);
+    return why;
   }
 }

@@ -129,10 +129,11 @@ class Page {
     this.marks.redraw();
     await this.editor.during(this.showTilesets());
     if (this.shownDocument !== active) return;
-    if (kept) this.layouts.enterTiles(kept);
-    else if (isOtherStamp) this.bench.tell("stamp");
+    const whyKept = kept ? this.layouts.enterTiles(kept) : "";
+    if (isOtherStamp && !kept?.stamp) this.bench.tell("stamp");
+    const words = kept?.stamp ? whyKept : why;
     // What is said of the lines that have led here comes first.
-    if (why && !kept?.stamp) await this.editor.during(new Promise(done => setTimeout(() => done(this.bench.say(why)))));
+    if (words) await this.editor.during(new Promise(done => setTimeout(() => done(this.bench.say(words)))));
   }
 
   async showTilesets() {

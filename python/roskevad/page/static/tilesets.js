@@ -134,10 +134,12 @@ export class Tilesets {
   get sets() {
     const { map, notes, place } = this.editor;
     const path = notes.file?.path ?? "";
-    if (this.known?.map === map && this.known.path === path) return this.known.sets;
-    const said = JSON.stringify([map?.data.tilesets ?? [], path, notes.active]);
-    const sets = this.known?.said === said ? this.known.sets : setsOf(map?.data.tilesets ?? [], folderOf(path), place, lastOf(path) || notes.active);
-    this.known = { map, path, said, sets };
+    if (this.known?.map === map && this.known.path === path && this.known.place === place) return this.known.sets;
+    const all = map?.data.tilesets ?? [];
+    const said = JSON.stringify([all, path, notes.active]);
+    const isSame = this.known?.said === said && this.known.place === place;
+    const sets = isSame ? this.known.sets : setsOf(all, folderOf(path), place, lastOf(path) || notes.active);
+    this.known = { map, path, place, said, sets };
     return sets;
   }
 
