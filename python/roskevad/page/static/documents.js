@@ -83,7 +83,8 @@ export class Documents {
   async made({ name, width, height, side, tall, source }) {
     const file = `${name}.tmj`;
     const names = await this.editor.place.names().catch(() => []);
-    if (names.some(({ path }) => path === file)) return { words: `The file ${file} is there already. Choose another name.`, field: "name" };
+    const isOpen = this.editor.notes.documents.has(name);
+    if (!isOpen && names.some(({ path }) => path === file)) return { words: `The file ${file} is there already. Choose another name.`, field: "name" };
     return this.bench.attempt([`new ${name} ${width} ${height} ${side} ${tall} ${source}`], { 11: "name" });
   }
 
