@@ -214,9 +214,14 @@ export class Module {
     if (size === null) {
       return null;
     }
-    return size <= ROOM
-      ? decoder.decode(this.bytes().subarray(this._reply, this._reply + size))
-      : decoder.decode(this.told(again));
+    const decoded = (at) => decoder.decode(this.bytes().subarray(at, at + size));
+    if (size <= ROOM) {
+      return decoded(this._reply);
+    }
+    return this.holding(size, (at) => {
+      again(at, size);
+      return decoded(at);
+    });
   }
 
   /**

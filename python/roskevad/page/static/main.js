@@ -121,6 +121,7 @@ class Page {
     this.shownDocument = active;
     const kept = isOther ? this.layouts.enter(active) : null;
     this.bench.settle();
+    if (isOther) this.view.images.forget();
     if (isOther && !kept) this.view.fit();
     this.view.takeMap();
     this.showNotDrawn();

@@ -50,8 +50,7 @@ export class TilesetPanel {
   // ---- adding and removing
   // The first id for a tileset that is added: behind all tiles of those that are there, and behind all that the map uses.
   nextFirst() {
-    const ends = this.tilesets.all.map(set => set.first + (set.span ?? 1));
-    return Math.max(1, ...ends, this.greatestUsed() + 1);
+    return this.tilesets.all.reduce((end, set) => Math.max(end, set.first + (set.span ?? 1)), this.greatestUsed() + 1);
   }
 
   greatestUsed() {
