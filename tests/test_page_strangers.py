@@ -5,14 +5,16 @@ import re
 
 from lib.cases import Case, check_each, passed
 from page import strangers
-from page.bench import Bench, choose, layer_of, spelled, standing
-from page.browser import ActionChains, By, Keys
+from page.bench import Bench, standing
+from page.browser import ActionChains, Keys
 from page.hostile import write_png
 
 NEEDS_BROWSER = True
 IS_LONG = True
 # The longest that the page may be held, in milliseconds. Other steps may take the processors.
 LONGEST = 8000
+# How many lines a session has that is stopped.
+SESSION = 100_000
 # A tenth of the pixels that the images of a map may have.
 TENTH = 13_421_772
 
@@ -135,9 +137,9 @@ def test_images():
         words = shown(page, text, {**images, **files})
         assert drawn_tilesets(page) == [True, True, True, False, False], words
         assert 's3.png, s4.png' in words and 's2.png' not in words, words
-        text, files = strangers.map_of_tilesets(2)
-        assert shown(page, text, {**files, 's1.png': (bench.folder / 'tiles.png').read_bytes()}).count('png') == 0
-        assert drawn_tilesets(page) == [True, True]
+        # Another map has all of it anew.
+        text, files = strangers.map_of_tilesets(3)
+        assert 'png' not in shown(page, text, files) and drawn_tilesets(page) == [True] * 3
         words = shown(page, strangers.map_of_images(6, 's{}.png'), images)
         assert 's3.png, s4.png, s5.png' in words and 's2.png' not in words, words
         # A copy without the clear colour counts once; one with a tint counts besides.
@@ -214,27 +216,37 @@ def test_long_property():
 
 
 SAID = 'return document.getElementById("bubble").textContent'
+# Plays stamps by the page's dialog: so many, behind some lines and before others.
+PLAY = HELD + '''
+const [before, count, behind] = arguments;
+globalThis.stamps = Array.from({length: count}, (_, at) => `stamp 1 ${at % 40} ${Math.floor(at / 40) % 30} 1 ${1 + at % 30}`);
+document.getElementById("play").click();
+document.querySelector("#session textarea").value = [...before, ...stamps, ...behind].join("\\n");
+document.querySelector("#session [type=submit]").click();'''
+# Whether the session so far ends with the first of these stamps, before some other lines.
+ENDS = '''
+const [count, others] = arguments, lines = roskevad.editor.copied().split("\\n").slice(0, -1);
+return lines.length > count && lines.slice(lines.length - count - others, lines.length - others).every((line, at) => line === stamps[at]);'''
 
 
-def play(page, lines):
-    """Begins to play lines by the page's dialog."""
-    page.js('document.getElementById("play").click()')
-    page.js('document.querySelector("#session textarea").value = arguments[0]', '\n'.join(lines))
-    page.js(HELD)
-    page.js('document.querySelector("#session [type=submit]").click()')
+def by_button(page):
+    page.js('document.querySelector("#playing button").click()')
+
+
+def by_escape(page):
+    ActionChains(page.driver).send_keys(Keys.ESCAPE).perform()
 
 
 def stopped(page, stop):
     """Waits until a session is played, stops it, and gives how many lines it tells then, and what it says."""
-    page.wait(lambda: page.driver.find_elements(By.CSS_SELECTOR, '#playing progress[value]'), 'it is played')
-    page.wait(lambda: page.js('return document.querySelector("#playing progress")?.value > 2000'), 'it goes on')
+    page.wait(lambda: page.js('return document.querySelector("#playing progress")?.value > 2000'), 'it is played')
     told = page.find('#playing p').text
     assert re.fullmatch(r'[\d,]+ of [\d,]+ lines', told), told
     # All else takes nothing meanwhile.
     under = page.js('const [x, y] = roskevad.view.middleOf(5, 5); return document.elementFromPoint(x, y)?.closest("#view")?.id ?? ""')
     assert under == '', under
     ActionChains(page.driver).send_keys('e').perform()
-    stop()
+    stop(page)
     page.settle()
     assert page.js('return roskevad.tools.name') == 'brush', 'no key came to the tools'
     held = page.js('return held')
@@ -245,23 +257,16 @@ def stopped(page, stop):
     return int(found[1].replace(',', '')), said
 
 
-def stamps(count, layer):
-    return [f'stamp {layer} {at % 40} {at // 40 % 30} 1 {1 + at % 30}' for at in range(count)]
-
-
 def test_stop():
     """A session of many edits shows how far it is, and is stopped by the button and by Escape: what was done is one
     step, and undone by one key."""
     with Bench() as page:
-        ground = choose(page, 'Ground')
         before = page.editor.shown()
-        lines = stamps(200_000, ground)
-        for stop in (lambda: page.js('document.querySelector("#playing button").click()'), lambda: ActionChains(page.driver).send_keys(Keys.ESCAPE).perform()):
-            play(page, lines)
+        for stop in (by_button, by_escape):
+            page.js(PLAY, [], SESSION, [])
             count, said = stopped(page, stop)
-            assert 0 < count < len(lines) and 'as one step' in said, said
-            assert standing(page) == (1, 1) and spelled(page)[-count - 1 :] == [*lines[:count], 'end']
-            assert layer_of(page, 'Ground')['data'][(count - 1) // 40 % 30 * page.editor.map()['width'] + (count - 1) % 40] == 1 + (count - 1) % 30
+            assert 0 < count < SESSION and 'as one step' in said, said
+            assert standing(page) == (1, 1) and page.js(ENDS, count, 1), said
             page.ctrl('z')
             assert page.editor.shown() == before and standing(page) == (0, 1)
 
@@ -270,17 +275,14 @@ def test_refused_lines():
     """Where a line is refused behind many parts, nothing is changed; of a session that is no edits alone, what was done
     before a stop stays, as its own steps."""
     with Bench() as page:
-        ground = choose(page, 'Ground')
         before = page.editor.shown()
-        lines = stamps(30_000, ground)
-        play(page, [*lines[:20_000], 'stamp 99 0 0 1 5', *lines[20_000:]])
+        page.js(PLAY, [], 20_000, ['stamp 99 0 0 1 5', 'erase 1 0 0 9 9'])
         page.wait(lambda: 'Line' in page.js(SAID), 'what was refused is said')
         said = page.js(SAID)
-        assert said.startswith('Line 20,001 of 30,001') and said.endswith('Nothing is changed.'), said
+        assert said.startswith('Line 20,001 of 20,002') and said.endswith('Nothing is changed.'), said
         assert page.editor.shown() == before
-        lines = stamps(200_000, ground)
-        play(page, ['use town', *lines])
-        count, said = stopped(page, lambda: page.js('document.querySelector("#playing button").click()'))
-        assert 'as one step' not in said and spelled(page)[-count + 1 :] == lines[: count - 1], said
+        page.js(PLAY, ['use town'], SESSION, [])
+        count, said = stopped(page, by_button)
+        assert 'as one step' not in said and page.js(ENDS, count - 1, 0), said
         index, steps = standing(page)
         assert index == steps > 1000, (index, steps)

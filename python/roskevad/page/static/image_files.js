@@ -19,7 +19,11 @@ export const grouped = number => String(number).replace(/\B(?=(\d{3})+$)/g, ",")
 // The pixels that the images of a map may still take.
 export class PixelBudget {
   constructor(most = MOST_PIXELS) {
-    this.left = most;
+    Object.assign(this, { most, left: most });
+  }
+
+  get taken() {
+    return this.most - this.left;
   }
 
   // Whether an image of that size still has its place; it takes it.

@@ -10,7 +10,7 @@ const LARGEST_LETTER = 4096;
 const LARGEST_SIDE = 65_535;
 const LARGEST_WHOLE = 0xffffffff;
 const LARGEST_COUNT = 0x0fffffff;
-// The largest number of which sums and products are drawn.
+// The largest place and length of which sums and products are drawn.
 const LARGEST = 1e12;
 // How many odd members are kept, so that they can be named.
 const MOST_ODD = 100;
@@ -44,8 +44,9 @@ const oneOf = (...all) => plain(all.join(" or "), value => all.includes(value));
 const cutTo = most => ({ words: "a text", take: value => (typeof value === "string" ? cutText(value, most) : undefined) });
 
 const BOOL = plain("true or false", value => typeof value === "boolean");
-const NUMBER = number("a number", -LARGEST, LARGEST);
-const LENGTH = number("a number from 0", 0, LARGEST);
+const NUMBER = plain("a number", Number.isFinite);
+const PLACE = number("a number up to a million million", -LARGEST, LARGEST);
+const LENGTH = number("a number from 0 to a million million", 0, LARGEST);
 const WHOLE = whole("a whole number", 0, LARGEST_WHOLE);
 const SIDE = whole("a whole number from 0 to 65,535", 0, LARGEST_SIDE);
 const LETTER = whole("a whole number from 1 to 4,096", 1, LARGEST_LETTER);
@@ -56,7 +57,7 @@ const COLOUR = plain("a colour", value => typeof value === "string" && partsOfCo
 const ANY = plain("there", value => value !== undefined);
 const LIST = plain("a list", Array.isArray);
 
-const isPoint = value => isRecord(value) && NUMBER.take(value.x) !== undefined && NUMBER.take(value.y) !== undefined;
+const isPoint = value => isRecord(value) && PLACE.take(value.x) !== undefined && PLACE.take(value.y) !== undefined;
 
 // Points stay as they are, since there may be millions.
 const POINTS = {
@@ -118,7 +119,7 @@ const OF_TEXT = record({
 });
 
 const OBJECT = record({
-  id: WHOLE, name: NAME, type: NAME, class: NAME, x: NUMBER, y: NUMBER, width: LENGTH, height: LENGTH, rotation: NUMBER, visible: BOOL, gid: WHOLE,
+  id: WHOLE, name: NAME, type: NAME, class: NAME, x: PLACE, y: PLACE, width: LENGTH, height: LENGTH, rotation: NUMBER, visible: BOOL, gid: WHOLE,
   ellipse: BOOL, point: BOOL, polygon: inside(POINTS), polyline: inside(POINTS), text: inside(OF_TEXT), template: PATH, properties: PROPERTIES,
 });
 

@@ -49,6 +49,11 @@ class Tileset {
     return this.why ? known : Math.max(this.told.tilecount ?? 0, known ?? 0) || null;
   }
 
+  // It has no image any more.
+  drop() {
+    this.image = null;
+  }
+
   // The image that has a tile, and the size of the tile there.
   imageFor() {
     return this.image;
@@ -82,6 +87,11 @@ class PictureSet extends Tileset {
     // Some image: so it is drawn.
     this.image = pictures.values().next().value ?? null;
     this.count = Math.min(told.tiles, last - first + 1, MOST_BARE);
+  }
+
+  drop() {
+    super.drop();
+    this.pictures = new Map();
   }
 
   imageFor(id) {
@@ -136,7 +146,11 @@ export class Tilesets {
     const found = { missing: [], wrong: [], odd: [], past: [], budget: new PixelBudget(this.most) };
     const sorted = [...wanted].sort((one, other) => one.firstgid - other.firstgid);
     const read = await Promise.all(sorted.map(data => this.read(data, found)));
-    const images = said === this.said ? await imagesOf(read, found) : new Map();
+    if (said !== this.said) return false;
+    const files = placed(read, found);
+    // Where both have too many, the old images go before the new ones come.
+    if (this.budget.taken + found.budget.taken > found.budget.most) this.close();
+    const images = await imagesOf(files);
     if (said !== this.said) {
       closeAll(images.values());
       return false;
@@ -148,10 +162,10 @@ export class Tilesets {
     return true;
   }
 
-  // Lets the images go. Nothing is drawn of them from now on.
+  // Lets the images go: tiles are numbers from now on.
   close() {
+    for (const tileset of this.all) tileset.drop();
     closeAll(this.images?.values() ?? []);
-    this.all = [];
   }
 
   forgetLooks() {
@@ -221,9 +235,9 @@ const imagesTold = told => (told.image ? [[WHOLE, told.image]] : told.pictures);
 
 const keyOf = ({ path, clear }) => `${clear ?? ""} ${path}`;
 
-// The images of tilesets that were read, each once: in the order of the tilesets, as far as there are pixels left. Gives each under its key:
-// the image, null where it has no place, or what is wrong with it.
-async function imagesOf(read, { budget, past }) {
+// The files of the images of tilesets that were read, each once under its key, in the order of the tilesets; null where there are no pixels
+// left for one.
+function placed(read, { budget, past }) {
   const files = new Map();
   for (const file of read.flatMap(each => [...each.files.values()])) {
     const key = keyOf(file);
@@ -231,6 +245,11 @@ async function imagesOf(read, { budget, past }) {
     files.set(key, budget.takes(file) ? file : null);
     if (!files.get(key)) past.push(file.path);
   }
+  return files;
+}
+
+// The images of files by their keys: null where one has no place, or what is wrong with it.
+async function imagesOf(files) {
   const unpackedOrWrong = file => unpacked(file, file.clear).catch(fault => {
     if (fault instanceof Wrong) return fault;
     throw fault;
