@@ -178,6 +178,14 @@ def map_of_objects(count):
     return json.dumps(told)
 
 
+def map_of_texts(count, length):
+    """A map of that many texts, of so many letters."""
+    told = a_map()
+    objects = [{**THING, 'id': 100 + at, 'text': {'text': 'v' * length}} for at in range(count)]
+    layer(told, 'objectgroup')['objects'] += objects
+    return json.dumps(told)
+
+
 def map_with_property(kind, value):
     told = a_map()
     told['properties'] = [{'name': 'long', 'type': kind, 'value': value}]

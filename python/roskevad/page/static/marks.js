@@ -85,12 +85,13 @@ export class Marks {
     const chosen = this.chosen !== null && this.showsChosen ? this.map.object(this.chosen) : null;
     let left = MOST_WHOLE;
     for (const layer of this.map.layers) {
-      if (!layer.isSeen) continue;
-      for (const object of layer.data.objects ?? []) {
+      const others = [];
+      for (const object of layer.isSeen ? layer.data.objects ?? [] : []) {
         if (object.visible === false || object.id === chosen?.object.id || !this.isInView(object, layer)) continue;
         if (left-- > 0) this.drawObject(this.placed(object), layer);
-        else this.drawBox(this.placed(object), layer);
+        else others.push(this.placed(object));
       }
+      if (others.length) this.drawBoxes(others, layer);
     }
     if (!chosen || !this.isShown(chosen)) return;
     this.drawObject(this.placed(chosen.object), chosen.layer);
@@ -176,14 +177,18 @@ export class Marks {
     this.pen.stroke();
   }
 
-  // The box around an object, which is not turned.
-  drawBox(object, layer) {
+  // The boxes around objects of a layer, which are not turned.
+  drawBoxes(objects, layer) {
     const { pen, view: { scale } } = this;
-    const [x, y] = this.screenPlace(object, layer);
-    const [left, top, right, bottom] = boxOf(this.shapeOf(object));
+    pen.beginPath();
+    for (const object of objects) {
+      const [x, y] = this.screenPlace(object, layer);
+      const [left, top, right, bottom] = boxOf(this.shapeOf(object));
+      pen.rect(x + left * scale, y + top * scale, (right - left) * scale, (bottom - top) * scale);
+    }
     pen.lineWidth = 1;
     pen.strokeStyle = colourOfText(layer.data.color, OUTLINE);
-    pen.strokeRect(x + left * scale, y + top * scale, (right - left) * scale, (bottom - top) * scale);
+    pen.stroke();
   }
 
   // A line with a dark edge, which is seen on any ground.

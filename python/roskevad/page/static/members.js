@@ -2,9 +2,10 @@
 // knows of a file's members comes through these tables: one that is of another kind counts as not there, and is told.
 import { partsOfColour } from "./tints.js";
 
-// How many characters of a name and of a text are shown, how long a path may be, and the largest size of a letter and side of a cell.
+// How many characters of a name, of a text and of all texts of a map are shown, how long a path may be, and the largest size of a letter and side of a cell.
 const LONGEST_NAME = 200;
 export const LONGEST_TEXT = 4096;
+const MOST_LETTERS = 262_144;
 const LONGEST_PATH = 4096;
 const LARGEST_LETTER = 4096;
 const LARGEST_SIDE = 65_535;
@@ -23,10 +24,19 @@ export const cutText = (text, most) => (text.length <= most ? text : `${text.sli
 
 export const isRecord = value => value !== null && typeof value === "object" && !Array.isArray(value);
 
-// The odd members of a file, in words: [a member and what it belongs to, what it must be]. `count` is the number of all.
+// The odd members of a file, in words: [a member and what it belongs to, what it must be]. `count` is the number of all. And how many
+// letters of texts are still taken, and whether a text is cut.
 export class OddMembers {
   constructor() {
-    Object.assign(this, { count: 0, named: [] });
+    Object.assign(this, { count: 0, named: [], letters: MOST_LETTERS, isCut: false });
+  }
+
+  // A text as far as it is shown.
+  cut(text) {
+    const most = Math.min(LONGEST_TEXT, this.letters);
+    this.letters -= Math.min(most, text.length);
+    this.isCut ||= text.length > most;
+    return cutText(text, most);
   }
 
   add(member, owner, words) {
@@ -41,7 +51,6 @@ const plain = (words, isSo) => ({ words, take: value => (isSo(value) ? value : u
 const number = (words, least, most) => plain(words, value => Number.isFinite(value) && value >= least && value <= most);
 const whole = (words, least, most) => plain(words, value => Number.isInteger(value) && value >= least && value <= most);
 const oneOf = (...all) => plain(all.join(" or "), value => all.includes(value));
-const cutTo = most => ({ words: "a text", take: value => (typeof value === "string" ? cutText(value, most) : undefined) });
 
 const BOOL = plain("true or false", value => typeof value === "boolean");
 const NUMBER = plain("a number", Number.isFinite);
@@ -50,8 +59,8 @@ const LENGTH = number("a number from 0 to a million million", 0, LARGEST);
 const WHOLE = whole("a whole number", 0, LARGEST_WHOLE);
 const SIDE = whole("a whole number from 0 to 65,535", 0, LARGEST_SIDE);
 const LETTER = whole("a whole number from 1 to 4,096", 1, LARGEST_LETTER);
-const NAME = cutTo(LONGEST_NAME);
-const TEXT = cutTo(LONGEST_TEXT);
+const NAME = { words: "a text", take: value => (typeof value === "string" ? cutText(value, LONGEST_NAME) : undefined) };
+const TEXT = { words: "a text", take: (value, odd) => (typeof value === "string" ? odd.cut(value) : undefined) };
 const PATH = plain("a path", value => typeof value === "string" && value.length <= LONGEST_PATH);
 const COLOUR = plain("a colour", value => typeof value === "string" && partsOfColour(value) !== null);
 const ANY = plain("there", value => value !== undefined);

@@ -30,7 +30,7 @@ function objectWords(map) {
   const count = map.layers.reduce((sum, layer) => sum + (layer.data.objects?.length ?? 0), 0);
   return [
     ["texts in their own fonts", some(objectsOf(map), object => object.text)],
-    [`the rest of texts of more than ${grouped(LONGEST_TEXT)} letters`, some(objectsOf(map), object => object.text?.text?.length > LONGEST_TEXT)],
+    [`the rest of texts of more than ${grouped(LONGEST_TEXT)} letters, or of many texts`, map.odd.isCut],
     [`some of more than ${grouped(MOST_CORNERS)} corners`, some(objectsOf(map), object => cornersOf(object)?.length > MOST_CORNERS)],
     [`shapes and names where more than ${grouped(MOST_WHOLE)} objects are seen`, count > MOST_WHOLE],
   ];

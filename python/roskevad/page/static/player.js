@@ -124,7 +124,7 @@ class Progress {
   constructor(bench, all) {
     Object.assign(this, { bench, all, isStopped: false });
     bench.isHeld = true;
-    this.bar = element("progress", { max: all });
+    this.bar = element("progress", { max: all, ariaLabel: "lines that are done" });
     this.words = element("p");
     const stop = button("Stop", "Esc", () => this.stop(), { autofocus: true });
     const parts = [element("h2", { textContent: "Playing a session" }), this.words, this.bar, element("div", { className: "answers" }, stop)];
