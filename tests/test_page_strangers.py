@@ -186,12 +186,12 @@ def test_long_texts():
     with Bench(empty=True) as page:
         words = shown(page, strangers.map_of_thing(text={'text': 'word ' * 400_000, 'wrap': True}, name='n' * 1_000_000))
         assert 'the rest of texts of more than 4,096 letters' in words, words
-        # All texts together have a bound, too.
-        assert 'the rest of texts' in shown(page, strangers.map_of_texts(200, 2000))
-        assert 'the rest of texts' not in shown(page, strangers.map_of_texts(100, 2000))
         page.click('#show-objects')
         name = page.texts('#objects [data-object="1"] .name')[0]
         assert 200 <= len(name) < 300 and name.endswith('…'), len(name)
+        # All texts together have a bound, too.
+        assert 'the rest of texts' in shown(page, strangers.map_of_texts(200, 2000))
+        assert 'the rest of texts' not in shown(page, strangers.map_of_texts(100, 2000))
         # More points than a call takes arguments.
         points = [{'x': at % 777, 'y': at * 7 % 555} for at in range(150_000)]
         assert 'some of more than 65,536 corners' in shown(page, strangers.map_of_thing(polygon=points))

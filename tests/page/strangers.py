@@ -179,9 +179,9 @@ def map_of_objects(count):
 
 
 def map_of_texts(count, length):
-    """A map of that many texts, of so many letters."""
+    """A map of that many texts, of so many letters, which are hidden."""
     told = a_map()
-    objects = [{**THING, 'id': 100 + at, 'text': {'text': 'v' * length}} for at in range(count)]
+    objects = [{**THING, 'id': 100 + at, 'visible': False, 'text': {'text': 'v' * length}} for at in range(count)]
     layer(told, 'objectgroup')['objects'] += objects
     return json.dumps(told)
 
