@@ -21,6 +21,8 @@ const SAVED = "saved";
 // How many characters of a line and of its reply are listed, and how many lines are done before the page is shown again.
 const LISTED = 300;
 const MOST_AT_ONCE = 2000;
+// How many lines that are played the journal may be behind.
+const MOST_BEHIND = 10_000;
 // How long a part of lines takes that are played, and how often it is looked whether something has ended, in milliseconds.
 const SHORT = 40;
 const SOON = 20;
@@ -167,6 +169,8 @@ export class Editor extends EventTarget {
       came.isHeard &&= done.isHeard;
       for (const word of ["refusal", "refused", "barred", "why"]) came[word] ??= done[word];
       if (done.barred || came.count >= lines.length || (goOn && came.isHeard && !goOn(came.count))) break;
+      // The journal writes all at once that it has not written, so that stays small.
+      if (goOn && this.journal.added - this.journal.written > MOST_BEHIND) await this.journal.kept();
       await pause();
     }
     return came;
