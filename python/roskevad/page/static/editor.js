@@ -165,10 +165,10 @@ export class Editor extends EventTarget {
       const isFile = end === came.count;
       const done = isFile ? await this.hearFile(lines[end]) : this.doLines(lines.slice(came.count, end), { isFree, gesture, until });
       came.replies.push(...done.replies);
-      came.count += isFile ? 1 : done.count;
+      came.count = isFile ? end + 1 : isFree && done.barred ? end : came.count + done.count;
       came.isHeard &&= done.isHeard;
       for (const word of ["refusal", "refused", "barred", "why"]) came[word] ??= done[word];
-      if (done.barred || came.count >= lines.length || (goOn && came.isHeard && !goOn(came.count))) break;
+      if (came.count >= lines.length || (goOn && came.isHeard && !goOn(came.count))) break;
       // The journal writes all at once that it has not written, so that stays small.
       if (goOn && this.journal.added - this.journal.written > MOST_BEHIND) await this.journal.kept();
       await pause();

@@ -129,7 +129,7 @@ export class PropertyPanel {
     const { name, type = "string", value } = property;
     const whole = textOf(value);
     const text = cutText(whole, MOST_SHOWN);
-    const why = text === whole ? whyNotSet(property) : `Only its first ${MOST_SHOWN.toLocaleString("en-US")} letters are shown. No line changes it: remove it, and set it anew.`;
+    const why = text === whole ? whyNotSet(property) : `Only its first ${MOST_SHOWN.toLocaleString("en-US")} letters are shown. To change it, remove it and set it anew.`;
     const key = `${owner.word} ${type} ${why} ${why && text} ${name}`;
     return this.kept(key, [text], () => (why ? this.barredRow(owner, name, type, text, why) : this.setRow(owner, name, type, text)));
   }
