@@ -208,15 +208,21 @@ export class Module {
     });
   }
 
-  /** The same as a text. */
-  toldText(call, again = call) {
-    const size = this.number(call(this._reply, ROOM));
-    if (size === null) {
-      return null;
+  /** The same as a text. `guess` is how many bytes it may have: where that is right, the call is made once. */
+  toldText(call, again = call, guess = 0) {
+    const decoded = (at, size) => decoder.decode(this.bytes().subarray(at, at + size));
+    const told = (at, room) => {
+      const size = this.number(call(at, room));
+      return [size, size !== null && size <= room ? decoded(at, size) : null];
+    };
+    const [size, text] = guess > ROOM ? this.holding(guess, (at) => told(at, guess)) : told(this._reply, ROOM);
+    if (size === null || text !== null) {
+      return text;
     }
-    return size <= ROOM
-      ? decoder.decode(this.bytes().subarray(this._reply, this._reply + size))
-      : decoder.decode(this.told(again));
+    return this.holding(size, (at) => {
+      again(at, size);
+      return decoded(at, size);
+    });
   }
 
   /**

@@ -22,6 +22,8 @@ export { Layer, Layers, MapObject, Objects } from "./views.js";
 
 // Bytes that are taken beside a file: where it was copied, a text that is a little longer finds room later.
 const SPARE = 65536;
+// The largest outline for which there is room before its size is known.
+const LONGEST_GUESS = 16 * 1024 * 1024;
 // What `show` begins with, and two refusals.
 const MAP = "map ";
 const STORE_FAILED = 51;
@@ -62,6 +64,8 @@ export class Editor {
     // The names of those that are being opened.
     this._opening = new Set();
     this._seen = null;
+    // About how many bytes an outline has: as many as the last one, or as the file that was opened.
+    this._outlineSize = 0;
     // Whether anything of a map was set aside or unpacked. Until then maps are given as they are.
     this._hasSetAside = false;
     this._slot = module.take(SLOT_BYTES);
@@ -308,6 +312,7 @@ export class Editor {
     const names = Array.from({ length: taken.size + 1 }, (_, at) => `roskevad${at}.tmj`);
     const name = names.find((each) => !taken.has(each));
     this.putFile(name, bytes);
+    this._outlineSize = Math.min(bytes.length, LONGEST_GUESS);
     try {
       return textOf(this._say(`open ${document} ${name}`, call, why));
     } finally {
@@ -357,10 +362,12 @@ export class Editor {
   }
 
   _outlineText(asked) {
-    const text = this._module.toldText((to, room) => this._call("outline", to, room));
+    const call = (to, room) => this._call("outline", to, room);
+    const text = this._module.toldText(call, call, this._outlineSize + SPARE);
     if (text === null) {
       throw noDocument(asked);
     }
+    this._outlineSize = text.length;
     return text;
   }
 

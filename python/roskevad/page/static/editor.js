@@ -21,10 +21,22 @@ const SAVED = "saved";
 // How many characters of a line and of its reply are listed, and how many lines are done before the page is shown again.
 const LISTED = 300;
 const MOST_AT_ONCE = 2000;
+// How many lines that are played the journal may be behind.
+const MOST_BEHIND = 10_000;
+// How long a part of lines takes that are played, and how often it is looked whether something has ended, in milliseconds.
+const SHORT = 40;
+const SOON = 20;
 
 const isRefusal = reply => reply?.startsWith("no ") ?? false;
 const cut = text => (text.length <= LISTED ? text : `${text.slice(0, LISTED)} ..`);
-export const pause = () => new Promise(done => setTimeout(done));
+export const pause = (time = 0) => new Promise(done => setTimeout(done, time));
+
+// The end of the lines from a place on that are done at once: before the next one that reads or writes a file.
+function endOfPart(lines, from) {
+  let end = from;
+  while (end < lines.length && end < from + MOST_AT_ONCE && !OPEN.test(lines[end]) && !SAVE.test(lines[end])) end++;
+  return end;
+}
 
 // The reply of a session to a line, whatever it is; null where the line is quiet.
 function replyOf(session, line) {
@@ -107,24 +119,32 @@ export class Editor extends EventTarget {
 
   // Does lines at once, up to the first that is refused, or all of them. `stroke` is the stroke whose edits they are: it draws itself.
   // `gesture` is a word for what the hand did, where the lines do not tell it: `rectangle`, `pattern`, `cut`, `empty`, `paste`.
-  // Gives the replies, whether all were heard and accepted, and the first refusal with its line.
-  doLines(lines, { isFree = false, stroke = null, gesture = null } = {}) {
+  // Gives the replies, how many lines were come to, whether all of these were heard and accepted, and the first refusal with its line. Behind
+  // the time `until`, in milliseconds, no further line is begun.
+  doLines(lines, { isFree = false, stroke = null, gesture = null, until = Infinity } = {}) {
     const replies = [];
-    let [refusal, refused] = [null, null];
+    let [count, refusal, refused] = [0, null, null];
     for (const line of lines) {
-      if (this.isBarred(line)) return { ...UNHEARD, replies, barred: this.barred };
+      if (this.isBarred(line)) return { ...UNHEARD, replies, count, barred: this.barred };
       const reply = this.hear(line, stroke !== null, gesture);
+      count++;
       if (reply !== null) replies.push(reply);
       if (isRefusal(reply) && refusal === null) [refusal, refused] = [reply, line];
-      if (refusal && !isFree) break;
+      if ((refusal && !isFree) || performance.now() > until) break;
     }
     this.settle(stroke);
-    return { replies, isHeard: refusal === null, refusal, refused };
+    return { replies, count, isHeard: refusal === null, refusal, refused };
   }
 
-  // Does lines one behind the other, and waits for the files that they read and write.
+  // Does lines one behind the other, and waits for the files that they read and write. With `goOn` each part of them takes a short time; behind
+  // it that is called with the count of the lines that are done, and tells whether the others follow.
   send(lines, options = {}) {
     return this.during(this.sendAll(lines, options));
+  }
+
+  // Waits until nothing is read or written any more.
+  async free() {
+    while (this.underWay || this.writes.size) await pause(SOON);
   }
 
   // What work gives that is under way until then.
@@ -137,17 +157,21 @@ export class Editor extends EventTarget {
     }
   }
 
-  async sendAll(lines, { isFree = false, gesture = null }) {
-    const came = { replies: [], isHeard: true, refusal: null };
-    for (let at = 0; at < lines.length && (came.isHeard || isFree);) {
-      const last = lines.findIndex((line, place) => place >= at && (OPEN.test(line) || SAVE.test(line)));
-      const end = Math.min(at + MOST_AT_ONCE, last < 0 ? lines.length : last);
-      const done = end > at ? this.doLines(lines.slice(at, end), { isFree, gesture }) : await this.hearFile(lines[at]);
-      at = Math.max(end, at + 1);
+  async sendAll(lines, { isFree = false, gesture = null, goOn = null }) {
+    const came = { replies: [], count: 0, isHeard: true, refusal: null };
+    while (came.count < lines.length && (came.isHeard || isFree)) {
+      const end = endOfPart(lines, came.count);
+      const until = goOn ? performance.now() + SHORT : Infinity;
+      const isFile = end === came.count;
+      const done = isFile ? await this.hearFile(lines[end]) : this.doLines(lines.slice(came.count, end), { isFree, gesture, until });
       came.replies.push(...done.replies);
+      came.count = isFile ? end + 1 : isFree && done.barred ? end : came.count + done.count;
       came.isHeard &&= done.isHeard;
       for (const word of ["refusal", "refused", "barred", "why"]) came[word] ??= done[word];
-      if (at < lines.length) await pause();
+      if (came.count >= lines.length || (goOn && came.isHeard && !goOn(came.count))) break;
+      // The journal writes all at once that it has not written, so that stays small.
+      if (goOn && this.journal.added - this.journal.written > MOST_BEHIND) await this.journal.kept();
+      await pause();
     }
     return came;
   }

@@ -3,7 +3,7 @@ import { drawTile } from "./draw_tile.js";
 import { paintFar } from "./far_painter.js";
 import { DIAGONAL, idIn } from "./tile_numbers.js";
 import { paintThing } from "./thing_painter.js";
-import { Tints } from "./tints.js";
+import { colourOfText } from "./tints.js";
 
 // Below this width of a cell its mean colour is drawn, and no image.
 const SMALLEST_TILE = 6;
@@ -20,7 +20,11 @@ function inOrder({ data }) {
 
 export class LayerPainter {
   constructor(view, images) {
-    Object.assign(this, { view, images, tints: new Tints() });
+    Object.assign(this, { view, images });
+  }
+
+  get tints() {
+    return this.images.tints;
   }
 
   get isFar() {
@@ -48,7 +52,7 @@ export class LayerPainter {
     const { map, pen } = view;
     const { width, height } = map.projection;
     const [left, top] = [view.screenX(0), view.screenY(0)];
-    pen.fillStyle = map.data.backgroundcolor ?? GROUND;
+    pen.fillStyle = colourOfText(map.data.backgroundcolor, GROUND);
     pen.fillRect(left, top, view.screenX(width) - left, view.screenY(height) - top);
     const layers = map.layers.filter(layer => layer.isSeen && layer.type !== "group");
     if (this.isFar) this.paintAfar(layers, box);

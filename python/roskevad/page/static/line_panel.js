@@ -24,7 +24,8 @@ export class LinePanel {
     byId("copy").onclick = () => this.copy();
     this.heard = [];
     this.editor.addEventListener("lines", event => {
-      this.heard.push(...event.detail);
+      // No more are listed than that, however long the panels wait.
+      this.heard = [...this.heard, ...event.detail].slice(-SHOWN);
       if (!bench.isHeld) this.show();
     });
     bench.addEventListener("free", () => this.show());
@@ -35,7 +36,7 @@ export class LinePanel {
     if (!lines.length) return;
     const list = byId("lines");
     const isAtEnd = list.scrollTop + list.clientHeight >= list.scrollHeight - 30;
-    list.append(...lines.slice(-SHOWN).map(heard => this.row(heard)));
+    list.append(...lines.map(heard => this.row(heard)));
     while (list.children.length > SHOWN) list.firstChild.remove();
     if (isAtEnd) list.scrollTop = list.scrollHeight;
   }

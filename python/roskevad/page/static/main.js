@@ -123,6 +123,7 @@ class Page {
     const kept = isOther ? this.layouts.enter(active) : null;
     const { isOther: isOtherStamp, why } = this.bench.carried.follow();
     this.bench.settle();
+    if (isOther) this.view.images.forget();
     if (isOther && !kept) this.view.fit();
     this.view.takeMap();
     this.showNotDrawn();

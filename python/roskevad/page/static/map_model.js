@@ -1,40 +1,53 @@
 // The map as the page knows it: its outline, and its cells where they are asked for.
+import { LAYER, MAP, OddMembers, titleOfLayer } from "./members.js";
 import { projectionOf } from "./projections.js";
 import { bothTints, partsOfColour } from "./tints.js";
 
 // How far a layer may be moved aside, in pixels.
 const FARTHEST = 1_000_000;
 
-// A member that the editor keeps as it stands in the file, as a number within bounds; `usual` where it is none.
-function numberOf(value, usual, least, most) {
-  return Number.isFinite(value) ? Math.max(least, Math.min(most, value)) : usual;
+const within = (number, least, most) => Math.max(least, Math.min(most, number));
+
+// A layer of what the file has: with the group that it stands in, or null, how deep, and whether it is seen.
+function layerOf(told, group, place, siblings, odd) {
+  const data = LAYER.take(told, odd, titleOfLayer(told)) ?? {};
+  const isSeen = (group?.isSeen ?? true) && data.visible !== false;
+  const layer = { data, group, depth: group ? group.depth + 1 : 0, place, siblings, id: data.id, type: data.type, isSeen };
+  layer.offsetX = (group?.offsetX ?? 0) + within(data.offsetx ?? 0, -FARTHEST, FARTHEST);
+  layer.offsetY = (group?.offsetY ?? 0) + within(data.offsety ?? 0, -FARTHEST, FARTHEST);
+  layer.opacity = (group?.opacity ?? 1) * within(data.opacity ?? 1, 0, 1);
+  layer.tint = bothTints(group?.tint ?? null, partsOfColour(data.tintcolor));
+  layer.isTiles = data.type === "tilelayer";
+  return layer;
 }
 
-// All layers in the order in which they are drawn, each with the group that it stands in, how deep, and whether it is seen.
-function flattened(layers, group, depth, isSeen, found) {
-  layers.forEach((data, place) => {
-    const layer = { data, group, depth, place, siblings: layers.length, id: data.id, type: data.type, isSeen: isSeen && data.visible !== false };
-    layer.offsetX = (group?.offsetX ?? 0) + numberOf(data.offsetx, 0, -FARTHEST, FARTHEST);
-    layer.offsetY = (group?.offsetY ?? 0) + numberOf(data.offsety, 0, -FARTHEST, FARTHEST);
-    layer.opacity = (group?.opacity ?? 1) * numberOf(data.opacity, 1, 0, 1);
-    layer.tint = bothTints(group?.tint ?? null, partsOfColour(data.tintcolor));
-    layer.isTiles = data.type === "tilelayer";
+// All layers in the order in which they are drawn, a group before those in it.
+function flattened(layers, odd) {
+  const [found, left] = [[], []];
+  const put = (all, group) => {
+    for (let place = all.length - 1; place >= 0; place--) left.push([all[place], group, place, all.length]);
+  };
+  put(layers, null);
+  while (left.length) {
+    const layer = layerOf(...left.pop(), odd);
     found.push(layer);
-    if (data.type === "group") flattened(data.layers, layer, depth + 1, layer.isSeen, found);
-  });
+    if (layer.type === "group") put(layer.data.layers ?? [], layer);
+  }
   return found;
 }
 
 export class MapModel {
-  // `data` is the outline, and `cells(layer, x, y, width, height)` gives the cells of a rectangle.
-  constructor(data, cells) {
-    this.data = data;
+  // `told` is the outline, and `cells(layer, x, y, width, height)` gives the cells of a rectangle.
+  constructor(told, cells) {
+    // The members that are of another kind than Tiled writes.
+    this.odd = new OddMembers();
+    const data = this.data = MAP.take(told, this.odd, "the map");
     this.cells = cells;
     this.width = data.width;
     this.height = data.height;
     this.tileWidth = data.tilewidth;
     this.tileHeight = data.tileheight;
-    this.layers = flattened(data.layers, null, 0, true, []);
+    this.layers = flattened(data.layers, this.odd);
     this.projection = projectionOf(this);
     this.isHexagonal = data.orientation === "hexagonal";
     this.runs = [];

@@ -9,6 +9,8 @@ import { Tilesets } from "./tilesets.js";
 // How often it is painted anew while images and looks of tiles come, and how long it waits between.
 const MOST_TIMES = 40;
 const PAUSE = 50;
+// The most pixels of its images together.
+const MOST_PIXELS = 16 * 1024 * 1024;
 
 // Paints a map of an open session into a canvas, as large as fits there. `isOver` tells whether it is not wanted any more.
 export async function sketch(session, place, path, canvas, isOver) {
@@ -18,20 +20,21 @@ export async function sketch(session, place, path, canvas, isOver) {
   view.tilesets.onLooks = view.images.onImage = () => {
     isLate = true;
   };
-  for (let times = 0; times < MOST_TIMES && (isLate || isLoading(view.images)) && !isOver(); times++) {
+  for (let times = 0; times < MOST_TIMES && (isLate || view.images.waiting) && !isOver(); times++) {
     isLate = false;
     view.painter.paint([0, 0, canvas.width, canvas.height]);
     await new Promise(done => setTimeout(done, PAUSE));
   }
+  view.images.forget();
+  view.tilesets.close();
   return map;
 }
-
-const isLoading = images => [...images.all].some(([path, image]) => image === null && !images.missing.has(path));
 
 // A view of the whole map, without a box of the page and without an editor.
 async function viewOf(map, place, path, canvas) {
   const editor = { map, place, notes: { file: { path } } };
-  const [tilesets, images] = [new Tilesets(editor), new MapImages(editor)];
+  const tilesets = new Tilesets(editor, MOST_PIXELS);
+  const images = new MapImages(editor, tilesets);
   await tilesets.take(map);
   const { width, height } = map.projection;
   const scale = Math.min(canvas.width / width, canvas.height / height);

@@ -28,7 +28,7 @@ export class MapView {
     this.tilesets = tilesets;
     this.canvas = box.querySelector("#map");
     this.pen = this.canvas.getContext("2d", { alpha: false });
-    this.images = new MapImages(editor);
+    this.images = new MapImages(editor, tilesets);
     this.images.onImage = () => this.redraw();
     this.painter = new LayerPainter(this, this.images);
     this.scale = 2;
@@ -347,7 +347,7 @@ export class MapView {
       most.up = Math.max(most.up, high - set.offsetY - tileHeight);
       most.down = Math.max(most.down, set.offsetY);
     }
-    const aside = Math.max(0, ...map.layers.map(layer => Math.max(Math.abs(layer.offsetX), Math.abs(layer.offsetY))));
+    const aside = map.layers.reduce((far, layer) => Math.max(far, Math.abs(layer.offsetX), Math.abs(layer.offsetY)), 0);
     const isAny = aside > 0 || Object.values(most).some(length => length > 0);
     this.reached = { ...most, aside, isAny, map, all: tilesets.all };
     return this.reached;

@@ -1,10 +1,18 @@
 // Draws over the map: the grid, the selection, the objects, and what the hand is about to do.
 import { isLockedIn } from "./layer_bars.js";
 import { CellMarks } from "./cell_marks.js";
-import { areaOf, handlePlaces, isOn, ownPlace } from "./object_shapes.js";
+import { areaOf, boxOf, cornersOf, handlePlaces, isOn, ownPlace } from "./object_shapes.js";
 import { alignedAt, paintThing } from "./thing_painter.js";
+import { colourOfText } from "./tints.js";
 
 const LONGEST_NAME = 300;
+// How many objects that are seen are drawn whole, those of the first layers first: of the others the box is, without a name.
+export const MOST_WHOLE = 4000;
+// From how many corners on a line is as thin as can be, and how many corners of one are drawn.
+const MANY_CORNERS = 4096;
+export const MOST_CORNERS = 65_536;
+// The colour of an outline where its layer tells none.
+const OUTLINE = "#e4e7eb";
 // The side of a handle, in pixels of the page.
 const HANDLE = 8;
 
@@ -20,6 +28,8 @@ export class Marks {
     this.hasNames = true;
     this.chosen = null;
     this.place = null;
+    // How far objects with corners reach.
+    this.reaches = new WeakMap();
     // What the hand is about to do: { cells: [x, y, width, height], values, line, colour }; a line goes from a cell to a cell.
     this.hand = null;
   }
@@ -73,11 +83,15 @@ export class Marks {
   // The chosen one stands over all others.
   drawObjects() {
     const chosen = this.chosen !== null && this.showsChosen ? this.map.object(this.chosen) : null;
+    let left = MOST_WHOLE;
     for (const layer of this.map.layers) {
-      if (!layer.isSeen) continue;
-      for (const object of layer.data.objects ?? []) {
-        if (object.id !== chosen?.object.id && this.isInView(object, layer)) this.drawObject(this.placed(object), layer);
+      const others = [];
+      for (const object of layer.isSeen ? layer.data.objects ?? [] : []) {
+        if (object.visible === false || object.id === chosen?.object.id || !this.isInView(object, layer)) continue;
+        if (left-- > 0) this.drawObject(this.placed(object), layer);
+        else others.push(this.placed(object));
       }
+      if (others.length) this.drawBoxes(others, layer);
     }
     if (!chosen || !this.isShown(chosen)) return;
     this.drawObject(this.placed(chosen.object), chosen.layer);
@@ -86,12 +100,17 @@ export class Marks {
 
   // Whether a part of the object or its name may be seen: all of it lies within its greatest length of its place.
   isInView(object, layer) {
-    const { view } = this;
-    const place = this.placed(object);
-    const corners = (object.polygon ?? object.polyline ?? []).map(corner => Math.hypot(corner.x, corner.y));
-    const reach = Math.max(Math.hypot(object.width ?? 0, object.height ?? 0), ...corners) * view.scale + LONGEST_NAME;
-    const [x, y] = this.screenPlace(place, layer);
+    const reach = this.reachOf(object) * this.view.scale + LONGEST_NAME;
+    const [x, y] = this.screenPlace(this.placed(object), layer);
     return x > -reach && y > -reach && x < this.canvas.width + reach && y < this.canvas.height + reach;
+  }
+
+  // How far an object reaches from its place.
+  reachOf(object) {
+    const corners = cornersOf(object);
+    if (!corners) return Math.hypot(object.width ?? 0, object.height ?? 0);
+    if (!this.reaches.has(object)) this.reaches.set(object, corners.reduce((far, { x, y }) => Math.max(far, Math.hypot(x, y)), 0));
+    return this.reaches.get(object);
   }
 
   // Where an object's own place stands on the screen.
@@ -114,7 +133,7 @@ export class Marks {
     const isChosen = this.chosen === object.id && this.showsChosen;
     pen.globalAlpha = layer.opacity;
     pen.lineWidth = (isChosen ? 3 : 1.5) * view.ratio;
-    pen.strokeStyle = isChosen ? "#ffd34d" : layer.data.color ?? "#e4e7eb";
+    pen.strokeStyle = isChosen ? "#ffd34d" : colourOfText(layer.data.color, OUTLINE);
     pen.fillStyle = isChosen ? "#ffd34d33" : "#ffffff22";
     this.drawShape(object, scale);
     pen.restore();
@@ -125,7 +144,7 @@ export class Marks {
   drawShape(object, scale) {
     const { pen } = this;
     const [width, height] = [(object.width ?? 0) * scale, (object.height ?? 0) * scale];
-    const corners = object.polygon ?? object.polyline;
+    const corners = cornersOf(object);
     pen.beginPath();
     if (object.gid) {
       const [left, top] = alignedAt(this.tilesets.of(object.gid), this.map);
@@ -135,14 +154,41 @@ export class Marks {
     }
     pen.save();
     pen.transform(...this.map.projection.matrix, 0, 0);
-    if (corners) for (const { x, y } of corners) pen.lineTo(x * scale, y * scale);
+    if (corners) this.addCorners(corners, scale);
     else if (object.ellipse) pen.ellipse(width / 2, height / 2, width / 2, height / 2, 0, 0, 7);
     else if (object.point || (!width && !height)) pen.arc(0, 0, 5, 0, 7);
     else pen.rect(0, 0, width, height);
     if (object.polygon) pen.closePath();
     pen.restore();
-    if (!object.polyline) pen.fill();
-    this.strokeShape();
+    if (corners?.length > MANY_CORNERS) this.strokeThin();
+    else {
+      if (!object.polyline) pen.fill();
+      this.strokeShape();
+    }
+  }
+
+  addCorners(corners, scale) {
+    const step = Math.ceil(corners.length / MOST_CORNERS);
+    for (let at = 0; at < corners.length; at += step) this.pen.lineTo(corners[at].x * scale, corners[at].y * scale);
+  }
+
+  strokeThin() {
+    this.pen.lineWidth = 1;
+    this.pen.stroke();
+  }
+
+  // The boxes around objects of a layer, which are not turned.
+  drawBoxes(objects, layer) {
+    const { pen, view: { scale } } = this;
+    pen.beginPath();
+    for (const object of objects) {
+      const [x, y] = this.screenPlace(object, layer);
+      const [left, top, right, bottom] = boxOf(this.shapeOf(object));
+      pen.rect(x + left * scale, y + top * scale, (right - left) * scale, (bottom - top) * scale);
+    }
+    pen.lineWidth = 1;
+    pen.strokeStyle = colourOfText(layer.data.color, OUTLINE);
+    pen.stroke();
   }
 
   // A line with a dark edge, which is seen on any ground.

@@ -50,16 +50,30 @@ export class ObjectList {
       return words.every(word => text.includes(word));
     };
     const layers = (this.bench.map?.layers ?? []).filter(layer => layer.type === "objectgroup").reverse();
-    return layers.map(layer => [layer, (layer.data.objects ?? []).filter(fits)]).filter(([, objects]) => objects.length || !words.length);
+    const fitting = (objects = []) => (words.length ? objects.filter(fits) : objects);
+    return layers.map(layer => [layer, fitting(layer.data.objects)]).filter(([, objects]) => objects.length || !words.length);
   }
 
   show() {
     if (this.side !== "objects") return;
-    const rows = this.found().flatMap(([layer, objects]) => [this.headOf(layer, objects), ...objects.map(object => this.told(object, layer))]);
-    const said = JSON.stringify(rows);
-    if (said !== this.said) this.list.replaceChildren(...this.made(rows));
+    const found = this.found();
+    const left = found.reduce((sum, [, objects]) => sum + 1 + objects.length, 0) - MOST_ROWS;
+    const rows = this.rowsOf(found);
+    const said = JSON.stringify([left, rows]);
+    if (said !== this.said) this.list.replaceChildren(...this.made(rows, left));
     this.said = said;
     for (const row of this.list.children) row.classList.toggle("now", Number(row.dataset.object) === this.bench.objectId);
+  }
+
+  // As many rows as the list has: the layers with their objects.
+  rowsOf(found) {
+    const rows = [];
+    for (const [layer, objects] of found) {
+      if (rows.length >= MOST_ROWS) break;
+      rows.push(this.headOf(layer, objects));
+      for (const object of objects.slice(0, MOST_ROWS - rows.length)) rows.push(this.told(object, layer));
+    }
+    return rows;
   }
 
   // What a row tells.
@@ -73,9 +87,9 @@ export class ObjectList {
     return { object: object.id, name: object.name || "(no name)", kind: `${object.type || object.class || ""} ${object.id}`.trim(), isHidden };
   }
 
-  made(rows) {
-    const shown = rows.slice(0, MOST_ROWS).map(row => this.row(row));
-    const left = rows.length - shown.length;
+  // `left` is how many rows there are besides.
+  made(rows, left) {
+    const shown = rows.map(row => this.row(row));
     if (left > 0) shown.push(element("li", { className: "more", textContent: `and ${countOf(left)} more: search for them` }));
     const none = this.search.value ? "No object is found." : "The map has no object layer.";
     if (!rows.length) shown.push(element("li", { className: "more", textContent: none }));

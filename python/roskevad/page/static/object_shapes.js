@@ -14,11 +14,19 @@ const NEAR_AREA = 1;
 const HANDLES = ["nw", "n", "ne", "w", "e", "sw", "s", "se"];
 
 function frameOf(corners) {
-  const [across, down] = [corners.map(corner => corner.x), corners.map(corner => corner.y)];
-  return [Math.min(...across), Math.min(...down), Math.max(...across), Math.max(...down)];
+  const frame = [Infinity, Infinity, -Infinity, -Infinity];
+  for (const { x, y } of corners) {
+    [frame[0], frame[1]] = [Math.min(frame[0], x), Math.min(frame[1], y)];
+    [frame[2], frame[3]] = [Math.max(frame[2], x), Math.max(frame[3], y)];
+  }
+  return frame;
 }
 
-const cornersOf = object => object.polygon ?? object.polyline ?? null;
+// The corners of a polygon or of a line; null where it has none.
+export function cornersOf(object) {
+  const corners = object.polygon ?? object.polyline;
+  return corners?.length ? corners : null;
+}
 
 // Whether it has no size: a point, or a rectangle of none.
 const isSpot = object => !cornersOf(object) && !object.width && !object.height;

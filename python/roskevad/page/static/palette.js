@@ -225,7 +225,7 @@ export class Palette {
   // Takes the tiles between two places of the palette as the stamp.
   takeTiles([x0, y0], [x1, y1]) {
     const [left, top, width, height] = [Math.min(x0, x1), Math.min(y0, y1), Math.abs(x1 - x0) + 1, Math.abs(y1 - y0) + 1];
-    if (!this.tilesets.isRead) return this.bench.say("The tilesets of this map are still being read.");
+    if (this.tilesets.isReading) return this.bench.say("The tilesets of this map are still being read.");
     const values = [];
     for (let at = 0; at < width * height; at++) {
       const tile = (top + Math.floor(at / width)) * this.columns + left + at % width;

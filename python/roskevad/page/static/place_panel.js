@@ -98,6 +98,8 @@ export class PlacePanel {
 
   async drop(event) {
     event.preventDefault();
+    // Where something is under way that no other line may come into.
+    if (document.querySelector("dialog[data-busy]")) return;
     const items = [...event.dataTransfer.items].filter(item => item.kind === "file");
     const files = [...event.dataTransfer.files];
     const handles = await Promise.all(items.map(item => item.getAsFileSystemHandle?.() ?? null));

@@ -2,6 +2,7 @@
 import { button, byId, element, mark } from "./dom.js";
 import { fieldFor, numberField } from "./fields.js";
 import { KINDS, TYPES } from "./kinds.js";
+import { cutText } from "./members.js";
 import { folderOf } from "./names.js";
 import { saidOf } from "./refusals.js";
 import { NO_NAME, whyNotSet } from "./unsaid.js";
@@ -11,6 +12,8 @@ const OWNERS = ["map", "layer", "object"];
 const FIRST = { int: "0", bool: "false", object: "0" };
 // The type of a new property, unless another one is chosen.
 const USUAL = "string";
+// How many letters of a value are shown.
+const MOST_SHOWN = 1024;
 const isChoice = type => type === "bool" || type === "object";
 const PARTS = [["x", KINDS.coordinate, "x"], ["y", KINDS.coordinate, "y"], ["width", KINDS.size, "w"], ["height", KINDS.size, "h"]];
 
@@ -124,8 +127,9 @@ export class PropertyPanel {
   // ---- properties
   row(owner, property) {
     const { name, type = "string", value } = property;
-    const why = whyNotSet(property);
-    const text = shownValue(value);
+    const whole = textOf(value);
+    const text = cutText(whole, MOST_SHOWN);
+    const why = text === whole ? whyNotSet(property) : `Only its first ${MOST_SHOWN.toLocaleString("en-US")} letters are shown. To change it, remove it and set it anew.`;
     const key = `${owner.word} ${type} ${why} ${why && text} ${name}`;
     return this.kept(key, [text], () => (why ? this.barredRow(owner, name, type, text, why) : this.setRow(owner, name, type, text)));
   }
@@ -217,10 +221,18 @@ export class PropertyPanel {
   }
 }
 
-// A value as it is seen: of a class its members.
-function shownValue(value) {
-  if (typeof value !== "object" || value === null) return String(value).replace(/\r\n?/g, "\n");
-  return Object.entries(value).map(([name, each]) => `${name}: ${shownValue(each)}`).join("\n");
+// A value as it is seen: of a class its members, one below the other. Of one that is too long there is a part, longer than what is shown.
+function textOf(value) {
+  const left = [["", value]];
+  let text = "";
+  while (left.length && text.length <= MOST_SHOWN) {
+    const [title, each] = left.pop();
+    if (typeof each === "object" && each !== null) {
+      const names = Object.keys(each).slice(0, MOST_SHOWN);
+      for (let at = names.length - 1; at >= 0; at--) left.push([`${at === 0 ? title : ""}${names[at]}: `, each[names[at]]]);
+    } else text += `${text && "\n"}${title}${String(each).slice(0, MOST_SHOWN + 1).replace(/\r\n?/g, "\n")}`;
+  }
+  return text;
 }
 
 function rowOf(name, type, title, ...cells) {

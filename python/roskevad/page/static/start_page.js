@@ -90,7 +90,12 @@ export class StartPage {
 
   async drawAll() {
     this.isBusy = true;
-    while (this.waiting.length) await this.draw(this.waiting.shift()).catch(fault => console.warn(fault));
+    while (this.waiting.length) {
+      // A map that is being opened comes first, and takes this page away.
+      await this.editor.free();
+      const card = this.waiting.shift();
+      if (card && this.isShown) await this.draw(card).catch(fault => console.warn(fault));
+    }
     this.isBusy = false;
   }
 

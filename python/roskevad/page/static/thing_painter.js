@@ -52,7 +52,7 @@ function paintText(pen, object, scale) {
   pen.fillStyle = colourOfText(text.color, "#000");
   pen.textBaseline = "alphabetic";
   pen.textAlign = "left";
-  const lines = linesOf(pen, String(text.text ?? ""), text.wrap ? width : Infinity);
+  const lines = linesAt(pen, text, text.wrap ? width : Infinity, scale);
   const share = { center: 0.5, bottom: 1 }[text.valign] ?? 0;
   const first = (height - lines.length * size * LINE) * share;
   lines.forEach((line, at) => paintLine(pen, text, line, width, first + at * size * LINE, size));
@@ -65,6 +65,17 @@ function paintLine(pen, text, line, width, top, size) {
   pen.fillText(line, left, top + size * 0.93);
   if (text.underline) pen.fillRect(left, top + size * 1.03, length, thick);
   if (text.strikeout) pen.fillRect(left, top + size * 0.66, length, thick);
+}
+
+// The lines of texts, each as it was measured last: { most, scale, lines }.
+const measured = new WeakMap();
+
+function linesAt(pen, text, most, scale) {
+  const found = measured.get(text);
+  if (found?.most === most && found.scale === scale) return found.lines;
+  const lines = linesOf(pen, text.text ?? "", most);
+  measured.set(text, { most, scale, lines });
+  return lines;
 }
 
 // The lines of a text, none longer than `most` where it can be cut between words.

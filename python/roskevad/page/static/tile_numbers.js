@@ -154,9 +154,10 @@ export class TileNumbers {
   // The first id for a tileset that is added to the active map: behind all tiles of those that are there, and behind all that it uses.
   nextFirst() {
     const { sets, sizes, all } = this.tilesets;
-    const ends = [...sets.map(set => set.first + (sizes.get(set.key) ?? 1)), ...all.map(set => set.first + (set.span ?? 1))];
     const { map } = this.editor;
-    return Math.max(1, ...ends, ...map.layers.map(layer => greatestIn(map, layer) + 1));
+    const known = [...sets.map(set => set.first + (sizes.get(set.key) ?? 1)), ...all.map(set => set.first + (set.span ?? 1))];
+    const used = map.layers.map(layer => greatestIn(map, layer) + 1);
+    return [...known, ...used].reduce((greatest, end) => Math.max(greatest, end), 1);
   }
 
   // The id behind the last tile that a copy has of a tileset.

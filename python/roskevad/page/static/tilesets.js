@@ -1,19 +1,20 @@
 // The tilesets of a map with their images, where those can be had: a tileset is a `.tsx` or `.tsj` file with one image, or stands in the
 // map itself.
+import { PixelBudget, Wrong, imageFile, unpacked } from "./image_files.js";
+import { OddMembers } from "./members.js";
 import { folderOf, lastOf } from "./names.js";
 import { TileLooks } from "./tile_looks.js";
 import { DIAGONAL, TILE, keyOf, setOf, setsOf } from "./tile_numbers.js";
-import { withoutColour } from "./tileset_looks.js";
-import { Wrong, checked, claimOf, heldBy, imageOf, readTileset } from "./tileset_files.js";
+import { checked, claimOf, heldBy, readTileset } from "./tileset_files.js";
 
 export { colourOf } from "./tile_looks.js";
 
 // How many tiles a tileset without an image has, where its file does not tell, and how many of them are shown at most.
 const USUAL = 256;
 const MOST_BARE = 65_536;
-// The most pixels of the images of one tileset's tiles.
-const MOST_PICTURED = 64 * 1024 * 1024;
 const LONGEST_NAME = 80;
+// Under this stands the one image of a tileset, where others stand under the ids of their tiles.
+const WHOLE = "whole";
 
 class Tileset {
   // `first` and `last` are values of the map, and `told` is what its file tells: checked, or nothing.
@@ -55,6 +56,11 @@ class Tileset {
     return isTold ? this.span : null;
   }
 
+  // It has no image any more.
+  drop() {
+    this.image = null;
+  }
+
   // The image that has a tile, and the size of the tile there.
   imageFor() {
     return this.image;
@@ -90,6 +96,11 @@ class PictureSet extends Tileset {
     this.count = Math.min(told.tiles, last - first + 1, MOST_BARE);
   }
 
+  drop() {
+    super.drop();
+    this.pictures = new Map();
+  }
+
   imageFor(id) {
     return this.pictures.get(this.told.frames?.get(id)) ?? this.pictures.get(id);
   }
@@ -110,18 +121,17 @@ class PictureSet extends Tileset {
 
 // The tilesets of one map. The same ones are not asked for again.
 export class Tilesets {
-  constructor(editor) {
-    this.editor = editor;
-    this.all = [];
+  // All images of the map may have `most` pixels together.
+  constructor(editor, most = undefined) {
+    Object.assign(this, { editor, most, all: [], said: "[]", shown: "[]", budget: new PixelBudget(most) });
     // How many tiles each tileset has that was read, by its key; null where that is not known.
     this.sizes = new Map();
     // Called where a colour is known that was not when the map was drawn.
     this.onLooks = () => {};
     this.forgetLooks();
-    this.said = this.taken = "[]";
-    // The paths of the files that cannot be had, and the tilesets that are wrong: { name, why }.
-    this.missing = [];
-    this.wrong = [];
+    // The paths of the files that cannot be had, the tilesets that are wrong: { name, why }, what is odd in each, and the paths of images for
+    // which there are no pixels left.
+    Object.assign(this, { missing: [], wrong: [], odd: [], past: [] });
   }
 
   // Asks for the files anew with the next map: others can be had by now.
@@ -143,12 +153,13 @@ export class Tilesets {
     return sets;
   }
 
-  // Whether the files have been read of the map that was taken last.
-  get isRead() {
-    return this.taken === this.said;
+  // Whether those of the map that stands there are still being read.
+  get isReading() {
+    return this.said !== this.shown;
   }
 
-  // Takes the tilesets of a map, and says whether they are others than before.
+  // Takes the tilesets of a map, and says whether they are others than before. Images are unpacked once it is known which have their place.
+  // `reading` ends with that.
   async take(map) {
     const wanted = map ? map.data.tilesets : [];
     const folder = folderOf(this.editor.notes.file?.path ?? "");
@@ -156,45 +167,57 @@ export class Tilesets {
     if (said === this.said) return false;
     this.said = said;
     this.folder = folder;
-    const found = { missing: [], wrong: [] };
+    this.reading = this.takeRead(wanted, said, map);
+    return this.reading;
+  }
+
+  async takeRead(wanted, said, map) {
+    const found = { missing: [], wrong: [], odd: [], past: [], budget: new PixelBudget(this.most) };
     const sorted = [...wanted].sort((one, other) => one.firstgid - other.firstgid);
-    this.reading = Promise.all(sorted.map((data, at) => this.read(data, sorted[at + 1]?.firstgid ?? TILE + 1, map, found)));
-    const all = await this.reading;
+    const read = await Promise.all(sorted.map(data => this.read(data, found)));
     if (said !== this.said) return false;
-    Object.assign(this, found, { all, taken: said });
+    const files = placed(read, found);
+    // Where both have too many, the old images go before the new ones come.
+    if (this.budget.taken + found.budget.taken > found.budget.most) this.close();
+    const images = await imagesOf(files);
+    if (said !== this.said) {
+      closeAll(images.values());
+      return false;
+    }
+    const all = read.map((each, at) => made(each, (sorted[at + 1]?.firstgid ?? TILE + 1) - 1, images, map, found));
+    read.forEach(({ key }, at) => this.sizes.set(key, all[at].size));
+    closeAll(this.images?.values() ?? []);
+    Object.assign(this, found, { all, images, shown: said });
     this.forgetLooks();
     return true;
+  }
+
+  // Lets the images go: tiles are numbers from now on.
+  close() {
+    for (const tileset of this.all) tileset.drop();
+    closeAll(this.images?.values() ?? []);
   }
 
   forgetLooks() {
     this.looks = new TileLooks(value => this.of(value), () => this.onLooks());
   }
 
-  // Reads a tileset. What is wrong with it is noted, and then its tiles are drawn as numbers.
-  async read(data, next, map, found) {
-    let told = {};
-    let image = null;
-    let pictures = null;
-    let why = "";
-    const key = keyOf(data, this.folder, this.editor.place);
+  // Reads what a tileset tells, and the files of its images: { data, key, told, files, why }, where `why` is what is wrong with it.
+  async read(data, found) {
+    const read = { data, key: keyOf(data, this.folder, this.editor.place), told: {}, files: new Map(), why: "" };
+    const odd = new OddMembers();
+    found.odd.push(odd);
     try {
-      told = checked(data.source ? await this.readFile(this.folder + data.source, found) : data);
-      const path = told.image && this.folder + folderOf(data.source ?? "") + told.image;
-      const bytes = path && (await this.bytesOf(path, found));
-      if (bytes) image = withoutColour(await imageOf(told.image, bytes), told.clear);
-      if (!told.image && told.pictures.length) pictures = await this.picturesOf(told.pictures, this.folder + folderOf(data.source ?? ""), found);
+      const path = data.source ?? "";
+      const told = data.source ? await this.readFile(this.folder + path, found) : data;
+      read.told = checked(told, odd, data.source ? `the tileset ${data.source}` : "a tileset in the map");
+      for (const [id, image] of imagesTold(read.told)) await this.readImage(read, id, this.folder + folderOf(path) + image, found);
     } catch (fault) {
       if (!(fault instanceof Wrong)) throw fault;
-      why = fault.message;
+      read.why = fault.message;
+      read.files.clear();
     }
-    const isPictures = pictures !== null && !why;
-    const tileset = isPictures
-      ? new PictureSet(data.firstgid, next - 1, data.source, told, pictures, map)
-      : new Tileset(data.firstgid, next - 1, data.source, why ? { name: told.name } : told, image, map);
-    tileset.why ||= why;
-    this.sizes.set(key, tileset.size);
-    if (tileset.why) found.wrong.push({ name: data.source ?? tileset.name, why: tileset.why });
-    return tileset;
+    return read;
   }
 
   async readFile(path, found) {
@@ -202,18 +225,9 @@ export class Tilesets {
     return bytes ? readTileset(path, bytes) : {};
   }
 
-  // The images of tiles, by their ids: those that can be had.
-  async picturesOf(pictures, folder, found) {
-    const images = new Map();
-    let left = MOST_PICTURED;
-    for (const [id, path] of pictures) {
-      const bytes = await this.bytesOf(folder + path, found);
-      const image = bytes && (await imageOf(path, bytes));
-      left -= image ? image.width * image.height : 0;
-      if (left < 0) throw new Wrong(`its images have more than ${MOST_PICTURED} pixels`);
-      if (image) images.set(id, image);
-    }
-    return images;
+  async readImage({ files, told }, id, path, found) {
+    const bytes = await this.bytesOf(path, found);
+    if (bytes) files.set(id, { ...imageFile(path, bytes), clear: told.clear });
   }
 
   async bytesOf(path, found) {
@@ -238,4 +252,49 @@ export class Tilesets {
   mean(value) {
     return this.looks.mean(value);
   }
+}
+
+// The images that a tileset tells: one under a name of its own, or those of its tiles by their ids.
+const imagesTold = told => (told.image ? [[WHOLE, told.image]] : told.pictures);
+
+const imageKeyOf = ({ path, clear }) => `${clear ?? ""} ${path}`;
+
+// The files of the images of tilesets that were read, each once under its key, in the order of the tilesets; null where there are no pixels
+// left for one.
+function placed(read, { budget, past }) {
+  const files = new Map();
+  for (const file of read.flatMap(each => [...each.files.values()])) {
+    const key = imageKeyOf(file);
+    if (files.has(key)) continue;
+    files.set(key, budget.takes(file) ? file : null);
+    if (!files.get(key)) past.push(file.path);
+  }
+  return files;
+}
+
+// The images of files by their keys: null where one has no place, or what is wrong with it.
+async function imagesOf(files) {
+  const unpackedOrWrong = file => unpacked(file, file.clear).catch(fault => {
+    if (fault instanceof Wrong) return fault;
+    throw fault;
+  });
+  return new Map(await Promise.all([...files].map(async ([key, file]) => [key, file && (await unpackedOrWrong(file))])));
+}
+
+const closeAll = images => {
+  for (const image of images) image?.close?.();
+};
+
+// A tileset of what was read of it, and of the images. `last` is the last value of the map that it may have.
+function made({ data, told, files, why }, last, images, map, found) {
+  const all = [...files].map(([id, file]) => [id, images.get(imageKeyOf(file))]);
+  const said = why || all.map(([, image]) => image).find(image => image instanceof Wrong)?.message || "";
+  const isPictures = !said && !told.image && told.pictures?.length > 0;
+  const pictures = new Map(said ? [] : all.filter(([, image]) => image));
+  const tileset = isPictures
+    ? new PictureSet(data.firstgid, last, data.source, told, pictures, map)
+    : new Tileset(data.firstgid, last, data.source, said ? { name: told.name } : told, pictures.get(WHOLE) ?? null, map);
+  tileset.why ||= said;
+  if (tileset.why) found.wrong.push({ name: data.source ?? tileset.name, why: tileset.why });
+  return tileset;
 }

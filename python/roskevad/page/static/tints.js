@@ -1,8 +1,5 @@
 // Images with a tint, as Tiled has it: each colour is multiplied by it, and its alpha is that of the whole.
 
-// How many tinted images are kept.
-const MOST = 24;
-
 // The parts of a colour of Tiled, `#rrggbb` or `#aarrggbb`: [alpha, red, green, blue], each up to 1; null where it is none.
 export function partsOfColour(text) {
   const digits = /^#?((?:[0-9a-f]{2}){3,4})$/i.exec(text ?? "")?.[1];
@@ -25,21 +22,28 @@ export function bothTints(one, other) {
 }
 
 export class Tints {
-  constructor() {
-    this.all = new Map();
-    this.numbers = new WeakMap();
-    this.count = 0;
+  // `hasPixelsFor(image)` tells whether there are pixels for a copy; where there are none, `onPast` is called once.
+  constructor(hasPixelsFor, onPast) {
+    Object.assign(this, { hasPixelsFor, onPast, all: new Map(), numbers: new WeakMap(), count: 0, isPast: false });
   }
 
-  // An image with a tint, which is as `partsOfColour` gives it.
+  // An image with a tint, which is as `partsOfColour` gives it; the image itself where there are no pixels for that.
   of(image, tint) {
     if (!this.numbers.has(image)) this.numbers.set(image, ++this.count);
     const key = `${this.numbers.get(image)} ${tint.join(" ")}`;
-    if (!this.all.has(key)) {
-      if (this.all.size >= MOST) this.all.delete(this.all.keys().next().value);
-      this.all.set(key, tinted(image, tint));
-    }
+    if (!this.all.has(key)) this.all.set(key, this.hasPixelsFor(image) ? tinted(image, tint) : this.past(image));
     return this.all.get(key);
+  }
+
+  past(image) {
+    if (!this.isPast) setTimeout(this.onPast);
+    this.isPast = true;
+    return image;
+  }
+
+  // Lets the copies go.
+  close() {
+    for (const image of this.all.values()) image.close();
   }
 }
 
@@ -54,5 +58,5 @@ function tinted(image, [alpha, red, green, blue]) {
   pen.drawImage(image, 0, 0);
   pen.fillStyle = `rgb(0 0 0 / ${alpha})`;
   pen.fillRect(0, 0, image.width, image.height);
-  return sheet;
+  return sheet.transferToImageBitmap();
 }

@@ -1,5 +1,6 @@
 // What no line can say of a property or of an object, in words.
 import { KINDS, TYPES } from "./kinds.js";
+import { ODD } from "./members.js";
 
 // What is said where somebody would rename an object.
 export const NO_NAME = "The name of an object stays as it is: the editor has no step that changes it. "
@@ -9,7 +10,7 @@ export const NO_NAME = "The name of an object stays as it is: the editor has no 
 export function whyNotSet({ name, type = "string", value }) {
   if (typeof value === "object" && value !== null) return "No line sets a class.";
   if (type === "float") return "No line sets a float.";
-  if (!TYPES[type]) return `No line sets the type ${type}.`;
+  if (!Object.hasOwn(TYPES, type)) return `No line sets the type ${type}.`;
   const fault = KINDS.key.fault(name);
   return fault ? `No line can name it: ${fault.split(":")[0]}.` : "";
 }
@@ -37,5 +38,6 @@ export function unsaidOf(object) {
     [!isWhole, "the fraction of its size"],
   ];
   const faults = parts.filter(([isSo]) => isSo).map(([, words]) => words);
-  return [...faults, ...(object.properties ?? []).map(whyNotCopied).filter(why => why)];
+  const odd = (object[ODD] ?? []).map(name => `its ${name}`);
+  return [...faults, ...odd, ...(object.properties ?? []).map(whyNotCopied).filter(why => why)];
 }
