@@ -137,6 +137,7 @@ def test_images():
         words = shown(page, text, {**images, **files})
         assert drawn_tilesets(page) == [True, True, True, False, False], words
         assert 's3.png, s4.png' in words and 's2.png' not in words, words
+        assert page.js('return roskevad.tilesets.all.map(each => each.held)') == [32] * 5, 'how many tiles each image has is known'
         # Another map has all of it anew.
         text, files = strangers.map_of_tilesets(3)
         assert 'png' not in shown(page, text, files) and drawn_tilesets(page) == [True] * 3

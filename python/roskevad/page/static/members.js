@@ -2,7 +2,8 @@
 // knows of a file's members comes through these tables: one that is of another kind counts as not there, and is told.
 import { partsOfColour } from "./tints.js";
 
-// How many characters of a name, of a text and of all texts of a map are shown, how long a path may be, and the largest size of a letter and side of a cell.
+// How many characters of a name, of a text and of all texts of a map are shown; how long a path may be; the largest size of a letter, and the
+// largest side of a hexagon.
 const LONGEST_NAME = 200;
 export const LONGEST_TEXT = 4096;
 const MOST_LETTERS = 262_144;

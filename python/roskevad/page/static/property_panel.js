@@ -14,6 +14,7 @@ const FIRST = { int: "0", bool: "false", object: "0" };
 const USUAL = "string";
 // How many letters of a value are shown.
 const MOST_SHOWN = 1024;
+const CUT = `Only its first ${MOST_SHOWN.toLocaleString("en-US")} letters are shown. To change it, remove it and set it anew.`;
 const isChoice = type => type === "bool" || type === "object";
 const PARTS = [["x", KINDS.coordinate, "x"], ["y", KINDS.coordinate, "y"], ["width", KINDS.size, "w"], ["height", KINDS.size, "h"]];
 
@@ -129,7 +130,7 @@ export class PropertyPanel {
     const { name, type = "string", value } = property;
     const whole = textOf(value);
     const text = cutText(whole, MOST_SHOWN);
-    const why = text === whole ? whyNotSet(property) : `Only its first ${MOST_SHOWN.toLocaleString("en-US")} letters are shown. To change it, remove it and set it anew.`;
+    const why = text === whole ? whyNotSet(property) : CUT;
     const key = `${owner.word} ${type} ${why} ${why && text} ${name}`;
     return this.kept(key, [text], () => (why ? this.barredRow(owner, name, type, text, why) : this.setRow(owner, name, type, text)));
   }

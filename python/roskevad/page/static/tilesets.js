@@ -17,8 +17,9 @@ const LONGEST_NAME = 80;
 const WHOLE = "whole";
 
 class Tileset {
-  // `first` and `last` are values of the map, and `told` is what its file tells: checked, or nothing.
-  constructor(first, last, source, told, image, map) {
+  // `first` and `last` are values of the map, and `told` is what its file tells: checked, or nothing. The size of an image is known also
+  // where it has no place: { width, height }.
+  constructor(first, last, source, told, image, map, size = null) {
     Object.assign(this, { first, source, image, why: "" });
     this.name = told.name || source?.slice(0, LONGEST_NAME) || "tiles";
     this.tileWidth = told.tilewidth || map.tileWidth;
@@ -31,12 +32,12 @@ class Tileset {
     this.told = told;
     const most = last - first + 1;
     this.count = Math.min(told.tilecount || told.tiles || USUAL, most, MOST_BARE);
-    if (image) this.takeImage(most, map);
+    if (told.image && (image ?? size)) this.takeImage(image ?? size, most, map);
   }
 
   // Keeps to the tiles that the image holds.
-  takeImage(most, map) {
-    const { told, image } = this;
+  takeImage(image, most, map) {
+    const { told } = this;
     const held = heldBy(image, { ...this, columns: told.columns });
     this.why = claimOf(image, { ...this, columns: told.columns }, held, told.tilecount ?? 0);
     this.held = Math.min(told.tilecount || held.count, held.count);
@@ -293,7 +294,7 @@ function made({ data, told, files, why }, last, images, map, found) {
   const pictures = new Map(said ? [] : all.filter(([, image]) => image));
   const tileset = isPictures
     ? new PictureSet(data.firstgid, last, data.source, told, pictures, map)
-    : new Tileset(data.firstgid, last, data.source, said ? { name: told.name } : told, pictures.get(WHOLE) ?? null, map);
+    : new Tileset(data.firstgid, last, data.source, said ? { name: told.name } : told, pictures.get(WHOLE) ?? null, map, files.get(WHOLE));
   tileset.why ||= said;
   if (tileset.why) found.wrong.push({ name: data.source ?? tileset.name, why: tileset.why });
   return tileset;
