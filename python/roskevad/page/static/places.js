@@ -331,6 +331,7 @@ export class ServedFiles extends EventTarget {
   async told() {
     const told = await (await this.ask(this.address("/files"))).json();
     this.title = told.folder;
+    this.source = told.source;
     this.prefix = told.prefix;
     return told;
   }
