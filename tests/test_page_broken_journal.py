@@ -195,6 +195,43 @@ def test_damaged_rows():
         passed(len(DAMAGES))
 
 
+OTHERWISE = '''
+(async () => {
+  const {database} = roskevad.editor.journal;
+  const records = [];
+  for await (const each of database.recordsOf(words[0])) records.push(each);
+  const changed = records.find(({entries}) => entries.some(each => each.line === words[1]));
+  changed.entries.find(each => each.line === words[1]).reply = "ok 9/9 dirty 0";
+  changed.sum = roskevad.sumOf(changed.entries);
+  await database.write(({records: kept}) => kept.put(changed));
+})()'''
+
+
+def test_a_document_that_fails():
+    """Where a line of one document gives another reply than it gave, the others of its journal come back, and go on in a
+    journal of the window; the one is offered apart, and its map may be had."""
+    with Bench(has_log=False) as page:
+        page.editor.lines('stamp 1 3 20 1 12')
+        page.editor.lines('new cave 5 4 16 16 tiles.tsx', 'stamp 1 1 1 1 7', 'stamp 1 2 1 1 7', 'use town')
+        page.editor.lines('stamp 1 4 20 1 12', 'new hut 6 5 16 16 tiles.tsx', 'stamp 1 1 1 1 9', 'use cave')
+        number = page.js('return roskevad.editor.journal.id')
+        assert later(page, OTHERWISE, number, 'stamp 1 2 1 1 7') is None
+        page.reload()
+        for _ in range(2):
+            state = page.editor.state()
+            counts = {each['name']: (each['count'], each['path']) for each in state['documents']}
+            assert counts == {'town': (2, 'town.tmj'), 'hut': (1, None)}, counts
+            assert page.js('return roskevad.tilesets.all.map(set => set.image !== null)') == [True]
+            [told] = page.notices()
+            assert 'cave (2 steps, not saved)' in told and 'town' not in told, told
+            page.editor.lines('use town', 'undo', 'redo')
+            page.reload()
+        page.answer('Forget')
+        page.fill_in('Forget')
+        page.reload()
+        assert page.notices() == [] and with_tabs(page) == ['town', 'hut']
+
+
 # ---- a journal that is broken off
 
 

@@ -535,9 +535,9 @@ export class Editor extends EventTarget {
   }
 
   // ---- the journal
-  // Does the lines of a journal anew, beside this session. Gives a Replay. Throws Damaged, Otherwise where it is not lenient.
-  async replay(row, entries, { onLines, isLenient = false } = {}) {
-    const made = new Replay(await loadModule(), row.limit, isLenient);
+  // Does the lines of a journal anew, beside this session. Gives a Replay. Throws Damaged, OfDocument where it is not lenient.
+  async replay(row, entries, { onLines, isLenient, without } = {}) {
+    const made = new Replay(await loadModule(), row.limit, { isLenient, without });
     await made.take(entries, onLines);
     return made;
   }

@@ -279,6 +279,13 @@ export class Journal extends EventTarget {
     sessionStorage.setItem(OWN, row.id);
   }
 
+  // Leaves nothing in the journal of another window but these entries, about these documents.
+  leave(row, entries, documents) {
+    const record = { journal: row.id, at: 0, entries, sum: recordSum(entries) };
+    const left = { ...row, count: 1, size: (row.files ?? 0) + sizeOf(entries), documents };
+    return this.database.restart(left, record).then(() => left);
+  }
+
   // Keeps where the files are, and the files that were chosen.
   keepSource(files = []) {
     // A journal that is broken off has them later.
@@ -352,7 +359,7 @@ export async function heldLocks() {
 function isEntry(each) {
   const isObject = value => typeof value === "object" && value !== null;
   if (!isObject(each) || (each.file !== undefined && !(each.file?.bytes instanceof Uint8Array))) return false;
-  return typeof each.line === "string" || isObject(each.sent) || isObject(each.written) || each.isParted === true;
+  return typeof each.line === "string" || isObject(each.sent) || isObject(each.written) || each.isParted === true || each.isElsewhere === true;
 }
 
 // Whether the files of entries have the bytes that they were kept with.

@@ -8,8 +8,11 @@ import { heldLocks, lock } from "./journal.js";
 import { brokenNames, isOld, isUntouched, isWhole, leftOf, namesOf } from "./left_journals.js";
 import { notice } from "./notices.js";
 import { ChosenFiles, FolderFiles, download } from "./places.js";
+import { OfDocument } from "./replay.js";
 import { isSameSource, wordsOf } from "./sources.js";
 
+// How many documents of a journal are left out at most, where they fail.
+const MOST_LEFT_OUT = 10;
 // The word behind `#` of a window that is opened for a journal.
 const RESTORE = "restore=";
 
@@ -114,13 +117,14 @@ export class Recovery {
     }
     const giveBack = await lock(row.id);
     if (!giveBack) return this.keep(row, "Its window lives.");
-    const held = new HeldEntries();
     try {
-      const made = await this.replayOf(row, { held });
+      const { made, held, faults } = await this.replayWhole(row);
       await this.journal.end();
       const pending = this.editor.takeUp(made);
-      this.journal.adopt(row, held);
+      if (faults.size) await this.journal.restart(made.entries);
+      else this.journal.adopt(row, held);
       await this.takeFiles(row, pending);
+      if (faults.size) await this.leaveRest(row, made, faults).finally(giveBack);
     } catch (fault) {
       giveBack();
       throw fault;
@@ -131,12 +135,43 @@ export class Recovery {
     return true;
   }
 
+  // Does the lines of a journal: a document that fails is left out of another try. Gives the replay, the entries that it holds, and the
+  // faults by the lives of their documents. Throws where nothing is left.
+  async replayWhole(row) {
+    const faults = new Map();
+    while (faults.size <= MOST_LEFT_OUT) {
+      const held = new HeldEntries();
+      try {
+        const made = await this.replayOf(row, { held, without: new Set(faults.keys()) });
+        if (!faults.size || made.notes.documents.size) return { made, held, faults };
+        made.session.close();
+        break;
+      } catch (fault) {
+        if (!(fault instanceof OfDocument)) throw fault;
+        faults.set(fault.life, fault);
+      }
+    }
+    throw [...faults.values()][0];
+  }
+
+  // Leaves the documents that were left out in their journal; the others are in that of this window.
+  async leaveRest(row, made, faults) {
+    this.journal.keepSource(await this.journal.database.filesOf(row.id));
+    await this.journal.work;
+    const documents = row.documents.filter(each => made.aside.has(each.name));
+    const [fault] = faults.values();
+    if (!this.journal.isKept) this.keepFailed(row, fault);
+    // Those that were closed later are not missed.
+    else if (!documents.length) await this.journal.forget(row.id);
+    else this.keepFailed(await this.journal.leave(row, made.others, documents), fault);
+  }
+
   // Does the lines of a journal, while nothing else is done.
-  async replayOf(row, { held = null, isLenient = false }) {
+  async replayOf(row, { held = null, isLenient, without }) {
     document.body.inert = true;
     try {
       const onLines = lines => (byId("standing").textContent = `${lines} lines ..`);
-      return await this.editor.replay(row, this.journal.entriesOf(row, held), { onLines, isLenient });
+      return await this.editor.replay(row, this.journal.entriesOf(row, held), { onLines, isLenient, without });
     } finally {
       document.body.inert = false;
     }
