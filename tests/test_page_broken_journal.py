@@ -24,7 +24,7 @@ FILL = '''
 const {put} = IDBObjectStore.prototype;
 globalThis.isFull = false;
 IDBObjectStore.prototype.put = function (...words) {
-  if (globalThis.isFull) throw new DOMException("The quota has been exceeded.", "QuotaExceededError");
+  if (globalThis.isFull) throw new DOMException("It has no room.", globalThis.fault ?? "QuotaExceededError");
   return put.apply(this, words);
 };'''
 LATER = '''
@@ -117,6 +117,33 @@ def test_a_map_that_is_not_shown_any_more():
             assert with_tabs(page) == ['town'] and standing(page) == (2, 2)
         finally:
             page.driver.execute_cdp_cmd('Page.removeScriptToEvaluateOnNewDocument', at_start)
+
+
+def test_a_drawing_that_throws():
+    """Where a drawing throws, whatever it is, the page is there, with all documents and steps."""
+    throw = '''
+    for (const name of ["fillRect", "drawImage", "clearRect"]) {
+      const was = CanvasRenderingContext2D.prototype[name];
+      CanvasRenderingContext2D.prototype[name] = function (...words) {
+        if (this.canvas.id === "map" && document.querySelector(".tab")) throw new TypeError("not drawn");
+        return was.apply(this, words);
+      };
+    }'''
+    with Bench('town.tmj', 'layers.tmj', has_log=False) as page:
+        page.editor.lines('use layers', 'prop set map author string me')
+        page.editor.lines('use town', 'stamp 1 3 20 1 12')
+        at_start = page.driver.execute_cdp_cmd('Page.addScriptToEvaluateOnNewDocument', {'source': throw})
+        try:
+            page.reload()
+            page.editor.lines('stamp 1 4 20 1 12', 'use layers')
+            assert with_tabs(page) == ['town', 'layers'] and standing(page) == (1, 1)
+            page.driver.get_log('browser')
+        finally:
+            page.driver.execute_cdp_cmd('Page.removeScriptToEvaluateOnNewDocument', at_start)
+        page.reload()
+        page.driver.get_log('browser')
+        page.editor.lines('use town')
+        assert standing(page) == (2, 2) and page.notices() == []
 
 
 def test_the_mark_of_a_replay():
@@ -244,6 +271,18 @@ def all_of(page):
     return page.editor.state(), page.editor.shown(), page.editor.session()
 
 
+# How many rows and records the database has.
+COUNTS = '''
+(() => {
+  const {opened} = roskevad.editor.journal.database;
+  const count = store => new Promise(done => {
+    const asked = opened.transaction([store]).objectStore(store).count();
+    asked.onsuccess = () => done(asked.result);
+  });
+  return Promise.all(["journals", "records"].map(count));
+})()'''
+
+
 def see_all_again(page, before):
     page.reload()
     after = all_of(page)
@@ -267,12 +306,16 @@ def test_a_journal_that_goes_on():
         wait_kept(page)
         assert sign(page) == '' and 'keeps all of this window again' in page.notices()[0]
         page.answer('OK')
+        # A write that may be torn.
+        page.js('globalThis.fault = "UnknownError"')
         fill(page)
         page.editor.lines('stamp 1 9 21 1 12')
         assert 'keeps nothing more' in page.notices()[0] and sign(page) == 'Not kept'
         fill(page, False)
         # It is tried again without any step.
         wait_kept(page)
+        counts = later(page, COUNTS)
+        assert counts == [1, page.js('return roskevad.editor.journal.row.count')], counts
         see_all_again(page, all_of(page))
         assert page.editor.state()['depth'] == 1 and page.notices() == []
 

@@ -44,8 +44,9 @@ export class Journal extends EventTarget {
   constructor(version, limit) {
     super();
     Object.assign(this, { version, limit, bound: BOUND, database: null, row: null, isFlushing: null, work: Promise.resolve() });
-    // Why it is broken off, or null; whether for good; and whether what the database has is not that to which entries are added.
-    Object.assign(this, { fault: null, isOver: false, isStale: false, retry: null, tried: 0, noting: null });
+    // Why it is broken off, or null; whether for good; whether a write may be torn; and whether what the database has is not that to which
+    // entries are added.
+    Object.assign(this, { fault: null, isOver: false, isTorn: false, isStale: false, retry: null, tried: 0, noting: null });
     // The entries that are not written yet, with their size, how many were added and written, and who waits for how many: { count, resolve }.
     Object.assign(this, { queue: [], due: 0, added: 0, written: 0, waiting: [], held: new HeldEntries() });
     // What is told of this window's documents, where its files are, and those that were chosen:
@@ -90,6 +91,8 @@ export class Journal extends EventTarget {
   break(fault) {
     const isNew = this.fault === null;
     this.fault = fault;
+    // What is past the browser's quota is refused before it is written.
+    this.isTorn ||= fault.name !== "QuotaExceededError";
     this.isFlushing = null;
     this.tellWaiting(Infinity);
     this.noteSoon();
@@ -115,7 +118,7 @@ export class Journal extends EventTarget {
     if (!this.fault || this.isOver) return;
     this.database?.close();
     this.database = await Database.open();
-    await this.database.passTornLog();
+    if (this.isTorn) await this.database.passTornLog();
     if (await this.isThere()) await this.append();
     else if (this.held.entries) await this.rewrite([...this.held.entries], this.added);
     else return this.dispatchEvent(new Event("lost"));
@@ -131,7 +134,7 @@ export class Journal extends EventTarget {
 
   mended() {
     clearTimeout(this.retry);
-    Object.assign(this, { fault: null, retry: null });
+    Object.assign(this, { fault: null, isTorn: false, retry: null });
     if (this.row) forgetBroken(this.id);
     this.dispatchEvent(new Event("mended"));
     this.isFlushing ??= this.run(() => this.flush());
