@@ -342,6 +342,19 @@ def test_a_journal_that_is_written_anew():
         assert page.js('return roskevad.tilesets.all.map(set => set.image !== null)') == [True]
 
 
+def test_a_browser_that_takes_away_what_it_keeps():
+    """What the browser clears while the window is there is written anew at once."""
+    bench = Bench(has_log=False, served=True)
+    with bench as page:
+        page.editor.lines('stamp 1 3 20 1 12', 'begin Wall', 'stamp 1 4 20 1 12')
+        before = all_of(page)
+        cleared = {'origin': bench.server.address.split('/?')[0], 'storageTypes': 'indexeddb'}
+        page.driver.execute_cdp_cmd('Storage.clearDataForOrigin', cleared)
+        page.wait(page.notices, 'it is told')
+        wait_kept(page)
+        see_all_again(page, before)
+
+
 def test_a_journal_that_begins_from_the_maps():
     """Where the window holds the lines no more, it begins with the maps as they are, and says so. What was not saved is
     not saved, and a map without a file has none."""
@@ -386,24 +399,37 @@ def test_a_reload_of_a_broken_journal():
         assert page.notices() == [] and standing(page) == (1, 1)
 
 
+def leave(page, begin, *more):
+    """Another window does lines of which no more is kept than it begins with, and is closed."""
+    first = page.driver.current_window_handle
+    page.driver.switch_to.new_window('tab')
+    page.open()
+    begin()
+    page.js(FILL)
+    fill(page)
+    page.editor.lines(*more)
+    page.js('addEventListener("beforeunload", event => event.stopImmediatePropagation(), true)')
+    time.sleep(0.5)
+    page.driver.close()
+    page.driver.switch_to.window(first)
+    page.reload()
+
+
 def test_an_offer_of_a_broken_journal():
-    """What a closed window has left says how far it is kept; of one of which nothing is kept, that is said."""
-    with Bench(has_log=False) as page:
-        first = page.driver.current_window_handle
-        page.driver.switch_to.new_window('tab')
-        page.open()
-        page.editor.lines('new cave 5 4 16 16 tiles.tsx', 'stamp 1 1 1 1 7')
-        page.js(FILL)
-        fill(page)
-        page.editor.lines('stamp 1 2 1 1 7', 'stamp 1 3 1 1 7', 'new hut 5 4 16 16 tiles.tsx')
-        page.js('addEventListener("beforeunload", event => event.stopImmediatePropagation(), true)')
-        time.sleep(0.5)
-        page.driver.close()
-        page.driver.switch_to.window(first)
-        page.reload()
+    """What a closed window has left says how far it is kept, also where nothing but a map that was opened is."""
+    bench = Bench(has_log=False)
+    with bench as page:
+        cave = ('new cave 5 4 16 16 tiles.tsx', 'stamp 1 1 1 1 7')
+        more = ('stamp 1 2 1 1 7', 'stamp 1 3 1 1 7', 'new hut 5 4 16 16 tiles.tsx')
+        leave(page, lambda: page.editor.lines(*cave), *more)
         [told] = page.notices()
         assert 'cave (kept up to step 1 of 3, not saved), hut (not kept)' in told, told
         assert 'later steps are missing' in told, told
+        page.answer('Forget')
+        page.fill_in('Forget')
+        leave(page, lambda: page.choose_files(bench.folder / 'layers.tmj'), 'prop set map author string me')
+        [told] = page.notices()
+        assert 'layers.tmj (kept up to step 0 of 1)' in told, told
         page.answer('Forget')
         page.fill_in('Forget')
         page.reload()

@@ -7,8 +7,8 @@ const isCount = value => Number.isInteger(value) && value >= 0;
 const orNull = (value, isRight) => value === null || isRight(value);
 const isDocument = each => isText(each?.name) && orNull(each.path, isText) && orNull(each.kept, isCount) && isCount(each.steps);
 
-// Keeps for a journal what is told of its documents: [{ name, path, kept, steps }], where `kept` is null of one that is not kept. Where the browser has no room for that either,
-// nobody will know.
+// Keeps for a journal what is told of its documents, [{ name, path, kept, steps, isWhole }]: up to which step each is kept, or null, and
+// whether nothing of it is missing. Where the browser has no room for that either, nobody will know.
 export function noteBroken(id, documents) {
   try {
     localStorage.setItem(PREFIX + id, JSON.stringify(documents));

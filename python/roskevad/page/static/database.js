@@ -24,8 +24,9 @@ function told(request) {
 const allOf = id => IDBKeyRange.bound([id], [id, []]);
 
 export class Database {
-  // Opens it. Throws where the browser keeps nothing.
-  static async open() {
+  // Opens it. Throws where the browser keeps nothing. `onEnd` is called with a fault where the browser closes it, as where it takes away
+  // what it keeps.
+  static async open(onEnd) {
     const request = indexedDB.open(NAME, 1);
     request.onupgradeneeded = () => {
       const made = request.result;
@@ -35,6 +36,7 @@ export class Database {
     };
     const database = new Database();
     database.opened = await told(request);
+    database.opened.onclose = () => onEnd(new Error("the browser has closed its database"));
     return database;
   }
 

@@ -292,7 +292,14 @@ export class Editor extends EventTarget {
     const line = `open ${name} ${word}`;
     const path = this.names.pathOf(word);
     await this.ready();
-    const [reply, why] = await opened(this.session, name, bytes);
+    let told;
+    try {
+      told = await opened(this.session, name, bytes);
+    } catch (fault) {
+      this.break(fault);
+      return { ...UNHEARD, barred: this.barred };
+    }
+    const [reply, why] = told;
     const unshown = isRefusal(reply) ? "" : this.whyUnshown();
     if (unshown) return this.notOpened(line, name, path, unshown);
     this.list(line, reply);

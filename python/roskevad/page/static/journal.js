@@ -59,10 +59,14 @@ export class Journal extends EventTarget {
   async start() {
     addEventListener("pagehide", () => this.note());
     try {
-      this.database = await Database.open();
+      await this.open();
     } catch (fault) {
       this.break(fault);
     }
+  }
+
+  async open() {
+    this.database = await Database.open(fault => this.break(fault));
   }
 
   get id() {
@@ -117,7 +121,7 @@ export class Journal extends EventTarget {
   async mend() {
     if (!this.fault || this.isOver) return;
     this.database?.close();
-    this.database = await Database.open();
+    await this.open();
     if (this.isTorn) await this.database.passTornLog();
     if (await this.isThere()) await this.append();
     else if (this.held.entries) await this.rewrite([...this.held.entries], this.added);
@@ -149,8 +153,11 @@ export class Journal extends EventTarget {
     clearTimeout(this.noting);
     this.noting = null;
     if (!this.fault || !this.row) return;
-    const kept = new Map(this.row.documents.map(each => [each.name, each.steps]));
-    noteBroken(this.id, this.summary().map(({ name, path, steps }) => ({ name, path, kept: kept.get(name) ?? null, steps })));
+    const kept = new Map(this.row.documents.map(each => [each.name, each]));
+    noteBroken(this.id, this.summary().map(({ name, path, steps, lines }) => {
+      const before = kept.get(name);
+      return { name, path, kept: before?.steps ?? null, steps, isWhole: before?.lines === lines };
+    }));
   }
 
   // ---- writing
@@ -255,7 +262,7 @@ export class Journal extends EventTarget {
     this.held = new HeldEntries(entries);
     return this.run(async () => {
       if (this.isOver || (!this.row && !entries.length)) return;
-      this.database ??= await Database.open();
+      if (!this.database) await this.open();
       await this.rewrite(entries, count);
       if (this.fault) this.mended();
     });

@@ -35,7 +35,7 @@ function nameOf(document, broken) {
   return `${titleOf(document)} (${far ? farOf(far) : stepsOf(document.steps)}${document.isClean ? "" : ", not saved"})`;
 }
 
-// The documents of a journal in words; `broken` is what is known of one that was broken off: [{ name, path, kept, steps }].
+// The documents of a journal in words; `broken` is what is known of those of which later steps are missing: [{ name, path, kept, steps }].
 export function namesOf(row, broken = []) {
   const others = broken.filter(({ name }) => row.documents.every(each => each.name !== name));
   return [...row.documents.map(each => nameOf(each, broken)), ...others.map(each => `${titleOf(each)} (${farOf(each)})`)].join(", ");

@@ -35,6 +35,7 @@ export class Recovery {
   }
 
   async takeLeft(left) {
+    if (!this.journal.database) return false;
     this.broken = brokenNotes();
     const mine = this.journal.ownOf(left);
     const rows = await this.withoutEnded(left, mine);
@@ -50,7 +51,8 @@ export class Recovery {
   // The journals but for those that have ended: all of their documents are closed, or they had none but maps that were only opened. Those
   // are forgotten.
   async withoutEnded(left, mine) {
-    const hasEnded = row => isWhole(row) && (!row.documents.length || this.broken.get(row.id)?.length === 0 || (row !== mine && isOld(row)));
+    const isOver = row => row !== mine && isOld(row) && !this.brokenOf(row).length;
+    const hasEnded = row => isWhole(row) && (!row.documents.length || this.broken.get(row.id)?.length === 0 || isOver(row));
     for (const row of left.filter(hasEnded)) await this.journal.forget(row.id).catch(fault => console.warn(fault));
     return left.filter(row => !hasEnded(row));
   }
@@ -69,15 +71,17 @@ export class Recovery {
     notice(`broken ${id}`, words, [["OK", () => forgetBroken(id)]]);
   }
 
+  // What is known of the documents of which later steps are missing in a journal. One that has gone on since is whole again.
   brokenOf(row) {
-    return this.broken.get(row.id) ?? [];
+    const stands = ({ name, kept }) => kept === null || row.documents.some(each => each.name === name && each.steps === kept);
+    return (this.broken.get(row.id) ?? []).filter(each => !each.isWhole && stands(each));
   }
 
   async offer(row) {
     if (!isWhole(row)) return this.keepUnread(row);
-    if (isUntouched(row)) return;
-    const from = (await this.isAtHand(row)) ? "" : ` They are of ${wordsOf(row.source)}, and come back without their files.`;
     const broken = this.brokenOf(row);
+    if (isUntouched(row) && !broken.length) return;
+    const from = (await this.isAtHand(row)) ? "" : ` They are of ${wordsOf(row.source)}, and come back without their files.`;
     const left = `${leftOf(row, broken)}.${broken.length ? " Then the browser stopped keeping it: later steps are missing." : ""}${from}`;
     notice(row.id, left, [
       ["Restore", () => this.restoreHere(row), "Open these documents with all their steps"],
