@@ -98,6 +98,24 @@ def test_another_root():
         assert [each['path'] for each in page.editor.state()['documents']] == ['town.tmj']
 
 
+def test_another_folder_under_an_open_page():
+    """A page that stays open saves nothing into another folder that is served at its address, with its key, by then."""
+    with Folders() as folders:
+        page, key = folders.page, ('--key-file', str(folders.one.parent / 'key'))
+        # A file that is the same in both.
+        shutil.copy(folders.one / 'town.tmj', folders.two / 'town.tmj')
+        folders.serve(folders.one, page, *key).open()
+        page.editor.lines('stamp 1 3 20 1 12')
+        before = (folders.two / 'town.tmj').read_bytes()
+        folders.serve(folders.two, page, *key)
+        page.ctrl('s')
+        assert 'another folder is served here' in page.bubble(), page.bubble()
+        assert (folders.two / 'town.tmj').read_bytes() == before and not page.editor.state()['isClean']
+        folders.serve(folders.one, page, *key)
+        page.ctrl('s')
+        assert (folders.one / 'town.tmj').read_bytes() == page.editor.shown() != before
+
+
 def test_another_folder_of_the_browser():
     """Where another folder is chosen, the open maps have no files there; the same one, chosen once more, has them."""
     with site() as address:

@@ -13,8 +13,8 @@ const MEBIBYTE = 1024 * 1024;
 const BOUND = 256 * MEBIBYTE;
 const RESERVE = MEBIBYTE;
 // How many milliseconds lie between two tries to go on with a journal that is broken off: where something is added meanwhile, and else. And
-// how long behind a change it is noted beside the database.
-const [LEAST_PAUSE, PAUSE] = [500, 2000];
+// how long behind a change it is noted beside the database. A log is passed once in such a time, since that writes much.
+const [LEAST_PAUSE, PAUSE, PASSING_PAUSE] = [500, 2000, 60_000];
 const NOTING = 300;
 const OWN = "roskevad-journal";
 const REPLAYING = "roskevad-replaying";
@@ -46,7 +46,7 @@ export class Journal extends EventTarget {
     Object.assign(this, { version, limit, bound: BOUND, database: null, row: null, isFlushing: null, work: Promise.resolve() });
     // Why it is broken off, or null; whether for good; whether a write may be torn; and whether what the database has is not that to which
     // entries are added.
-    Object.assign(this, { fault: null, isOver: false, isTorn: false, isStale: false, retry: null, tried: 0, noting: null });
+    Object.assign(this, { fault: null, isOver: false, isTorn: false, isStale: false, retry: null, tried: 0, passed: 0, noting: null });
     // The entries that are not written yet, with their size, how many were added and written, and who waits for how many: { count, resolve }.
     Object.assign(this, { queue: [], due: 0, added: 0, written: 0, waiting: [], held: new HeldEntries() });
     // What is told of this window's documents, where its files are, and those that were chosen:
@@ -122,11 +122,17 @@ export class Journal extends EventTarget {
     if (!this.fault || this.isOver) return;
     this.database?.close();
     await this.open();
-    if (this.isTorn) await this.database.passTornLog();
+    if (this.isTorn) await this.passTornLog();
     if (await this.isThere()) await this.append();
     else if (this.held.entries) await this.rewrite([...this.held.entries], this.added);
     else return this.dispatchEvent(new Event("lost"));
     this.mended();
+  }
+
+  async passTornLog() {
+    if (Date.now() - this.passed < PASSING_PAUSE) throw this.fault;
+    await this.database.passTornLog();
+    Object.assign(this, { isTorn: false, passed: Date.now() });
   }
 
   // Whether the database has what was written until now.

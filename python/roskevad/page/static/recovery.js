@@ -81,9 +81,8 @@ export class Recovery {
     if (!isWhole(row)) return this.keepUnread(row);
     const broken = this.brokenOf(row);
     if (isUntouched(row) && !broken.length) return;
-    const from = (await this.isAtHand(row)) ? "" : ` They are of ${wordsOf(row.source)}, and come back without their files.`;
-    const left = `${leftOf(row, broken)}.${broken.length ? " Then the browser stopped keeping it: later steps are missing." : ""}${from}`;
-    notice(row.id, left, [
+    const missing = broken.length ? " Then the browser stopped keeping it: later steps are missing." : "";
+    notice(row.id, `${leftOf(row, broken)}.${missing}${await this.fromOf(row)}`, [
       ["Restore", () => this.restoreHere(row), "Open these documents with all their steps"],
       ["As a session", () => this.downloadSession(row), "The lines that were done, as a file"],
       ["Forget", () => this.forget(row)],
@@ -215,6 +214,14 @@ export class Recovery {
   async isAtHand({ source }) {
     const { place } = this.editor;
     return place.kind === "served" || source.kind === "served" ? isSameSource(source, place) : true;
+  }
+
+  // What is said of a journal whose files are not those of this window.
+  async fromOf(row) {
+    const { place } = this.editor;
+    if (!(await this.isAtHand(row))) return ` They are of ${wordsOf(row.source)}, and come back without their files.`;
+    const isOther = row.source.kind === "folder" && place.kind === "folder" && !(await isSameSource(row.source, place));
+    return isOther ? ` They are of ${wordsOf(row.source)}, which comes back with them.` : "";
   }
 
   // Takes the files of a journal: those that were chosen, or a folder, which the user must allow again. Gives whether they are at hand.
