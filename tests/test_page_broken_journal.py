@@ -535,9 +535,11 @@ def test_a_save_before_a_journal_begins_anew():
         page.js(SLOW)
         page.js('roskevad.documents.save()')
         page.wait(lambda: page.js('return Boolean(globalThis.goOn)'), 'the save is under way')
-        page.js('roskevad.editor.journal.bound = roskevad.editor.journal.size + 1; roskevad.editor.doLines(["select replace 1 1 2 2"])')
+        page.js('roskevad.editor.journal.bound = roskevad.editor.journal.size + 1')
+        page.js('roskevad.editor.doLines(["select replace 1 1 2 2"])')
         page.wait(lambda: page.notices(), 'the journal is full')
-        page.js('[...document.querySelectorAll("#notices button")].find(each => each.textContent === "Save and begin anew").click()')
+        # A hand of the driver's would wait until the save has ended.
+        page.js('document.querySelector("#notices .notice[data-about=full] button").click()')
         page.js('roskevad.editor.journal.bound = 2 ** 28; globalThis.goOn()')
         page.wait(lambda: page.notices() == [], 'it has begun anew')
         page.settle()

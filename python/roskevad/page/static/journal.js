@@ -94,13 +94,13 @@ export class Journal extends EventTarget {
   // From now on nothing is kept, until the database takes it again.
   break(fault) {
     const isNew = this.fault === null;
-    this.fault = fault;
+    this.fault = fault ?? new Error("the database has failed");
     // What is past the browser's quota is refused before it is written.
-    this.isTorn ||= fault.name !== "QuotaExceededError";
+    this.isTorn ||= this.fault.name !== "QuotaExceededError";
     this.isFlushing = null;
     this.tellWaiting(Infinity);
     this.noteSoon();
-    if (isNew) this.dispatchEvent(new CustomEvent("broken", { detail: fault }));
+    if (isNew) this.dispatchEvent(new CustomEvent("broken", { detail: this.fault }));
     if (!this.isOver) this.retry ??= setTimeout(() => this.tryAgain(), PAUSE);
   }
 

@@ -134,7 +134,7 @@ export class Recovery {
     }
     const broken = this.brokenOf(row);
     if (broken.length) this.sayBrokenOff(row.id, `The browser had stopped keeping this window, so later steps are missing: ${brokenNames(broken)}.`);
-    await this.panel.documents.outside.look();
+    await this.panel.documents.outside.look().catch(fault => console.warn(fault));
     return true;
   }
 
