@@ -17,7 +17,7 @@ import urllib.request
 import zipfile
 from pathlib import Path
 
-from lib.cases import Case, check_each, unlike
+from lib.cases import Case, check_each, passed, unlike
 from lib.places import EXAMPLE_MAPS, TOP
 from page.door import Door, opened, read_answer
 
@@ -84,6 +84,39 @@ def test_what_is_listed():
         rest = {name: told[name] for name in ('files', 'limit', 'prefix', 'folder')}
         wanted = {'files': [], 'limit': 0, 'prefix': '', 'folder': str(folder.resolve())}
         door.want('the folder', rest == wanted, rest)
+
+
+def test_the_name_of_the_source():
+    """A folder with its root has one name: at each start, with each key, and by a link. Another
+    folder, or another root, has another name."""
+    with tempfile.TemporaryDirectory() as top:
+        top = Path(top).resolve()
+        for path in ('one/maps', 'two/maps'):
+            (top / path).mkdir(parents=True)
+        os.symlink(top / 'one', top / 'link')
+        starts = {
+            'one': ('--folder', top / 'one' / 'maps'),
+            'one again': ('--folder', top / 'one' / 'maps'),
+            'one by a link': ('--folder', top / 'link' / 'maps'),
+            'two': ('--folder', top / 'two' / 'maps'),
+            'another root': ('--folder', top / 'one' / 'maps', '--root', top / 'one'),
+        }
+        wanted = {
+            name: hashlib.sha256(b'\0'.join(os.fsencode(path) for path in paths)).hexdigest()
+            for name, paths in {
+                **dict.fromkeys(('one', 'one again', 'one by a link'), [top / 'one' / 'maps'] * 2),
+                'two': [top / 'two' / 'maps'] * 2,
+                'another root': [top / 'one' / 'maps', top / 'one'],
+            }.items()
+        }
+        for name, words in starts.items():
+            door = Door(*words, '--port', '0')
+            try:
+                told = door.listed().get('source')
+                assert told == wanted[name], f'{name}: {told}'
+                passed()
+            finally:
+                door.end()
 
 
 def see_nothing_done(door, folder):

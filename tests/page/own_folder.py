@@ -45,8 +45,10 @@ READ = '''
 const [path, done] = arguments;
 roskevad.editor.place.read(path).then(found => done(found && [...found.bytes]), fault => done(String(fault)));'''
 TAKE = '''
-const done = arguments[0];
-navigator.storage.getDirectory().then(folder => roskevad.panel.takeFolder(folder));
+const [name, done] = arguments;
+navigator.storage.getDirectory()
+  .then(top => (name ? top.getDirectoryHandle(name) : top))
+  .then(folder => roskevad.panel.takeFolder(folder));
 setTimeout(done, 500);'''
 
 
@@ -56,9 +58,9 @@ def put(page, files):
     assert page.driver.execute_async_script(PUT, given) == ''
 
 
-def take_folder(page):
-    """The page has the browser's own folder from now on, and asks which map to open."""
-    page.driver.execute_async_script(TAKE)
+def take_folder(page, name=''):
+    """The page has the browser's own folder from now on, or one in it. Where no map is open, it asks for one."""
+    page.driver.execute_async_script(TAKE, name)
 
 
 def bytes_in(page, path):

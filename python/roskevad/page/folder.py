@@ -48,6 +48,12 @@ class Folder:
         """The path of the folder from the root, with a slash; nothing where it is the root."""
         return '' if self.folder == self.root else f'{self.folder.relative_to(self.root).as_posix()}/'
 
+    @property
+    def source(self) -> str:
+        """A name of the folder with its root, the same at each start: the SHA-256 of both real paths, with a zero byte between them,
+        which no path has."""
+        return hashlib.sha256(b'\0'.join(os.fsencode(path) for path in (self.folder, self.root))).hexdigest()
+
     def maps(self) -> list[dict[str, Any]]:
         """The files of the folder that may be maps, with their sizes and times."""
         return self._files(self.folder, MAPS)

@@ -4,7 +4,8 @@ It is bound to 127.0.0.1. Its key is new at each start, but for one of a file, a
 has the key as `?key=`. Whoever has the key can read and replace the maps of the folder; the browser's history has it.
 
     GET /               the page, which is one file
-    GET /files          the folder, its place below the root, the maps to open, the undo limit, and the files that may be maps
+    GET /files          the folder, its place below the root, a name of both, the maps to open, the undo limit, and the files that may be
+                        maps
     GET /tilesets       the files of tilesets below the root
     GET /names          the names of all files of the folder, for properties that name one
     GET /files/PATH     a map, a tileset or an image below the root; `Roskevad-Time` is when it was changed
@@ -299,7 +300,8 @@ class Door(BaseHTTPRequestHandler):
 
     def _give_files(self, body: bytes) -> None:
         folder = self.server.folder
-        told = {**self.server.told, 'folder': str(folder.folder), 'prefix': folder.prefix, 'maps': folder.maps()}
+        where = {'folder': str(folder.folder), 'prefix': folder.prefix, 'source': folder.source}
+        told = {**self.server.told, **where, 'maps': folder.maps()}
         self._give(json.dumps(told, separators=(',', ':')).encode(), 'application/json')
 
     def _give_names(self, body: bytes) -> None:

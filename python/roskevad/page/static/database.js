@@ -6,6 +6,12 @@ const FILES = "files";
 // How many records are read at once.
 const BATCH = 500;
 
+// What is put behind a torn piece of a log, and taken away again: so many values of so many bytes under an id. How many milliseconds the
+// browser then has to put the log away.
+const PADDING = "padding";
+const [PIECES, PIECE] = [100, 60_000];
+const PASSING = 500;
+
 // What a request gives.
 function told(request) {
   return new Promise((resolve, reject) => {
@@ -18,8 +24,9 @@ function told(request) {
 const allOf = id => IDBKeyRange.bound([id], [id, []]);
 
 export class Database {
-  // Opens it. Throws where the browser keeps nothing.
-  static async open() {
+  // Opens it. Throws where the browser keeps nothing. `onEnd` is called with a fault where the browser closes it, as where it takes away
+  // what it keeps.
+  static async open(onEnd) {
     const request = indexedDB.open(NAME, 1);
     request.onupgradeneeded = () => {
       const made = request.result;
@@ -29,7 +36,21 @@ export class Database {
     };
     const database = new Database();
     database.opened = await told(request);
+    database.opened.onclose = () => onEnd(new Error("the browser has closed its database"));
     return database;
+  }
+
+  close() {
+    this.opened.close();
+  }
+
+  // Has the browser begin another log behind a write that has failed. Chromium goes on in the same one, behind the piece that was written,
+  // and finds all of its databases damaged at the next start; it begins another one behind 4 MiB, where a value of 64 KiB does not count.
+  async passTornLog() {
+    const pieces = Array.from({ length: PIECES }, (_, at) => ({ journal: PADDING, at, bytes: crypto.getRandomValues(new Uint8Array(PIECE)) }));
+    await this.write(({ records }) => pieces.forEach(piece => records.put(piece)));
+    await this.forget(PADDING);
+    await new Promise(done => setTimeout(done, PASSING));
   }
 
   // Does something in one transaction, which is on the disk when this resolves.
@@ -38,7 +59,13 @@ export class Database {
       const transaction = this.opened.transaction([ROWS, RECORDS, FILES], "readwrite", { durability: "strict" });
       transaction.oncomplete = () => resolve();
       transaction.onabort = () => reject(transaction.error ?? new Error("the database has stopped"));
-      work({ rows: transaction.objectStore(ROWS), records: transaction.objectStore(RECORDS), files: transaction.objectStore(FILES) });
+      try {
+        work({ rows: transaction.objectStore(ROWS), records: transaction.objectStore(RECORDS), files: transaction.objectStore(FILES) });
+      } catch (fault) {
+        // Else the part that was done would be kept.
+        reject(fault);
+        transaction.abort();
+      }
     });
   }
 
@@ -46,8 +73,10 @@ export class Database {
     return told(ask(this.opened.transaction([store], "readonly").objectStore(store)));
   }
 
-  rows() {
-    return this.read(ROWS, rows => rows.getAll());
+  // All rows: those that can be read. One that cannot is no more than its id.
+  async rows() {
+    const ids = await this.read(ROWS, rows => rows.getAllKeys());
+    return Promise.all(ids.map(id => this.row(id).catch(() => ({ id }))));
   }
 
   row(id) {
@@ -69,12 +98,15 @@ export class Database {
     }
   }
 
-  // Puts one record, or none, in the place of all that a journal has.
-  restart(row, record) {
-    return this.write(({ rows, records }) => {
+  // Puts one record, or none, in the place of all that a journal has, and files in the place of its files, where any are given.
+  restart(row, record, files = null) {
+    return this.write(({ rows, records, files: kept }) => {
       records.delete(allOf(row.id));
       if (record) records.put(record);
       rows.put(row);
+      if (!files) return;
+      kept.delete(allOf(row.id));
+      for (const { path, bytes, time } of files) kept.put({ journal: row.id, path, bytes, time });
     });
   }
 

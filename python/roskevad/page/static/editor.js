@@ -1,35 +1,31 @@
 // The editor of this window: hears lines, keeps them in the journal, and tells what has changed.
 //
 // Lines are done at once, in the order in which they come. Of `open` and `save` the file is read and written beside them.
-import { Broken, Editor as Session, FORMS, NoMemory, Refused, VERSION, documentName } from "../../../../js/roskevad.js";
+import { Broken, Editor as Session, FORMS, NoMemory, VERSION, documentName } from "../../../../js/roskevad.js";
+import { Anew } from "./anew.js";
 import { Journal } from "./journal.js";
 import { cellsIn } from "./log_words.js";
-import { ALL, NOTHING, bothChanges, changesOf, isAboutDocuments, isLook, isQuiet, wordOf } from "./line_kinds.js";
+import { ALL, NOTHING, bothChanges, changesOf, isAboutDocuments, isLook, isTurn, wordOf } from "./line_kinds.js";
 import { MapModel } from "./map_model.js";
 import { hashOf } from "./hashes.js";
 import { FileNames, freeName } from "./names.js";
 import { Notes } from "./notes.js";
+import { loadModule } from "./own_module.js";
 import { Changed, ChosenFiles } from "./places.js";
 import { shortHintOf } from "./refusals.js";
+import { Replay } from "./replay.js";
+import { MOST_AT_ONCE, SAVED, cut, isRefusal, opened, pause, replyOf } from "./replies.js";
+import { sourceOf } from "./sources.js";
 
 const OPEN = /^open ([A-Za-z0-9_][A-Za-z0-9_.-]{0,63}) ([A-Za-z0-9_][A-Za-z0-9_.-]{0,99})$/;
 const SAVE = /^save ([A-Za-z0-9_][A-Za-z0-9_.-]{0,99})$/;
 const STATUS = /^ok (\d+)\/(\d+) (clean|dirty) (\d+)$/;
 const UNHEARD = { replies: [], isHeard: false };
-// What the journal has as the reply to a save, whose bytes are reckoned later.
-const SAVED = "saved";
-// How many characters of a line and of its reply are listed, and how many lines are done before the page is shown again.
-const LISTED = 300;
-const MOST_AT_ONCE = 2000;
 // How many lines that are played the journal may be behind.
 const MOST_BEHIND = 10_000;
 // How long a part of lines takes that are played, and how often it is looked whether something has ended, in milliseconds.
 const SHORT = 40;
 const SOON = 20;
-
-const isRefusal = reply => reply?.startsWith("no ") ?? false;
-const cut = text => (text.length <= LISTED ? text : `${text.slice(0, LISTED)} ..`);
-export const pause = (time = 0) => new Promise(done => setTimeout(done, time));
 
 // The end of the lines from a place on that are done at once: before the next one that reads or writes a file.
 function endOfPart(lines, from) {
@@ -38,34 +34,14 @@ function endOfPart(lines, from) {
   return end;
 }
 
-// The reply of a session to a line, whatever it is; null where the line is quiet.
-function replyOf(session, line) {
-  try {
-    const reply = session.step(line);
-    return reply === "" && isQuiet(line) ? null : reply;
-  } catch (fault) {
-    if (fault instanceof Refused) return `no ${fault.code} ${fault.words}`;
-    if (fault instanceof NoMemory) return "no 90 no memory";
-    throw fault;
-  }
-}
-
-// The reply to `open` of a session, and why the map was refused, where that is known.
-async function opened(session, name, bytes) {
-  try {
-    return [await session.openMap(name, bytes), null];
-  } catch (fault) {
-    if (fault instanceof Refused) return [`no ${fault.code} ${fault.words}`, fault.why];
-    if (fault instanceof NoMemory) return ["no 90 no memory", null];
-    throw fault;
-  }
+// Why a map cannot be shown, by what was thrown.
+function whyNotShown(fault) {
+  const isMemory = fault instanceof NoMemory || fault instanceof RangeError;
+  return isMemory ? "it takes more memory than there is" : `the page fails at something in it (${fault.message})`;
 }
 
 // A file that the user has kept as it is.
 class NotReplaced extends Error {}
-
-// A journal that gives other replies than those that it has.
-export class Otherwise extends Error {}
 
 // Events:
 //   map        the active map is another one, or its outline is
@@ -75,6 +51,8 @@ export class Otherwise extends Error {}
 //   lines      the lines that were heard, each with its number, its reply, what is at fault in it, how many cells it names, and its gesture
 //   state      how the documents and the steps stand, once the journal has it
 //   broken     the engine has ended the editor
+//   unopened   a map was not opened, since it cannot be shown; the detail is { path, why }
+//   unshown    the detail is the active document, where its map cannot be shown, and why: { document, why }; null where it is shown
 export class Editor extends EventTarget {
   constructor(module, limit) {
     super();
@@ -82,11 +60,14 @@ export class Editor extends EventTarget {
     this.session = new Session(module, { limit });
     this.journal = new Journal(VERSION, limit);
     this.journal.summary = () => this.summary();
-    this.journal.source = () => ({ kind: this.place.kind, title: this.place.title, folder: this.place.folder ?? null });
+    this.journal.source = () => sourceOf(this.place);
+    this.journal.files = () => [...(this.place.files ?? [])].map(([path, { bytes, time }]) => ({ path, bytes, time }));
     this.names = new FileNames();
     this.notes = new Notes(limit);
     this.state = { change: 0, documents: [], steps: [], firstStep: 0, index: 0, count: 0, depth: 0, isClean: true, active: null, file: null };
     this.map = null;
+    // Whether the active document has a map that cannot be shown, and whether no line is taken, since the journal begins anew.
+    Object.assign(this, { isUnshown: false, isAside: false });
     this.steps = 200;
     this.heard = 0;
     this.listed = [];
@@ -110,11 +91,14 @@ export class Editor extends EventTarget {
   // Why no edit is taken now; "" where edits are.
   get barred() {
     if (this.isBroken) return "The editor has ended: load the page anew.";
+    if (this.isAside) return "The journal of this window begins anew: a moment.";
     return this.journal.isFull ? "The journal is full: see the message." : "";
   }
 
   isBarred(line) {
-    return this.isBroken || (this.journal.isFull && !isLook(line) && !isAboutDocuments(line) && !["save", "dirty"].includes(wordOf(line)));
+    if (this.isBroken || this.isAside) return true;
+    if (!this.journal.isFull || isLook(line) || isAboutDocuments(line) || ["save", "dirty"].includes(wordOf(line))) return false;
+    return !(isTurn(line) && this.journal.hasReserve);
   }
 
   // Does lines at once, up to the first that is refused, or all of them. `stroke` is the stroke whose edits they are: it draws itself.
@@ -223,27 +207,62 @@ export class Editor extends EventTarget {
   // Takes what the lines have changed.
   settle(stroke = null) {
     const { outline, cells, selection, part } = this.changed;
+    const { isUnshown } = this;
     this.changed = NOTHING;
     if (outline) this.takeMap();
-    else if (selection) this.map?.select(this.session.selection());
+    else if (selection) this.takeSelection();
     if (this.listed.length) this.tell("lines", this.listed.splice(0));
     this.tell("done", stroke);
-    if (outline) this.tell("map");
+    const isOther = outline || this.isUnshown !== isUnshown;
+    if (isOther) this.tell("map");
     else if (cells) this.tell("cells", part);
-    if (selection && !outline) this.tell("selection");
+    if (selection && !isOther) this.tell("selection");
     this.tellSoon();
   }
 
+  // Takes the map of the active document. One that cannot be shown stays open, and nothing of it is lost.
   takeMap() {
-    const data = this.notes.active === null ? null : this.session.outline();
-    this.map = data && new MapModel(data, (...words) => this.session.cells(...words));
-    this.map?.select(this.session.selection());
+    const was = this.isUnshown;
+    Object.assign(this, { map: null, isUnshown: false });
+    try {
+      if (this.notes.active !== null) this.map = this.modelNow();
+    } catch (fault) {
+      this.unshow(fault);
+    }
+    if (was && !this.isUnshown) this.tell("unshown");
+  }
+
+  takeSelection() {
+    try {
+      this.map?.select(this.session.selection());
+    } catch (fault) {
+      this.unshow(fault);
+    }
+  }
+
+  unshow(fault) {
+    console.warn(fault);
+    Object.assign(this, { map: null, isUnshown: true });
+    this.tell("unshown", { document: this.notes.document, why: whyNotShown(fault) });
+  }
+
+  // A model of the map that is active in the session. Throws where it cannot be shown.
+  modelNow() {
+    const map = new MapModel(this.session.outline(), (...words) => this.session.cells(...words));
+    map.select(this.session.selection());
+    return map;
   }
 
   // ---- files
-  hearFile(line) {
+  async hearFile(line) {
+    await this.ready();
     const [, name, source] = OPEN.exec(line) ?? [];
     return name ? this.open(name, source) : this.save(SAVE.exec(line)[1]);
+  }
+
+  // Resolves when the journal is not beginning anew.
+  async ready() {
+    while (this.isAside) await pause();
   }
 
   // A line that has failed before the editor has heard it.
@@ -267,15 +286,44 @@ export class Editor extends EventTarget {
     return this.openFound(name, word, found);
   }
 
-  // Opens the bytes that a file had. `instead` names the document whose place and file the new one takes.
+  // Opens the bytes that a file had. `instead` names the document whose place and file the new one takes. A map that cannot be shown is
+  // closed again, and the journal never has it.
   async openFound(name, word, { bytes, mark }, instead = null) {
     const line = `open ${name} ${word}`;
     const path = this.names.pathOf(word);
-    const [reply, why] = await opened(this.session, name, bytes);
+    await this.ready();
+    let told;
+    try {
+      told = await opened(this.session, name, bytes);
+    } catch (fault) {
+      this.break(fault);
+      return { ...UNHEARD, barred: this.barred };
+    }
+    const [reply, why] = told;
+    const unshown = isRefusal(reply) ? "" : this.whyUnshown();
+    if (unshown) return this.notOpened(line, name, path, unshown);
     this.list(line, reply);
     if (!isRefusal(reply)) this.take(line, reply, ALL, { file: { path, bytes, ...mark }, instead });
     this.settle();
     return { replies: [reply], isHeard: !isRefusal(reply), refusal: isRefusal(reply) ? reply : null, why };
+  }
+
+  // Why the map that is active in the session cannot be shown; "" where it can.
+  whyUnshown() {
+    try {
+      this.modelNow();
+      return "";
+    } catch (fault) {
+      console.warn(fault);
+      return whyNotShown(fault);
+    }
+  }
+
+  notOpened(line, name, path, why) {
+    replyOf(this.session, `discard ${name}`);
+    replyOf(this.session, `use ${this.notes.active ?? "-"}`);
+    this.tell("unopened", { path, why });
+    return this.failed(line, "no 51 store failed", `${path} cannot be shown: ${why}.`);
   }
 
   // Opens bytes of a document's file in the place of that document, which is still open then, without its file.
@@ -308,7 +356,8 @@ export class Editor extends EventTarget {
 
   // Saves a document into a file: the one that was asked for, whichever is active by now.
   saveInto(document, path) {
-    return this.during(this.wordOf(path).then(word => {
+    return this.during(this.wordOf(path).then(async word => {
+      await this.ready();
       const { active } = this.notes;
       if (this.isBroken) return { ...UNHEARD, barred: this.barred };
       if (!this.notes.isOpen(document)) return UNHEARD;
@@ -417,7 +466,8 @@ export class Editor extends EventTarget {
   async tellAll() {
     while (!this.isTold && !this.isBroken) {
       this.isTold = true;
-      const standing = this.standing();
+      const standing = this.standingNow();
+      if (!standing) break;
       await this.journal.kept();
       Object.assign(this.state, standing, { change: this.state.change + 1 });
       this.tell("state");
@@ -430,6 +480,16 @@ export class Editor extends EventTarget {
   // Whether nothing is written, or about to be told.
   get isQuiet() {
     return !this.telling && !this.underWay && !this.writes.size;
+  }
+
+  // The same, or null where the engine has ended the editor.
+  standingNow() {
+    try {
+      return this.standing();
+    } catch (fault) {
+      this.break(fault);
+      return null;
+    }
   }
 
   // How the active document and its steps stand now.
@@ -460,9 +520,10 @@ export class Editor extends EventTarget {
     const { active, order: names } = this.notes;
     const all = names.map(name => {
       if (name !== active || names.length > 1) this.session.step(`use ${name}`);
-      const { index, count, isClean } = this.stand();
+      const { index, count, isClean, depth } = this.stand();
       const path = this.notes.fileOf(name)?.path ?? null;
-      return { name, isActive: name === active, isClean: isClean && !this.isWriting(name), isWriting: this.isWriting(name), index, count, path };
+      const isWriting = this.isWriting(name);
+      return { name, isActive: name === active, isClean: isClean && !isWriting, isWriting, index, count, depth, path };
     });
     if (names.length > 1 || active === null) this.session.step(`use ${active ?? "-"}`);
     return all;
@@ -481,50 +542,24 @@ export class Editor extends EventTarget {
   }
 
   // ---- the journal
-  // Does the lines of a journal anew, in a session of its own, which then stands in the place of this one. Gives the saves of which the
-  // journal does not say that they have arrived: [{ document, row, sent }]. Throws Damaged, Otherwise.
-  async replay(row, entries, onLines = () => {}) {
-    const session = new Session(this.module, { limit: row.limit });
-    const [notes, names, pending, listed] = [new Notes(row.limit), new FileNames(), new Map(), []];
-    try {
-      for await (const entry of entries) {
-        if (entry.sent || entry.written) {
-          this.noteFile(entry, notes, names, pending);
-          continue;
-        }
-        await this.replayLine(session, entry);
-        if (entry.file) names.take(entry.line.split(" ")[2], entry.file.path);
-        notes.note(entry);
-        const row = [listed.length + 1, cut(entry.line), entry.reply === SAVED ? "no 51 store failed" : entry.reply, null, cellsIn(entry.line), entry.gesture];
-        if (wordOf(entry.line) === "save") pending.set(notes.document, { row });
-        if (wordOf(entry.line) === "dirty") pending.delete(notes.document);
-        listed.push(row);
-        if (listed.length % MOST_AT_ONCE === 0) await pause(onLines(listed.length));
-      }
-    } catch (fault) {
-      session.close();
-      throw fault;
-    }
-    this.takeOver(session, notes, names, row.limit);
-    this.heard = listed.length;
-    this.listed = listed;
-    this.changed = ALL;
-    return [...pending].filter(([document]) => notes.isOpen(document)).map(([document, told]) => ({ document, ...told }));
+  // Does the lines of a journal anew, beside this session. Gives a Replay. Throws Damaged, OfDocument where it is not lenient.
+  async replay(row, entries, { onLines, isLenient, without } = {}) {
+    const made = new Replay(await loadModule(), row.limit, { isLenient, without });
+    await made.take(entries, onLines);
+    return made;
   }
 
-  // Takes what a journal tells of a file: that a save has sent bytes there, or that they have arrived.
-  noteFile({ sent, written }, notes, names, pending) {
-    const { word, path, mark } = sent ?? written;
-    names.take(word, path);
-    const document = notes.found(sent ?? written);
-    if (document && sent) {
-      document.send(sent);
-      if (pending.has(document)) pending.get(document).sent = sent;
-    } else if (document) {
-      document.arrive(written);
-      if (pending.has(document)) pending.get(document).row[2] = `saved ${word} ${mark.size}`;
-      pending.delete(document);
-    }
+  // Puts the session of a replay in the place of this one, and gives the saves of which the journal does not say that they have arrived.
+  takeUp({ session, notes, names, listed, limit, module, pendingSaves }) {
+    this.takeOver(session, notes, limit);
+    Object.assign(this, { names, module, listed, heard: listed.length, changed: ALL });
+    return pendingSaves;
+  }
+
+  takeOver(session, notes, limit) {
+    this.session.close();
+    this.journal.limit = limit;
+    Object.assign(this, { session, notes, limit });
   }
 
   // Looks whether the saves have arrived of which the journal does not say so, and gives the documents of those that have not: they are not
@@ -541,46 +576,44 @@ export class Editor extends EventTarget {
     return lost;
   }
 
-  // Does a line of a journal. A save marks the map, and writes no file.
-  async replayLine(session, { line, reply, file }) {
-    if (reply === SAVED) return this.see(line, replyOf(session, "clean").startsWith("ok "), reply);
-    const came = file ? (await opened(session, line.split(" ")[1], file.bytes))[0] : replyOf(session, line);
-    return this.see(line, came === reply, reply, came);
+  // From now on no document has a file: those that they had are elsewhere.
+  part() {
+    this.notes.part();
+    this.journal.add({ isParted: true });
+    this.tellSoon();
   }
 
-  see(line, isSame, reply, came = "a refusal") {
-    if (!isSame) throw new Otherwise(`'${cut(line)}' gives '${cut(came ?? "")}', and gave '${cut(reply)}'`);
-  }
-
-  takeOver(session, notes, names, limit) {
-    this.session.close();
-    this.journal.limit = limit;
-    Object.assign(this, { session, notes, names, limit });
-  }
-
-  // Begins the journal anew from the maps as they are, of which each is saved: their steps end.
+  // Begins the journal anew from the maps as they are: their steps end, and open macros. What is not saved stays so. No save is under way.
   async beginAnew() {
-    const session = new Session(this.module, { limit: this.limit });
-    const notes = new Notes(this.limit);
-    const entries = [];
-    for (const { name } of this.documents()) {
-      const { path, word, mark } = this.notes.fileOf(name);
-      this.session.step(`use ${name}`);
-      const bytes = await this.session.saveMap();
-      const file = { path, bytes, ...mark };
-      const line = `open ${name} ${word}`;
-      const [reply] = await opened(session, name, bytes);
-      entries.push({ line, reply, file });
-      notes.note({ line, reply, file });
+    this.isAside = true;
+    const made = new Anew(this.module, this.limit);
+    try {
+      for (const each of this.mapsNow()) await made.open(each, await each.bytes);
+      made.say(`use ${this.notes.active ?? "-"}`);
+      this.takeOver(made.session, made.notes, this.limit);
+    } catch (fault) {
+      made.session.close();
+      throw fault;
+    } finally {
+      this.isAside = false;
     }
-    const use = `use ${this.notes.active ?? "-"}`;
-    const reply = replyOf(session, use);
-    entries.push({ line: use, reply });
-    notes.note({ line: use, reply });
-    this.takeOver(session, notes, this.names, this.limit);
-    await this.journal.restart(entries);
+    await this.journal.restart(made.entries);
     this.changed = ALL;
     this.settle();
+  }
+
+  // The documents with their files, and with promises of the bytes of their maps.
+  mapsNow() {
+    const maps = this.documents().map(({ name, isClean, depth }) => {
+      this.session.step(`use ${name}`);
+      for (let level = 0; level < depth; level++) this.session.step("end");
+      const bytes = this.session.saveMap();
+      // That marks the map as saved.
+      if (!isClean) this.session.step("dirty");
+      return { name, isClean, file: this.notes.fileOf(name), bytes };
+    });
+    this.session.step(`use ${this.notes.active ?? "-"}`);
+    return maps;
   }
 
   // Whether nothing was done yet: no document is open, or those that are have no steps.

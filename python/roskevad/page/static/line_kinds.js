@@ -6,6 +6,8 @@ const LOOKS = new Set(["list", "tile", "show", "status", "undotext", "redotext",
 const DOCUMENTS = new Set(["new", "open", "close", "discard", "use"]);
 // The edits of the active document.
 const EDITS = new Set(["stamp", "erase", "fill", "select", "layer", "resize", "object", "prop", "tileset"]);
+// The lines that go along the steps, or end a macro.
+const TURNS = new Set(["undo", "redo", "goto", "end"]);
 const PAINTS = new Set(["stamp", "erase", "fill"]);
 // With a `part` cells change there alone: { layer, box }, as PaintedSteps has it.
 export const NOTHING = { cells: false, outline: false, selection: false };
@@ -19,6 +21,7 @@ const OF_TEXTS = { "stamp tiles": CELLS, "erase tiles": CELLS, "fill area": CELL
 export const wordOf = line => line.split(" ", 1)[0].replace(/\++$/, "");
 
 export const isLook = line => LOOKS.has(wordOf(line));
+export const isTurn = line => TURNS.has(wordOf(line));
 export const isPaint = line => PAINTS.has(wordOf(line));
 export const isEdit = line => EDITS.has(wordOf(line));
 export const isAboutDocuments = line => DOCUMENTS.has(wordOf(line));

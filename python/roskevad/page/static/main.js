@@ -8,6 +8,7 @@ import { Editor } from "./editor.js";
 import { bindFieldKeys } from "./field_keys.js";
 import { recordSum } from "./journal.js";
 import { Example, isExample } from "./example.js";
+import { JournalNotices } from "./journal_notices.js";
 import { LayerPanel } from "./layer_panel.js";
 import { Layouts } from "./layouts.js";
 import { LinePanel } from "./line_panel.js";
@@ -37,6 +38,9 @@ import { TilesetPanel } from "./tileset_panel.js";
 import { Tilesets } from "./tilesets.js";
 import { Toolbar } from "./toolbar.js";
 import { Tools } from "./tools.js";
+
+// How many milliseconds a drawing is waited for.
+const LONGEST_DRAWING = 2000;
 
 // What the page needs of the browser.
 const NEEDED = {
@@ -72,6 +76,8 @@ class Page {
     this.steps = new StepPanel(bench);
     this.panel = new PlacePanel(bench, this.documents, this.tilesets);
     this.recovery = new Recovery(bench, this.panel);
+    this.recovery.shown = () => this.drawn();
+    this.journalNotices = new JournalNotices(bench, this.documents);
     this.lines = new LinePanel(bench, { layer: id => this.steps.nameOf("layer", id), object: id => this.steps.nameOf("object", id) });
     this.player = new Player(bench);
     this.layouts = new Layouts(this);
@@ -82,6 +88,7 @@ class Page {
     this.tileKeys = new TileKeys(this.palette);
     this.toolbar.keys.places = [...groupsOfLists(this.rowKeys), this.mapKeys.group, this.tileKeys.group, EDGE_KEYS];
     this.shownDocument = null;
+    this.showing = Promise.resolve();
     this.listen();
     bindFieldKeys(bench);
     this.tools.choose("brush");
@@ -90,7 +97,7 @@ class Page {
   listen() {
     const { bench, editor, marks, panel, view } = this;
     panel.onTilesets = () => this.showTilesets().catch(fault => console.warn(fault));
-    editor.addEventListener("map", () => this.showMap());
+    editor.addEventListener("map", () => (this.showing = this.showMap()));
     editor.addEventListener("cells", ({ detail }) => view.refresh(detail));
     editor.addEventListener("selection", () => marks.redraw());
     editor.addEventListener("state", () => this.showState());
@@ -124,6 +131,8 @@ class Page {
     const { isOther: isOtherStamp, why } = this.bench.carried.follow();
     this.bench.settle();
     if (isOther) this.view.images.forget();
+    // Where the map of a document cannot be shown, no hand is on it.
+    this.view.box.inert = active !== null && !this.editor.map;
     if (isOther && !kept) this.view.fit();
     this.view.takeMap();
     this.showNotDrawn();
@@ -135,6 +144,13 @@ class Page {
     const words = kept?.stamp ? whyKept : why;
     // What is said of the lines that have led here comes first.
     if (words) await this.editor.during(new Promise(done => setTimeout(() => done(this.bench.say(words)))));
+  }
+
+  // Resolves when the map that was taken last is drawn, with its tilesets. A window that is not seen draws nothing.
+  async drawn() {
+    await this.showing;
+    const frame = new Promise(done => requestAnimationFrame(() => requestAnimationFrame(done)));
+    await Promise.race([frame, new Promise(done => setTimeout(done, LONGEST_DRAWING))]);
   }
 
   async showTilesets() {
@@ -178,6 +194,11 @@ async function servedBy(key) {
   return { place, told: await place.told().catch(() => ({ files: [], limit: 0 })) };
 }
 
+// Opens the files that the server was started with. One that fails keeps no other one away.
+async function openAll(page, paths) {
+  for (const path of paths) await page.documents.openPath(path).catch(fault => page.bench.say(`${path}: ${fault.message}.`));
+}
+
 async function start() {
   const missing = Object.keys(NEEDED).filter(name => !NEEDED[name]());
   if (missing.length) return notice("needed", `This page cannot work here. It needs ${missing.join(", ")}.`);
@@ -190,7 +211,7 @@ async function start() {
   page.panel.start();
   page.toolbar.show();
   const isRestored = await page.recovery.start();
-  if (!isRestored && served) for (const path of served.told.files) await page.documents.openPath(path);
+  if (!isRestored && served) await openAll(page, served.told.files);
   if (!isRestored && isExample()) await page.example.open();
   editor.tellSoon();
   await editor.telling;

@@ -56,7 +56,8 @@ export class Notes {
     else this.document?.lines.push(line);
     this.paintedNow?.note(line, reply);
     this.document?.subjects.note(line, reply, gesture);
-    if (file) this.document.file = { path: file.path, word: source, mark: { hash: file.hash, size: file.size, time: file.time } };
+    // A journal that has begun anew has maps of no file, too.
+    if (file && file.path !== null) this.document.file = { path: file.path, word: source, mark: { hash: file.hash, size: file.size, time: file.time } };
   }
 
   noteDocument(word, name, line, instead) {
@@ -77,6 +78,11 @@ export class Notes {
     const at = this.order.indexOf(instead);
     this.order.splice(at < 0 ? this.order.length : at, 0, name);
     if (at >= 0) this.documents.get(instead).file = null;
+  }
+
+  // From now on no document has a file.
+  part() {
+    for (const document of this.documents.values()) document.part();
   }
 
   // The session of the active document, where a comment names each file that no line can spell.

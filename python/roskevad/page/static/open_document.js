@@ -45,6 +45,11 @@ export class OpenDocument {
     this.sent = [];
   }
 
+  // Its file is elsewhere from now on: it has none.
+  part() {
+    Object.assign(this, { file: null, sent: [] });
+  }
+
   // Whether a save of it may have left these bytes under a path.
   hasSent(path, hash) {
     return this.sent.some(each => each.path === path && each.hash === hash);

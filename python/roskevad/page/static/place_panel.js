@@ -3,9 +3,11 @@ import { byId, element } from "./dom.js";
 import { iconButton } from "./icons.js";
 import { endNotice, notice } from "./notices.js";
 import { ChosenFiles, FolderFiles, IN_XML, chosen, isMapName, isTilesetName, isXmlMapName } from "./places.js";
+import { isSameSource, sourceOf, wordsOf } from "./sources.js";
 
 // What notices are about; how many files one names.
 const OTHERS = "other files";
+const SOURCE = "source";
 const PERMISSION = "permission";
 const MOST_NAMED = 3;
 const IMAGE = /\.(png|jpe?g|gif|webp|bmp|svg|avif)$/i;
@@ -47,9 +49,18 @@ export class PlacePanel {
   }
 
   async takeFolder(folder) {
-    this.take(new FolderFiles(folder));
+    const [before, place] = [sourceOf(this.editor.place), new FolderFiles(folder)];
+    const isOther = before.kind === place.kind && !(await isSameSource(before, place));
+    this.take(place);
+    if (isOther && [...this.editor.notes.documents.values()].some(document => document.file)) this.part(before);
     this.editor.journal.keepSource();
     if (!this.editor.notes.documents.size) await this.documents.open();
+  }
+
+  // The documents are of files of another source: here they have none.
+  part(source) {
+    this.editor.part();
+    notice(SOURCE, `These documents are of ${wordsOf(source)}. They have no files here: a save asks where.`, [["OK", () => {}]], "mild");
   }
 
   // Files of the user's choice: those that are maps are opened.

@@ -327,10 +327,13 @@ export class ServedFiles extends EventTarget {
     this.dispatchEvent(new CustomEvent("back"));
   }
 
-  // What the server tells of its folder: its name, where it lies below the root, the files to open, the limit and the maps.
+  // What the server tells of its folder: its name, where it lies below the root, the files to open, the limit and the maps. Throws Failed
+  // where another folder is served here by now.
   async told() {
     const told = await (await this.ask(this.address("/files"))).json();
+    if (this.source && told.source !== this.source) throw new Failed(`another folder is served here by now, ${told.folder}`);
     this.title = told.folder;
+    this.source = told.source;
     this.prefix = told.prefix;
     return told;
   }
@@ -388,6 +391,7 @@ export class ServedFiles extends EventTarget {
     const headers = mark ? { "If-Match": `"${mark.hash}"` } : { "If-None-Match": "*" };
     const address = this.addressOf(path);
     if (!address) throw new Failed("it lies outside of what the server has");
+    await this.told();
     const answer = await this.ask(address, { method: "PUT", body: bytes, headers });
     if (answer.status === 412) throw new Changed(path);
     if (!answer.ok) throw new Failed((await answer.text()).trim() || `the server answers ${answer.status}`);

@@ -1,6 +1,6 @@
 // Plays a session: lines from the clipboard or from a file.
 import { ask, button, byId, element, shown } from "./dom.js";
-import { pause } from "./editor.js";
+import { pause } from "./replies.js";
 import { isEdit, isQuiet } from "./line_kinds.js";
 import { saidOf } from "./refusals.js";
 
