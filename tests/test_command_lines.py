@@ -113,7 +113,7 @@ def test_input_that_is_a_folder():
     with tempfile.TemporaryDirectory() as folder:
         place = os.open(folder, os.O_RDONLY)
         fault = unlike(
-            (1, '', 'tile_editor: read failed'), first_lines([TILE_EDITOR], folder, stdin=place)
+            (1, '', 'tile_editor: read failed: Is a directory'), first_lines([TILE_EDITOR], folder, stdin=place)
         )
         os.close(place)
     assert not fault, fault
@@ -208,15 +208,19 @@ def fault_without_room(case):
 
 
 def test_output_that_has_nowhere_to_go():
-    """Replies, help and the version to a full device, and to an output that is closed."""
+    """Replies, help and the version to a full device, and to an output that is closed: the reason is
+    the system's."""
     check_each(
         [
             Case(
                 f'{words or "replies"} to {sink}',
                 (words, sink),
-                (1, '', 'tile_editor: write failed'),
+                (1, '', f'tile_editor: write failed: {reason}'),
             )
-            for sink in ('/dev/full', '&-')
+            for sink, reason in (
+                ('/dev/full', 'No space left on device'),
+                ('&-', 'Bad file descriptor'),
+            )
             for words in ('', '--help', '--version')
         ],
         fault_without_room,

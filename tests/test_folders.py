@@ -71,9 +71,10 @@ def full_folder_for_file(folder):
 
 
 def pipe(folder):
-    """A pipe where the map should be: no one writes into it, so to open it would wait."""
+    """A pipe where the map should be: no one writes into it, so to open it would wait. It is not
+    replaced."""
     os.mkfifo(folder / 'm.tmj')
-    return NOT_OPENED, {'m.tmj': 'pipe'}
+    return NOT_OPENED + NOT_SAVED, {'m.tmj': 'pipe'}
 
 
 def too_long(folder):

@@ -17,6 +17,7 @@ from lib.places import BIN, EXAMPLE_MAPS, TOP
 from lib.rights import NOBODY, can_lose_rights
 
 ALONE = True
+SAVES = b'new t 40 30 16 16 t.tsj\nsave t.tmj\nstatus\n'
 PROGRAMS = ('tile_editor', 'map_report')
 ROUNDS = 150
 LOADER = '/lib64/ld-linux-x86-64.so.2'
@@ -88,6 +89,24 @@ def seconds_of(words):
     began = time.perf_counter()
     subprocess.run(words, cwd=TOP, stdin=subprocess.DEVNULL, stdout=subprocess.DEVNULL, check=True)
     return time.perf_counter() - began
+
+
+def no_long_files():
+    resource.setrlimit(resource.RLIMIT_FSIZE, (1024, 1024))
+
+
+def test_a_bound_on_the_length_of_files():
+    """A save that would go past it is refused, and the session goes on."""
+    with tempfile.TemporaryDirectory() as folder:
+        done = subprocess.run(
+            [TOP / 'tile_editor', '--folder', folder], input=SAVES, capture_output=True, preexec_fn=no_long_files
+        )
+        replies = done.stdout.decode().splitlines()
+        assert done.returncode == 0 and replies[1:] == ['no 51 store failed', 'ok 0/0 clean 0'], (
+            done.returncode,
+            replies,
+        )
+        assert b'File too large' in done.stderr and os.listdir(folder) == []
 
 
 def test_their_time():

@@ -87,12 +87,13 @@ def fault_of_output(case):
     )
     errors = done.stderr.decode()
     return unlike(
-        (1, True, False), (done.returncode, 'write failed' in errors, 'Traceback' in errors)
+        (1, True, False), (done.returncode, case.wanted in errors, 'Traceback' in errors)
     )
 
 
 def test_outputs_that_take_nothing():
-    check_each([Case(to, to, None) for to in ('>&-', '>/dev/full')], fault_of_output)
+    cases = [('>&-', 'write failed'), ('>/dev/full', 'write failed: No space left on device')]
+    check_each([Case(to, to, wanted) for to, wanted in cases], fault_of_output)
 
 
 def test_a_pipe_that_is_closed():
@@ -109,7 +110,7 @@ def test_a_pipe_that_is_closed():
     program.stdin.close()
     errors = program.stderr.read().decode()
     assert program.wait(20) == 1 and 'Traceback' not in errors and 'Exception' not in errors, errors
-    assert 'write failed' in errors and 'not saved: a' in errors, errors
+    assert 'write failed: Broken pipe' in errors and 'not saved: a' in errors, errors
 
 
 def test_inputs_that_are_closed():

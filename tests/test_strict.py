@@ -276,6 +276,6 @@ def test_no_room_for_the_reply():
             stderr=subprocess.PIPE,
             timeout=60,
         )
-    fault = unlike((1, b'tile_editor: write failed\n'), (done.returncode, done.stderr))
+    fault = unlike((1, b'tile_editor: write failed: No space left on device\n'), (done.returncode, done.stderr))
     assert not fault, fault
     passed()

@@ -139,8 +139,8 @@ class Prompt:
                         return status
                 except KeyboardInterrupt:
                     self._tell_interrupt()
-        except Unwritten:
-            say('write failed')
+        except Unwritten as fault:
+            say(f'write failed: {fault}')
             for name in self._editor.unsaved():
                 say(f'not saved: {name}')
             # What Python still has to write at its end has nowhere to go.
@@ -195,8 +195,8 @@ class Prompt:
         try:
             sys.stdout.write(text)
             sys.stdout.flush()
-        except OSError:
-            raise Unwritten from None
+        except OSError as fault:
+            raise Unwritten(fault.strerror) from None
 
 
 def main() -> int:

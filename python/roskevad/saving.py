@@ -1,8 +1,9 @@
 """A save of a map into a file, which may be cut short at any point: by Ctrl+C, by any exception, by the end of the process.
 
 A new file is written beside the one that it replaces, under a name that is not there yet, and renamed when it is whole. So the
-file under the name is the old or the new one. The program's saves go the same way, and those of both know each other's new
-files: docs/session-lines.md#files.
+file under the name is the old or the new one. From its first look at the old file to its end a save has that file locked, or the
+new one once that is in its place: saves of one name come one behind the other. The program's saves go the same way, and those of
+both know each other's locks and new files: docs/session-lines.md#files.
 """
 import errno
 import fcntl
@@ -10,6 +11,7 @@ import functools
 import os
 import re
 import stat
+import time
 from collections import deque
 from pathlib import Path
 from typing import Callable, Optional, Union
@@ -24,6 +26,8 @@ _LONGEST_NAME, _END = 255, '.new'
 _MOST_NAMES = 1000
 # So many bytes of a file are compared at a time.
 _PIECE = 1 << 20
+# How often a save looks whether another one still has its name locked, and how many seconds lie between: 10 seconds in all.
+_LOOKS, _PAUSE = 1000, 0.01
 
 
 def _open(into: list[int], name: Union[Path, str], flags: int, mode: int = 0, folder: Optional[int] = None) -> None:
@@ -48,25 +52,52 @@ def _front(name: str) -> str:
     return f'.{os.fsdecode(os.fsencode(name)[:longest])}.'
 
 
+def holder_of(path: Path) -> str:
+    """Which program has a file locked, as far as the system tells: `tile_editor, process 4711`."""
+    try:
+        told = os.stat(path)
+        wanted = f'{os.major(told.st_dev):02x}:{os.minor(told.st_dev):02x}:{told.st_ino}'
+        for line in Path('/proc/locks').read_text('ascii').splitlines():
+            words = line.split()
+            if words[1:2] == ['FLOCK'] and words[5] == wanted:
+                return f'{Path("/proc", words[4], "comm").read_text().strip()}, process {words[4]}'
+    except (OSError, ValueError, IndexError):
+        pass  # Not every system tells, and the program may have ended.
+    return 'another program'
+
+
+class Taken(Exception):
+    """Something stands under the name of a file that was to be new."""
+
+
 class Saving:
     """A save under way. `write` brings it as far as the rename, and `settle` ends it, from whatever point `write` has come to:
-    then the new file stands in its place or is gone, and no handle is open. To settle it twice is harmless."""
+    then the new file stands in its place or is gone, and no handle is open. To settle it twice is harmless.
 
-    def __init__(self, path: Path, data: bytes, mark: Callable[[], None], compares: bool):
+    `see` is called once the name is locked, with whether it is: not where another save has had it for too long. What it raises
+    ends the save. One that `is_new` replaces nothing: `write` raises Taken where something is there."""
+
+    def __init__(self, path: Path, data: bytes, mark: Callable[[], None], compares: bool,
+                 see: Callable[[bool], None] = lambda is_locked: None, is_new: bool = False):
         self.fault: Optional[OSError] = None
         self._path, self._name, self._data = path, path.name, data
         self._mark = mark
         self._compares = compares
+        self._see = see
+        self._is_new = is_new
         self._is_unchanged = False
         self._beside = ''
-        # The handles of the folder, of the new file and of one that is looked at, where they are open.
+        # The handles of the folder, of the file that has the name locked, of the new file and of one that is looked at, where they
+        # are open.
         self._folder: list[int] = []
+        self._locked: list[int] = []
         self._new: list[int] = []
         self._other: list[int] = []
 
     def write(self) -> None:
         """Writes the new file and renames it, where the file that is there has not these bytes already. Raises OSError."""
         self._open_folder()
+        self._see(self._lock_name())
         access = self._access()
         self._clear()
         if access is not None and self._compares and self._has_bytes():
@@ -81,7 +112,21 @@ class Saving:
         while rest:
             rest = rest[os.write(new, rest):]
         os.fsync(new)
-        os.rename(self._beside, self._name, src_dir_fd=self._folder[0], dst_dir_fd=self._folder[0])
+        self._put_in_place()
+
+    def _put_in_place(self) -> None:
+        """Gives the new file its name. One that replaces nothing has two names for a moment: the first one goes when the save is
+        settled."""
+        folder = self._folder[0]
+        if self._is_new:
+            try:
+                os.link(self._beside, self._name, src_dir_fd=folder, dst_dir_fd=folder, follow_symlinks=False)
+                return
+            except OSError as fault:
+                # Not every file system has links.
+                if fault.errno == errno.EEXIST or self._there(self._name) is not None:
+                    raise Taken from fault
+        os.rename(self._beside, self._name, src_dir_fd=folder, dst_dir_fd=folder)
 
     def settle(self) -> None:
         """Ends the save, and has the map marked as clean where the file under the name has its bytes. What goes wrong is
@@ -90,6 +135,8 @@ class Saving:
             if self._is_unchanged:
                 self._mark()
             elif self._new and self._leads_to(self._name, self._new[0]):
+                if self._is_new and self._is_claimed():
+                    os.unlink(self._beside, dir_fd=self._folder[0])
                 # A folder that could not be synced is not asked once more: it would say that all is well.
                 if self.fault is None:
                     self._sync_names()
@@ -98,7 +145,7 @@ class Saving:
                 os.unlink(self._beside, dir_fd=self._folder[0])
         except OSError as fault:
             self.fault = self.fault or fault
-        for handles in (self._other, self._new, self._folder):
+        for handles in (self._other, self._new, self._locked, self._folder):
             _close(handles)
 
     # ---- the folder
@@ -128,23 +175,44 @@ class Saving:
         return there is not None and os.path.samestat(there, os.fstat(handle))
 
     # ---- the file that is there
-    def _access(self) -> Optional[int]:
-        """The access bits of the file that is replaced; none where there is none, or something else, as a link."""
-        there = self._there(self._name)
-        return there.st_mode & _ACCESS_BITS if there is not None and stat.S_ISREG(there.st_mode) else None
+    def _lock_name(self) -> bool:
+        """Locks the file that is there, so that other saves of the name wait. Whether no other one has it: where nothing is there,
+        or it can't be locked, nobody has. Waits for who has it, but not for ever."""
+        for _ in range(_LOOKS):
+            try:
+                handle = self._open_regular(self._name, self._locked)
+                fcntl.flock(handle, fcntl.LOCK_EX | fcntl.LOCK_NB)
+                if self._leads_to(self._name, handle):
+                    return True
+            except BlockingIOError:
+                time.sleep(_PAUSE)
+            except OSError:
+                return True
+            _close(self._locked)
+        return False
 
-    def _open_regular(self, name: str) -> int:
-        """Opens a file that is there to be read, and gives its handle and no other's. Raises OSError where it is no regular one,
-        or a link. A pipe is not waited for."""
-        _open(self._other, name, os.O_RDONLY | os.O_NONBLOCK, folder=self._folder[0])
-        if not stat.S_ISREG(os.fstat(self._other[0]).st_mode):
-            raise OSError(errno.EINVAL, 'no regular file', name)
-        return self._other[0]
+    def _access(self) -> Optional[int]:
+        """The access bits of the file that is replaced; none where there is none, or a link. Raises OSError where it is no file, as a
+        folder or a pipe."""
+        there = self._there(self._name)
+        if there is None or stat.S_ISLNK(there.st_mode):
+            return None
+        if not stat.S_ISREG(there.st_mode):
+            raise OSError(errno.EINVAL, 'not a file', self._name)
+        return there.st_mode & _ACCESS_BITS
+
+    def _open_regular(self, name: str, into: list[int]) -> int:
+        """Opens a file that is there to be read, and gives its handle and no other's of the list. Raises OSError where it is no
+        regular one, or a link. A pipe is not waited for."""
+        _open(into, name, os.O_RDONLY | os.O_NONBLOCK, folder=self._folder[0])
+        if not stat.S_ISREG(os.fstat(into[0]).st_mode):
+            raise OSError(errno.EINVAL, 'not a file', name)
+        return into[0]
 
     def _has_bytes(self) -> bool:
         """Whether the file that is there has the bytes that are saved, and no others, and the system keeps it so."""
         try:
-            handle = self._open_regular(self._name)
+            handle = self._open_regular(self._name, self._other)
             if os.fstat(handle).st_size != len(self._data):
                 return False
             # A file that has grown since has more than the last piece.
@@ -175,7 +243,7 @@ class Saving:
 
     def _take_away(self, name: str) -> None:
         try:
-            handle = self._open_regular(name)
+            handle = self._open_regular(name, self._other)
             fcntl.flock(handle, fcntl.LOCK_EX | fcntl.LOCK_NB)
             if self._leads_to(name, handle):
                 os.unlink(name, dir_fd=self._folder[0])

@@ -2,9 +2,9 @@
 use Rattle.std.proofs.Common.{◌≡◌, ◌≢◌, inl, inr, ℕ, Bool, true, false, List, [], ◌∷◌, ◌++◌, length, Option, Some, None, option_map, refl, sym, ap, subst, ◌∙◌}
 use Rattle.std.proofs.Common.{arith}
 use Rattle.std.proofs.lemmas.Bool.{cond-true}
-use Rattle.atomic_save.specs.Crash.{Call, looked, folder_opened, listed, seized, claimed, compared, removed, made, access_set, wrote, synced, renamed}
-use Rattle.atomic_save.specs.Crash.{folder_synced, none_refused, Standing, file, nothing, Names, with_name, after_call, Found, Disk, held, Stand, MayStand}
-use Rattle.atomic_save.specs.Crash.{IsDisk, MayBeFound, newest, kept}
+use Rattle.atomic_save.specs.Crash.{Call, name_locked, looked, folder_opened, listed, seized, claimed, compared, removed, made, access_set, wrote, synced}
+use Rattle.atomic_save.specs.Crash.{renamed, folder_synced, none_refused, Standing, file, nothing, Names, with_name, after_call, Found, Disk, held, Stand}
+use Rattle.atomic_save.specs.Crash.{MayStand, IsDisk, MayBeFound, newest, kept}
 use Rattle.atomic_save.specs.Saving.{LosesNothing, IsKept, IsInPlace, IsMade, IsBeside, Only, NoPath}
 use Rattle.atomic_save.proofs.Sure.{StaysSure, itself, kept_none, wrote_stays, synced_stays}
 use Rattle.atomic_save.proofs.Calls.{with_same, with_other, one_call, harmless, both, none}
@@ -240,6 +240,9 @@ module _ (front path bytes : List ℕ) (apart : IsBeside front path → ⊥) whe
 
   pub cleared_exit : (at : List ℕ) (seize ok : Bool) (old : List Call) → IsBeside front at → Saves old (removed at ok ∷ seized at seize ∷ old)
   cleared_exit at seize ok old beside = and_removed (IsBeside front) path bytes apart at ok old (seized at seize ∷ old) beside (seized_exit at seize old)
+
+  pub locked_exit : (at : List ℕ) (ok : Bool) (old : List Call) → Saves old (name_locked at ok ∷ old)
+  locked_exit at ok old = and_asked (IsBeside front) path bytes apart (name_locked at ok) old old (λ names. refl) (λ number sure e. e) (begun old)
 
   pub looked_exit : (at : List ℕ) (ok : Bool) (old : List Call) → Saves old (looked at ok ∷ old)
   looked_exit at ok old = and_asked (IsBeside front) path bytes apart (looked at ok) old old (λ names. refl) (λ number sure e. e) (begun old)

@@ -4,6 +4,8 @@ use Rattle.std.specs.Prelude.{◌≡◌, ◌⊎◌, ℕ, ◌==◌, Bool, true, f
 
 -- A call on a folder, and whether it was answered that it is done. A write and a sync are of the file that was opened last.
 pub data Call : Type 0 where
+  -- the file under a path is opened and locked, so that other saves of the path wait
+  name_locked : List ℕ → Bool → Call
   -- a look at the access bits of the file under a path
   looked : List ℕ → Bool → Call
   folder_opened : Bool → Call
@@ -25,6 +27,7 @@ pub data Call : Type 0 where
   folder_synced : Bool → Call
 
 abbrev pub is_done : Call → Bool
+is_done (name_locked path ok) = ok
 is_done (looked path ok) = ok
 is_done (folder_opened ok) = ok
 is_done (listed ok) = ok

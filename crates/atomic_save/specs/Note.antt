@@ -1,14 +1,15 @@
 -- How a request to a folder is noted as a call, and how the note is coded.
 use Rattle.std.specs.Prelude.{◌≡◌, ℕ, ◌==◌, Bool, List, [], refl, if◌then◌else◌}
 use Rattle.std.specs.Coded.{Coded, code_by, coded×, coded_ℕ, coded_bool, coded_list}
-use Rattle.atomic_save.specs.Crash.{Call, looked, folder_opened, listed, seized, claimed, compared, removed, made, access_set, wrote, synced, renamed}
-use Rattle.atomic_save.specs.Crash.{folder_synced}
+use Rattle.atomic_save.specs.Crash.{Call, name_locked, looked, folder_opened, listed, seized, claimed, compared, removed, made, access_set, wrote, synced}
+use Rattle.atomic_save.specs.Crash.{renamed, folder_synced}
 use Rattle.atomic_save.specs.declared.request.Request.{Request}
-use Rattle.atomic_save.specs.declared.request.Request.TheVariants.{Access, OpenFolder, LeftOvers, Seize, Claim, Compare, Remove, Create, SetAccess, Write, Sync}
-use Rattle.atomic_save.specs.declared.request.Request.TheVariants.{Rename, SyncFolder}
+use Rattle.atomic_save.specs.declared.request.Request.TheVariants.{LockName, Access, OpenFolder, LeftOvers, Seize, Claim, Compare, Remove, Create}
+use Rattle.atomic_save.specs.declared.request.Request.TheVariants.{SetAccess, Write, Sync, Rename, SyncFolder}
 
 -- the call of a request, and whether it was answered that it is done
 abbrev pub call_of : Request → Bool → Call
+call_of (LockName path) ok = name_locked path.now ok
 call_of (Access path) ok = looked path.now ok
 call_of OpenFolder ok = folder_opened ok
 call_of LeftOvers ok = listed ok
@@ -41,6 +42,7 @@ parts_of (wrote bytes ok) = (9, (ok, (bytes, [])))
 parts_of (synced ok) = (10, (ok, ([], [])))
 parts_of (renamed from to ok) = (11, (ok, (from, to)))
 parts_of (folder_synced ok) = (12, (ok, ([], [])))
+parts_of (name_locked path ok) = (13, (ok, (path, [])))
 
 abbrev pub from_parts : Parts → Call
 from_parts p =
@@ -59,7 +61,8 @@ from_parts p =
     else if p.0 == 9 then wrote one ok
     else if p.0 == 10 then synced ok
     else if p.0 == 11 then renamed one other ok
-    else folder_synced ok
+    else if p.0 == 12 then folder_synced ok
+    else name_locked one ok
 
 pub from_parts_of : (call : Call) → from_parts (parts_of call) ≡ call
 from_parts_of (looked path ok) = refl
@@ -75,6 +78,7 @@ from_parts_of (wrote bytes ok) = refl
 from_parts_of (synced ok) = refl
 from_parts_of (renamed from to ok) = refl
 from_parts_of (folder_synced ok) = refl
+from_parts_of (name_locked path ok) = refl
 
 abbrev pub coded_call : Coded Call
 coded_call = code_by Parts (coded× coded_ℕ (coded× coded_bool (coded× (coded_list coded_ℕ) (coded_list coded_ℕ)))) parts_of from_parts from_parts_of

@@ -176,6 +176,12 @@ impl State {
 impl SaveFolder for MemoryFolder {
     ghost log = { λ f. f.asked.log.calls };
 
+    fn lock_name(&mut self, path: &str) -> bool {
+        let answer = self.state.goes().is_ok() && self.state.files.contains_key(path);
+        self.asked.note(&Request::LockName(path), answer);
+        answer
+    }
+
     fn access(&mut self, path: &str) -> io::Result<Option<u32>> {
         let answer = self.state.look(path);
         self.asked.note(&Request::Access(path), answer.is_ok());

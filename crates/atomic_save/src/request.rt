@@ -1,6 +1,7 @@
 /// What a folder is asked.
 #[derive(Drop)]
 pub(crate) enum Request<'a> {
+    LockName(&'a str),
     Access(&'a str),
     OpenFolder,
     LeftOvers,

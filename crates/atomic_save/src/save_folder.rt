@@ -1,5 +1,5 @@
 ghost use Rattle.std.specs.Prelude.{◌≡◌, ◌∷◌, List, IsTrue, is_ok, true};
-ghost use Rattle.atomic_save.specs.Crash.{Call, looked, folder_opened, listed, seized, claimed, compared, removed, made, access_set, wrote, synced, renamed, folder_synced, none_refused};
+ghost use Rattle.atomic_save.specs.Crash.{Call, name_locked, looked, folder_opened, listed, seized, claimed, compared, removed, made, access_set, wrote, synced, renamed, folder_synced, none_refused};
 
 use std::alloc::Global;
 use std::io;
@@ -9,7 +9,13 @@ pub trait SaveFolder {
     /// The calls so far, each with whether it was answered that it is done, the newest first.
     ghost log: { Self → List Call };
 
-    /// The access bits of the file at a path. There are none if nothing is there, or what is there is no file, as a link.
+    /// Locks the file at a path for a save, and says whether that was done. It waits while another save has it locked, 10 seconds
+    /// at most. The lock ends with `close`.
+    fn lock_name(&mut self, path: &str) -> bool
+        ensures { log self.new ≡ name_locked path.now result ∷ log self.old };
+
+    /// The access bits of the file at a path. There are none if nothing is there, or a link. An error if what is there is no file, as
+    /// a folder or a pipe.
     fn access(&mut self, path: &str) -> io::Result<Option<u32>>
         ensures { log self.new ≡ looked path.now (is_ok result) ∷ log self.old };
 

@@ -178,6 +178,9 @@ fn save_open<F: SaveFolder>(
 /// the machine stops from then on. At an error it has the old one, but for one of the folder's sync, which comes last. A file
 /// that has these bytes already is left alone, and only synced.
 ///
+/// Of several saves of a path one waits for another, 10 seconds at most. What stands there and is no file, as a folder or a pipe, is
+/// not replaced.
+///
 /// New files that killed runs left are taken away, but for those that another run has locked. `Memory` only if there was no
 /// room for a name, before anything was written.
 pub fn save<F: SaveFolder>(
@@ -191,6 +194,7 @@ pub fn save<F: SaveFolder>(
     ensures safe { LosesNothing (IsBeside front.now) path.now bytes.now (F.log folder.old) (F.log folder.new) }
     ensures kept { OnOk result (IsKept path.now bytes.now (F.log folder.new)) }
 {
+    let _ = folder.lock_name(path);
     let result = save_open(alloc, folder, path, front, bytes);
     folder.close();
     result

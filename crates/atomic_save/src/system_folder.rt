@@ -8,14 +8,20 @@ use std::alloc::Global;
 use std::fs::{OpenFile, OpenOptions, Permissions};
 use std::io::{ErrorKind, Write};
 use std::os::unix::fs::{MetadataExt, OpenOptionsExt, PermissionsExt};
-use std::rt::Files;
-use std::{fs, io};
+use std::rt::{Clock, Files};
+use std::time::Duration;
+use std::{fs, io, thread};
 
 /// The bits of a file's mode that say who may read, write and run it.
 const ACCESS_BITS: u32 = 0o777;
 
 /// The mode that a new file is asked for where it replaces none. The system takes away what the process's mask says.
 const NEW_FILE_MODE: u32 = 0o666;
+
+/// How often a save looks whether another one still has its name locked, and how many milliseconds lie between: 10 seconds in all.
+const LOOKS: u32 = 1000;
+
+const PAUSE: u64 = 10;
 
 /// A folder of the system. Each method makes the calls that it notes, and no other that changes a file. No proof shows that, so
 /// they have to be read.
@@ -25,6 +31,8 @@ pub struct SystemFolder<'a, R: Files> {
     path: &'a str,
     // The folder, while a save goes on.
     folder: Option<R::File>,
+    // The file that has its name locked, while a save goes on.
+    locked: Option<R::File>,
     // The file that was opened last.
     file: Option<R::File>,
     asked: Asked,
@@ -37,17 +45,19 @@ impl<'a, R: Files> SystemFolder<'a, R> {
             rt,
             path,
             folder: None,
+            locked: None,
             file: None,
             asked: Asked::new(),
         }
     }
 }
 
-// The access bits of the file at a path. There are none if nothing is there, or what is there is no file, as a link.
+// The access bits of the file at a path. There are none if nothing is there, or a link. What else is no file is not replaced.
 fn access_of<R: Files>(rt: &R, path: &str) -> io::Result<Option<u32>> {
     match fs::symlink_metadata(rt, path) {
         Ok(metadata) if metadata.is_file() => Ok(Some(metadata.mode() & ACCESS_BITS)),
-        Ok(_) => Ok(None),
+        Ok(metadata) if metadata.file_type().is_symlink() => Ok(None),
+        Ok(_) => Err(ErrorKind::InvalidInput.into()),
         Err(error) if error.kind() == ErrorKind::NotFound => Ok(None),
         Err(error) => Err(error),
     }
@@ -71,6 +81,23 @@ fn leads_to<R: Files>(rt: &R, path: &str, file: &R::File) -> io::Result<bool> {
     };
     let open = file.metadata()?;
     Ok(there.dev() == open.dev() && there.ino() == open.ino())
+}
+
+// The file under a path, locked, where that is a regular one that can be read and locked. It waits while another program has it
+// locked; if that takes too long there is none.
+fn locked_name<R: Files + Clock>(rt: &R, path: &str) -> io::Result<Option<R::File>>
+where
+    R::File: LockFile,
+{
+    for _ in 0..LOOKS {
+        let file = open_regular(rt, path)?;
+        if !file.lock_now()? {
+            thread::sleep(rt, Duration::from_millis(PAUSE));
+        } else if leads_to(rt, path, &file)? {
+            return Ok(Some(file));
+        }
+    }
+    Ok(None)
 }
 
 // A file that was left, locked, if nobody else has it locked and its path still leads to it.
@@ -155,11 +182,18 @@ fn sync_names_of<F: OpenFile>(folder: &Option<F>) -> io::Result<()> {
     }
 }
 
-impl<'a, R: Files> SaveFolder for SystemFolder<'a, R>
+impl<'a, R: Files + Clock> SaveFolder for SystemFolder<'a, R>
 where
     R::File: LockFile,
 {
     ghost log = { λ f. f.asked.log.calls };
+
+    fn lock_name(&mut self, path: &str) -> bool {
+        self.locked = locked_name(self.rt, path).unwrap_or(None);
+        let answer = self.locked.is_some();
+        self.asked.note(&Request::LockName(path), answer);
+        answer
+    }
 
     fn access(&mut self, path: &str) -> io::Result<Option<u32>> {
         let answer = access_of(self.rt, path);
@@ -238,6 +272,7 @@ where
 
     fn close(&mut self) {
         self.file = None;
+        self.locked = None;
         self.folder = None;
     }
 

@@ -16,7 +16,7 @@ use std::alloc::{AllocError, Global};
 use std::fmt::Display;
 use std::fs;
 use std::io::{ErrorKind, Read};
-use std::rt::Files;
+use std::rt::{Clock, Files};
 use thiserror::Error;
 
 /// The bytes of the longest file that is loaded.
@@ -151,7 +151,7 @@ pub fn new_files_are_apart()
     ensures { (folder name other : List ℕ) → IsName other → IsBeside (front_of folder name) (path_to folder other) → ⊥ }
 {}
 
-impl<'a, R: Files + Eprint> FolderStore<'a, R>
+impl<'a, R: Files + Clock + Eprint> FolderStore<'a, R>
 where
     R::File: LockFile,
 {
@@ -238,7 +238,7 @@ where
     }
 }
 
-impl<'a, R: Files + Eprint> MapStore for FolderStore<'a, R>
+impl<'a, R: Files + Clock + Eprint> MapStore for FolderStore<'a, R>
 where
     R::File: LockFile,
 {

@@ -7,7 +7,7 @@ use std::{fmt, io};
 const ROOM: usize = 256;
 
 /// Why the system refused, in its own words and without their number: `Permission denied`, and not
-/// `Permission denied (os error 13)`.
+/// `Permission denied (os error 13)`. What is no file was refused before the system was asked.
 #[derive(Debug, Drop)]
 pub struct Reason {
     error: io::Error,
@@ -32,6 +32,7 @@ impl Display for Reason {
         write!(words, "{error}")?;
         match words.as_str().split_once(" (os error ") {
             Some((reason, _)) => f.pad(reason),
+            None if error.kind() == ErrorKind::InvalidInput => f.pad("not a file"),
             None => f.pad(words.as_str()),
         }
     }

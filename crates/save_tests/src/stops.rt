@@ -15,15 +15,15 @@ const OLD: &[u8] = b"old";
 
 const NEW: &[u8] = b"new and longer";
 
-/// The calls of a save that nothing stops: it looks at the old file, opens the folder, reads its names, seizes and removes what
+/// The calls of a save that nothing stops: it locks the name, looks at the old file, opens the folder, reads its names, seizes and removes what
 /// is left, compares, makes, claims, gives access, writes, syncs, renames, and syncs the folder.
-const CALLS: u64 = 13;
+const CALLS: u64 = 14;
 
 /// Of those, the ones up to the rename.
-const RENAMES: u64 = 12;
+const RENAMES: u64 = 13;
 
-/// The calls of a save that changes nothing: the first six, and the syncs of the file and the folder.
-const CALLS_UNCHANGED: u64 = 8;
+/// The calls of a save that changes nothing: the first seven, and the syncs of the file and the folder.
+const CALLS_UNCHANGED: u64 = 9;
 
 fn folder(alloc: Global, calls: u64) -> Result<MemoryFolder, Fail> {
     let mut folder = MemoryFolder::new(alloc, calls);

@@ -5,12 +5,14 @@ mod choices;
 mod command_line;
 mod forms;
 mod reports;
+mod streams;
 mod word_kinds;
 
 use crate::command_line::options;
 use crate::reports::{ErrorLines, FolderFaults, look_at_folder};
+use crate::streams::Watched;
 use clap::error::ErrorKind;
-use map_store::FolderStore;
+use map_store::{FolderStore, Reason};
 use session_run::{RunFault, StrictFault, run, run_strict};
 use std::env::Env;
 use std::fmt::Display;
@@ -32,6 +34,14 @@ const NOT_DONE: u8 = 3;
 fn ends(rt: &impl Eprint, what: impl Display + Drop, status: u8) -> ExitCode {
     let _ = eprintln!(rt; "tile_editor: {what}");
     ExitCode::from(status)
+}
+
+// Says on standard error which fault ended the program, and the system's reason for it, where there is one.
+fn ends_with_fault(rt: &impl Eprint, fault: RunFault, reason: Option<&Reason>) -> ExitCode {
+    match reason {
+        Some(reason) => ends(rt, format_args!("{fault}: {reason}"), FAILED),
+        None => ends(rt, fault, FAILED),
+    }
 }
 
 // The words of the command line, of which the first is the program's name. They are pushed and not collected, since `collect`
@@ -58,13 +68,13 @@ fn ends_with_answer(rt: &(impl Print + Eprint), answer: &clap::Error) -> ExitCod
     if let ErrorKind::OutOfMemory = answer.kind() {
         return ends(rt, RunFault::Memory, FAILED);
     }
-    let is_shown = answer.print(rt).is_ok();
+    let shown = answer.print(rt);
     if answer.use_stderr() {
-        ExitCode::from(REFUSED)
-    } else if is_shown {
-        ExitCode::SUCCESS
-    } else {
-        ends(rt, RunFault::Write, FAILED)
+        return ExitCode::from(REFUSED);
+    }
+    match shown {
+        Ok(()) => ExitCode::SUCCESS,
+        Err(error) => ends_with_fault(rt, RunFault::Write, Some(&Reason::of(error))),
     }
 }
 
@@ -77,7 +87,8 @@ fn main(rt: HostRuntime) -> ExitCode {
         Ok(chosen) => chosen,
         Err(answer) => return ends_with_answer(&rt, &answer),
     };
-    let Ok(mut writer) = BufWriter::new(rt.alloc(), rt.stdout()) else {
+    let mut reader = Watched::new(rt.stdin());
+    let Ok(mut writer) = BufWriter::new(rt.alloc(), Watched::new(rt.stdout())) else {
         return ends(&rt, RunFault::Memory, FAILED);
     };
     look_at_folder(&rt, chosen.folder);
@@ -89,7 +100,7 @@ fn main(rt: HostRuntime) -> ExitCode {
         let mut report = ErrorLines::new(&rt, rt.alloc());
         run_strict(
             rt.alloc(),
-            &mut rt.stdin(),
+            &mut reader,
             &mut writer,
             &mut store,
             chosen.limit,
@@ -98,7 +109,7 @@ fn main(rt: HostRuntime) -> ExitCode {
     } else {
         run(
             rt.alloc(),
-            &mut rt.stdin(),
+            &mut reader,
             &mut writer,
             &mut store,
             chosen.limit,
@@ -108,6 +119,13 @@ fn main(rt: HostRuntime) -> ExitCode {
     match ended {
         Ok(_) => ExitCode::SUCCESS,
         Err(StrictFault::Refused | StrictFault::Unsaved) => ExitCode::from(NOT_DONE),
-        Err(StrictFault::Run(fault)) => ends(&rt, fault, FAILED),
+        Err(StrictFault::Run(fault)) => {
+            let reason = match fault {
+                RunFault::Read => reader.reason(),
+                RunFault::Write => writer.get_ref().reason(),
+                RunFault::Memory => None,
+            };
+            ends_with_fault(&rt, fault, reason)
+        }
     }
 }

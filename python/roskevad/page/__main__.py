@@ -14,6 +14,7 @@ from types import FrameType
 from typing import Any, Optional
 
 from .. import __version__
+from . import running
 from .folder import Folder, is_map
 from .server import Server
 
@@ -101,6 +102,14 @@ def server_of(chosen: argparse.Namespace) -> Server:
     sys.exit(f'tile_page: port {tried[0]}: {reason}')
 
 
+def say_who_runs(server: Server) -> None:
+    """Says on standard error where another server has the folder already."""
+    port = server.server_address[1]
+    other = running.take(server.folder.folder, f'http://127.0.0.1:{port}/, process {os.getpid()}')
+    if other is not None:
+        print(f'tile_page: another one serves this folder already: {other}', file=sys.stderr, flush=True)
+
+
 def _stop(number: int, frame: Optional[FrameType]) -> None:
     raise KeyboardInterrupt
 
@@ -108,6 +117,7 @@ def _stop(number: int, frame: Optional[FrameType]) -> None:
 def main() -> None:
     """Prints the address of the page, and serves it until Ctrl+C, SIGTERM or SIGHUP."""
     server = server_of(options())
+    say_who_runs(server)
     for number in (signal.SIGTERM, signal.SIGHUP):
         signal.signal(number, _stop)
     try:

@@ -3,10 +3,12 @@ import hashlib
 import os
 import stat
 import threading
-from pathlib import Path
+import unicodedata
+from contextlib import contextmanager
+from pathlib import Path, PurePosixPath
 from typing import Any, Iterator, Optional
 
-from ..saving import Saving
+from ..saving import Saving, Taken, holder_of
 
 #: The longest file that is given or taken.
 LONGEST_FILE = 64 * 1024 * 1024
@@ -21,13 +23,27 @@ TILESETS = ('.tsx', '.tsj')
 _MOST_FILES, _MOST_NAMES, _DEEPEST = 2000, 50_000, 8
 
 
+# The kinds of characters that no name may have here: a line that tells it could not be read again.
+_UNTOLD = ('Cc', 'Cs', 'Zl', 'Zp')
+
+
 class Unlike(Exception):
     """The file under a name is not what a save may replace."""
+
+
+class Held(Exception):
+    """Another program saves the file, and has for too long. The words say which one."""
 
 
 def is_map(path: Path) -> bool:
     """Whether a name is one of a map."""
     return path.suffix.lower() in MAPS
+
+
+def is_told(name: str) -> bool:
+    """Whether a name can be told: it is UTF-8, with no control character and no end of a line. Other files are not listed, not read
+    and not saved."""
+    return not any(unicodedata.category(each) in _UNTOLD for each in name)
 
 
 def time_of(told: os.stat_result) -> int:
@@ -37,11 +53,13 @@ def time_of(told: os.stat_result) -> int:
 
 class Folder:
     """A folder of maps below a root. Paths are told from the folder in `maps`, and from the root elsewhere; links are followed, and
-    what they lead to lies below the root. `lock` is held while a file is looked at and replaced."""
+    what they lead to lies below the root. Saves of one file come one behind the other."""
 
     def __init__(self, folder: Path, root: Path):
         self.folder, self.root = folder.resolve(), root.resolve()
-        self.lock = threading.Lock()
+        self._turns = threading.Condition()
+        self._saved: set[Path] = set()
+        self._is_ended = False
 
     @property
     def prefix(self) -> str:
@@ -78,16 +96,16 @@ class Folder:
         return found
 
     def _names(self, folder: Path) -> Iterator[Path]:
-        """The files of a folder and of those in it, but for hidden ones and names that nobody can read; links to folders are not
+        """The files of a folder and of those in it, but for hidden ones and names that can't be told; links to folders are not
         followed."""
         seen = 0
         for top, folders, names in os.walk(folder):
             depth = len(Path(top).relative_to(folder).parts)
-            folders[:] = sorted(name for name in folders if not name.startswith('.')) if depth < _DEEPEST else []
+            folders[:] = sorted(name for name in folders if is_told(name) and not name.startswith('.')) if depth < _DEEPEST else []
             seen += len(names)
             if seen > _MOST_NAMES:
                 return
-            yield from (Path(top) / name for name in sorted(names) if name.isprintable() and not name.startswith('.'))
+            yield from (Path(top) / name for name in sorted(names) if is_told(name) and not name.startswith('.'))
 
     def _told(self, path: Path) -> Optional[os.stat_result]:
         """What the system tells of a regular file that lies below the root, links followed; `None` where there is no such file."""
@@ -100,9 +118,9 @@ class Folder:
 
     def read(self, name: str) -> Optional[tuple[bytes, int]]:
         """The bytes of a map, a tileset or an image, and its time; `None` where there is no such file, or it is too long."""
-        path = self.root / name
-        told = None if path.suffix.lower() not in KINDS else self._told(path)
-        if told is None or told.st_size > LONGEST_FILE:
+        path = self._path(name)
+        told = None if path is None or path.suffix.lower() not in KINDS else self._told(path)
+        if path is None or told is None or told.st_size > LONGEST_FILE:
             return None
         try:
             data = path.read_bytes()
@@ -110,24 +128,32 @@ class Folder:
             return None
         return (data, time_of(told)) if len(data) <= LONGEST_FILE else None
 
+    def _path(self, name: str) -> Optional[Path]:
+        """The path of a name from the root; `None` where it can't be told, or is none of a file, as one that ends with a slash."""
+        return self.root / name if is_told(name) and PurePosixPath(name).as_posix() == name else None
+
     def place(self, name: str) -> Optional[Path]:
         """Where a map is saved: in the folder, or below it, in a folder that is there. `None` where it must not be."""
-        path = self.root / name
+        path = self._path(name)
+        if path is None:
+            return None
         try:
             parent = path.parent.resolve(strict=True)
         except (OSError, ValueError, RuntimeError):
             return None
-        is_name = is_map(path) and not path.name.startswith('.') and path.name.isprintable()
+        is_name = is_map(path) and not path.name.startswith('.')
         return parent / path.name if is_name and parent.is_relative_to(self.folder) and parent.is_dir() else None
 
     def save(self, path: Path, data: bytes, wanted: Optional[str]) -> int:
         """Writes a file whole, and gives its time. Raises Unlike where the file that is there has another hash than is wanted, or where
-        none is wanted and something is there; OSError where it cannot be written."""
-        with self.lock:
-            self._see(path, wanted)
-            saving = Saving(path, data, lambda: None, True)
+        none is wanted and something is there; Held where another program saves it, and has for too long; OSError where it cannot be
+        written."""
+        with self._turn(path):
+            saving = Saving(path, data, lambda: None, True, lambda is_locked: self._see(path, wanted, is_locked), wanted is None)
             try:
                 saving.write()
+            except Taken as taken:
+                raise Unlike from taken
             except OSError as fault:
                 saving.fault = fault
             finally:
@@ -136,7 +162,28 @@ class Folder:
                 raise saving.fault
             return time_of(path.stat())
 
-    def _see(self, path: Path, wanted: Optional[str]) -> None:
+    @contextmanager
+    def _turn(self, path: Path) -> Iterator[None]:
+        """Keeps other saves of a file waiting. Where files can be locked their locks do so too, for other programs as well."""
+        with self._turns:
+            self._turns.wait_for(lambda: not self._is_ended and path not in self._saved)
+            self._saved.add(path)
+        try:
+            yield
+        finally:
+            with self._turns:
+                self._saved.discard(path)
+                self._turns.notify_all()
+
+    def end(self, seconds: float) -> None:
+        """No save begins from now on. Waits for those that are under way, but no longer than that."""
+        with self._turns:
+            self._is_ended = True
+            self._turns.wait_for(lambda: not self._saved, seconds)
+
+    def _see(self, path: Path, wanted: Optional[str], is_locked: bool) -> None:
+        if not is_locked:
+            raise Held(holder_of(path))
         if wanted is None:
             if os.path.lexists(path):
                 raise Unlike

@@ -17,6 +17,7 @@ has the key as `?key=`. Whoever has the key can read and replace the maps of the
     405   another method
     412   the file is another one than the request says
     413   a body above 64 MiB, or above 1 MiB where nothing is saved, at once; what still comes is read and dropped for two seconds
+    423   another program saves the file, and has for 10 seconds; the answer says which one
     428   a save that does not say what it replaces
     431   a head of more than 16 KiB, or of more than 64 fields
 
@@ -36,7 +37,7 @@ from pathlib import Path
 from typing import Any, Optional
 from urllib.parse import parse_qs, unquote, urlsplit
 
-from .folder import KINDS, LONGEST_FILE, Folder, Unlike
+from .folder import KINDS, LONGEST_FILE, Folder, Held, Unlike
 
 #: The longest body of a request that saves nothing.
 LONGEST_BODY = 1024 * 1024
@@ -101,7 +102,7 @@ class Server(ThreadingHTTPServer):
 
     def end(self) -> None:
         """Ends it once a save that is under way has ended."""
-        self.folder.lock.acquire(timeout=_IN_ALL)
+        self.folder.end(_IN_ALL)
         self.server_close()
 
 
@@ -271,7 +272,7 @@ class Door(BaseHTTPRequestHandler):
         the system could reset it, and the answer would be lost."""
         headers = getattr(self, 'headers', None)
         has_body = headers is not None and (headers.get('Transfer-Encoding') or headers.get('Content-Length', '0').strip() != '0')
-        is_unread = refusal.status not in (404, 412, 428, 500) or self.command != 'PUT'
+        is_unread = refusal.status not in (404, 412, 423, 428, 500) or self.command != 'PUT'
         self.close_connection = self.close_connection or (bool(has_body) and is_unread) or headers is None or self.command == 'HEAD'
         self._give(f'{refusal.words}\n'.encode(), 'text/plain; charset=utf-8', refusal.status)
         if self.close_connection:
@@ -325,6 +326,8 @@ class Door(BaseHTTPRequestHandler):
             changed = self.server.folder.save(place, body, self._wanted())
         except Unlike:
             raise Refusal(412, 'the file is another one') from None
+        except Held as held:
+            raise Refusal(423, f'it is being saved by another program ({held})') from None
         except OSError as fault:
             raise Refusal(500, f'it cannot be written: {fault.strerror or fault}') from None
         self._give(b'', 'text/plain; charset=utf-8', Roskevad_Time=str(changed))
