@@ -66,7 +66,11 @@ globalThis.walking = setInterval(() => {
   const {count} = roskevad.editor.stand();
   roskevad.editor.doLines([`goto ${Math.floor(Math.random() * (count + 1))}`]);
 }, 3);'''
-STOP = 'clearInterval(globalThis.drawing); clearInterval(globalThis.walking)'
+# The browser's disk is full for a moment.
+FILL = '''
+const {put} = IDBObjectStore.prototype;
+IDBObjectStore.prototype.put = function () { throw new DOMException("It has no room.", "QuotaExceededError"); };
+setTimeout(() => { IDBObjectStore.prototype.put = put; }, arguments[0]);'''
 
 
 def new_map(width):
@@ -77,6 +81,11 @@ def new_map(width):
 
 def width_of(data):
     return json.loads(data)['width']
+
+
+QUIET = '''
+const {editor} = roskevad;
+return editor.isQuiet && editor.journal.isKept && !document.querySelector("dialog[open]")'''
 
 
 class Chance:
@@ -135,6 +144,11 @@ class Chance:
         self.flag.touch()
         self.page.js('roskevad.documents.save()')
         time.sleep(self.numbers.uniform(0, 0.3))
+
+    def fill_disk(self):
+        self.say('fill the disk')
+        self.page.js(FILL, self.numbers.randrange(1, 800))
+        self.draw_some()
 
     def turn(self):
         names = list(self.page.js(SNAP))
@@ -195,7 +209,7 @@ class Chance:
         end = time.monotonic() + 60
         while time.monotonic() < end:
             self.answer('Cancel')
-            if self.page.js('return roskevad.editor.isQuiet && !document.querySelector("dialog[open]")'):
+            if self.page.js(QUIET):
                 return
             time.sleep(0.05)
         raise AssertionError(f'the page does not come to rest: {self.did}')
@@ -203,7 +217,7 @@ class Chance:
     # ---- a life
     def work(self):
         does = [self.open_some, self.draw_some, self.draw_some, self.undo_some, self.save_now]
-        does += [self.save_slowly, self.turn, self.close_some, self.change_outside]
+        does += [self.save_slowly, self.turn, self.close_some, self.change_outside, self.fill_disk]
         if not self.page.js(SNAP):
             self.open_some()
         for _ in range(self.numbers.randrange(2, 9)):

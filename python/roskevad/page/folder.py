@@ -21,8 +21,6 @@ MAPS = ('.tmj', '.json')
 TILESETS = ('.tsx', '.tsj')
 # How many files are listed at most, how many names are looked at for them, and how deep folders are looked into.
 _MOST_FILES, _MOST_NAMES, _DEEPEST = 2000, 50_000, 8
-
-
 # The kinds of characters that no name may have here: a line that tells it could not be read again.
 _UNTOLD = ('Cc', 'Cs', 'Zl', 'Zp')
 
