@@ -54,7 +54,10 @@ NEXT_SESSION = [b'new town 4 3 16 16 town.tsj', b'save m.tmj', b'status']
 NEXT_SAVED = [b'ok 0/0 clean 0', b'saved m.tmj 389', b'ok 0/0 clean 0']
 
 ERRORS = [errno.EIO, errno.ENOSPC, errno.EACCES]
-# The calls of a save over a file of another length, but for those that give it its mode.
+# The calls that lock the name, where a file stands there that may be read, and where none does.
+LOCKING = ['statx', 'open', 'flock', 'statx', 'fstat']
+NOT_LOCKING = ['statx']
+# The calls behind these over a file of another length, but for those that give it its mode.
 CHANGED = [
     'statx',
     'open_folder',
@@ -72,9 +75,9 @@ CHANGED = [
     'close_folder',
     'reply',
 ]
-# The calls of a save where there is no file, or what is there is no regular one.
+# The same where there is no file, or what is there is a link.
 FIRST = CHANGED[:3] + CHANGED[4:]
-# The calls of a save over a file of the same bytes.
+# The same over a file of the same bytes.
 UNCHANGED = [
     'statx',
     'open_folder',
@@ -151,11 +154,18 @@ class Place:
         stays = {BESIDE: rest} if rest and not rest[0] & 0o400 and not is_root else {}
         return {**self.before(), **stays, NAME: (mode, EMPTY)}
 
-    def calls(self):
-        """The calls of a save, but for those that give the file its mode."""
+    def locking(self, is_root):
+        """The calls of a save that lock the name."""
         if self.mode is None or self.is_link:
-            return FIRST
-        return UNCHANGED if self.data == NEW else CHANGED
+            return NOT_LOCKING
+        return LOCKING if is_root or self.mode & 0o400 else LOCKING[:2]
+
+    def calls(self, is_root):
+        """The calls of a save, but for those that give the file its mode."""
+        locking = self.locking(is_root)
+        closing = ['close'] if locking == LOCKING else []
+        rest = FIRST if locking == NOT_LOCKING else UNCHANGED if self.data == NEW else CHANGED
+        return [*locking, *rest[:-2], *closing, *rest[-2:]]
 
 
 PLACES = [
@@ -207,6 +217,7 @@ class Saver:
         self.top, self.folder = top, top / 'maps'
         self.program, self.library = top / 'program', top / 'interpose_saves.so'
         self.user = NOBODY if os.getuid() == 0 and can_lose_rights() else None
+        self.is_root = os.getuid() == 0 and self.user is None
         top.chmod(0o755)
         copy_program(TILE_EDITOR, self.program)
         shutil.copy(interposed('interpose_saves.c'), self.library)
@@ -247,8 +258,7 @@ class Saver:
         replies = done.stdout.split(b'\n')[:-1]
         if done.returncode != 0 or replies != NEXT_SAVED:
             raise Fault(f'the next save: {replies}')
-        is_root = os.getuid() == 0 and self.user is None
-        if entries(self.folder) != place.after_next(found, is_root):
+        if entries(self.folder) != place.after_next(found, self.is_root):
             raise Fault(f'the next save: {in_words(entries(self.folder))}')
 
 
@@ -288,8 +298,9 @@ def see_saved(saver, place):
     if done.returncode != 0 or done.stdout.split(b'\n')[:-1] != SAVED:
         raise Fault(f'status {done.returncode}, {done.stdout}')
     see_folder(place, entries(saver.folder), False, True, False)
-    if without_modes(calls) != place.calls():
-        raise Fault(f'the calls are {calls}, and are to be {place.calls()}')
+    wanted = place.calls(saver.is_root)
+    if without_modes(calls) != wanted:
+        raise Fault(f'the calls are {calls}, and are to be {wanted}')
     return calls
 
 
@@ -322,7 +333,8 @@ def see_failed(saver, place, at, error, stops_all):
     is_saved = replies == SAVED
     if done.returncode != 0 or not (is_saved or replies == NOT_SAVED):
         raise Fault(f'status {done.returncode}, {replies}')
-    if is_saved and (stops_all or not is_harmless(place, calls, at)):
+    locking = place.locking(saver.is_root)
+    if is_saved and (stops_all or not is_harmless(place, calls, at, len(locking))):
         raise Fault('the save is said to have worked')
     found = entries(saver.folder)
     # Where only the folder could not be synced, which comes last, the new file stands.
@@ -331,12 +343,14 @@ def see_failed(saver, place, at, error, stops_all):
     saver.save_again(place, found)
 
 
-def is_harmless(place, calls, at):
-    """Whether a save works though a call of it fails. The first look is at the old file's mode, and
-    further ones are for a comparison."""
+def is_harmless(place, calls, at, locking):
+    """Whether a save works though a call of it fails. The first calls lock the name, the look behind
+    them is at the old file's mode, and further ones are for a comparison."""
     name = calls[at - 1]
+    if at <= locking:
+        return True
     if name == 'statx':
-        return at > 1
+        return at > locking + 1
     return name in HARMLESS or (place.data == NEW and name in COMPARING and 'write' not in calls[:at])
 
 
@@ -364,7 +378,7 @@ def faults_in(saver, place):
     except Fault as fault:
         yield str(fault)
         return
-    if place.calls() == UNCHANGED:
+    if place.data == NEW:
         try:
             see_same_file(saver, place)
         except Fault as fault:
