@@ -68,9 +68,10 @@ globalThis.walking = setInterval(() => {
 }, 3);'''
 # The browser's disk is full for a moment.
 FILL = '''
-const {put} = IDBObjectStore.prototype;
-IDBObjectStore.prototype.put = function () { throw new DOMException("It has no room.", "QuotaExceededError"); };
-setTimeout(() => { IDBObjectStore.prototype.put = put; }, arguments[0]);'''
+globalThis.put ??= IDBObjectStore.prototype.put;
+IDBObjectStore.prototype.put = () => { throw new DOMException("It has no room.", "QuotaExceededError"); };
+clearTimeout(globalThis.filled);
+globalThis.filled = setTimeout(() => { IDBObjectStore.prototype.put = globalThis.put; }, arguments[0]);'''
 
 
 def new_map(width):
