@@ -13,6 +13,7 @@ import statistics
 import subprocess
 import sys
 import tempfile
+import threading
 import time
 from pathlib import Path
 from unittest import mock
@@ -316,13 +317,29 @@ def is_whole(data):
     return {*tree['layers'][0]['data']} <= {*range(10)} and tree['width'] == 200
 
 
+class Reader(threading.Thread):
+    """Reads a file over and over, and keeps what is no whole map."""
+
+    def __init__(self, file):
+        super().__init__(daemon=True)
+        self.file, self.ends, self.count, self.faults = file, threading.Event(), 0, []
+
+    def run(self):
+        while not self.ends.wait(0.002):
+            if self.file.exists():
+                data = self.file.read_bytes()
+                self.count += 1
+                self.faults += [] if is_whole(data) else [data]
+
+
 def test_many_who_save_one_name():
     """With the package and with the program, at once. None is refused, also where some are killed;
     who reads meanwhile finds a whole map. What those that were killed have left the next save takes
     away."""
     numbers = random.Random(3)
     with tempfile.TemporaryDirectory(dir=IN_MEMORY) as folder:
-        file, saves = Path(folder) / NAME, 60
+        saves, reader = 60, Reader(Path(folder) / NAME)
+        reader.start()
         writers = [writer(folder, number, saves) for number in range(6)]
         # Each has saved once.
         replies = [each.stdout.readline() for each in writers]
@@ -330,11 +347,6 @@ def test_many_who_save_one_name():
         for killed in writers[:2]:
             time.sleep(numbers.uniform(0, 0.05))
             killed.kill()
-        reads = 0
-        while any(each.poll() is None for each in writers):
-            assert is_whole(file.read_bytes())
-            reads += 1
-            time.sleep(0.01)
         for each in writers[2:]:
             output, errors = each.communicate()
             assert each.returncode == 0, errors.decode()
@@ -342,7 +354,10 @@ def test_many_who_save_one_name():
         for each in writers[:2]:
             each.communicate()
         assert other.stdout.read().count(b'saved ') == saves and other.wait() == 0
-        assert all(reply.startswith(b'saved ') for reply in replies) and reads
+        reader.ends.set()
+        reader.join()
+        assert reader.count and not reader.faults, (reader.count, reader.faults[:1])
+        assert all(reply.startswith(b'saved ') for reply in replies)
         left = {*os.listdir(folder)} - {NAME}
         assert len(left) <= 2, left
         with Editor(folder=folder) as editor:

@@ -15,7 +15,7 @@ from pathlib import Path
 
 from lib.cases import passed
 from lib.places import SESSION_MAPS, TILE_EDITOR, TOP
-from page.door import Door
+from page.door import Door, read_answer
 
 IS_LONG = True
 NAME = 'm.tmj'
@@ -32,6 +32,13 @@ def fsync(handle):
 os.fsync = fsync
 '''
 SESSION = b'new m 4 3 16 16 town.tsj\nstamp 1 0 0 1 5\nsave m.tmj\nstatus\n'
+HOLDING = '''
+import fcntl, sys
+file = open(sys.argv[1])
+fcntl.flock(file, fcntl.LOCK_EX)
+print(flush=True)
+sys.stdin.read()
+'''
 IN_PYTHON = '''
 import sys
 from roskevad import Editor
@@ -80,9 +87,8 @@ class Holder:
     """A process that has a file locked, until it ends."""
 
     def __init__(self, path):
-        code = 'import fcntl, sys; file = open(sys.argv[1]); fcntl.flock(file, 2); print(flush=True); sys.stdin.read()'
         self.program = subprocess.Popen(
-            [sys.executable, '-c', code, path], stdin=subprocess.PIPE, stdout=subprocess.PIPE
+            [sys.executable, '-c', HOLDING, path], stdin=subprocess.PIPE, stdout=subprocess.PIPE
         )
         self.program.stdout.readline()
 
@@ -211,12 +217,13 @@ def test_a_program_that_hangs():
     with folder_with() as maps, served(maps) as [door]:
         holder = Holder(maps / NAME)
         begun = time.monotonic()
-        replaced = door.request('PUT', door.file(NAME), b'{"by":"page"}', extra='if-match: "%s"\r\n' % ('0' * 64))
+        match = f'if-match: "{"0" * 64}"\r\n'
+        replaced = door.request('PUT', door.file(NAME), b'{"by":"page"}', extra=match)
         with door.connect() as link:
             link.sendall(replaced)
-            came = link.recv(65536).decode()
+            status, _, words, _ = read_answer(link)
         waited = time.monotonic() - begun
-        assert came.split()[1] == '423' and f'process {holder.program.pid}' in came, came
+        assert status == 423 and f'process {holder.program.pid}' in words.decode(), (status, words)
         assert LONGEST_WAIT - 1 < waited < 2 * LONGEST_WAIT, waited
         assert (maps / NAME).read_bytes() == TOWN
         holder.kill()
