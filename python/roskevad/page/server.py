@@ -302,7 +302,7 @@ class Door(BaseHTTPRequestHandler):
     def _give_files(self, body: bytes) -> None:
         folder = self.server.folder
         where = {'folder': str(folder.folder), 'prefix': folder.prefix, 'source': folder.source}
-        told = {**self.server.told, **where, 'maps': folder.maps()}
+        told: dict[str, Any] = {**self.server.told, **where, 'maps': folder.maps()}
         self._give(json.dumps(told, separators=(',', ':')).encode(), 'application/json')
 
     def _give_names(self, body: bytes) -> None:
