@@ -313,8 +313,9 @@ def test_a_new_map_whose_name_a_file_has():
     with bench as page:
         page.click('#new')
         page.fill_in(name='house')
-        assert 'house.tmj is there already' in page.find('dialog').text
+        page.wait(lambda: 'house.tmj is there already' in page.find('dialog').text, 'it is told')
         page.fill_in(name='shed')
+        page.wait(lambda: not page.texts('dialog[open]'), 'the map is made')
         assert tabs(page) == ['town', 'shed'] and spelled(page) == []
 
 

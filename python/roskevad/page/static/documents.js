@@ -82,7 +82,7 @@ export class Documents {
   // Makes a map for the dialog. It would be saved under its name, which no file may have.
   async made({ name, width, height, side, tall, source }) {
     const file = `${name}.tmj`;
-    const names = await this.editor.place.names().catch(() => []);
+    const names = await this.editor.during(this.editor.place.names().catch(() => []));
     const isOpen = this.editor.notes.documents.has(name);
     if (!isOpen && names.some(({ path }) => path === file)) return { words: `The file ${file} is there already. Choose another name.`, field: "name" };
     return this.bench.attempt([`new ${name} ${width} ${height} ${side} ${tall} ${source}`], { 11: "name" });
