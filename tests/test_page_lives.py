@@ -188,6 +188,7 @@ def test_a_save_belongs_to_its_document():
         click_close(page, 'town')
         assert 'is being saved' in page.find('dialog').text
         answer_now(page, 'Leave it')
+        page.wait(lambda: tabs(page) == [], 'the town is closed')
         page.js('roskevad.documents.openPath("sub/town.tmj")')
         page.wait(lambda: files_of(page) == {'town': 'sub/town.tmj'}, 'the other one is open')
         end_save(page)
