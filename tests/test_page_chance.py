@@ -14,6 +14,7 @@ from lib.cases import passed
 from lib.places import EXAMPLE_MAPS, TILE_EDITOR
 from page.browser import Server
 from page.lives import Life
+from page.slow_syncs import slow_syncs
 
 NEEDS_BROWSER = True
 IS_LONG = True
@@ -23,15 +24,6 @@ SEED = int(os.environ.get('ROSKEVAD_SEED', '20261128'))
 # The maps and their widths, by which each is known wherever it stands.
 WIDTHS = {'town.tmj': 24, 'a/town.tmj': 20, 'b/town.tmj': 16, 'house.tmj': 12}
 HEIGHT = 10
-# While this file is there, each sync of the server takes so long.
-SLOW = '''
-import os, time
-was = os.fsync
-def fsync(handle):
-    if os.path.exists({flag!r}): time.sleep(0.7)
-    return was(handle)
-os.fsync = fsync
-'''
 # Each document: where it stands among its steps, its bytes, its file, and whether it is called saved.
 SNAP = '''
 const {editor} = roskevad, {session, notes} = editor;
@@ -94,22 +86,15 @@ class Chance:
 
     def __init__(self, top, numbers):
         self.top, self.numbers = Path(top), numbers
-        self.folder, self.flag = self.top / 'maps', self.top / 'slow'
+        self.folder = self.top / 'maps'
         for name, width in WIDTHS.items():
             (self.folder / name).parent.mkdir(parents=True, exist_ok=True)
             (self.folder / name).write_bytes(new_map(width))
         for name in ('tiles.tsx', 'tiles.png'):
             for folder in (self.folder, self.folder / 'a', self.folder / 'b'):
                 (folder / name).write_bytes((EXAMPLE_MAPS / name).read_bytes())
-        site = self.top / 'site'
-        site.mkdir()
-        (site / 'sitecustomize.py').write_text(SLOW.format(flag=str(self.flag)))
-        before = os.environ.get('PYTHONPATH')
-        os.environ['PYTHONPATH'] = str(site)
-        try:
+        with slow_syncs(top, 0.7) as self.flag:
             self.server = Server(self.folder)
-        finally:
-            os.environ.pop('PYTHONPATH') if before is None else os.environ.update(PYTHONPATH=before)
         # What another program has written last, by the paths.
         self.outside = {}
         self.did = []

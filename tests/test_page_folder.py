@@ -6,7 +6,7 @@ import json
 import shutil
 
 from lib.places import EXAMPLE_MAPS
-from page.bench import Bench, cells_with, choose, spelled, standing, take_tile
+from page.bench import Bench, cells_with, draw, focus, spelled, standing
 from page.browser import Keys, Page, Server, browser, started
 from page.own_folder import bytes_in, put, site, take_folder
 
@@ -14,19 +14,6 @@ NEEDS_BROWSER = True
 IS_LONG = True
 # What a file has that another program has written.
 OTHER = (EXAMPLE_MAPS / 'layers.tmj').read_bytes()
-
-
-def draw(page, row=20):
-    choose(page, 'Ground')
-    take_tile(page, (3, 1))
-    page.drag([(3, row), (6, row)])
-
-
-def focus(page):
-    """The window gets the focus, as when its user comes back from another one."""
-    page.js('dispatchEvent(new Event("focus"))')
-    page.wait(lambda: not page.js('return roskevad.documents.outside.isLooking'), 'it has looked')
-    page.settle()
 
 
 def answer(page, text):

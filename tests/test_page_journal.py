@@ -7,7 +7,7 @@ import time
 
 from lib.cases import passed
 from lib.places import EXAMPLE_MAPS
-from page.bench import PAGE, cells_with, choose, standing, take_tile
+from page.bench import PAGE, cells_with, choose, draw, standing
 from page.browser import DOWNLOADS
 from page.lives import Life
 
@@ -43,12 +43,6 @@ def opened(life, *flags):
     if page.editor.state()['active'] is None and not page.notices():
         page.choose_files(*FILES)
     return page
-
-
-def draw(page, row):
-    choose(page, 'Ground')
-    take_tile(page, (3, 1))
-    page.drag([(3, row), (6, row)])
 
 
 def test_killed_in_strokes():

@@ -5,9 +5,9 @@ the browser's own question."""
 import shutil
 
 from lib.places import EXAMPLE_MAPS
-from page.bench import Bench, cells_with, choose, spelled, standing, take_tile
-from page.browser import Keys, Page, browser
-from page.own_folder import bytes_in, put, site, take_folder
+from page.bench import Bench, cells_with, draw, focus, spelled, standing
+from page.browser import Keys, browser
+from page.own_folder import bytes_in, folder_page, put
 
 NEEDS_BROWSER = True
 IS_LONG = True
@@ -20,18 +20,6 @@ BROKEN = {
     b'': 'Refused',
     None: 'The file is gone',
 }
-
-
-def draw(page, row=20):
-    choose(page, 'Ground')
-    take_tile(page, (3, 1))
-    page.drag([(3, row), (6, row)])
-
-
-def focus(page):
-    page.js('dispatchEvent(new Event("focus"))')
-    page.wait(lambda: not page.js('return roskevad.documents.outside.isLooking'), 'it has looked')
-    page.settle()
 
 
 def files_of(page):
@@ -140,6 +128,25 @@ def test_a_reload_reads_once():
         assert 'has changed outside' in told
 
 
+def test_a_reload_while_the_page_looks():
+    """The page looks at a file whose document is loaded anew meanwhile, and goes on to look at files."""
+    bench = Bench(served=True)
+    with bench as page:
+        draw(page)
+        page.js(
+            'const {place} = roskevad.editor, look = place.look.bind(place);'
+            'place.look = async path => { await new Promise(done => { roskevad.goOn = done; }); return look(path); };'
+        )
+        page.js('dispatchEvent(new Event("focus"))')
+        page.wait(lambda: page.js('return "goOn" in roskevad'), 'the page looks')
+        (bench.folder / 'town.tmj').write_bytes(OTHER)
+        page.js('roskevad.documents.outside.reload(roskevad.editor.notes.document)')
+        page.fill_in('Keep both')
+        page.js('roskevad.goOn()')
+        page.wait(lambda: not page.js('return roskevad.documents.outside.isLooking'), 'it has looked')
+        assert page.notices() == [] and len(tabs(page)) == 2
+
+
 # ---- slow saves
 
 SLOW = '''
@@ -216,6 +223,24 @@ def test_a_close_that_waits():
         end_save(page)
         page.wait(lambda: tabs(page) == ['house'], 'the town is closed')
         assert (bench.folder / 'town.tmj').read_bytes() != TOWN
+
+
+def test_a_close_that_waits_is_of_one_map():
+    """While it waits its map is left, and another one gets its name: that stays open."""
+    bench = Bench(served=True)
+    with bench as page:
+        (bench.folder / 'sub').mkdir()
+        shutil.copy(EXAMPLE_MAPS / 'house.tmj', bench.folder / 'sub' / 'town.tmj')
+        draw(page)
+        begin_save(page)
+        click_close(page, 'town')
+        answer_now(page, 'Wait, then close')
+        page.js('roskevad.editor.doLines(["discard town"])')
+        page.js('roskevad.documents.openPath("sub/town.tmj")')
+        page.wait(lambda: files_of(page) == {'town': 'sub/town.tmj'}, 'the other one is open')
+        end_save(page)
+        assert files_of(page) == {'town': 'sub/town.tmj'} and tabs(page) == ['town']
+        page.driver.get_log('browser')  # The tilesets lie elsewhere.
 
 
 def test_a_save_as_of_the_map_that_was_shown():
@@ -333,14 +358,7 @@ FileSystemFileHandle.prototype.createWritable = async () => { throw new Error("t
 def test_a_save_waits_for_the_browser():
     """It asks whether the page may write. Until it is answered the page says so, calls nothing saved, and
     goes on with this map and others."""
-    names = ('tiles.tsx', 'tiles.png', 'town.tmj', 'house.tmj')
-    with site() as address:
-        page = Page(browser(), f'{address}/roskevad.html')
-        page.clear(f'{address}/blank.html')
-        page.open()
-        put(page, {name: (EXAMPLE_MAPS / name).read_bytes() for name in names})
-        take_folder(page)
-        page.fill_in(file='town.tmj')
+    with folder_page('house.tmj') as page:
         draw(page)
         drawn = page.editor.shown()
         for answer in ('denied', 'granted'):
@@ -363,19 +381,26 @@ def test_a_save_waits_for_the_browser():
             is_saved = answer == 'granted'
             assert bytes_in(page, 'town.tmj') == (drawn if is_saved else TOWN)
             assert (page.texts('.tab.unsaved') == []) == is_saved
-        page.driver.get('about:blank')
+
+
+def test_a_file_that_changes_while_the_browser_asks():
+    """It is looked at behind the answer, and not replaced without a question."""
+    with folder_page() as page:
+        draw(page)
+        page.js(HOLD)
+        page.find('body').send_keys(Keys.CONTROL, 's')
+        page.wait(lambda: page.js('return "answer" in roskevad'), 'the browser asks')
+        put(page, {'town.tmj': OTHER})
+        page.js('roskevad.answer("granted")')
+        page.wait(lambda: page.texts('dialog[open]'), 'the page asks')
+        assert 'has changed since it was opened' in page.find('dialog').text
+        page.fill_in('Cancel')
+        assert bytes_in(page, 'town.tmj') == OTHER and page.texts('.tab.unsaved')
 
 
 def test_a_save_that_fails_leaves_no_file():
     """A new file whose bytes have no room is taken away again; one that was there keeps its bytes."""
-    names = ('tiles.tsx', 'tiles.png', 'town.tmj')
-    with site() as address:
-        page = Page(browser(), f'{address}/roskevad.html')
-        page.clear(f'{address}/blank.html')
-        page.open()
-        put(page, {name: (EXAMPLE_MAPS / name).read_bytes() for name in names})
-        take_folder(page)
-        page.fill_in(file='town.tmj')
+    with folder_page() as page:
         draw(page)
         page.js(FULL)
         page.ctrl('s')
@@ -386,4 +411,3 @@ def test_a_save_that_fails_leaves_no_file():
         page.fill_in('Cancel')
         assert bytes_in(page, 'town.tmj') == TOWN and bytes_in(page, 'fresh.tmj') is None
         assert page.texts('.tab.unsaved')
-        page.driver.get('about:blank')

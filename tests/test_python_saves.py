@@ -13,13 +13,13 @@ import statistics
 import subprocess
 import sys
 import tempfile
-import threading
 import time
 from pathlib import Path
 from unittest import mock
 
 from lib.cases import Case, check_each, fail_with, passed, unlike
 from lib.places import EXAMPLE_MAPS, IN_MEMORY, TILE_EDITOR, TOP
+from lib.readers import Reader
 
 sys.path.insert(0, str(TOP / 'python'))
 from roskevad import Editor, Refused, document_name, saving  # noqa: E402
@@ -317,45 +317,29 @@ def is_whole(data):
     return {*tree['layers'][0]['data']} <= {*range(10)} and tree['width'] == 200
 
 
-class Reader(threading.Thread):
-    """Reads a file over and over, and keeps what is no whole map."""
-
-    def __init__(self, file):
-        super().__init__(daemon=True)
-        self.file, self.ends, self.count, self.faults = file, threading.Event(), 0, []
-
-    def run(self):
-        while not self.ends.wait(0.002):
-            if self.file.exists():
-                data = self.file.read_bytes()
-                self.count += 1
-                self.faults += [] if is_whole(data) else [data]
-
-
 def test_many_who_save_one_name():
     """With the package and with the program, at once. None is refused, also where some are killed;
     who reads meanwhile finds a whole map. What those that were killed have left the next save takes
     away."""
-    numbers = random.Random(3)
+    numbers, saves = random.Random(3), 60
     with tempfile.TemporaryDirectory(dir=IN_MEMORY) as folder:
-        saves, reader = 60, Reader(Path(folder) / NAME)
-        reader.start()
-        writers = [writer(folder, number, saves) for number in range(6)]
-        # Each has saved once.
-        replies = [each.stdout.readline() for each in writers]
-        other = program(folder, saves)
-        for killed in writers[:2]:
-            time.sleep(numbers.uniform(0, 0.05))
-            killed.kill()
-        for each in writers[2:]:
-            output, errors = each.communicate()
-            assert each.returncode == 0, errors.decode()
-            assert output.count(b'saved ') == saves - 1
-        for each in writers[:2]:
-            each.communicate()
-        assert other.stdout.read().count(b'saved ') == saves and other.wait() == 0
-        reader.ends.set()
-        reader.join()
+        first = program(folder, 1)
+        assert first.stdout.read().count(b'saved ') == 1 and first.wait() == 0
+        with Reader(Path(folder) / NAME, is_whole) as reader:
+            writers = [writer(folder, number, saves) for number in range(6)]
+            # Each has saved once.
+            replies = [each.stdout.readline() for each in writers]
+            other = program(folder, saves)
+            for killed in writers[:2]:
+                time.sleep(numbers.uniform(0, 0.05))
+                killed.kill()
+            for each in writers[2:]:
+                output, errors = each.communicate()
+                assert each.returncode == 0, errors.decode()
+                assert output.count(b'saved ') == saves - 1
+            for each in writers[:2]:
+                each.communicate()
+            assert other.stdout.read().count(b'saved ') == saves and other.wait() == 0
         assert reader.count and not reader.faults, (reader.count, reader.faults[:1])
         assert all(reply.startswith(b'saved ') for reply in replies)
         left = {*os.listdir(folder)} - {NAME}

@@ -16,21 +16,13 @@ from pathlib import Path
 from lib.cases import passed
 from lib.places import SESSION_MAPS, TILE_EDITOR, TOP
 from page.door import Door, read_answer
+from page.slow_syncs import slow_syncs
 
 IS_LONG = True
 NAME = 'm.tmj'
 TOWN = (SESSION_MAPS / 'town.tmj').read_bytes()
 # How long a save waits for another, in seconds.
 LONGEST_WAIT = 10
-# What a server does so long at each sync.
-SLOW = '''
-import os, time
-was = os.fsync
-def fsync(handle):
-    if os.path.exists({flag!r}): time.sleep(1)
-    return was(handle)
-os.fsync = fsync
-'''
 SESSION = b'new m 4 3 16 16 town.tsj\nstamp 1 0 0 1 5\nsave m.tmj\nstatus\n'
 HOLDING = '''
 import fcntl, sys
@@ -166,17 +158,9 @@ def test_the_program_beside_a_server():
     then put their bytes there: none of the two is lost without a word."""
     for save in (saved_by_program, saved_by_package):
         with folder_with() as maps:
-            site = maps.parent / 'site'
-            site.mkdir()
-            flag = maps.parent / 'slow'
-            flag.touch()
-            (site / 'sitecustomize.py').write_text(SLOW.format(flag=str(flag)))
-            before = os.environ.get('PYTHONPATH')
-            os.environ['PYTHONPATH'] = str(site)
-            try:
+            with slow_syncs(maps.parent, 1) as flag:
+                flag.touch()
                 door = Door('--folder', str(maps), '--port', '0')
-            finally:
-                os.environ.pop('PYTHONPATH') if before is None else os.environ.update(PYTHONPATH=before)
             came = []
             other = TOWN.replace(b'"data":[0', b'"data":[7')
             work = threading.Thread(target=lambda: came.append(door.save(NAME, other, TOWN)))

@@ -6,13 +6,13 @@ import os
 import signal
 import subprocess
 import tempfile
-import threading
 from dataclasses import dataclass
 from pathlib import Path
 
 from lib.cases import check_each
 from lib.native import interposed
 from lib.places import IN_MEMORY, SESSION_MAPS, TILE_EDITOR
+from lib.readers import Reader
 from lib.sessions import joined
 
 EMPTY = (SESSION_MAPS / 'town.tmj').read_bytes()
@@ -69,25 +69,6 @@ def session_of(number, saves):
     return lines, [stamped(number, tile) for tile in tiles]
 
 
-class Reader(threading.Thread):
-    """Reads the file over and over, and keeps what is no whole map."""
-
-    def __init__(self, path, whole):
-        super().__init__()
-        self.path, self.whole, self.ends = path, whole, threading.Event()
-        self.faults, self.count = [], 0
-
-    def run(self):
-        while not self.ends.is_set():
-            try:
-                data = self.path.read_bytes()
-            except FileNotFoundError:
-                data = None
-            self.count += 1
-            if data not in self.whole:
-                self.faults.append(data)
-
-
 def started(writers, number, folder):
     """A run that saves, and what it must save."""
     lines, wanted = session_of(number, writers.saves)
@@ -140,12 +121,9 @@ def fault_in(writers, folder):
     maps.mkdir()
     (maps / NAME).write_bytes(EMPTY)
     whole = {EMPTY, *(stamped(number, tile) for number in range(writers.count) for tile in TILES)}
-    reader = Reader(maps / NAME, whole)
-    reader.start()
-    runs = [started(writers, number, folder) for number in range(writers.count)]
-    faults = [fault_of_run(*run, number < writers.killed) for number, run in enumerate(runs)]
-    reader.ends.set()
-    reader.join()
+    with Reader(maps / NAME, whole.__contains__) as reader:
+        runs = [started(writers, number, folder) for number in range(writers.count)]
+        faults = [fault_of_run(*run, number < writers.killed) for number, run in enumerate(runs)]
     if any(faults):
         return '\n    '.join(filter(None, faults))
     if reader.faults:

@@ -115,6 +115,20 @@ def take_tile(page, place):
     page.drag_points([point])
 
 
+def draw(page, row=20):
+    """A stroke over the ground of the town."""
+    choose(page, 'Ground')
+    take_tile(page, (3, 1))
+    page.drag([(3, row), (6, row)])
+
+
+def focus(page):
+    """The window gets the focus, as when its user comes back from another one."""
+    page.js('dispatchEvent(new Event("focus"))')
+    page.wait(lambda: not page.js('return roskevad.documents.outside.isLooking'), 'it has looked')
+    page.settle()
+
+
 def spelled(page):
     """The lines of the session so far, without the first one."""
     return page.editor.session().decode().splitlines()[1:]

@@ -8,7 +8,9 @@ import tempfile
 import threading
 from pathlib import Path
 
+from lib.places import EXAMPLE_MAPS
 from page.bench import PAGE
+from page.browser import Page, browser
 
 
 @contextlib.contextmanager
@@ -61,6 +63,20 @@ def put(page, files):
 def take_folder(page, name=''):
     """The page has the browser's own folder from now on, or one in it. Where no map is open, it asks for one."""
     page.driver.execute_async_script(TAKE, name)
+
+
+@contextlib.contextmanager
+def folder_page(*names):
+    """The page over a folder of the browser with some of the example maps, the town of which is open."""
+    with site() as address:
+        page = Page(browser(), f'{address}/roskevad.html')
+        page.clear(f'{address}/blank.html')
+        page.open()
+        put(page, {name: (EXAMPLE_MAPS / name).read_bytes() for name in ('tiles.tsx', 'tiles.png', 'town.tmj', *names)})
+        take_folder(page)
+        page.fill_in(file='town.tmj')
+        yield page
+        page.driver.get('about:blank')
 
 
 def bytes_in(page, path):

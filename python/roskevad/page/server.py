@@ -327,7 +327,7 @@ class Door(BaseHTTPRequestHandler):
         except Unlike:
             raise Refusal(412, 'the file is another one') from None
         except Held as held:
-            raise Refusal(423, f'it is being saved by another program ({held})') from None
+            raise Refusal(423, f'it is being saved by {held}') from None
         except OSError as fault:
             raise Refusal(500, f'it cannot be written: {fault.strerror or fault}') from None
         self._give(b'', 'text/plain; charset=utf-8', Roskevad_Time=str(changed))

@@ -5,7 +5,6 @@ import { KINDS } from "./kinds.js";
 import { FileList } from "./file_list.js";
 import { MapProbe } from "./map_probe.js";
 import { lastOf } from "./names.js";
-import { endNotice } from "./notices.js";
 import { OutsideChanges } from "./outside_changes.js";
 import { IN_XML, isXmlMapName } from "./places.js";
 import { saidOf } from "./refusals.js";
@@ -152,7 +151,7 @@ export class Documents {
     if (found.isClean) return this.closed(document);
     const told = await (found.isWriting ? this.askWriting(found) : ask(`${titleOf(found)} has changes that are not saved.`, [], [SAVE, DISCARD]));
     if (told?.answer === DISCARD.text || told?.answer === LEAVE.text) return this.closed(document, "discard");
-    if (told?.answer === WAIT) return document.written().then(() => this.close(name));
+    if (told?.answer === WAIT) return document.written().then(() => this.editor.notes.isOpen(document) && this.close(name));
     if (told?.answer !== SAVE) return null;
     const saved = await this.saveOf(document);
     return saved.isHeard ? this.closed(document) : null;
@@ -170,7 +169,7 @@ export class Documents {
     const at = documents.findIndex(each => each.name === name);
     const neighbour = documents[at]?.isActive ? documents[at + 1] ?? documents[at - 1] : null;
     const done = await this.bench.act([`${word} ${name}`, ...(neighbour ? [`use ${neighbour.name}`] : [])]);
-    if (done.isHeard) endNotice(`file ${name}`);
+    if (done.isHeard) this.outside.forget(document);
     return done;
   }
 

@@ -30,13 +30,26 @@ export class OutsideChanges {
   async look() {
     if (this.isLooking) return;
     this.isLooking = true;
-    for (const document of [...this.editor.notes.documents.values()]) {
-      const isChanged = document.file && !document.isWriting && (await this.editor.isChanged(document).catch(() => false));
-      if (!this.editor.notes.isOpen(document)) continue;
-      if (isChanged && !document.isWriting) this.sayChanged(document);
-      else endNotice(aboutOf(document));
+    try {
+      for (const document of [...this.editor.notes.documents.values()]) await this.lookAt(document);
+    } finally {
+      this.isLooking = false;
     }
-    this.isLooking = false;
+  }
+
+  async lookAt(document) {
+    const { file } = document;
+    const isChanged = file && !document.isWriting && (await this.editor.isChanged(document).catch(() => false));
+    if (!this.editor.notes.isOpen(document) || document.file !== file) return;
+    if (isChanged && !document.isWriting) this.sayChanged(document);
+    else this.forget(document);
+  }
+
+  // Nothing is said of a document any more.
+  forget(document) {
+    if (this.told.get(aboutOf(document)) !== document) return;
+    this.told.delete(aboutOf(document));
+    endNotice(aboutOf(document));
   }
 
   sayChanged(document) {
@@ -83,7 +96,7 @@ export class OutsideChanges {
     this.bench.tell("layout");
     const done = await this.editor.reopen(document, found);
     if (!done.isHeard) return this.sayNotLoaded(document, saidOf(done));
-    endNotice(aboutOf(document));
+    this.forget(document);
     if (isKept || document.lines.length !== lines) this.editor.unsave(document);
     else this.editor.doLines([`discard ${document.name}`]);
     return true;

@@ -224,8 +224,9 @@ export class FolderFiles extends EventTarget {
   // The browser writes a file beside it, and puts that in its place as it is closed. Where that fails, a file that was made for it is taken
   // away.
   async write(path, bytes, mark) {
-    await this.see(path, mark);
+    // The file is looked at behind the question, which may take long.
     await this.allowed();
+    await this.see(path, mark);
     const handle = await this.handle(path, true);
     try {
       const to = await handle.createWritable();
