@@ -12,7 +12,6 @@ import json
 import random
 import re
 import tempfile
-from pathlib import Path
 
 from lib import tiled_package
 from lib.asides import (
@@ -30,7 +29,7 @@ from lib.json_texts import text_behind, tree_of
 from lib.maps import new_map, objects_in, property_of, text_of, thing, things, tiles
 from lib.places import EXAMPLE_MAPS
 from lib.refusals import refusal
-from lib.sessions import all_runs, fault_of_run, heard, joined
+from lib.sessions import all_runs, fault_of_run, heard
 
 IS_LONG = True
 PACKAGES = ('tiled',)

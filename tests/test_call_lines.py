@@ -184,7 +184,8 @@ SCENARIOS = [
              'const id = document.layers.get("Things").objects.add("key", 32, -8, 16, 16); const key = document.objects.get(id); key.move(33, 0);'
              'key.move(34, 0, { merge: true }); key.resize(8, 9); document.objects.get("door").remove()',
              ['object add 2 32 -8 16 16 key', 'object move 2 33 0', 'object move+ 2 34 0', 'object resize 2 8 9', 'object remove 1'],
-             [('[[each.id, each.name, each.type, each.x, each.y, each.width, each.height, each.visible, each.tile, each.layer.id] for each in document.objects]',
+             [('[[each.id, each.name, each.type, each.x, each.y, each.width, each.height, each.visible, each.tile, each.layer.id]'
+               ' for each in document.objects]',
                '[...document.objects].map((each) => [each.id, each.name, each.type, each.x, each.y, each.width, each.height, each.visible, each.tile,'
                ' each.layer.id])', [[2, 'key', '', 34, 0, 8, 9, True, None, 2]]),
               ('["key" in document.objects, 1 in document.objects, len(document.layers[1].objects)]',

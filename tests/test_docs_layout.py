@@ -1,6 +1,7 @@
 """Sees how the pages are laid out: each line of a page has at most 100 characters, but for rows of
 tables, lines of blocks of code, and lines that are one link or one address; and each row of a table
-has as many cells as its head. A line of a definition or a proof has at most 160 characters."""
+has as many cells as its head. A line of a definition, a proof or a Python file has at most 160
+characters."""
 import re
 import subprocess
 
@@ -9,7 +10,7 @@ from lib.pages import ROW, Page
 from lib.places import TOP
 
 MOST = 100
-MOST_OF_A_PROOF = 160
+MOST_OF_CODE = 160
 # One link or one address, perhaps as an entry of a list.
 ONE_LINK = re.compile(r'\s*(?:[-*] |\d+\. )?(?:!?\[[^\]]*\]\([^)]*\)|<?https?://\S+>?)[.,;:]?')
 
@@ -61,12 +62,12 @@ def fault_of_rows(page):
     return '\n    '.join(wrong) or None
 
 
-def fault_of_proof(path):
+def fault_of_code(path):
     lines = path.read_text(encoding='utf-8').split('\n')
     wide = [
         f'line {number}: {len(line)} characters: {line.strip()[:60]}..'
         for number, line in enumerate(lines, 1)
-        if len(line) > MOST_OF_A_PROOF
+        if len(line) > MOST_OF_CODE
     ]
     return '\n    '.join(wide) or None
 
@@ -80,4 +81,8 @@ def test_cells_of_tables():
 
 
 def test_widths_of_proofs():
-    check_each(tracked('*.antt'), fault_of_proof)
+    check_each(tracked('*.antt'), fault_of_code)
+
+
+def test_widths_of_scripts():
+    check_each(tracked('*.py'), fault_of_code)

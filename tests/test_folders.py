@@ -7,7 +7,6 @@ import errno
 import fcntl
 import os
 import resource
-import shutil
 import stat
 import subprocess
 import tempfile

@@ -8,7 +8,7 @@ import re
 from lib.cases import passed
 from lib.maps import layers_in
 from lib.refusals import refusal
-from page.bench import Bench, choose, layer_of, middle_of, object_of, spelled, standing
+from page.bench import Bench, choose, middle_of, object_of, spelled, standing
 from page.browser import ActionChains, Keys
 from selenium.webdriver.support.ui import Select
 from test_strict import a_line_at_fault

@@ -403,5 +403,5 @@ def test_sessions_that_save():
         told = play(page, 'close town\nopen town town.tmj\n', 'Play it')
         assert len(told) == 1 and f'{size:,} bytes' in told[0] and 'town.tmj' in told[0], told
         assert cell(page, ground, 3, 20) == 12
-        play(page, f'close town\nopen b flips.tmj\n')
+        play(page, 'close town\nopen b flips.tmj\n')
         assert page.editor.state()['active'] == 'b'

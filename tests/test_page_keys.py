@@ -1,7 +1,6 @@
 """Works on the page by keys alone, and looks at what readers of the screen are told: the list of keys,
 the order of Tab, the browser's accessibility tree, the ring of the focus, and the three tasks on the
 example world."""
-import base64
 import json
 
 from lib.cases import Case, check_each, passed

@@ -123,8 +123,8 @@ STANDS = '''
 const {view, bench, tools, palette, layers} = roskevad;
 const panels = ["left", "right", "line-box"].map(id => document.getElementById(id).style.cssText);
 return {view: [view.scale, view.originX, view.originY], layer: bench.layerId, tool: tools.name, brush: bench.brushSize,
-        stamp: bench.stamp, tileset: document.getElementById("tilesets").value, side: palette.side, folded: [...layers.folded], panels, left: roskevad.objects.side,
-        heads: [...document.querySelectorAll(".panel.folded")].map(panel => panel.id)};'''
+        stamp: bench.stamp, tileset: document.getElementById("tilesets").value, side: palette.side, folded: [...layers.folded], panels,
+        left: roskevad.objects.side, heads: [...document.querySelectorAll(".panel.folded")].map(panel => panel.id)};'''
 
 
 def test_files_that_are_no_maps():

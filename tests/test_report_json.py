@@ -8,7 +8,6 @@ import re
 import socket
 import subprocess
 import tempfile
-import unittest
 from pathlib import Path
 
 import test_reports as reports

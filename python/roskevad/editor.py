@@ -417,9 +417,9 @@ class Editor:
     @_turn
     def save_file(self, path: Union[str, 'os.PathLike[str]']) -> str:
         """Writes the active document's map to a file: beside it first, and then in its place; its index is the clean one
-        then. What was set aside is put back, if no edit has changed it. A file that has these bytes stays as it is. Raises Refused: 51 where it cannot be written, and the clean index
-        stays. Where an exception falls in between, as that of Ctrl+C, the file is the old or the new one, and the index is
-        the clean one if it is the new one."""
+        then. What was set aside is put back, if no edit has changed it. A file that has these bytes stays as it is. Raises
+        Refused: 51 where it cannot be written, and the clean index stays. Where an exception falls in between, as that of
+        Ctrl+C, the file is the old or the new one, and the index is the clean one if it is the new one."""
         call = f'save_file({os.fspath(path)!r})'
         self._refuse_save(call)
         data = self._whole(self._shown(call), call)

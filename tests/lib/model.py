@@ -16,8 +16,6 @@ from lib.maps import cells_of, new_map, text_of, tile_reply, written
 from lib.refusals import refusal
 from lib.sessions import Run
 
-import json
-
 MOST_LEVELS, GREATEST_LIMIT, MOST_SIDE = 64, 1_000_000, 65_535
 
 

@@ -18,6 +18,8 @@ COMMANDS = {
     'mypy': 'mypy',
     'node-typescript': 'tsc',
     'nodejs': 'node',
+    'pyflakes3': 'pyflakes3',
+    'shellcheck': 'shellcheck',
     'tiled': 'tiled',
 }
 # The module that this interpreter has with each package.

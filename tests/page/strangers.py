@@ -173,7 +173,10 @@ def map_of_objects(count):
     """A map of that many objects besides, in layers of 4,000."""
     told = a_map()
     for first in range(0, count, 4000):
-        objects = [{'id': 100 + at, 'name': f'n{at}', 'x': at % 128, 'y': at // 128 % 96, 'width': 9, 'height': 9} for at in range(first, min(count, first + 4000))]
+        objects = [
+            {'id': 100 + at, 'name': f'n{at}', 'x': at % 128, 'y': at // 128 % 96, 'width': 9, 'height': 9}
+            for at in range(first, min(count, first + 4000))
+        ]
         told['layers'].append({'id': 53 + first // 4000, 'type': 'objectgroup', 'name': 'many', 'objects': objects})
     return json.dumps(told)
 

@@ -1,0 +1,37 @@
+"""Sees that pyflakes3 finds nothing in the Python files, and shellcheck nothing in the shell scripts,
+both as Debian has them: no import that nothing uses, no name that is not there, no word that the
+shell takes apart."""
+import re
+import subprocess
+
+from lib.cases import Case, check_each
+from lib.places import TOP
+
+PACKAGES = ('pyflakes3', 'shellcheck')
+SHELL = re.compile(rb'#!.*\b(?:ba)?sh\b')
+
+
+def tracked(*patterns):
+    words = ['git', 'ls-files', '-z', *patterns]
+    listed = subprocess.run(words, cwd=TOP, capture_output=True, check=True).stdout
+    return [TOP / name.decode() for name in listed.split(b'\0')[:-1]]
+
+
+def is_shell_script(path):
+    return path.is_file() and not path.is_symlink() and SHELL.match(path.read_bytes()[:64])
+
+
+def fault_of_linter(case):
+    words = [case.given, *case.wanted]
+    return subprocess.run(words, cwd=TOP, capture_output=True, text=True).stdout or None
+
+
+def test_linters():
+    scripts = [path for path in tracked() if is_shell_script(path)]
+    check_each(
+        [
+            Case('pyflakes3', 'pyflakes3', tracked('*.py')),
+            Case('shellcheck', 'shellcheck', scripts),
+        ],
+        fault_of_linter,
+    )
