@@ -3,25 +3,15 @@ tables, lines of blocks of code, and lines that are one link or one address; and
 has as many cells as its head. A line of a definition, a proof or a Python file has at most 160
 characters."""
 import re
-import subprocess
 
 from lib.cases import check_each
 from lib.pages import ROW, Page
-from lib.places import TOP
+from lib.places import tracked
 
 MOST = 100
 MOST_OF_CODE = 160
 # One link or one address, perhaps as an entry of a list.
 ONE_LINK = re.compile(r'\s*(?:[-*] |\d+\. )?(?:!?\[[^\]]*\]\([^)]*\)|<?https?://\S+>?)[.,;:]?')
-
-
-def tracked(pattern):
-    """The files of that name that git tracks; all that there are where this is no clone."""
-    listed = subprocess.run(['git', 'ls-files', pattern], cwd=TOP, capture_output=True, text=True)
-    names = listed.stdout.splitlines() or [
-        str(path.relative_to(TOP)) for path in TOP.rglob(pattern) if '/out/' not in str(path)
-    ]
-    return [TOP / name for name in names if (TOP / name).exists()]
 
 
 def pages():

@@ -5,16 +5,10 @@ import re
 import subprocess
 
 from lib.cases import Case, check_each
-from lib.places import TOP
+from lib.places import TOP, tracked
 
 PACKAGES = ('pyflakes3', 'shellcheck')
 SHELL = re.compile(rb'#!.*\b(?:ba)?sh\b')
-
-
-def tracked(*patterns):
-    words = ['git', 'ls-files', '-z', *patterns]
-    listed = subprocess.run(words, cwd=TOP, capture_output=True, check=True).stdout
-    return [TOP / name.decode() for name in listed.split(b'\0')[:-1]]
 
 
 def is_shell_script(path):
@@ -27,7 +21,7 @@ def fault_of_linter(case):
 
 
 def test_linters():
-    scripts = [path for path in tracked() if is_shell_script(path)]
+    scripts = [path for path in tracked('*') if is_shell_script(path)]
     check_each(
         [
             Case('pyflakes3', 'pyflakes3', tracked('*.py')),

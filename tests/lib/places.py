@@ -48,3 +48,12 @@ def example_maps():
     return {
         name: data for name, data in sorted(files_in(EXAMPLE_MAPS).items()) if name.endswith('.tmj')
     }
+
+
+def tracked(pattern):
+    """The files of that name that git tracks; all that there are where this is no clone."""
+    listed = subprocess.run(['git', 'ls-files', pattern], cwd=TOP, capture_output=True, text=True)
+    names = listed.stdout.splitlines() or [
+        str(path.relative_to(TOP)) for path in TOP.rglob(pattern) if '/out/' not in str(path)
+    ]
+    return [TOP / name for name in names if (TOP / name).exists()]

@@ -10,9 +10,12 @@ say
     NEEDS_BROWSER = True    it needs Chromium, its driver and selenium
     PACKAGES = (..)         it needs these packages of Debian, beside Python
 
-Each step runs in a process of its own, in which `run_step` writes what came of it."""
+Each step runs in a process of its own, in which `run_step` writes what came of it. What a step has
+started and left, as a browser, is ended with it; and so is each step where the run is stopped, by
+Ctrl+C or by a signal."""
 import argparse
 import ast
+import contextlib
 import importlib
 import inspect
 import json
@@ -141,6 +144,19 @@ def run_step(name, file):
 
 # ---- all steps
 
+# How many seconds a step has to end, where the run is stopped.
+GRACE = 10
+
+
+def send_to_all(process, number):
+    """Sends a signal to a step and to all that it has started."""
+    with contextlib.suppress(ProcessLookupError):
+        os.killpg(process.pid, number)
+
+
+def interrupt(number, frame):
+    raise KeyboardInterrupt
+
 
 class Runner:
     """Runs steps, tells what came of each as it ends, and adds it up."""
@@ -170,10 +186,20 @@ class Runner:
                     self.run(step)
         except KeyboardInterrupt:
             pool.shutdown(wait=False, cancel_futures=True)
-            for process in list(self.running):
-                process.send_signal(signal.SIGINT)
+            self.stop()
             raise
         pool.shutdown()
+
+    def stop(self):
+        """Ends the steps that run, and what they have started: they may put things in order before."""
+        running = list(self.running)
+        for process in running:
+            send_to_all(process, signal.SIGINT)
+        until = time.monotonic() + GRACE
+        while time.monotonic() < until and any(process.poll() is None for process in running):
+            time.sleep(0.1)
+        for process in running:
+            send_to_all(process, signal.SIGKILL)
 
     def run(self, step):
         """Runs a step in a process of its own."""
@@ -203,10 +229,12 @@ class Runner:
             stdout=subprocess.PIPE,
             stderr=subprocess.STDOUT,
             errors='replace',
+            start_new_session=True,
         )
         self.running.add(process)
         told, _ = process.communicate()
         self.running.discard(process)
+        send_to_all(process, signal.SIGKILL)
         if not file.exists():
             return Outcome(
                 failed=1, told=f'{told}the step ended with status {process.returncode}\n'
@@ -272,6 +300,8 @@ def main(words):
     if said.list:
         print(*(f'{step.name}: {step.about}' for step in steps), sep='\n')
         return 0
+    for number in (signal.SIGTERM, signal.SIGHUP):
+        signal.signal(number, interrupt)
     packages.install(package for step in steps for package in step.packages)
     with tempfile.TemporaryDirectory(prefix='roskevad_tests_') as folder:
         runner = Runner(folder, said.gate)
