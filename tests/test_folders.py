@@ -13,10 +13,11 @@ import tempfile
 from pathlib import Path
 
 from lib.cases import Case, check_each, skip, unlike
+from lib.native import interposed
 from lib.places import SESSION_MAPS, TILE_EDITOR, copy_program
 from lib.refusals import refusal
 from lib.rights import NOBODY, can_lose_rights
-from lib.sessions import fault_of_reasons, fault_of_replies, joined, row_of
+from lib.sessions import fault_of_reasons, fault_of_replies, heard, joined, row_of
 
 MAP = (SESSION_MAPS / 'two_cells.tmj').read_bytes()
 NEW = (SESSION_MAPS / 'town.tmj').read_bytes()
@@ -411,6 +412,32 @@ def test_permissions():
         skip('root can be no other user here')
     user = NOBODY if os.getuid() == 0 else None
     check_each(cases_of(ON_PERMISSIONS), lambda case: fault_of(case, user))
+
+
+OPENED = [b'open m m.tmj', b'tile 1 0 0']
+
+
+def fault_of_read(case):
+    """What is wrong where a read of the file fails, or None."""
+    number, error = case.given
+    env = {'LD_PRELOAD': interposed(), 'READ_STEP': '65536', 'FAULTY_READ': number, 'READ_ERROR': str(error)}
+    done, _ = heard(joined(OPENED), {'m.tmj': MAP}, env=env)
+    reason = f'tile_editor: maps/m.tmj: {os.strerror(error)}\n' if error == errno.EIO else ''
+    return unlike(joined(case.wanted), done.stdout) or unlike(reason, done.stderr.decode())
+
+
+def test_reads():
+    """A read of a file that fails is told; one that was interrupted is made again."""
+    opened = [b'ok 0/0 clean 0', b'tile 1 ---- 1 0']
+    refused = [refusal(51).encode(), refusal(10).encode()]
+    check_each(
+        [
+            Case(f'read {number}, {os.strerror(error)}', (number, error), wanted)
+            for number in '12'
+            for error, wanted in ((errno.EIO, refused), (errno.EINTR, opened))
+        ],
+        fault_of_read,
+    )
 
 
 # Mounts a disk of so many blocks in memory, which only the command after it sees.

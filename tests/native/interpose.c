@@ -2,8 +2,10 @@
 //
 // It refuses the growth of memory (`malloc` or `realloc`) whose number, from one, is in REFUSED_GROWTH, and writes on
 // standard error how many growths were asked for, how many bytes they asked for together, and how many writes there
-// were. Where READ_STEP is set, no read gives more bytes than that, and no counts are written. A file that takes another's
-// place by `rename` without an `fsync` behind its last write is told of on standard error.
+// were. Where READ_STEP is set, no read gives more bytes than that, and no counts are written. The read of a file whose number,
+// from one, is in FAULTY_READ fails with the error READ_ERROR; those of the standard streams are not counted. A file that takes
+// another's place by `rename` without an `fsync` behind its last write is told of on standard error.
+#include <errno.h>
 #include <malloc.h>
 #include <stdio.h>
 #include <stdlib.h>
@@ -14,7 +16,7 @@
 extern void *__libc_malloc(size_t);
 extern void *__libc_realloc(void *, size_t);
 
-static unsigned long growths, bytes, writes, refused, step;
+static unsigned long growths, bytes, writes, refused, step, reads, faulty_read, read_error;
 
 static unsigned long number_in(const char *name) {
     const char *number = getenv(name);
@@ -24,6 +26,8 @@ static unsigned long number_in(const char *name) {
 __attribute__((constructor)) static void begin(void) {
     refused = number_in("REFUSED_GROWTH");
     step = number_in("READ_STEP");
+    faulty_read = number_in("FAULTY_READ");
+    read_error = number_in("READ_ERROR");
     growths = bytes = writes = 0;
 }
 
@@ -47,6 +51,10 @@ void *realloc(void *kept, size_t size) {
 }
 
 ssize_t read(int file, void *buffer, size_t size) {
+    if (file > STDERR_FILENO && ++reads == faulty_read) {
+        errno = (int)read_error;
+        return -1;
+    }
     return syscall(SYS_read, file, buffer, step && step < size ? step : size);
 }
 
