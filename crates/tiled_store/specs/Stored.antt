@@ -33,6 +33,7 @@ abbrev pub refuses : Fault → Bool
 refuses fault.Memory = false
 refuses fault.NotJson = false
 refuses fault.NameTaken = true
+refuses fault.TooManyFractions = true
 refuses fault.TooDeep = true
 refuses fault.BadChunk = true
 refuses fault.Overlap = true
