@@ -5,7 +5,7 @@ ghost use Rattle.infinite_maps.specs.Infinite.{infinite_of, is_infinite};
 
 use crate::fault::Fault;
 use crate::members::{MARK, put_copy};
-use crate::notes::{MAX_SIDE, integer};
+use crate::notes::{MAX_CELLS, MAX_SIDE, integer};
 use crate::part::Part;
 use crate::pasting::put_finite;
 use crate::plane::Plane;
@@ -15,9 +15,6 @@ use crate::survey::{Extent, Survey, survey_layers};
 use json_members::found;
 use serde_json::{Map, Value};
 use std::alloc::{AllocError, Global};
-
-/// The most cells of a finite map.
-const MAX_CELLS: usize = 1_048_576;
 
 /// The most cells of all layers of a finite map.
 const MAX_LAYER_CELLS: u64 = 16_777_216;
@@ -107,8 +104,13 @@ fn box_of(around: Option<Extent>) -> Extent {
     }
 }
 
-// Where the finite map lies, if it is not above the limits.
-fn plane_of(value: &Value, around: Extent) -> Option<Plane> {
+// The most cells that each of so many layers may have.
+fn most_cells(layers: u64) -> u32 {
+    (MAX_LAYER_CELLS / layers.max(1)).min(MAX_CELLS as u64) as u32
+}
+
+// Where the finite map of so many layers lies, if it is not above the limits.
+fn plane_of(value: &Value, around: Extent, layers: u64) -> Option<Plane> {
     let columns = u16::try_from(around.right.wrapping_sub(around.left) as i128).ok()?;
     let rows = u16::try_from(around.bottom.wrapping_sub(around.top) as i128).ok()?;
     let across = chunk_side(value, "width");
@@ -122,6 +124,7 @@ fn plane_of(value: &Value, around: Extent) -> Option<Plane> {
         down,
         lost_x: lost(around.left, across),
         lost_y: lost(around.top, down),
+        most: most_cells(layers),
         moved_x: pixels(value, around.left, "tilewidth"),
         moved_y: pixels(value, around.top, "tileheight"),
     };
@@ -153,6 +156,7 @@ fn note_of(alloc: Global, value: &Value, plane: Plane) -> Result<Value, AllocErr
         ("chunkheight", plane.down as i64),
         ("lostx", plane.lost_x as i64),
         ("losty", plane.lost_y as i64),
+        ("most", plane.most as i64),
         ("movedx", plane.moved_x),
         ("movedy", plane.moved_y),
     ];
@@ -236,6 +240,7 @@ fn corner_of(around: Extent) -> Plane {
         down: 0,
         lost_x: 0,
         lost_y: 0,
+        most: 0,
         moved_x: 0,
         moved_y: 0,
     }
@@ -289,7 +294,7 @@ fn finite_map(
 ) -> Result<Map<String, Value>, Fault> {
     let survey = surveyed(members)?;
     let around = box_of(survey.around);
-    let Some(plane) = plane_of(value, around) else {
+    let Some(plane) = plane_of(value, around, survey.layers) else {
         return too_large(alloc, value, around);
     };
     if survey.layers.saturating_mul(plane.size() as u64) > MAX_LAYER_CELLS {

@@ -6,6 +6,7 @@ mod cover;
 mod fault;
 mod finite;
 mod growth;
+mod laws;
 mod layer;
 mod members;
 mod notes;
@@ -19,5 +20,6 @@ mod survey;
 
 pub use fault::Fault;
 pub use finite::made_finite;
+pub use laws::cells_stay;
 pub use same::is_within;
 pub use spread::made_infinite;
