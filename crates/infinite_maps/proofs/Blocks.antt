@@ -1,17 +1,17 @@
 -- The new rectangles of all blocks.
-use Rattle.std.proofs.Common.{◌≡◌, ℕ, zero, suc, ◌+◌, ◌-◌, ◌*◌, ◌/◌, ◌%◌, ◌<◌, ◌≤◌, ◌⊎◌, inl, inr, min, max, List, [], ◌∷◌, ◌++◌, Bool, true, false, Option, Some, None, get_or, fold, replicate, refl, sym, ap, ◌∙◌, subst, arith}
+use Rattle.std.proofs.Common.{◌≡◌, ℕ, zero, suc, ◌+◌, ◌*◌, ◌/◌, ◌<◌, ◌≤◌, ◌⊎◌, inl, inr, max, List, [], ◌∷◌, ◌++◌, Bool, true, false, Option, Some, None, get_or, refl, sym, ap, subst, arith}
 use Rattle.std.specs.Prelude.{not, ◌&&◌, nat_lt, if◌then◌else◌}
 use Rattle.std.proofs.lemmas.Bool.Decides.{nat_tests}
-use Rattle.std.proofs.lemmas.Nat.{div-add-mod', mod_below, mul-add-lt}
+use Rattle.std.proofs.lemmas.Nat.{div-add-mod', mod_below}
 use Rattle.infinite_maps.specs.declared.rectangle.Rectangle.{Rectangle}
 use Rattle.infinite_maps.specs.declared.plane.Plane.{Plane}
-use Rattle.infinite_maps.specs.Rectangles.{width, height, area, place, bounds}
-use Rattle.infinite_maps.specs.Coverage.{is_uncovered, cover_of, are_apart}
+use Rattle.infinite_maps.specs.Rectangles.{area, bounds}
+use Rattle.infinite_maps.specs.Coverage.{is_uncovered}
 use Rattle.infinite_maps.specs.Growth.{edge, block_count, block_at, is_new, new_cells, pieces_by, pieces, row_pieces, rows_pieces, grown}
 use Rattle.infinite_maps.specs.Placed.{has, times}
-use Rattle.infinite_maps.proofs.Places.{Has, facts, answered, not_both, IsNumber, numbered, of_facts, times-append}
-use Rattle.infinite_maps.proofs.Covers.{at, uncovered, AllWithin, cover_has, cover_has_not, apart_once}
-use Rattle.infinite_maps.proofs.Pieces.{Cells, found, AroundInside, news_inside, bounds_inside, bounds_has, some_has, inside_has}
+use Rattle.infinite_maps.proofs.Places.{facts, answered, not_both, numbered, of_facts, times-append}
+use Rattle.infinite_maps.proofs.Covers.{at, uncovered}
+use Rattle.infinite_maps.proofs.Pieces.{found, AroundInside, news_inside, bounds_inside, bounds_has, some_has, inside_has}
 
 -- rectangles have a place at most once, only where it is not covered and lies there, and if its cell is new
 pub record Fits (columns : ℕ) (cells : List ℕ) (cover : List Bool) (i j : ℕ) (here : Bool) (rs : List Rectangle) : Type 0 where

@@ -1,9 +1,7 @@
 -- The cells that a chunk's data have.
-use Rattle.std.proofs.Common.{◌≡◌, ℕ, zero, suc, ◌+◌, ◌-◌, ◌*◌, ◌/◌, ◌%◌, ◌^◌, ◌<◌, ◌≤◌, List, [], ◌∷◌, Bool, true, false, Option, Some, None, get_or, map, length, refl, sym, ap, ◌∙◌, subst, arith}
-use Rattle.std.specs.Prelude.{if◌then◌else◌}
-use Rattle.std.specs.Result.{result_ok}
+use Rattle.std.proofs.Common.{◌≡◌, ℕ, zero, suc, ◌+◌, ◌*◌, ◌/◌, ◌%◌, ◌^◌, ◌<◌, List, [], ◌∷◌, Bool, true, false, Some, get_or, map, refl, ap, arith}
 use Rattle.base64.specs.Engines.{standard}
-use Rattle.base64.specs.GeneralPurpose.{decode_of, encode_of, IsBytes}
+use Rattle.base64.specs.GeneralPurpose.{IsBytes}
 use Rattle.base64.proofs.EngineFacts.{decode_of-encode_of}
 use Rattle.serde_json.specs.Data.{number, unsigned}
 use Rattle.serde_json.specs.View.{items_of}

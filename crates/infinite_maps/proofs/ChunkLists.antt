@@ -1,8 +1,7 @@
 -- The cells and places of a list of chunks.
-use Rattle.std.proofs.Common.{◌≡◌, ℕ, zero, suc, ◌+◌, ◌-◌, ◌*◌, ◌^◌, ◌<◌, ◌≤◌, ◌⊎◌, inl, inr, List, [], ◌∷◌, Bool, true, false, get_or, map, refl, sym, ap, ◌∙◌, subst, arith}
+use Rattle.std.proofs.Common.{◌≡◌, ℕ, ◌+◌, ◌*◌, ◌^◌, ◌<◌, ◌⊎◌, inl, inr, List, [], ◌∷◌, Bool, true, false, get_or, map, refl, sym, ap, ◌∙◌, arith}
 use Rattle.std.specs.Prelude.{ℤ, pos, ◌+ℤ◌, ◌<ℤ◌, nat_lt, if◌then◌else◌}
 use Rattle.std.proofs.lemmas.Bool.Decides.{nat_tests}
-use Rattle.serde_json.specs.Data.{Data, Items, no_items, item}
 use Rattle.serde_json.specs.View.{items_of}
 use Rattle.infinite_maps.specs.declared.rectangle.Rectangle.{Rectangle}
 use Rattle.infinite_maps.specs.declared.plane.Plane.{Plane}
@@ -10,7 +9,7 @@ use Rattle.infinite_maps.specs.Rectangles.{width, height}
 use Rattle.infinite_maps.specs.Layers.{chunk}
 use Rattle.infinite_maps.specs.Placed.{has, times}
 use Rattle.infinite_maps.specs.Laws.{covers, cell_in_chunk, cell_in_chunks, chunks_at}
-use Rattle.infinite_maps.proofs.Places.{Has, facts, answered, not_both, of_facts, no_facts}
+use Rattle.infinite_maps.proofs.Places.{facts, answered, not_both, of_facts, no_facts}
 use Rattle.infinite_maps.proofs.ChunkCells.{AreWords}
 use Rattle.infinite_maps.proofs.ChunkPlaces.{IsNear, chunk_covers, chunk_no_cover, chunk_empty, chunk_cell}
 

@@ -1,35 +1,33 @@
 -- Where the chunks of rectangles lie on the plane, and which cells they have there.
-use Rattle.std.proofs.Common.{◌≡◌, ℕ, zero, suc, ◌+◌, ◌-◌, ◌*◌, ◌/◌, ◌%◌, ◌^◌, ◌<◌, ◌≤◌, ◌⊎◌, inl, inr, max, List, [], ◌∷◌, ◌++◌, Bool, true, false, Option, Some, None, codes, get_or, map, length, refl, sym, ap, ◌∙◌, subst, arith}
-use Rattle.std.specs.Prelude.{ℤ, pos, negsuc, ◌+ℤ◌, ◌-ℤ◌, ◌≤ℤ◌, ◌<ℤ◌, int_le, int_lt, unsigned_abs, FitsSigned, nat_lt, nat_le, ◌&&◌, if◌then◌else◌, option_and_then, unwrap_or}
+use Rattle.std.proofs.Common.{◌≡◌, ℕ, ◌+◌, ◌-◌, ◌*◌, ◌^◌, ◌<◌, ◌≤◌, ◌⊎◌, inl, inr, List, Bool, true, false, Some, get_or, map, refl, sym, ap, ◌∙◌, arith}
+use Rattle.std.specs.Prelude.{ℤ, pos, negsuc, ◌+ℤ◌, ◌≤ℤ◌, ◌<ℤ◌, int_le, int_lt, unsigned_abs, FitsSigned, nat_lt, nat_le, ◌&&◌, unwrap_or}
 use Rattle.std.specs.Int.{w64, int_wrapping_add}
 use Rattle.std.specs.List.{range_with_len}
 use Rattle.std.proofs.lemmas.Int.{ints, wrapping_add_is, int_wrap_fits, fits_signed_from_abs}
 use Rattle.std.proofs.lemmas.List.{get_or_past}
 use Rattle.std.proofs.lemmas.List.FromFn.{get_or-map-range_with_len, length-map-range_with_len}
 use Rattle.std.proofs.lemmas.Bool.Decides.{nat_tests}
-use Rattle.serde_json.specs.Data.{Data, Items, no_items, item}
-use Rattle.serde_json.specs.Find.{get, as_i64, of_integer}
-use Rattle.serde_json.specs.View.{items_of}
+use Rattle.serde_json.specs.Find.{as_i64, of_integer}
 use Rattle.infinite_maps.specs.declared.rectangle.Rectangle.{Rectangle}
 use Rattle.infinite_maps.specs.declared.plane.Plane.{Plane}
 use Rattle.infinite_maps.specs.Rectangles.{width, height, area, place}
-use Rattle.infinite_maps.specs.Cells.{cells_of, cells_data, cut}
+use Rattle.infinite_maps.specs.Cells.{cut}
 use Rattle.infinite_maps.specs.Layers.{chunk, place_at}
-use Rattle.infinite_maps.specs.Notes.{natural, integer}
-use Rattle.infinite_maps.specs.Placed.{has, times}
-use Rattle.infinite_maps.specs.Laws.{is_among, behind, covers, cell_in_chunk, cell_in_chunks, chunks_at}
-use Rattle.infinite_maps.proofs.Places.{Has, facts, answered, not_both, of_facts, numbered}
+use Rattle.infinite_maps.specs.Notes.{integer}
+use Rattle.infinite_maps.specs.Placed.{has}
+use Rattle.infinite_maps.specs.Laws.{is_among, behind, covers, cell_in_chunk}
+use Rattle.infinite_maps.proofs.Places.{Has, answered, not_both, numbered}
 use Rattle.infinite_maps.proofs.ChunkCells.{AreWords, cells_of-cells_data}
 
 -- a place of which no sum with a side goes past 64 bits
 abbrev pub IsNear : ℤ → Type 0
 IsNear z = unsigned_abs z < 2 ^ 40
 
-read_back : (z : ℤ) → unsigned_abs z < 2 ^ 62 → unwrap_or (as_i64 (of_integer z)) (pos 0) ≡ z
-read_back (pos n) h =
+pub number_read : (z : ℤ) → unsigned_abs z < 2 ^ 62 → as_i64 (of_integer z) ≡ Some z
+number_read (pos n) h =
     let small : nat_lt n (2 ^ 63) ≡ true = grind (arith, nat_tests) in
     rw small refl
-read_back (negsuc n) h = refl
+number_read (negsuc n) h = refl
 
 near_sum : (z : ℤ) (n : ℕ) → IsNear z → n < 2 ^ 40 → int_wrapping_add w64 z (pos n) ≡ z +ℤ pos n
 near_sum z n near small =
@@ -42,7 +40,7 @@ pub place_read : (z : ℤ) (n : ℕ) → IsNear z → n < 2 ^ 40 → integer (So
 place_read z n near small =
     let e = near_sum z n near small in
     let h : unsigned_abs (z +ℤ pos n) < 2 ^ 62 = omega (arith, ints) in
-    ap (λ (y : ℤ). unwrap_or (as_i64 (of_integer y)) (pos 0)) e ∙ read_back (z +ℤ pos n) h
+    ap (λ (y : ℤ). unwrap_or (as_i64 (of_integer y)) (pos 0)) e ∙ ap (λ o. unwrap_or o (pos 0)) (number_read (z +ℤ pos n) h)
 
 pub both_no_left : (a b : Bool) → a ≡ false → (a && b) ≡ false
 both_no_left true b e = absurd (not_both true refl e)

@@ -1,12 +1,12 @@
 -- What a list of covered cells says of places.
-use Rattle.std.proofs.Common.{◌≡◌, ℕ, zero, suc, ◌+◌, ◌*◌, ◌<◌, ◌≤◌, ◌≢◌, ◌⊎◌, inl, inr, List, [], ◌∷◌, Bool, true, false, length, get_or, set, replicate, fold, refl, sym, ap, ◌∙◌, arith, get_or-set_other, get_or-set_same}
+use Rattle.std.proofs.Common.{◌≡◌, ℕ, zero, suc, ◌+◌, ◌*◌, ◌<◌, ◌≤◌, ◌≢◌, inl, inr, List, [], ◌∷◌, Bool, true, false, length, get_or, set, fold, refl, sym, ap, ◌∙◌, arith, get_or-set_other}
 use Rattle.std.specs.Prelude.{not, ◌&&◌, ◌||◌, nat_lt, nat_eq, if◌then◌else◌}
 use Rattle.std.proofs.lemmas.Bool.Decides.{nat_tests}
 use Rattle.infinite_maps.specs.declared.rectangle.Rectangle.{Rectangle}
 use Rattle.infinite_maps.specs.Rectangles.{area, place}
-use Rattle.infinite_maps.specs.Coverage.{covered_to, with_covered, cover_of, any_below, is_uncovered, are_apart}
+use Rattle.infinite_maps.specs.Coverage.{covered_to, with_covered, any_below, is_uncovered, are_apart}
 use Rattle.infinite_maps.specs.Placed.{has, times}
-use Rattle.infinite_maps.proofs.Places.{Has, facts, answered, not_both, IsNumber, numbered, stands, in_rectangle, of_facts}
+use Rattle.infinite_maps.proofs.Places.{facts, answered, not_both, numbered, stands, in_rectangle, of_facts}
 
 -- whether a place is covered; one past the end is
 abbrev pub at : List Bool → ℕ → Bool

@@ -1,27 +1,25 @@
 -- The cells of one layer stand in its chunks.
-use Rattle.std.proofs.Common.{◌≡◌, ℕ, zero, suc, ◌+◌, ◌-◌, ◌*◌, ◌^◌, ◌<◌, ◌≤◌, ◌⊎◌, inl, inr, min, max, List, [], ◌∷◌, ◌++◌, Bool, true, false, Option, Some, None, codes, get_or, map, replicate, refl, sym, ap, ◌∙◌, subst, arith}
-use Rattle.std.specs.Prelude.{ℤ, pos, ◌+ℤ◌, ◌-ℤ◌, ◌<ℤ◌, ◌≤ℤ◌, int_lt, unsigned_abs, nat_lt, nat_le, ◌&&◌, if◌then◌else◌}
+use Rattle.std.proofs.Common.{◌≡◌, ℕ, ◌+◌, ◌-◌, ◌*◌, ◌<◌, ◌≤◌, ◌⊎◌, inl, inr, List, ◌∷◌, ◌++◌, Bool, true, false, Option, get_or, map, replicate, refl, sym, ap, ◌∙◌, subst, arith}
+use Rattle.std.specs.Prelude.{ℤ, pos, ◌+ℤ◌, ◌-ℤ◌, ◌<ℤ◌, int_lt, unsigned_abs, nat_lt, nat_le, ◌&&◌, if◌then◌else◌}
 use Rattle.std.proofs.lemmas.Int.{ints}
 use Rattle.std.proofs.lemmas.Bool.Decides.{nat_tests}
 use Rattle.serde_json.specs.Data.{Data, Items, no_items, item, Members}
-use Rattle.serde_json.specs.Find.{get_member}
 use Rattle.serde_json.specs.View.{items_of}
-use Rattle.serde_json.proofs.Views.{get_member-put}
 use Rattle.infinite_maps.specs.declared.rectangle.Rectangle.{Rectangle}
 use Rattle.infinite_maps.specs.declared.plane.Plane.{Plane}
 use Rattle.infinite_maps.specs.Coverage.{are_apart}
 use Rattle.infinite_maps.specs.Rectangles.{area}
-use Rattle.infinite_maps.specs.Wide.{size, wide, before_x, before_y, cell_on, wide_cell, widened}
-use Rattle.infinite_maps.specs.Notes.{mark, noted, noted_all, plane_of}
-use Rattle.infinite_maps.specs.Layers.{chunk, chunks, chunk_items, if_apart, old_rectangles, new_rectangles, layer_cells, layer_by, layer_of, is_text_at, tiles, with_right_bounds, rest_of}
-use Rattle.infinite_maps.specs.Placed.{has, times}
+use Rattle.infinite_maps.specs.Wide.{size, wide, before_x, before_y, cell_on, widened}
+use Rattle.infinite_maps.specs.Notes.{noted, noted_all, plane_of}
+use Rattle.infinite_maps.specs.Layers.{chunk, chunk_items, if_apart, old_rectangles, new_rectangles}
+use Rattle.infinite_maps.specs.Placed.{times}
 use Rattle.infinite_maps.specs.Laws as laws
 use Rattle.infinite_maps.specs.Laws.{CellsStand, cell_in_map, cell_in_chunks, chunks_at, chunks_of, AreSpelled}
-use Rattle.infinite_maps.proofs.Places.{answered, not_both}
+use Rattle.infinite_maps.proofs.Places.{answered}
 use Rattle.infinite_maps.proofs.Covers.{AllWithin}
 use Rattle.infinite_maps.proofs.Together.{Stands, all_stand}
 use Rattle.infinite_maps.proofs.ChunkCells.{AreWords}
-use Rattle.infinite_maps.proofs.ChunkLists.{IsSmall, OnMap, counted, cell_if, cell_found, none_counted, no_cell_found}
+use Rattle.infinite_maps.proofs.ChunkLists.{OnMap, counted, cell_if, cell_found, none_counted, no_cell_found}
 use Rattle.infinite_maps.proofs.Widened.{IsUsual, IsAround, around_map, widened_cell, widened_words, wide_cell_stands, no_cell_before, no_cell_behind}
 
 pub usual : (ms : Members) (note : Data) → laws.IsNear (plane_of ms note) → IsUsual (plane_of ms note)

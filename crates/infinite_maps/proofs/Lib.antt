@@ -12,4 +12,5 @@ pub mod ChunkPlaces
 pub mod ChunkLists
 pub mod Widened
 pub mod LayerLaw
+pub mod Keeps
 pub mod TreeLaw

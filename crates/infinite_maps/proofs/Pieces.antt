@@ -1,14 +1,12 @@
 -- The new rectangles of one block.
-use Rattle.std.proofs.Common.{◌≡◌, ℕ, zero, suc, ◌+◌, ◌-◌, ◌*◌, ◌/◌, ◌%◌, ◌<◌, ◌≤◌, ◌⊎◌, inl, inr, max, List, [], ◌∷◌, ◌++◌, Bool, true, false, Option, Some, None, get_or, fold, refl, sym, ap, ◌∙◌, subst, arith}
-use Rattle.std.specs.Prelude.{not, ◌&&◌, nat_lt, nat_eq, if◌then◌else◌}
+use Rattle.std.proofs.Common.{◌≡◌, ℕ, zero, suc, ◌+◌, ◌-◌, ◌*◌, ◌/◌, ◌%◌, ◌<◌, ◌≤◌, inl, inr, max, List, [], ◌∷◌, ◌++◌, Bool, true, false, Option, Some, None, fold, refl, sym, ap, ◌∙◌, subst, arith}
+use Rattle.std.specs.Prelude.{nat_lt, if◌then◌else◌}
 use Rattle.std.proofs.lemmas.Bool.Decides.{nat_tests}
 use Rattle.infinite_maps.specs.declared.rectangle.Rectangle.{Rectangle}
-use Rattle.infinite_maps.specs.Rectangles.{width, height, area, place, cell_of, joined, around, bounds}
-use Rattle.infinite_maps.specs.Coverage.{is_uncovered}
-use Rattle.infinite_maps.specs.Growth.{is_new, new_cells, pieces_by, pieces}
+use Rattle.infinite_maps.specs.Rectangles.{width, area, place, cell_of, joined, around, bounds}
+use Rattle.infinite_maps.specs.Growth.{is_new, new_cells}
 use Rattle.infinite_maps.specs.Placed.{has, times}
-use Rattle.infinite_maps.proofs.Places.{Has, facts, answered, not_both, IsNumber, numbered, StandsAt, stands, in_rectangle, of_facts, no_facts, one_number, times-append}
-use Rattle.infinite_maps.proofs.Covers.{at, uncovered, AllWithin}
+use Rattle.infinite_maps.proofs.Places.{facts, answered, not_both, StandsAt, in_rectangle, of_facts, one_number, times-append}
 
 if_one : (b : Bool) (n : ℕ) → b ≡ true → (if b then 1 else 0) + n ≡ suc n
 if_one b n e = ap (λ (b : Bool). (if b then 1 else 0) + n) e ∙ omega arith

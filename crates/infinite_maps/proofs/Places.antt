@@ -1,10 +1,10 @@
 -- Which places a rectangle has.
-use Rattle.std.proofs.Common.{◌≡◌, ℕ, ◌+◌, ◌-◌, ◌*◌, ◌/◌, ◌%◌, ◌<◌, ◌≤◌, ◌≢◌, ◌⊎◌, inl, inr, max, List, [], ◌∷◌, ◌++◌, Bool, true, false, refl, sym, ap, ◌∙◌, arith}
-use Rattle.std.specs.Prelude.{◌&&◌, nat_lt, nat_le, if◌then◌else◌}
+use Rattle.std.proofs.Common.{◌≡◌, ℕ, ◌+◌, ◌-◌, ◌*◌, ◌/◌, ◌%◌, ◌<◌, ◌≤◌, ◌⊎◌, inl, inr, max, List, [], ◌∷◌, ◌++◌, Bool, true, false, refl, sym, ap, ◌∙◌, arith}
+use Rattle.std.specs.Prelude.{◌&&◌, nat_lt, nat_le}
 use Rattle.std.proofs.lemmas.Bool.Decides.{nat_tests}
 use Rattle.std.proofs.lemmas.Nat.{div-mul-add, mod-mul-add, mod_below, mul-add-lt, same_from_place, div-add-mod', row-Below}
 use Rattle.infinite_maps.specs.declared.rectangle.Rectangle.{Rectangle}
-use Rattle.infinite_maps.specs.Rectangles.{width, height, area, place, cell_of}
+use Rattle.infinite_maps.specs.Rectangles.{width, height, area, place}
 use Rattle.infinite_maps.specs.Placed.{has, times}
 
 pub record Has (i j : ℕ) (r : Rectangle) : Type 0 where

@@ -1,6 +1,6 @@
 -- Old and new rectangles have each place at most once, and each whose cell is not 0.
-use Rattle.std.proofs.Common.{◌≡◌, ℕ, zero, suc, ◌+◌, ◌-◌, ◌*◌, ◌<◌, ◌≤◌, ◌⊎◌, inl, inr, List, [], ◌∷◌, ◌++◌, Bool, true, false, get_or, map, replicate, refl, sym, ap, ◌∙◌, subst, arith}
-use Rattle.std.specs.Prelude.{not, ◌&&◌, nat_lt, if◌then◌else◌}
+use Rattle.std.proofs.Common.{◌≡◌, ℕ, zero, suc, ◌+◌, ◌*◌, ◌<◌, ◌≤◌, inl, inr, List, [], ◌∷◌, ◌++◌, Bool, true, false, get_or, replicate, refl, ap, ◌∙◌, arith}
+use Rattle.std.specs.Prelude.{nat_lt, if◌then◌else◌}
 use Rattle.std.proofs.lemmas.Bool.Decides.{nat_tests}
 use Rattle.std.proofs.lemmas.Nat.{mul-add-lt}
 use Rattle.infinite_maps.specs.declared.rectangle.Rectangle.{Rectangle}
@@ -10,9 +10,9 @@ use Rattle.infinite_maps.specs.Growth.{is_new, grown}
 use Rattle.infinite_maps.specs.Wide.{size}
 use Rattle.infinite_maps.specs.Layers.{new_rectangles}
 use Rattle.infinite_maps.specs.Placed.{has, times}
-use Rattle.infinite_maps.proofs.Places.{Has, facts, answered, not_both, of_facts, times-append}
+use Rattle.infinite_maps.proofs.Places.{facts, answered, not_both, of_facts, times-append}
 use Rattle.infinite_maps.proofs.Covers.{at, AllWithin, cover_has, cover_has_not, apart_once}
-use Rattle.infinite_maps.proofs.Blocks.{Fits, part, grown_fit}
+use Rattle.infinite_maps.proofs.Blocks.{part, grown_fit}
 
 within_has : (columns rows i j : ℕ) (rs : List Rectangle) → AllWithin columns rows rs → 0 < times i j rs → has i j (part 0 columns 0 rows) ≡ true
 within_has columns rows i j [] within h = absurd (omega arith)

@@ -1,93 +1,31 @@
 -- The layers of an infinite map, beside those of the finite one.
-use Rattle.std.proofs.Common.{◌≡◌, ℕ, zero, suc, List, [], ◌∷◌, ◌++◌, Bool, true, false, Option, Some, None, option_map, Ordering, Less, Equal, Greater, nat_cmp, codes, bytes_eq, map, refl, sym, ap, ◌∙◌, subst, arith}
-use Rattle.std.specs.Prelude.{option_and_then, unwrap_or}
+use Rattle.std.proofs.Common.{◌≡◌, ℕ, zero, suc, List, [], ◌∷◌, ◌++◌, Bool, true, Option, Some, None, option_map, Ordering, Less, Equal, Greater, nat_cmp, codes, map, refl, sym, ap, ◌∙◌, subst, arith}
+use Rattle.std.specs.Prelude.{ℤ, ◌+ℤ◌, unsigned_abs, FitsSigned, ◌^◌, ◌<◌, option_and_then, unwrap_or}
+use Rattle.std.specs.Int.{w64, int_wrapping_add}
+use Rattle.std.proofs.lemmas.Int.{ints, wrapping_add_is, int_wrap_fits, fits_signed_from_abs}
 use Rattle.std.specs.Cmp.Lexicographic.{slice_cmp}
 use Rattle.std.specs.Ordering.{match_ordering}
-use Rattle.std.proofs.lemmas.Bool.Decides.{not_from_Decides}
-use Rattle.std.proofs.lemmas.Slice.Eq.{bytes_eq-Decides}
-use Rattle.serde_json.specs.Data.{Num, Data, null, boolean, number, string, array, object, Items, no_items, item, Members, no_members, member, put}
-use Rattle.serde_json.specs.Find.{get, at, get_item, get_member, as_array}
+use Rattle.std.proofs.lemmas.List.{map-append}
+use Rattle.serde_json.specs.Data.{Data, null, boolean, number, string, array, object, Items, no_items, item, Members, no_members, member}
+use Rattle.serde_json.specs.Find.{get, at, get_item, get_member, as_number, as_i64, as_array, of_integer}
 use Rattle.serde_json.specs.View.{items_of}
-use Rattle.serde_json.proofs.Views.{get_member-put, get_member-put_other}
+use Rattle.serde_json.proofs.Views.{get_member-put}
 use Rattle.json_members.specs.Members.{without, put_some}
 use Rattle.json_members.proofs.MembersLemmas.{same_name, get_member-without}
-use Rattle.infinite_maps.specs.declared.rectangle.Rectangle.{Rectangle}
 use Rattle.infinite_maps.specs.declared.plane.Plane.{Plane}
 use Rattle.infinite_maps.specs.declared.part.Part.{Part}
-use Rattle.infinite_maps.specs.declared.part.Part.TheVariants.{Layers, Rest}
-use Rattle.infinite_maps.specs.Infinite.{below, spread, items_spread, members_spread, note_of, with_size, map_by, infinite_of}
+use Rattle.infinite_maps.specs.declared.part.Part.TheVariants.{Layers, Objects, Across, Down, Rest}
+use Rattle.infinite_maps.specs.Infinite.{below, moved_by, spread, items_spread, members_spread, note_of, with_size, map_by, infinite_of}
 use Rattle.infinite_maps.specs.Notes.{mark, plane_of}
-use Rattle.infinite_maps.specs.Rectangles.{width, height, bounds}
 use Rattle.infinite_maps.specs.Wide.{wide, widened}
-use Rattle.infinite_maps.specs.Layers.{chunk, chunks, whole_number, place_at, nothing, with_bounds, with_old_bounds, with_right_bounds, rest_of, with_chunks, layer_cells, layer_by, layer_of, is_text_at, old_rectangles, new_rectangles}
-use Rattle.infinite_maps.specs.Laws as laws
-use Rattle.infinite_maps.specs.Laws.{CellsStand, chunks_of, layer_at, AreSpelled, CellsStay, AllCellsStay}
+use Rattle.infinite_maps.specs.Layers.{chunk, chunks, with_right_bounds, rest_of, layer_cells, layer_by, layer_of, is_text_at, old_rectangles, new_rectangles}
+use Rattle.infinite_maps.specs.Laws.{CellsStand, chunks_of, layer_at, AreSpelled, old_chunks, object_at, pixels, LayerStays, AllLayersStay}
+use Rattle.infinite_maps.proofs.ChunkPlaces.{number_read}
+use Rattle.infinite_maps.proofs.Keeps.{put_keeps, put_some_keeps, layer_keeps, layers, objects}
 use Rattle.infinite_maps.proofs.LayerLaw.{usual, chunks_stand}
 use Rattle.infinite_maps.proofs.Widened.{IsUsual}
 
--- a member of another name
-put_keeps : (q k : List ℕ) (d : Data) (ms : Members) → bytes_eq q k ≡ false → get_member q (put k d ms) ≡ get_member q ms
-put_keeps q k d ms e = get_member-put_other q k d ms (not_from_Decides (bytes_eq q k) (bytes_eq-Decides q k) e)
-
-put_some_keeps : (q k : List ℕ) (o : Option Data) (ms : Members) → bytes_eq q k ≡ false → get_member q (put_some k o ms) ≡ get_member q ms
-put_some_keeps q k None ms e = refl
-put_some_keeps q k (Some d) ms e = put_keeps q k d ms e
-
--- what is done to a layer leaves its list of layers alone
-rest_keeps : (ms : Members) → get_member (codes "layers") (rest_of ms) ≡ get_member (codes "layers") ms
-rest_keeps ms =
-    let a = without mark ms in
-    let b = without (codes "width") a in
-    let c = without (codes "height") b in
-    get_member-without (codes "layers") (codes "data") c refl
-    ∙ (get_member-without (codes "layers") (codes "height") b refl
-    ∙ (get_member-without (codes "layers") (codes "width") a refl ∙ get_member-without (codes "layers") mark ms refl))
-
-bounds_keep : (p : Plane) (r : Rectangle) (ms : Members) → get_member (codes "layers") (with_bounds p r ms) ≡ get_member (codes "layers") ms
-bounds_keep p r ms =
-    let w = whole_number (width r) in
-    let y = place_at p.y r.top in
-    let x = place_at p.x r.left in
-    let a = put (codes "width") w ms in
-    let b = put (codes "starty") y a in
-    let c = put (codes "startx") x b in
-    put_keeps (codes "layers") (codes "height") (whole_number (height r)) c refl
-    ∙ (put_keeps (codes "layers") (codes "startx") x b refl
-    ∙ (put_keeps (codes "layers") (codes "starty") y a refl ∙ put_keeps (codes "layers") (codes "width") w ms refl))
-
-old_bounds_keep : (note : Data) (ms : Members) → get_member (codes "layers") (with_old_bounds note ms) ≡ get_member (codes "layers") ms
-old_bounds_keep note ms =
-    let a = put_some (codes "width") (get (codes "width") note) ms in
-    let b = put_some (codes "starty") (get (codes "starty") note) a in
-    let c = put_some (codes "startx") (get (codes "startx") note) b in
-    put_some_keeps (codes "layers") (codes "height") (get (codes "height") note) c refl
-    ∙ (put_some_keeps (codes "layers") (codes "startx") (get (codes "startx") note) b refl
-    ∙ (put_some_keeps (codes "layers") (codes "starty") (get (codes "starty") note) a refl
-    ∙ put_some_keeps (codes "layers") (codes "width") (get (codes "width") note) ms refl))
-
-right_bounds_keep : (p : Plane) (note : Option Data) (rs news : List Rectangle) (ms : Members)
-    → get_member (codes "layers") (with_right_bounds p note rs news ms) ≡ get_member (codes "layers") ms
-right_bounds_keep p None rs news ms = bounds_keep p (unwrap_or (bounds rs) nothing) ms
-right_bounds_keep p (Some note) rs [] ms = old_bounds_keep note ms
-right_bounds_keep p (Some note) rs (n ∷ ns) ms = bounds_keep p (unwrap_or (bounds rs) nothing) ms
-
-chunks_keep : (p : Plane) (note : Option Data) (text : Bool) (cells : List ℕ) (olds news : List Rectangle) (ms : Members)
-    → get_member (codes "layers") (with_chunks p note text cells olds news ms) ≡ get_member (codes "layers") ms
-chunks_keep p note text cells olds news ms =
-    put_keeps (codes "layers") (codes "chunks") (chunks p text cells (olds ++ news)) (with_right_bounds p note (olds ++ news) news (rest_of ms)) refl
-    ∙ (right_bounds_keep p note (olds ++ news) news (rest_of ms) ∙ rest_keeps ms)
-
-layer_by_keeps : (p : Plane) (o : Option (List ℕ)) (ms : Members) → get_member (codes "layers") (layer_by p o ms) ≡ get_member (codes "layers") ms
-layer_by_keeps p None ms = refl
-layer_by_keeps p (Some cells) ms =
-    let note = get_member mark ms in
-    let olds = old_rectangles p note in
-    chunks_keep (wide p) note (is_text_at (get_member (codes "data") ms)) (widened p cells) olds (new_rectangles (wide p) (widened p cells) olds) ms
-
-layer_keeps : (p : Plane) (ms : Members) → get_member (codes "layers") (layer_of p ms) ≡ get_member (codes "layers") ms
-unfolding layer_of
-layer_keeps p ms = layer_by_keeps p (layer_cells p (get_member (codes "data") ms)) ms
-
+-- what is done to the map leaves its list of layers alone
 size_keeps : (note : Data) (ms : Members) → get_member (codes "layers") (with_size note ms) ≡ get_member (codes "layers") ms
 size_keeps note ms =
     let a = without mark ms in
@@ -157,7 +95,7 @@ get-spread p (boolean b) = refl
 get-spread p (number n) = refl
 get-spread p (string s) = refl
 get-spread p (array ds) = refl
-get-spread p (object ms) = layer_keeps p (members_spread p Layers ms) ∙ get_member-spread p Layers (codes "layers") ms
+get-spread p (object ms) = layer_keeps (codes "layers") layers p (members_spread p Layers ms) ∙ get_member-spread p Layers (codes "layers") ms
 
 then_spread : (p : Plane) (n : ℕ) (o : Option Data) → option_and_then (at n) (option_map (spread p Layers) o) ≡ option_map (spread p Layers) (option_and_then (at n) o)
 then_spread p n None = refl
@@ -186,6 +124,59 @@ layers_spread ms note n path e =
     ∙ (ap (option_and_then (layer_at path)) (then_spread p n (get_member (codes "layers") ms))
     ∙ further (layer_at path) (spread p Layers) (option_and_then (at n) (get_member (codes "layers") ms)) (layer_at-spread p path)))
 
+-- objects are moved
+at-objects : (p : Plane) (n : ℕ) (d : Data) → at n (spread p Objects d) ≡ option_map (spread p Objects) (at n d)
+at-objects p n null = refl
+at-objects p n (boolean b) = refl
+at-objects p n (number m) = refl
+at-objects p n (string s) = refl
+at-objects p n (array ds) = get_item-spread p Objects n ds
+at-objects p n (object ms) = refl
+
+then_objects : (p : Plane) (n : ℕ) (o : Option Data) → option_and_then (at n) (option_map (spread p Objects) o) ≡ option_map (spread p Objects) (option_and_then (at n) o)
+then_objects p n None = refl
+then_objects p n (Some d) = at-objects p n d
+
+objects_spread : (p : Plane) (n : ℕ) (ms : Members) → object_at n (layer_of p (members_spread p Layers ms)) ≡ option_map (spread p Objects) (object_at n ms)
+objects_spread p n ms =
+    ap (option_and_then (at n)) (layer_keeps (codes "objects") objects p (members_spread p Layers ms) ∙ get_member-spread p Layers (codes "objects") ms)
+    ∙ then_objects p n (get_member (codes "objects") ms)
+
+moved_sum : (z by : ℤ) → unsigned_abs z < 2 ^ 61 → unsigned_abs by < 2 ^ 61 → as_i64 (of_integer (int_wrapping_add w64 z by)) ≡ Some (z +ℤ by)
+moved_sum z by near small =
+    let a : FitsSigned w64 z = fits_signed_from_abs w64 z (omega (arith, ints)) in
+    let b : FitsSigned w64 by = fits_signed_from_abs w64 by (omega (arith, ints)) in
+    let c : FitsSigned w64 (z +ℤ by) = fits_signed_from_abs w64 (z +ℤ by) (omega (arith, ints)) in
+    let h : unsigned_abs (z +ℤ by) < 2 ^ 62 = omega (arith, ints) in
+    ap (λ y. as_i64 (of_integer y)) (wrapping_add_is w64 z by a b ∙ int_wrap_fits w64 (z +ℤ by) c) ∙ number_read (z +ℤ by) h
+
+across_moved : (p : Plane) (d : Data) (z : ℤ) → option_and_then as_i64 (as_number d) ≡ Some z → unsigned_abs z < 2 ^ 61 → unsigned_abs p.moved_x < 2 ^ 61
+    → option_and_then as_i64 (as_number (spread p Across d)) ≡ Some (z +ℤ p.moved_x)
+across_moved p null z e near small = absurd cc
+across_moved p (boolean b) z e near small = absurd cc
+across_moved p (number n) z e near small = ap (λ o. option_and_then as_i64 (as_number (moved_by p.moved_x n o))) e ∙ moved_sum z p.moved_x near small
+across_moved p (string s) z e near small = absurd cc
+across_moved p (array ds) z e near small = absurd cc
+across_moved p (object ms) z e near small = absurd cc
+
+down_moved : (p : Plane) (d : Data) (z : ℤ) → option_and_then as_i64 (as_number d) ≡ Some z → unsigned_abs z < 2 ^ 61 → unsigned_abs p.moved_y < 2 ^ 61
+    → option_and_then as_i64 (as_number (spread p Down d)) ≡ Some (z +ℤ p.moved_y)
+down_moved p null z e near small = absurd cc
+down_moved p (boolean b) z e near small = absurd cc
+down_moved p (number n) z e near small = ap (λ o. option_and_then as_i64 (as_number (moved_by p.moved_y n o))) e ∙ moved_sum z p.moved_y near small
+down_moved p (string s) z e near small = absurd cc
+down_moved p (array ds) z e near small = absurd cc
+down_moved p (object ms) z e near small = absurd cc
+
+get-object : (p : Plane) (name : List ℕ) (part : Part) → below Objects name ≡ part → (d : Data)
+    → get name (spread p Objects d) ≡ option_map (spread p part) (get name d)
+get-object p name part is null = refl
+get-object p name part is (boolean b) = refl
+get-object p name part is (number n) = refl
+get-object p name part is (string s) = refl
+get-object p name part is (array ds) = refl
+get-object p name part is (object ms) = get_member-spread p Objects name ms ∙ ap (λ q. option_map (spread p q) (get_member name ms)) is
+
 -- a layer with a cell for each cell of the map
 chunks_put : (p : Plane) (ms : Members) (cells : List ℕ) → layer_cells p (get_member (codes "data") ms) ≡ Some cells
     → chunks_of (layer_of p ms) ≡ (let olds = old_rectangles p (get_member mark ms) in
@@ -206,14 +197,54 @@ cells_stand p ms cells u e words =
     subst (λ (items : Items). CellsStand p cells items) (sym (chunks_put p ms cells e))
     (chunks_stand p (is_text_at (get_member (codes "data") ms)) cells (get_member mark ms) u words)
 
-pub all_cells_stay : AllCellsStay
-all_cells_stay ms note e near = record {
-  layers = λ n path layer cells at-layer is words.
-      let p = plane_of ms note in
-      let all = members_spread p Layers layer in
-      let data_same : get_member (codes "data") all ≡ get_member (codes "data") layer =
-      get_member-spread p Layers (codes "data") layer ∙ rest_same_option p (get_member (codes "data") layer) in
-      let is' : layer_cells p (get_member (codes "data") all) ≡ Some cells = ap (layer_cells p) data_same ∙ is in
-      let words' : AreSpelled (get_member (codes "data") all) cells = subst (λ (o : Option Data). AreSpelled o cells) (sym data_same) words in
-      (layer_of p all, (layers_spread ms note n path e ∙ ap (option_map (spread p Layers)) at-layer, cells_stand p all cells (usual ms note near) is' words'));
-}
+-- the chunks that it had come first
+first_chunks : (p : Plane) (all layer : Members) (cells : List ℕ) → get_member (codes "data") all ≡ get_member (codes "data") layer
+    → get_member mark all ≡ get_member mark layer → layer_cells p (get_member (codes "data") layer) ≡ Some cells
+    → (more : List Data) × (chunks_of (layer_of p all) ≡ items_of (old_chunks p layer cells ++ more))
+first_chunks p all layer cells data_same note_same is =
+    let note = get_member mark all in
+    let olds = old_rectangles p note in
+    let news = new_rectangles (wide p) (widened p cells) olds in
+    let made = λ (text : Bool). chunk (wide p) text (widened p cells) in
+    let text = is_text_at (get_member (codes "data") all) in
+    let put' = chunks_put p all cells (ap (layer_cells p) data_same ∙ is) in
+    let parts : chunks_of (layer_of p all) ≡ items_of (map (made text) olds ++ map (made text) news) = put' ∙ ap items_of (map-append (made text) olds news) in
+    let same : old_chunks p all cells ≡ old_chunks p layer cells =
+    ap (λ o. map (made (is_text_at o)) olds) data_same ∙ ap (λ o. map (made (is_text_at (get_member (codes "data") layer))) (old_rectangles p o)) note_same in
+    (map (made text) news, parts ∙ ap (λ ds. items_of (ds ++ map (made text) news)) same)
+
+-- a number of pixels of an object
+pixels_by : (name : List ℕ) (p : Plane) (part : Part) (f : ℤ → ℤ) (n : ℕ) (layer : Members) (z : ℤ) → below Objects name ≡ part
+    → ((d : Data) → option_and_then as_i64 (as_number d) ≡ Some z → option_and_then as_i64 (as_number (spread p part d)) ≡ Some (f z))
+    → pixels name n layer ≡ Some z → pixels name n (layer_of p (members_spread p Layers layer)) ≡ Some (f z)
+pixels_by name p part f n layer z is move e =
+    let numbers = λ (o : Option Data). option_and_then as_i64 (option_and_then as_number o) in
+    let then_moved : (o : Option Data) → numbers o ≡ Some z → numbers (option_map (spread p part) o) ≡ Some (f z) = λ o. elim o as (λ (o : Option Data). numbers o ≡ Some z → numbers (option_map (spread p part) o) ≡ Some (f z)) [
+      | None ↦ λ e. absurd cc
+      | Some d ↦ λ e. move d e
+    ] in
+    let of_object : (o : Option Data) → option_and_then (get name) (option_map (spread p Objects) o) ≡ option_map (spread p part) (option_and_then (get name) o) = λ o. elim o as (λ (o : Option Data). option_and_then (get name) (option_map (spread p Objects) o) ≡ option_map (spread p part) (option_and_then (get name) o)) [
+      | None ↦ refl
+      | Some d ↦ get-object p name part is d
+    ] in
+    ap (λ o. numbers (option_and_then (get name) o)) (objects_spread p n layer)
+    ∙ (ap numbers (of_object (object_at n layer)) ∙ then_moved (option_and_then (get name) (object_at n layer)) e)
+
+pub all_layers_stay : AllLayersStay
+all_layers_stay ms note e near n path layer at-layer =
+    let p = plane_of ms note in
+    let all = members_spread p Layers layer in
+    let data_same : get_member (codes "data") all ≡ get_member (codes "data") layer =
+    get_member-spread p Layers (codes "data") layer ∙ rest_same_option p (get_member (codes "data") layer) in
+    let note_same : get_member mark all ≡ get_member mark layer =
+    get_member-spread p Layers mark layer ∙ rest_same_option p (get_member mark layer) in
+    let stays : LayerStays p layer (layer_of p all) = record {
+      cells = λ cells is words.
+          let is' : layer_cells p (get_member (codes "data") all) ≡ Some cells = ap (layer_cells p) data_same ∙ is in
+          let words' : AreSpelled (get_member (codes "data") all) cells = subst (λ (o : Option Data). AreSpelled o cells) (sym data_same) words in
+          cells_stand p all cells (usual ms note near) is' words';
+      first = λ cells is. first_chunks p all layer cells data_same note_same is;
+      across = λ k z is short by. pixels_by (codes "x") p Across (λ z. z +ℤ p.moved_x) k layer z refl (λ d f. across_moved p d z f short by) is;
+      down = λ k z is short by. pixels_by (codes "y") p Down (λ z. z +ℤ p.moved_y) k layer z refl (λ d f. down_moved p d z f short by) is;
+    } in
+    (layer_of p all, (layers_spread ms note n path e ∙ ap (option_map (spread p Layers)) at-layer, stays))

@@ -1,6 +1,6 @@
 -- The wide map has the cells of the map, at their places.
-use Rattle.std.proofs.Common.{◌≡◌, ℕ, zero, suc, ◌+◌, ◌-◌, ◌*◌, ◌/◌, ◌%◌, ◌^◌, ◌<◌, ◌≤◌, ◌⊎◌, inl, inr, max, List, [], ◌∷◌, Bool, true, false, get_or, map, length, refl, sym, ap, ◌∙◌, subst, arith}
-use Rattle.std.specs.Prelude.{ℤ, pos, ◌+ℤ◌, ◌-ℤ◌, ◌<ℤ◌, ◌≤ℤ◌, int_le, unsigned_abs, FitsSigned, nat_lt, nat_le, ◌&&◌, if◌then◌else◌}
+use Rattle.std.proofs.Common.{◌≡◌, ℕ, ◌+◌, ◌-◌, ◌*◌, ◌/◌, ◌%◌, ◌^◌, ◌<◌, ◌≤◌, ◌⊎◌, inl, inr, max, List, Bool, true, false, get_or, map, refl, sym, ap, ◌∙◌, arith}
+use Rattle.std.specs.Prelude.{ℤ, pos, ◌+ℤ◌, ◌-ℤ◌, ◌<ℤ◌, int_le, unsigned_abs, FitsSigned, nat_lt, nat_le, ◌&&◌, if◌then◌else◌}
 use Rattle.std.specs.Int.{w64, int_wrapping_sub}
 use Rattle.std.specs.List.{range_with_len}
 use Rattle.std.proofs.lemmas.Int.{ints, wrapping_sub_is, int_wrap_fits, fits_signed_from_abs}
@@ -9,11 +9,11 @@ use Rattle.std.proofs.lemmas.List.FromFn.{get_or-map-range_with_len, length-map-
 use Rattle.std.proofs.lemmas.Nat.{div-add-mod', mod_below, div-mul-add, mod-mul-add, mul-add-lt}
 use Rattle.std.proofs.lemmas.Bool.Decides.{nat_tests}
 use Rattle.infinite_maps.specs.declared.plane.Plane.{Plane}
-use Rattle.infinite_maps.specs.Wide.{size, whole_side, has_room, from_block, wide_by, wide, before_x, before_y, cell_on, wide_cell, widened}
+use Rattle.infinite_maps.specs.Wide.{size, whole_side, has_room, wide_by, wide, before_x, before_y, cell_on, wide_cell, widened}
 use Rattle.infinite_maps.specs.Laws.{is_among, behind, cell_in_map}
-use Rattle.infinite_maps.proofs.Places.{answered, not_both}
+use Rattle.infinite_maps.proofs.Places.{answered}
 use Rattle.infinite_maps.proofs.ChunkCells.{AreWords}
-use Rattle.infinite_maps.proofs.ChunkPlaces.{IsNear, among, behind_by, both_parts, both_true, both_no_left, both_no_right}
+use Rattle.infinite_maps.proofs.ChunkPlaces.{IsNear, among, behind_by, both_parts, both_no_left, both_no_right}
 use Rattle.infinite_maps.proofs.ChunkLists.{IsSmall}
 
 -- a plane as a note of `made_finite` tells it

@@ -1,12 +1,14 @@
 -- What holds of each edited infinite map: where its cells stand.
-use Rattle.std.specs.Prelude.{◌≡◌, ℕ, ◌+◌, ◌*◌, ◌^◌, ◌<◌, ◌≤◌, List, [], ◌∷◌, codes, ℤ, pos, ◌+ℤ◌, ◌-ℤ◌, int_le, int_lt, unsigned_abs, Bool, true, ◌&&◌, slice_index, Option, Some, option_and_then, unwrap_or}
+use Rattle.std.specs.Prelude.{◌≡◌, ℕ, ◌+◌, ◌*◌, ◌^◌, ◌<◌, ◌≤◌, List, [], ◌∷◌, ◌++◌, map, codes, ℤ, pos, ◌+ℤ◌, ◌-ℤ◌, int_le, int_lt, unsigned_abs, Bool, true, ◌&&◌, slice_index, Option, Some, option_and_then, unwrap_or}
 use Rattle.std.specs.Prelude.{if◌then◌else◌}
 use Rattle.serde_json.specs.Data.{Data, object, Items, no_items, item, Members}
-use Rattle.serde_json.specs.Find.{get, at, get_member, as_array}
+use Rattle.serde_json.specs.Find.{get, at, get_member, as_number, as_i64, as_array}
+use Rattle.serde_json.specs.View.{items_of}
 use Rattle.infinite_maps.specs.declared.plane.Plane.{Plane}
 use Rattle.infinite_maps.specs.Cells.{cells_of}
-use Rattle.infinite_maps.specs.Layers.{layer_cells, is_text_at}
-use Rattle.infinite_maps.specs.Notes.{natural, integer, plane_of}
+use Rattle.infinite_maps.specs.Layers.{chunk, layer_cells, is_text_at, old_rectangles}
+use Rattle.infinite_maps.specs.Wide.{wide, widened}
+use Rattle.infinite_maps.specs.Notes.{mark, natural, integer, plane_of}
 use Rattle.infinite_maps.specs.Infinite.{note_of, infinite_of}
 
 -- whether a place is one of so many from one on
@@ -63,11 +65,34 @@ IsNear p = (unsigned_abs p.x < 2 ^ 39) × (unsigned_abs p.y < 2 ^ 39)
 abbrev pub AreSpelled : Option Data → List ℕ → Type 0
 AreSpelled d cells = is_text_at d ≡ true → (k : ℕ) → slice_index cells k < 2 ^ 32
 
--- of each tile layer of a finite map, in groups too, the cells stand in the infinite map where they stood
-pub record CellsStay (ms : Members) (note : Data) : Type 0 where
-  pub layers : (n : ℕ) (path : List ℕ) (layer : Members) (cells : List ℕ) → layer_at (n ∷ path) (object ms) ≡ Some (object layer)
-      → layer_cells (plane_of ms note) (get_member (codes "data") layer) ≡ Some cells → AreSpelled (get_member (codes "data") layer) cells
-      → (own : Members) × ((option_and_then (layer_at (n ∷ path)) (infinite_of (object ms)) ≡ Some (object own)) × CellsStand (plane_of ms note) cells (chunks_of own))
+-- the chunks that a layer had, each as far as it lies on the map, with the cells that the layer has there
+abbrev pub old_chunks : Plane → Members → List ℕ → List Data
+old_chunks p layer cells = map (chunk (wide p) (is_text_at (get_member (codes "data") layer)) (widened p cells)) (old_rectangles p (get_member mark layer))
 
-abbrev pub AllCellsStay : Type 0
-AllCellsStay = (ms : Members) (note : Data) → note_of ms ≡ Some note → IsNear (plane_of ms note) → CellsStay ms note
+-- an object of a layer, and a whole number of pixels of it
+abbrev pub object_at : ℕ → Members → Option Data
+object_at n layer = option_and_then (at n) (get_member (codes "objects") layer)
+
+abbrev pub pixels : List ℕ → ℕ → Members → Option ℤ
+pixels name n layer = option_and_then as_i64 (option_and_then as_number (option_and_then (get name) (object_at n layer)))
+
+-- far from the ends of 64 bits
+abbrev pub IsShort : ℤ → Type 0
+IsShort z = unsigned_abs z < 2 ^ 61
+
+-- a layer of the finite map, and the same of the infinite one
+pub record LayerStays (p : Plane) (layer own : Members) : Type 0 where
+  pub cells : (cells : List ℕ) → layer_cells p (get_member (codes "data") layer) ≡ Some cells → AreSpelled (get_member (codes "data") layer) cells
+      → CellsStand p cells (chunks_of own)
+  pub first : (cells : List ℕ) → layer_cells p (get_member (codes "data") layer) ≡ Some cells
+      → (more : List Data) × (chunks_of own ≡ items_of (old_chunks p layer cells ++ more))
+  pub across : (n : ℕ) (z : ℤ) → pixels (codes "x") n layer ≡ Some z → IsShort z → IsShort p.moved_x → pixels (codes "x") n own ≡ Some (z +ℤ p.moved_x)
+  pub down : (n : ℕ) (z : ℤ) → pixels (codes "y") n layer ≡ Some z → IsShort z → IsShort p.moved_y → pixels (codes "y") n own ≡ Some (z +ℤ p.moved_y)
+
+-- each layer of a finite map, in groups too, is in the infinite one at the same path, and stays so
+abbrev pub LayersStay : Members → Data → Type 0
+LayersStay ms note = (n : ℕ) (path : List ℕ) (layer : Members) → layer_at (n ∷ path) (object ms) ≡ Some (object layer)
+    → (own : Members) × ((option_and_then (layer_at (n ∷ path)) (infinite_of (object ms)) ≡ Some (object own)) × LayerStays (plane_of ms note) layer own)
+
+abbrev pub AllLayersStay : Type 0
+AllLayersStay = (ms : Members) (note : Data) → note_of ms ≡ Some note → IsNear (plane_of ms note) → LayersStay ms note

@@ -1,5 +1,5 @@
 -- A tile layer of a finite map as one of an infinite map.
-use Rattle.std.specs.Prelude.{ℕ, ◌*◌, ◌==◌, List, [], ◌∷◌, ◌++◌, map, length, codes, ℤ, pos, Bool, false, replicate, Option, Some, None, option_and_then, unwrap_or}
+use Rattle.std.specs.Prelude.{ℕ, ◌==◌, List, [], ◌∷◌, ◌++◌, map, length, codes, ℤ, pos, Bool, false, replicate, Option, Some, None, option_and_then, unwrap_or}
 use Rattle.std.specs.Prelude.{if◌then◌else◌}
 use Rattle.std.specs.Int.{w64, int_wrapping_add}
 use Rattle.serde_json.specs.Data.{unsigned, Data, number, array, object, Items, no_items, Members, no_members, put}

@@ -1,8 +1,6 @@
 -- Which places rectangles have, and which cells stand there.
-use Rattle.std.specs.Prelude.{ℕ, ◌+◌, ◌-◌, ◌*◌, List, [], ◌∷◌, Bool, ◌&&◌, nat_lt, nat_le, slice_index, if◌then◌else◌}
+use Rattle.std.specs.Prelude.{ℕ, ◌+◌, List, [], ◌∷◌, Bool, ◌&&◌, nat_lt, nat_le, if◌then◌else◌}
 use Rattle.infinite_maps.specs.declared.rectangle.Rectangle.{Rectangle}
-use Rattle.infinite_maps.specs.Rectangles.{width}
-use Rattle.infinite_maps.specs.Cells.{cut}
 
 -- whether a rectangle has the place at this column and row
 abbrev pub has : ℕ → ℕ → Rectangle → Bool

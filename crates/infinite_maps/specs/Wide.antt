@@ -2,7 +2,6 @@
 use Rattle.std.specs.Prelude.{ℕ, ◌+◌, ◌-◌, ◌*◌, ◌/◌, ◌%◌, max, List, map, pos, Bool, ◌&&◌, nat_lt, nat_le, slice_index, if◌then◌else◌}
 use Rattle.std.specs.Int.{w64, int_wrapping_sub}
 use Rattle.std.specs.List.{range_with_len}
-use Rattle.infinite_maps.specs.declared.rectangle.Rectangle.{Rectangle}
 use Rattle.infinite_maps.specs.declared.plane.Plane.{Plane}
 
 abbrev pub size : Plane → ℕ

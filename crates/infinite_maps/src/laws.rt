@@ -1,8 +1,8 @@
 //! Laws, as functions that do nothing.
 
-ghost use Rattle.infinite_maps.specs.Laws.{AllCellsStay};
+ghost use Rattle.infinite_maps.specs.Laws.{AllLayersStay};
 
-/// States that each cell of an edited map stays where it stood, and does nothing.
-pub fn cells_stay()
-    ensures { AllCellsStay }
+/// States that cells and objects of an edited map stay where they stood, and does nothing.
+pub fn layers_stay()
+    ensures { AllLayersStay }
 {}

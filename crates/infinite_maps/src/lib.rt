@@ -20,6 +20,6 @@ mod survey;
 
 pub use fault::Fault;
 pub use finite::made_finite;
-pub use laws::cells_stay;
+pub use laws::layers_stay;
 pub use same::is_within;
 pub use spread::made_infinite;
