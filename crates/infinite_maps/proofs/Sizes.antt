@@ -16,6 +16,11 @@ count_small n side h = omega (arith, div-le_self n side)
 pub areas_fit : (a b : ℕ) → a < 2 ^ 32 → b < 2 ^ 32 → a * b < 2 ^ 64
 areas_fit a b ha hb = mul-lt a b (2 ^ 32) (2 ^ 32) ha hb
 
+pub long_area_fits : (a b : ℕ) → a < 2 ^ 64 → b < 2 ^ 64 → a * b < 2 ^ 128
+long_area_fits a b ha hb = mul-lt a b (2 ^ 64) (2 ^ 64) ha hb
+
+pub ruleset long_areas = (long_area_fits)
+
 pub ruleset products = (product_fits)
 
 pub ruleset areas = (areas_fit)

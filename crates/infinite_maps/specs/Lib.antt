@@ -8,3 +8,4 @@ pub mod Notes
 pub mod Layers
 pub mod Infinite
 pub mod Laws
+pub mod Sound

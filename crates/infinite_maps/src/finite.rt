@@ -1,9 +1,12 @@
 // A finite map made of an infinite one.
-ghost use Rattle.std.specs.Prelude.{◌≡◌, IfOk, IfSome, IsTrue, Some, true, false, is_some};
+ghost use Rattle.std.specs.Prelude.{◌≡◌, IfOk, IfErr, IfSome, IsTrue, Some, true, false, is_some};
 ghost use Rattle.serde_json.specs.View.{view as data_of};
 ghost use Rattle.infinite_maps.specs.Infinite.{infinite_of, is_infinite};
+ghost use Rattle.infinite_maps.specs.Sound.{has_bad_chunk};
+ghost use Rattle.infinite_maps.specs.declared.fault.Fault.TheVariants.{Memory, BadChunk};
 
 use crate::fault::Fault;
+use crate::look::has_bad_chunk;
 use crate::members::{MARK, put_copy};
 use crate::notes::{MAX_CELLS, MAX_SIDE, integer};
 use crate::part::Part;
@@ -314,6 +317,7 @@ fn finite_of(alloc: Global, value: &Value) -> Result<Value, Fault> {
 fn comes_back(alloc: Global, finite: &Value, value: &Value) -> Result<bool, Fault>
     ensures finite { IfOk result (λ same. IsTrue same → is_infinite (data_of finite.now) ≡ false) }
     ensures back { IfOk result (λ same. IsTrue same → infinite_of (data_of finite.now) ≡ Some (data_of value.now)) }
+    ensures memory { IfErr result (λ fault. fault ≡ Memory) }
 {
     if is_infinite(finite) {
         return Ok(false);
@@ -324,20 +328,38 @@ fn comes_back(alloc: Global, finite: &Value, value: &Value) -> Result<bool, Faul
     }
 }
 
+// A map, or why it was not made: a chunk is blamed only if one is not sound.
+fn told(alloc: Global, value: &Value, made: Result<Value, Fault>) -> Result<Value, Fault>
+    ensures { IfErr result (λ fault. fault ≡ BadChunk → has_bad_chunk (data_of value.now) ≡ true) }
+{
+    match made {
+        Err(Fault::BadChunk) => if has_bad_chunk(alloc, value)? {
+            Err(Fault::BadChunk)
+        } else {
+            Err(Fault::Unlike)
+        },
+        _ => made,
+    }
+}
+
 /// The finite map of a map whose `infinite` is true; `None` for another.
 ///
 /// Cells and objects keep their places beside each other. A map above the limits, which are 4,096 columns, 4,096 rows and
 /// 1,048,576 cells, keeps its layers and gets its sizes, so that a reader refuses it for them.
+///
+/// `BadChunk` comes only where a chunk of a layer has no place or size, lies past 2^31 cells, or has not a whole number for each
+/// of its cells.
 pub fn made_finite(alloc: Global, value: &Value) -> Result<Option<Value>, Fault>
     ensures plain { is_infinite (data_of value.now) ≡ false → result ≡ Ok None }
     ensures some { IfOk result (λ map. is_some map ≡ is_infinite (data_of value.now)) }
     ensures finite { IfOk result (λ map. IfSome map (λ finite. is_infinite (data_of finite) ≡ false)) }
     ensures back { IfOk result (λ map. IfSome map (λ finite. infinite_of (data_of finite) ≡ Some (data_of value.now))) }
+    ensures bad { IfErr result (λ fault. fault ≡ BadChunk → has_bad_chunk (data_of value.now) ≡ true) }
 {
     if !is_infinite(value) {
         return Ok(None);
     }
-    let finite = finite_of(alloc, value)?;
+    let finite = told(alloc, value, finite_of(alloc, value))?;
     if comes_back(alloc, &finite, value)? {
         Ok(Some(finite))
     } else {

@@ -8,6 +8,7 @@ mod finite;
 mod growth;
 mod laws;
 mod layer;
+mod look;
 mod members;
 mod notes;
 mod part;

@@ -17,7 +17,8 @@ pub const MAX_SIDE: u16 = 4096;
 /// The most cells of a finite map.
 pub const MAX_CELLS: usize = 1_048_576;
 
-fn natural(value: Option<&Value>) -> u64
+/// A whole number; 0 where there is none.
+pub fn natural(value: Option<&Value>) -> u64
     ensures { result ≡ natural (option_map (λ value. data_of value.now) value.entry) }
 {
     match value {
