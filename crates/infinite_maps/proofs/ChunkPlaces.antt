@@ -16,7 +16,7 @@ use Rattle.infinite_maps.specs.Layers.{chunk, place_at}
 use Rattle.infinite_maps.specs.Notes.{integer}
 use Rattle.infinite_maps.specs.Placed.{has}
 use Rattle.infinite_maps.specs.Laws.{is_among, behind, covers, cell_in_chunk}
-use Rattle.infinite_maps.proofs.Places.{Has, answered, not_both, numbered}
+use Rattle.infinite_maps.proofs.Places.{Has, answered, both_parts, not_both, numbered}
 use Rattle.infinite_maps.proofs.ChunkCells.{AreWords, cells_of-cells_data}
 
 -- a place of which no sum with a side goes past 64 bits
@@ -54,10 +54,6 @@ same_tests : (a b : Bool) → (a ≡ true → b ≡ true) → (b ≡ true → a 
 same_tests true b f g = sym (f refl)
 same_tests false true f g = g refl
 same_tests false false f g = refl
-
-pub both_parts : (a b : Bool) → (a && b) ≡ true → (a ≡ true) × (b ≡ true)
-both_parts true b e = (refl, e)
-both_parts false b e = absurd (not_both true refl (sym e))
 
 pub both_true : (a b : Bool) → a ≡ true → b ≡ true → (a && b) ≡ true
 both_true a b p q = rw (p, q) refl

@@ -1,12 +1,12 @@
 -- What a list of covered cells says of places.
 use Rattle.std.proofs.Common.{◌≡◌, ℕ, zero, suc, ◌+◌, ◌*◌, ◌<◌, ◌≤◌, ◌≢◌, inl, inr, List, [], ◌∷◌, Bool, true, false, length, get_or, set, fold, refl, sym, ap, ◌∙◌, arith, get_or-set_other}
-use Rattle.std.specs.Prelude.{not, ◌&&◌, ◌||◌, nat_lt, nat_eq, if◌then◌else◌}
+use Rattle.std.specs.Prelude.{not, ◌||◌, nat_lt, nat_eq, if◌then◌else◌}
 use Rattle.std.proofs.lemmas.Bool.Decides.{nat_tests}
 use Rattle.infinite_maps.specs.declared.rectangle.Rectangle.{Rectangle}
 use Rattle.infinite_maps.specs.Rectangles.{area, place}
 use Rattle.infinite_maps.specs.Coverage.{covered_to, with_covered, any_below, is_uncovered, are_apart}
 use Rattle.infinite_maps.specs.Placed.{has, times}
-use Rattle.infinite_maps.proofs.Places.{facts, answered, not_both, numbered, stands, in_rectangle, of_facts}
+use Rattle.infinite_maps.proofs.Places.{facts, answered, both_parts, not_both, numbered, stands, in_rectangle, of_facts}
 
 -- whether a place is covered; one past the end is
 abbrev pub at : List Bool → ℕ → Bool
@@ -119,15 +119,11 @@ cover_has_not columns rows i j (r ∷ rs) cover within inside h = elim (answered
 ]
 
 -- rectangles that are apart have each place at most once, and none that was covered
-and_parts : (a b : Bool) → (a && b) ≡ true → (a ≡ true) × (b ≡ true)
-and_parts true b e = (refl, e)
-and_parts false b e = absurd (not_both true refl (sym e))
-
 pub apart_covered : (columns i j : ℕ) (rs : List Rectangle) (cover : List Bool) → are_apart columns cover rs ≡ true → at cover (j * columns + i) ≡ true
     → times i j rs ≡ 0
 apart_covered columns i j [] cover apart h = refl
 apart_covered columns i j (r ∷ rs) cover apart h =
-    let p = and_parts _ _ apart in
+    let p = both_parts (is_uncovered columns cover r) (are_apart columns (with_covered columns cover r) rs) apart in
     let rest = apart_covered columns i j rs (with_covered columns cover r) p.1 (covers_more columns r cover (j * columns + i) h) in
     elim (answered (has i j r)) [
       | inl e ↦ absurd (not_both _ h (uncovered columns i j r cover p.0 e))
@@ -137,7 +133,7 @@ apart_covered columns i j (r ∷ rs) cover apart h =
 pub apart_once : (columns i j : ℕ) (rs : List Rectangle) (cover : List Bool) → are_apart columns cover rs ≡ true → times i j rs ≤ 1
 apart_once columns i j [] cover apart = omega arith
 apart_once columns i j (r ∷ rs) cover apart =
-    let p = and_parts _ _ apart in
+    let p = both_parts (is_uncovered columns cover r) (are_apart columns (with_covered columns cover r) rs) apart in
     elim (answered (has i j r)) [
       | inl e ↦
           let rest = apart_covered columns i j rs (with_covered columns cover r) p.1 (covers columns i j r cover e) in

@@ -1,5 +1,5 @@
 -- Which places a rectangle has.
-use Rattle.std.proofs.Common.{◌≡◌, ℕ, ◌+◌, ◌-◌, ◌*◌, ◌/◌, ◌%◌, ◌<◌, ◌≤◌, ◌⊎◌, inl, inr, max, List, [], ◌∷◌, ◌++◌, Bool, true, false, refl, sym, ap, ◌∙◌, arith}
+use Rattle.std.proofs.Common.{◌≡◌, ℕ, ◌+◌, ◌-◌, ◌*◌, ◌/◌, ◌%◌, ◌<◌, ◌≤◌, ◌⊎◌, inl, inr, max, List, [], ◌∷◌, ◌++◌, Bool, true, false, true≢false, refl, sym, ap, ◌∙◌, arith}
 use Rattle.std.specs.Prelude.{◌&&◌, nat_lt, nat_le}
 use Rattle.std.proofs.lemmas.Bool.Decides.{nat_tests}
 use Rattle.std.proofs.lemmas.Nat.{div-mul-add, mod-mul-add, mod_below, mul-add-lt, same_from_place, div-add-mod', row-Below}
@@ -13,20 +13,19 @@ pub record Has (i j : ℕ) (r : Rectangle) : Type 0 where
   pub from_top : r.top ≤ j
   pub to_bottom : j < r.bottom
 
-pub has_parts : (a b c d : Bool) → ((a && b) && (c && d)) ≡ true → (a ≡ true) × (b ≡ true) × (c ≡ true) × (d ≡ true)
-has_parts true true true true e = (refl, refl, refl, refl)
-has_parts true true true false e = (refl, refl, refl, e)
-has_parts true true false d e = (refl, refl, e, grind arith)
-has_parts true false c d e = (refl, e, grind arith, grind arith)
-has_parts false b c d e = (e, grind arith, grind arith, grind arith)
+pub both_parts : (a b : Bool) → (a && b) ≡ true → (a ≡ true) × (b ≡ true)
+both_parts true b e = (refl, e)
+both_parts false b e = absurd (true≢false (sym e))
 
 pub facts : (i j : ℕ) (r : Rectangle) → has i j r ≡ true → Has i j r
 facts i j r e =
-    let p = has_parts (nat_le r.left i) (nat_lt i r.right) (nat_le r.top j) (nat_lt j r.bottom) e in
-    let a : nat_le r.left i ≡ true = p.0 in
-    let b : nat_lt i r.right ≡ true = p.1 in
-    let c : nat_le r.top j ≡ true = p.2 in
-    let d : nat_lt j r.bottom ≡ true = p.3 in
+    let p = both_parts (nat_le r.left i && nat_lt i r.right) (nat_le r.top j && nat_lt j r.bottom) e in
+    let q = both_parts (nat_le r.left i) (nat_lt i r.right) p.0 in
+    let s = both_parts (nat_le r.top j) (nat_lt j r.bottom) p.1 in
+    let a : nat_le r.left i ≡ true = q.0 in
+    let b : nat_lt i r.right ≡ true = q.1 in
+    let c : nat_le r.top j ≡ true = s.0 in
+    let d : nat_lt j r.bottom ≡ true = s.1 in
     record { from_left = grind (arith, nat_tests); to_right = grind (arith, nat_tests); from_top = grind (arith, nat_tests); to_bottom = grind (arith, nat_tests) }
 
 pub of_facts : (i j : ℕ) (r : Rectangle) → Has i j r → has i j r ≡ true
@@ -42,11 +41,8 @@ pub answered : (b : Bool) → (b ≡ true) ⊎ (b ≡ false)
 answered true = inl refl
 answered false = inr refl
 
-true≢false' : true ≡ false → ⊥
-true≢false' e = grind (arith, e)
-
 pub not_both : (b : Bool) → b ≡ true → b ≡ false → ⊥
-not_both b p q = true≢false' (sym p ∙ q)
+not_both b p q = true≢false (sym p ∙ q)
 
 pub no_facts : (i j : ℕ) (r : Rectangle) → (Has i j r → ⊥) → has i j r ≡ false
 no_facts i j r h = elim (answered (has i j r)) [ inl e ↦ absurd (h (facts i j r e)) | inr e ↦ e ]

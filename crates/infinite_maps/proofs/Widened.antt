@@ -11,9 +11,9 @@ use Rattle.std.proofs.lemmas.Bool.Decides.{nat_tests}
 use Rattle.infinite_maps.specs.declared.plane.Plane.{Plane}
 use Rattle.infinite_maps.specs.Wide.{size, whole_side, has_room, wide_by, wide, before_x, before_y, cell_on, wide_cell, widened}
 use Rattle.infinite_maps.specs.Laws.{is_among, behind, cell_in_map}
-use Rattle.infinite_maps.proofs.Places.{answered}
+use Rattle.infinite_maps.proofs.Places.{both_parts, answered}
 use Rattle.infinite_maps.proofs.ChunkCells.{AreWords}
-use Rattle.infinite_maps.proofs.ChunkPlaces.{IsNear, among, behind_by, both_parts, both_no_left, both_no_right}
+use Rattle.infinite_maps.proofs.ChunkPlaces.{IsNear, among, behind_by, both_no_left, both_no_right}
 use Rattle.infinite_maps.proofs.ChunkLists.{IsSmall}
 
 -- a plane as a note of `made_finite` tells it
