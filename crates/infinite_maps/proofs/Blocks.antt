@@ -1,5 +1,6 @@
 -- The new rectangles of all blocks.
-use Rattle.std.proofs.Common.{◌≡◌, ℕ, zero, suc, ◌+◌, ◌*◌, ◌/◌, ◌<◌, ◌≤◌, ◌⊎◌, inl, inr, max, List, [], ◌∷◌, ◌++◌, Bool, true, false, Option, Some, None, get_or, refl, sym, ap, subst, arith}
+use Rattle.std.proofs.Common.{◌≡◌, ℕ, zero, suc, ◌+◌, ◌*◌, ◌/◌, ◌<◌, ◌≤◌, ◌⊎◌, inl, inr, max, List, [], ◌∷◌, ◌++◌, Bool, true, false, Option, Some}
+use Rattle.std.proofs.Common.{None, get_or, refl, sym, ap, subst, arith}
 use Rattle.std.specs.Prelude.{not, ◌&&◌, nat_lt, if◌then◌else◌}
 use Rattle.std.proofs.lemmas.Bool.Decides.{nat_tests}
 use Rattle.std.proofs.lemmas.Nat.{div-add-mod', mod_below}
@@ -219,7 +220,8 @@ higher i j left right a b c d p q e =
       to_bottom = omega (arith, g.to_bottom);
     })
 
-one_of_rows : (i j left right a b c : ℕ) → has i j (part left right a c) ≡ true → (has i j (part left right a b) ≡ true) ⊎ (has i j (part left right b c) ≡ true)
+one_of_rows : (i j left right a b c : ℕ) → has i j (part left right a c) ≡ true
+    → (has i j (part left right a b) ≡ true) ⊎ (has i j (part left right b c) ≡ true)
 one_of_rows i j left right a b c e =
     let g = facts i j (part left right a c) e in
     elim (answered (nat_lt j b)) [

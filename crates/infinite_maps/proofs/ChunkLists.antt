@@ -37,7 +37,12 @@ begins p r rs small h = elim (answered (nat_lt 0 (width r))) [
     | inl f ↦
         let wide : 0 < width r = grind (arith, nat_tests) in
         let high : 0 < height r = grind (arith, nat_tests) in
-        let here : has r.left r.top r ≡ true = of_facts r.left r.top r (record { from_left = omega arith; to_right = omega (arith, wide); from_top = omega arith; to_bottom = omega (arith, high) }) in
+        let here : has r.left r.top r ≡ true = of_facts r.left r.top r (record {
+          from_left = omega arith;
+          to_right = omega (arith, wide);
+          from_top = omega arith;
+          to_bottom = omega (arith, high);
+        }) in
         let some : 0 < times r.left r.top (r ∷ rs) = omega (arith, ap (λ (b : Bool). (if b then 1 else 0) + times r.left r.top rs) here) in
         let on = h r.left r.top some in
         let right : r.left < p.columns = on.0 in

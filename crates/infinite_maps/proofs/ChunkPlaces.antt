@@ -111,7 +111,8 @@ chunk_no_cover p text cells r x y near_x near_y left top (inr h) =
     rw (place_read p.y r.top near_y top) (both_no_right _ _ (before p.y r.top (height r) y h))
 
 -- a chunk without cells has no place
-pub chunk_empty : (p : Plane) (text : Bool) (cells : List ℕ) (r : Rectangle) (x y : ℤ) → (width r ≡ 0) ⊎ (height r ≡ 0) → covers x y (chunk p text cells r) ≡ false
+pub chunk_empty : (p : Plane) (text : Bool) (cells : List ℕ) (r : Rectangle) (x y : ℤ) → (width r ≡ 0) ⊎ (height r ≡ 0)
+    → covers x y (chunk p text cells r) ≡ false
 unfolding chunk
 chunk_empty p text cells r x y (inl h) = both_no_left _ _ (ap (λ (n : ℕ). is_among (integer (Some (place_at p.x r.left))) n x) h ∙ among_none _ x)
 chunk_empty p text cells r x y (inr h) = both_no_right _ _ (ap (λ (n : ℕ). is_among (integer (Some (place_at p.y r.top))) n y) h ∙ among_none _ y)

@@ -1,5 +1,6 @@
 -- What a list of covered cells says of places.
-use Rattle.std.proofs.Common.{◌≡◌, ℕ, zero, suc, ◌+◌, ◌*◌, ◌<◌, ◌≤◌, ◌≢◌, inl, inr, List, [], ◌∷◌, Bool, true, false, length, get_or, set, fold, refl, sym, ap, ◌∙◌, arith, get_or-set_other}
+use Rattle.std.proofs.Common.{◌≡◌, ℕ, zero, suc, ◌+◌, ◌*◌, ◌<◌, ◌≤◌, ◌≢◌, inl, inr, List, [], ◌∷◌, Bool, true, false, length, get_or, set, fold, refl}
+use Rattle.std.proofs.Common.{sym, ap, ◌∙◌, arith, get_or-set_other}
 use Rattle.std.specs.Prelude.{not, ◌||◌, nat_lt, nat_eq, if◌then◌else◌}
 use Rattle.std.proofs.lemmas.Bool.Decides.{nat_tests}
 use Rattle.infinite_maps.specs.declared.rectangle.Rectangle.{Rectangle}
@@ -83,7 +84,8 @@ not_true : (b : Bool) → not b ≡ true → b ≡ false
 not_true true e = sym e
 not_true false e = refl
 
-pub uncovered : (columns i j : ℕ) (r : Rectangle) (cover : List Bool) → is_uncovered columns cover r ≡ true → has i j r ≡ true → at cover (j * columns + i) ≡ false
+pub uncovered : (columns i j : ℕ) (r : Rectangle) (cover : List Bool) → is_uncovered columns cover r ≡ true → has i j r ≡ true
+    → at cover (j * columns + i) ≡ false
 uncovered columns i j r cover free e =
     let h = numbered columns i j r (facts i j r e) in
     sym (ap (at cover) h.there) ∙ none_below (λ k. at cover (place columns r k)) (area r) _ (not_true _ free) h.below
@@ -98,7 +100,8 @@ pub cover_stays : (columns : ℕ) (rs : List Rectangle) (cover : List Bool) (m :
 cover_stays columns [] cover m h = h
 cover_stays columns (r ∷ rs) cover m h = cover_stays columns rs (with_covered columns cover r) m (covers_more columns r cover m h)
 
-pub cover_has : (columns i j : ℕ) (rs : List Rectangle) (cover : List Bool) → 0 < times i j rs → at (fold (with_covered columns) cover rs) (j * columns + i) ≡ true
+pub cover_has : (columns i j : ℕ) (rs : List Rectangle) (cover : List Bool) → 0 < times i j rs
+    → at (fold (with_covered columns) cover rs) (j * columns + i) ≡ true
 cover_has columns i j [] cover h = absurd (omega arith)
 cover_has columns i j (r ∷ rs) cover h = elim (answered (has i j r)) [
   | inl e ↦ cover_stays columns rs (with_covered columns cover r) (j * columns + i) (covers columns i j r cover e)

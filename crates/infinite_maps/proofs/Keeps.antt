@@ -13,7 +13,8 @@ use Rattle.infinite_maps.specs.declared.plane.Plane.{Plane}
 use Rattle.infinite_maps.specs.Notes.{mark}
 use Rattle.infinite_maps.specs.Rectangles.{width, height, bounds}
 use Rattle.infinite_maps.specs.Wide.{wide, widened}
-use Rattle.infinite_maps.specs.Layers.{chunks, whole_number, place_at, nothing, with_bounds, with_old_bounds, with_right_bounds, rest_of, with_chunks, layer_cells, layer_by, layer_of, is_text_at, old_rectangles, new_rectangles}
+use Rattle.infinite_maps.specs.Layers.{chunks, whole_number, place_at, nothing, with_bounds, with_old_bounds, with_right_bounds, rest_of, with_chunks}
+use Rattle.infinite_maps.specs.Layers.{layer_cells, layer_by, layer_of, is_text_at, old_rectangles, new_rectangles}
 
 -- a member of another name
 pub put_keeps : (q k : List ℕ) (d : Data) (ms : Members) → bytes_eq q k ≡ false → get_member q (put k d ms) ≡ get_member q ms

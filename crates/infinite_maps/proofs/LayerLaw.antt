@@ -1,5 +1,6 @@
 -- The cells of one layer stand in its chunks.
-use Rattle.std.proofs.Common.{◌≡◌, ℕ, ◌+◌, ◌-◌, ◌*◌, ◌<◌, ◌≤◌, ◌⊎◌, inl, inr, List, ◌∷◌, ◌++◌, Bool, true, false, Option, get_or, map, replicate, refl, sym, ap, ◌∙◌, subst, arith}
+use Rattle.std.proofs.Common.{◌≡◌, ℕ, ◌+◌, ◌-◌, ◌*◌, ◌<◌, ◌≤◌, ◌⊎◌, inl, inr, List, ◌∷◌, ◌++◌, Bool, true, false, Option, get_or, map, replicate}
+use Rattle.std.proofs.Common.{refl, sym, ap, ◌∙◌, subst, arith}
 use Rattle.std.specs.Prelude.{ℤ, pos, ◌+ℤ◌, ◌-ℤ◌, ◌<ℤ◌, int_lt, unsigned_abs, nat_lt, nat_le, ◌&&◌, if◌then◌else◌}
 use Rattle.std.proofs.lemmas.Int.{ints}
 use Rattle.std.proofs.lemmas.Bool.Decides.{nat_tests}
@@ -35,11 +36,13 @@ usual ms note near = record {
 }
 
 -- the old rectangles lie on the wide map, and are apart
-noted_within : (p : Plane) (columns rows : ℕ) (ds : Items) → before_x p + p.columns ≤ columns → before_y p + p.rows ≤ rows → AllWithin columns rows (noted_all p ds)
+noted_within : (p : Plane) (columns rows : ℕ) (ds : Items) → before_x p + p.columns ≤ columns → before_y p + p.rows ≤ rows
+    → AllWithin columns rows (noted_all p ds)
 noted_within p columns rows no_items right bottom = tt
 noted_within p columns rows (item d ds) right bottom =
     let rest = noted_within p columns rows ds right bottom in
-    let by : (b : Bool) → AllWithin columns rows (if b then noted p d ∷ noted_all p ds else noted_all p ds) = λ b. elim b as (λ (b : Bool). AllWithin columns rows (if b then noted p d ∷ noted_all p ds else noted_all p ds)) [
+    let Within = λ (b : Bool). AllWithin columns rows (if b then noted p d ∷ noted_all p ds else noted_all p ds) in
+    let by : (b : Bool) → Within b = λ b. elim b as Within [
       | true ↦ (omega (arith, right), omega (arith, bottom), rest)
       | false ↦ rest
     ] in
@@ -60,7 +63,8 @@ from_corner z x = elim (answered (int_lt x z)) [
 ]
 
 -- chunks of rectangles have the layer's cells
-stand_at : (p q : Plane) (dx dy : ℕ) (text : Bool) (cells wide_cells : List ℕ) (rs : List Rectangle) (i j : ℕ) → IsAround p q dx dy → OnMap q rs → (text ≡ true → AreWords wide_cells)
+stand_at : (p q : Plane) (dx dy : ℕ) (text : Bool) (cells wide_cells : List ℕ) (rs : List Rectangle) (i j : ℕ) → IsAround p q dx dy → OnMap q rs
+    → (text ≡ true → AreWords wide_cells)
     → Stands q wide_cells rs i j
     → (i < q.columns → j < q.rows → get_or wide_cells (j * q.columns + i) 0 ≡ (if nat_le dx i && nat_le dy j then cell_on p cells (i - dx) (j - dy) else 0))
     → cell_in_chunks (q.x +ℤ pos i) (q.y +ℤ pos j) (items_of (map (chunk q text wide_cells) rs)) ≡ cell_in_map p cells (q.x +ℤ pos i) (q.y +ℤ pos j)
@@ -93,7 +97,8 @@ stand_at p q dx dy text cells wide_cells rs i j h on words s same =
     ]
 
 pub chunks_stand : (p : Plane) (text : Bool) (cells : List ℕ) (note : Option Data) → IsUsual p → (text ≡ true → AreWords cells)
-    → CellsStand p cells (items_of (map (chunk (wide p) text (widened p cells)) (old_rectangles p note ++ new_rectangles (wide p) (widened p cells) (old_rectangles p note))))
+    → CellsStand p cells (items_of (map (chunk (wide p) text (widened p cells))
+    (old_rectangles p note ++ new_rectangles (wide p) (widened p cells) (old_rectangles p note))))
 chunks_stand p text cells note u words =
     let q = wide p in
     let wide_cells = widened p cells in
@@ -117,7 +122,9 @@ chunks_stand p text cells note u words =
       | inl e ↦ out x y (inl e)
       | inr e ↦ elim (from_corner q.y y) [
         | inl f ↦ out x y (inr f)
-        | inr f ↦ subst (λ (x : ℤ). Same x y × Once x y) e (subst (λ (y : ℤ). Same (q.x +ℤ pos (unsigned_abs (x -ℤ q.x))) y × Once (q.x +ℤ pos (unsigned_abs (x -ℤ q.x))) y) f
+        | inr f ↦
+            let k = q.x +ℤ pos (unsigned_abs (x -ℤ q.x)) in
+            subst (λ (x : ℤ). Same x y × Once x y) e (subst (λ (y : ℤ). Same k y × Once k y) f
             (inside (unsigned_abs (x -ℤ q.x)) (unsigned_abs (y -ℤ q.y))))
       ]
     ] in

@@ -1,5 +1,6 @@
 -- Which places a rectangle has.
-use Rattle.std.proofs.Common.{◌≡◌, ℕ, ◌+◌, ◌-◌, ◌*◌, ◌/◌, ◌%◌, ◌<◌, ◌≤◌, ◌⊎◌, inl, inr, max, List, [], ◌∷◌, ◌++◌, Bool, true, false, true≢false, refl, sym, ap, ◌∙◌, arith}
+use Rattle.std.proofs.Common.{◌≡◌, ℕ, ◌+◌, ◌-◌, ◌*◌, ◌/◌, ◌%◌, ◌<◌, ◌≤◌, ◌⊎◌, inl, inr, max, List, [], ◌∷◌, ◌++◌, Bool, true, false, true≢false, refl}
+use Rattle.std.proofs.Common.{sym, ap, ◌∙◌, arith}
 use Rattle.std.specs.Prelude.{◌&&◌, nat_lt, nat_le}
 use Rattle.std.proofs.lemmas.Bool.Decides.{nat_tests}
 use Rattle.std.proofs.lemmas.Nat.{div-mul-add, mod-mul-add, mod_below, mul-add-lt, same_from_place, div-add-mod', row-Below}
@@ -26,7 +27,12 @@ facts i j r e =
     let b : nat_lt i r.right ≡ true = q.1 in
     let c : nat_le r.top j ≡ true = s.0 in
     let d : nat_lt j r.bottom ≡ true = s.1 in
-    record { from_left = grind (arith, nat_tests); to_right = grind (arith, nat_tests); from_top = grind (arith, nat_tests); to_bottom = grind (arith, nat_tests) }
+    record {
+      from_left = grind (arith, nat_tests);
+      to_right = grind (arith, nat_tests);
+      from_top = grind (arith, nat_tests);
+      to_bottom = grind (arith, nat_tests);
+    }
 
 pub of_facts : (i j : ℕ) (r : Rectangle) → Has i j r → has i j r ≡ true
 of_facts i j r h =
@@ -92,7 +98,12 @@ in_rectangle i j r k lt at =
       | inr e ↦ let zero' : width r ≡ 0 = grind (arith, nat_tests) in absurd (omega (arith, lt, ap (λ (n : ℕ). n * height r) zero'))
     ] in
     let along : k % max (width r) 1 < max (width r) 1 = mod_below k (max (width r) 1) (omega arith) in
-    record { from_left = omega (arith, at.column); to_right = omega (arith, at.column, along, wide); from_top = omega (arith, at.row); to_bottom = omega (arith, at.row, high) }
+    record {
+      from_left = omega (arith, at.column);
+      to_right = omega (arith, at.column, along, wide);
+      from_top = omega (arith, at.row);
+      to_bottom = omega (arith, at.row, high);
+    }
 
 -- a place of one number is the place of another only if they are one
 pub stands : (columns i j : ℕ) (r : Rectangle) (k : ℕ) → k < area r → r.right ≤ columns → i < columns → place columns r k ≡ j * columns + i → StandsAt i j r k

@@ -10,7 +10,7 @@ use Rattle.infinite_maps.specs.Growth.{is_new, grown}
 use Rattle.infinite_maps.specs.Wide.{size}
 use Rattle.infinite_maps.specs.Layers.{new_rectangles}
 use Rattle.infinite_maps.specs.Placed.{has, times}
-use Rattle.infinite_maps.proofs.Places.{facts, answered, not_both, of_facts, times-append}
+use Rattle.infinite_maps.proofs.Places.{Has, facts, answered, not_both, of_facts, times-append}
 use Rattle.infinite_maps.proofs.Covers.{at, AllWithin, cover_has, cover_has_not, apart_once}
 use Rattle.infinite_maps.proofs.Blocks.{part, grown_fit}
 
@@ -84,7 +84,8 @@ all_stand p cells olds i j across down apart within =
             let low : j * p.columns + i < size p = omega (arith, mul-add-lt j p.columns i p.rows y x) in
             let free : at cover (j * p.columns + i) ≡ false =
             cover_has_not p.columns p.rows i j olds (replicate (size p) false) within x none ∙ nothing_covered (size p) (j * p.columns + i) low in
-            let some = fit.filled (of_facts i j (part 0 p.columns 0 p.rows) (record { from_left = omega arith; to_right = x; from_top = omega arith; to_bottom = y }))
+            let on : Has i j (part 0 p.columns 0 p.rows) = record { from_left = omega arith; to_right = x; from_top = omega arith; to_bottom = y } in
+            let some = fit.filled (of_facts i j (part 0 p.columns 0 p.rows) on)
             (is_new_of cells cover (j * p.columns + i) more free) in
             omega (arith, some, sum)
       ];

@@ -1,5 +1,6 @@
 -- The layers of an infinite map, beside those of the finite one.
-use Rattle.std.proofs.Common.{◌≡◌, ℕ, zero, suc, List, [], ◌∷◌, ◌++◌, Bool, true, Option, Some, None, option_map, Ordering, Less, Equal, Greater, nat_cmp, codes, map, refl, sym, ap, ◌∙◌, subst, arith}
+use Rattle.std.proofs.Common.{◌≡◌, ℕ, zero, suc, List, [], ◌∷◌, ◌++◌, Bool, true, Option, Some, None, option_map, Ordering, Less, Equal, Greater}
+use Rattle.std.proofs.Common.{nat_cmp, codes, map, refl, sym, ap, ◌∙◌, subst, arith}
 use Rattle.std.specs.Prelude.{ℤ, ◌+ℤ◌, unsigned_abs, FitsSigned, ◌^◌, ◌<◌, option_and_then, unwrap_or}
 use Rattle.std.specs.Int.{w64, int_wrapping_add}
 use Rattle.std.proofs.lemmas.Int.{ints, wrapping_add_is, int_wrap_fits, fits_signed_from_abs}
@@ -97,7 +98,8 @@ get-spread p (string s) = refl
 get-spread p (array ds) = refl
 get-spread p (object ms) = layer_keeps (codes "layers") layers p (members_spread p Layers ms) ∙ get_member-spread p Layers (codes "layers") ms
 
-then_spread : (p : Plane) (n : ℕ) (o : Option Data) → option_and_then (at n) (option_map (spread p Layers) o) ≡ option_map (spread p Layers) (option_and_then (at n) o)
+then_spread : (p : Plane) (n : ℕ) (o : Option Data)
+    → option_and_then (at n) (option_map (spread p Layers) o) ≡ option_map (spread p Layers) (option_and_then (at n) o)
 then_spread p n None = refl
 then_spread p n (Some d) = at-spread p n d
 
@@ -133,7 +135,8 @@ at-objects p n (string s) = refl
 at-objects p n (array ds) = get_item-spread p Objects n ds
 at-objects p n (object ms) = refl
 
-then_objects : (p : Plane) (n : ℕ) (o : Option Data) → option_and_then (at n) (option_map (spread p Objects) o) ≡ option_map (spread p Objects) (option_and_then (at n) o)
+then_objects : (p : Plane) (n : ℕ) (o : Option Data)
+    → option_and_then (at n) (option_map (spread p Objects) o) ≡ option_map (spread p Objects) (option_and_then (at n) o)
 then_objects p n None = refl
 then_objects p n (Some d) = at-objects p n d
 
@@ -219,11 +222,14 @@ pixels_by : (name : List ℕ) (p : Plane) (part : Part) (f : ℤ → ℤ) (n : �
     → pixels name n layer ≡ Some z → pixels name n (layer_of p (members_spread p Layers layer)) ≡ Some (f z)
 pixels_by name p part f n layer z is move e =
     let numbers = λ (o : Option Data). option_and_then as_i64 (option_and_then as_number o) in
-    let then_moved : (o : Option Data) → numbers o ≡ Some z → numbers (option_map (spread p part) o) ≡ Some (f z) = λ o. elim o as (λ (o : Option Data). numbers o ≡ Some z → numbers (option_map (spread p part) o) ≡ Some (f z)) [
+    let IsMoved = λ (o : Option Data). numbers o ≡ Some z → numbers (option_map (spread p part) o) ≡ Some (f z) in
+    let then_moved : (o : Option Data) → IsMoved o = λ o. elim o as IsMoved [
       | None ↦ λ e. absurd cc
       | Some d ↦ λ e. move d e
     ] in
-    let of_object : (o : Option Data) → option_and_then (get name) (option_map (spread p Objects) o) ≡ option_map (spread p part) (option_and_then (get name) o) = λ o. elim o as (λ (o : Option Data). option_and_then (get name) (option_map (spread p Objects) o) ≡ option_map (spread p part) (option_and_then (get name) o)) [
+    let IsSpread = λ (o : Option Data).
+    option_and_then (get name) (option_map (spread p Objects) o) ≡ option_map (spread p part) (option_and_then (get name) o) in
+    let of_object : (o : Option Data) → IsSpread o = λ o. elim o as IsSpread [
       | None ↦ refl
       | Some d ↦ get-object p name part is d
     ] in

@@ -1,5 +1,6 @@
 -- The wide map has the cells of the map, at their places.
-use Rattle.std.proofs.Common.{◌≡◌, ℕ, ◌+◌, ◌-◌, ◌*◌, ◌/◌, ◌%◌, ◌^◌, ◌<◌, ◌≤◌, ◌⊎◌, inl, inr, max, List, Bool, true, false, get_or, map, refl, sym, ap, ◌∙◌, arith}
+use Rattle.std.proofs.Common.{◌≡◌, ℕ, ◌+◌, ◌-◌, ◌*◌, ◌/◌, ◌%◌, ◌^◌, ◌<◌, ◌≤◌, ◌⊎◌, inl, inr, max, List, Bool, true, false, get_or, map, refl, sym, ap}
+use Rattle.std.proofs.Common.{◌∙◌, arith}
 use Rattle.std.specs.Prelude.{ℤ, pos, ◌+ℤ◌, ◌-ℤ◌, ◌<ℤ◌, int_le, unsigned_abs, FitsSigned, nat_lt, nat_le, ◌&&◌, if◌then◌else◌}
 use Rattle.std.specs.Int.{w64, int_wrapping_sub}
 use Rattle.std.specs.List.{range_with_len}
@@ -215,6 +216,7 @@ no_cell_behind p q dx dy cells i j h out =
           let high = h.rows in
           let far : p.rows ≤ j - dy = omega (arith, e, high) in
           let no_row : nat_lt (j - dy) p.rows ≡ false = grind (arith, nat_tests) in
-          ap (λ (b : Bool). if b then get_or cells ((j - dy) * p.columns + (i - dx)) 0 else 0) (both_no_right (nat_lt (i - dx) p.columns) (nat_lt (j - dy) p.rows) no_row)
+          ap (λ (b : Bool). if b then get_or cells ((j - dy) * p.columns + (i - dx)) 0 else 0)
+          (both_no_right (nat_lt (i - dx) p.columns) (nat_lt (j - dy) p.rows) no_row)
     ] in
     ap (λ (n : ℕ). if nat_le dx i && nat_le dy j then n else 0) none ∙ none_either (nat_le dx i && nat_le dy j)

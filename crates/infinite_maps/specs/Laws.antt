@@ -1,5 +1,6 @@
 -- What holds of each edited infinite map: where its cells stand.
-use Rattle.std.specs.Prelude.{◌≡◌, ℕ, ◌+◌, ◌*◌, ◌^◌, ◌<◌, ◌≤◌, List, [], ◌∷◌, ◌++◌, map, codes, ℤ, pos, ◌+ℤ◌, ◌-ℤ◌, int_le, int_lt, unsigned_abs, Bool, true, ◌&&◌, slice_index, Option, Some, option_and_then, unwrap_or}
+use Rattle.std.specs.Prelude.{◌≡◌, ℕ, ◌+◌, ◌*◌, ◌^◌, ◌<◌, ◌≤◌, List, [], ◌∷◌, ◌++◌, map, codes, ℤ, pos, ◌+ℤ◌, ◌-ℤ◌, int_le, int_lt, unsigned_abs}
+use Rattle.std.specs.Prelude.{Bool, true, ◌&&◌, slice_index, Option, Some, option_and_then, unwrap_or}
 use Rattle.std.specs.Prelude.{if◌then◌else◌}
 use Rattle.serde_json.specs.Data.{Data, object, Items, no_items, item, Members}
 use Rattle.serde_json.specs.Find.{get, at, get_member, as_number, as_i64, as_array}

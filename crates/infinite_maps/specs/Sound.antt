@@ -1,5 +1,6 @@
 -- Which chunks can be read.
-use Rattle.std.specs.Prelude.{ℕ, ◌*◌, List, length, codes, ℤ, unsigned_abs, Bool, true, false, not, ◌&&◌, ◌||◌, ◌==◌, nat_lt, nat_le, is_some, Option, Some, None, option_and_then}
+use Rattle.std.specs.Prelude.{ℕ, ◌*◌, List, length, codes, ℤ, unsigned_abs, Bool, true, false, not, ◌&&◌, ◌||◌, ◌==◌, nat_lt, nat_le, is_some, Option}
+use Rattle.std.specs.Prelude.{Some, None, option_and_then}
 use Rattle.std.specs.Str.{bytes_eq}
 use Rattle.serde_json.specs.Data.{Data, null, boolean, number, string, array, object, Items, no_items, item, Members, no_members, member}
 use Rattle.serde_json.specs.Find.{get, get_member, as_number, as_i64, as_u64, as_str, as_array}

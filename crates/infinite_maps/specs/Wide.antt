@@ -44,9 +44,13 @@ before_y p = p.lost_y - (wide p).lost_y
 abbrev pub cell_on : Plane → List ℕ → ℕ → ℕ → ℕ
 cell_on p cells i j = if nat_lt i p.columns && nat_lt j p.rows then slice_index cells (j * p.columns + i) else 0
 
+-- the same, counted from so many columns and rows before the corner
+abbrev pub cell_behind : Plane → List ℕ → ℕ → ℕ → ℕ → ℕ → ℕ
+cell_behind p cells dx dy i j = if nat_le dx i && nat_le dy j then cell_on p cells (i - dx) (j - dy) else 0
+
 -- the same, at a column and row of the wide map
 abbrev pub wide_cell : Plane → List ℕ → ℕ → ℕ → ℕ
-wide_cell p cells i j = if nat_le (before_x p) i && nat_le (before_y p) j then cell_on p cells (i - before_x p) (j - before_y p) else 0
+wide_cell p cells i j = cell_behind p cells (before_x p) (before_y p) i j
 
 -- the cells of a layer on the wide map, row by row
 unfoldable pub widened : Plane → List ℕ → List ℕ

@@ -1,6 +1,6 @@
 // Where a finite map lies on the plane of the infinite one.
 ghost use Rattle.std.specs.Prelude.{◌≡◌, ◌+◌, ◌*◌, ◌/◌, ◌<◌, ◌^◌, ◌-◌, max, map, IfOk, slice_index};
-ghost use Rattle.infinite_maps.specs.Wide.{size, whole_side, has_room, wide_by, wide, before_x, before_y, cell_on, wide_cell, widened};
+ghost use Rattle.infinite_maps.specs.Wide.{size, whole_side, has_room, wide_by, wide, before_x, before_y, cell_on, cell_behind, widened};
 
 use crate::cells::cell_at;
 use std::alloc::{AllocError, Global};
@@ -101,11 +101,17 @@ impl Plane {
         }
     }
 
-    // The same, at a column and row of the wide map.
-    fn wide_cell(self, cells: &[u64], column: usize, row: usize) -> u64
-        ensures { result ≡ wide_cell self cells.now column row }
+    // The same, counted from so many columns and rows before the corner.
+    fn cell_behind(
+        self,
+        cells: &[u64],
+        before_x: usize,
+        before_y: usize,
+        column: usize,
+        row: usize,
+    ) -> u64
+        ensures { result ≡ cell_behind self cells.now before_x before_y column row }
     {
-        let (before_x, before_y) = (self.before_x() as usize, self.before_y() as usize);
         if before_x <= column && before_y <= row {
             self.cell_on(cells, column - before_x, row - before_y)
         } else {
@@ -120,9 +126,11 @@ impl Plane {
     {
         let wide = self.wide();
         let columns = wide.columns.max(1) as usize;
+        let before_x = self.before_x() as usize;
+        let before_y = self.before_y() as usize;
         let mut found = Vec::with_capacity(alloc, wide.size())?;
         for k in 0..wide.size() {
-            found.push(self.wide_cell(cells, k % columns, k / columns))?;
+            found.push(self.cell_behind(cells, before_x, before_y, k % columns, k / columns))?;
         }
         Ok(found)
     }
