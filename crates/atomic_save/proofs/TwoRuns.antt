@@ -1,17 +1,19 @@
 -- Two careful runs lose nothing.
 use Rattle.std.proofs.Common.{◌≡◌, ◌≢◌, ◌⊎◌, inl, inr, ⊎_elim, ℕ, ◌<◌, ◌==◌, Bool, true, false, not, List, [], ◌∷◌, ◌++◌, length}
 use Rattle.std.proofs.Common.{Some, bytes_eq, refl, sym, ap, subst, ◌∙◌, arith}
-use Rattle.std.specs.Prelude.{Contains}
+use Rattle.std.specs.Prelude.{Contains, is_some}
 use Rattle.std.proofs.lemmas.Bool.{cond-true, cond-false, false_from_ne_true}
 use Rattle.std.proofs.lemmas.Bool.Decides.{Decides-eqb}
 use Rattle.std.proofs.lemmas.List.Elements.{Contains-append_right}
 use Rattle.std.proofs.lemmas.Slice.Eq.{bytes_eq-Decides}
+use Rattle.atomic_save.specs.Crash.{Disk}
+use Rattle.std.proofs.Common.{None, Option, cond}
 use Rattle.atomic_save.specs.Crash.{Call, name_locked, looked, folder_opened, listed, seized, claimed, compared, removed, made, access_set, wrote, synced}
 use Rattle.atomic_save.specs.Crash.{renamed, folder_synced, Found, is_newest_made, newest, kept}
-use Rattle.atomic_save.specs.TwoRuns.{Turn, own, Place, first, made_by, nothing, Scene, with_name, with_lock, names_after, lock_after, ShowsLock}
+use Rattle.atomic_save.specs.TwoRuns.{Turn, own, Place, at_first, first, made_by, nothing, Scene, with_name, with_lock, names_after, lock_after, ShowsLock}
 use Rattle.atomic_save.specs.TwoRuns.{MayBeDone, Leaves, Stands, MayStandThen, held_there, MayBeFoundThen}
 use Rattle.atomic_save.specs.TwoRuns.{locked_path, is_filling, IsCareful, AreCareful, IsWhole, PutNone}
-use Rattle.atomic_save.specs.TwoRuns.{HasPutLast}
+use Rattle.atomic_save.specs.TwoRuns.{HasPutLast, first_save}
 
 -- ---- the calls of each run
 own_same : (run : Bool) (call : Call) (turns : List Turn) → own run ((run, call) ∷ turns) ≡ call ∷ own run turns
@@ -128,7 +130,16 @@ made_before (synced ok ∷ calls) e = omega (arith, made_before calls e)
 made_before (renamed from to ok ∷ calls) e = omega (arith, made_before calls e)
 made_before (folder_synced ok ∷ calls) e = omega (arith, made_before calls e)
 
-module _ (is_new : List ℕ → Bool) where
+-- what is found where nothing was done
+held_by : (start : Found) (disk : Bool → Disk) (path : List ℕ) (o : Option (List ℕ)) → start path ≡ o
+    → held_there start disk (cond (is_some o) (first path) nothing) ≡ o
+held_by start disk path (Some bytes) e = e
+held_by start disk path None e = refl
+
+held_first : (start : Found) (disk : Bool → Disk) (path : List ℕ) → held_there start disk (at_first start path) ≡ start path
+held_first start disk path = held_by start disk path (start path) refl
+
+module _ (start : Found) (is_new : List ℕ → Bool) where
   stays_retired : (number : ℕ) (call : Call) (calls : List Call) → IsCareful is_new call calls → IsRetired number calls → IsRetired number (call ∷ calls)
   stays_retired number (made at ok) calls careful r = record {
     older = longer number (made at ok) calls r;
@@ -238,7 +249,7 @@ module _ (is_new : List ℕ → Bool) where
   -- ---- what stands under a path that is of no new file
   -- the file that stood there at first, or one that a run has filled and put there
   abbrev PlaceIsWhole : List Turn → List ℕ → Place → Type 0
-  PlaceIsWhole turns path place = (place ≡ first path) ⊎ ((run : Bool) × (number : ℕ) × (bytes : List ℕ) × (place ≡ made_by run number)
+  PlaceIsWhole turns path place = (place ≡ at_first start path) ⊎ ((run : Bool) × (number : ℕ) × (bytes : List ℕ) × (place ≡ made_by run number)
       × Contains (own run turns) (wrote bytes true) × IsKeptBy run number bytes turns)
 
   -- a turn more leaves what is whole
@@ -545,7 +556,7 @@ module _ (is_new : List ℕ → Bool) where
         (same_or_other who run)
 
   -- ---- all turns
-  both_sound : (turns : List Turn) (s : Scene) → BothCareful turns → Stands turns s → IsSound turns s
+  both_sound : (turns : List Turn) (s : Scene) → BothCareful turns → Stands start turns s → IsSound turns s
   both_sound [] s careful stands = record {
     locked = λ run path e. absurd (cc);
     apart = λ run some. absurd (some (stands.1 run));
@@ -560,19 +571,19 @@ module _ (is_new : List ℕ → Bool) where
         whole = λ path old. whole_step run turns before was call s path cares leaves old;
       }
 
-  may_whole : (turns : List Turn) (s : Scene) → BothCareful turns → MayStandThen turns s → (path : List ℕ) → is_new path ≡ false
+  may_whole : (turns : List Turn) (s : Scene) → BothCareful turns → MayStandThen start turns s → (path : List ℕ) → is_new path ≡ false
       → PlaceIsWhole turns path (s.names path)
   may_whole [] s careful may path old = (both_sound [] s careful may).whole path old
   may_whole ((run, call) ∷ turns) s careful (inl stands) path old = (both_sound ((run, call) ∷ turns) s careful stands).whole path old
   may_whole ((run, call) ∷ turns) s careful (inr (unsynced, may)) path old = stays_whole run call turns path (s.names path)
       (careful_turn run call turns careful) (may_whole turns s (careful_before run call turns careful) may path old)
 
-  pub lose_nothing : (turns : List Turn) → BothCareful turns → (start found : Found) → MayBeFoundThen start turns found → (path : List ℕ)
+  pub lose_nothing : (turns : List Turn) → BothCareful turns → (found : Found) → MayBeFoundThen start turns found → (path : List ℕ)
       → is_new path ≡ false → IsWhole start turns path found
-  lose_nothing turns careful start found m path old = at (may_whole turns m.scene careful m.stand path old)
+  lose_nothing turns careful found m path old = at (may_whole turns m.scene careful m.stand path old)
     where
       at : PlaceIsWhole turns path (m.scene.names path) → IsWhole start turns path found
-      at (inl e) = inl (m.each path ∙ ap (held_there start m.disk) e)
+      at (inl e) = inl (m.each path ∙ ap (held_there start m.disk) e ∙ held_first start m.disk path)
       at (inr (run, number, bytes, stands, has, is)) = inr (
         run,
         bytes,
@@ -602,8 +613,8 @@ module _ (is_new : List ℕ → Bool) where
   careful_end [] turns careful = careful
   careful_end ((run, call) ∷ later) turns careful = careful_end later turns (careful_before run call (later ++ turns) careful)
 
-  stays_put : (later turns : List Turn) (path : List ℕ) (place : Place) → is_new path ≡ false → ((s : Scene) → Stands turns s → s.names path ≡ place)
-      → BothCareful (later ++ turns) → PutNone path later → (s : Scene) → Stands (later ++ turns) s → s.names path ≡ place
+  stays_put : (later turns : List Turn) (path : List ℕ) (place : Place) → is_new path ≡ false → ((s : Scene) → Stands start turns s → s.names path ≡ place)
+      → BothCareful (later ++ turns) → PutNone path later → (s : Scene) → Stands start (later ++ turns) s → s.names path ≡ place
   stays_put [] turns path place old at careful none s stands = at s stands
   stays_put ((run, call) ∷ later) turns path place old at careful none s (before, earlier, shows, lock, leaves) =
       let rest = later ++ turns in
@@ -614,15 +625,15 @@ module _ (is_new : List ℕ → Bool) where
       ∙ stays_put later turns path place old at cares each.1 before earlier
 
   put_there : (run : Bool) (from path : List ℕ) (turns : List Turn) → BothCareful ((run, renamed from path true) ∷ turns) → (s : Scene)
-      → Stands ((run, renamed from path true) ∷ turns) s → s.names path ≡ made_by run (newest (own run turns))
+      → Stands start ((run, renamed from path true) ∷ turns) s → s.names path ≡ made_by run (newest (own run turns))
   put_there run from path turns careful s (before, earlier, shows, lock, inl done) =
       renamed_stands run turns before (both_sound turns before (careful_before run (renamed from path true) turns careful) earlier) from path true s
       (careful_turn run (renamed from path true) turns careful) done
   put_there run from path turns careful s (before, earlier, shows, lock, inr (failed, e)) = absurd (cc)
 
   may_stay_put : (later turns : List Turn) (run : Bool) (path : List ℕ) (place : Place) → is_new path ≡ false
-      → ((s : Scene) → Stands ((run, folder_synced true) ∷ turns) s → s.names path ≡ place) → BothCareful (later ++ ((run, folder_synced true) ∷ turns))
-      → PutNone path later → (s : Scene) → MayStandThen (later ++ ((run, folder_synced true) ∷ turns)) s → s.names path ≡ place
+      → ((s : Scene) → Stands start ((run, folder_synced true) ∷ turns) s → s.names path ≡ place) → BothCareful (later ++ ((run, folder_synced true) ∷ turns))
+      → PutNone path later → (s : Scene) → MayStandThen start (later ++ ((run, folder_synced true) ∷ turns)) s → s.names path ≡ place
   may_stay_put [] turns run path place old at careful none s (inl stands) = at s stands
   may_stay_put [] turns run path place old at careful none s (inr (unsynced, may)) = absurd (cc)
   may_stay_put ((who, call) ∷ later) turns run path place old at careful none s (inl stands) =
@@ -643,9 +654,9 @@ module _ (is_new : List ℕ → Bool) where
       stays_kept_by run call (later ++ turns) who number bytes (careful_turn run call (later ++ turns) careful)
       (kept_through later turns who number bytes cares k)
 
-  pub last_stays : (turns : List Turn) → BothCareful turns → (start found : Found) → MayBeFoundThen start turns found → (path : List ℕ)
+  pub last_stays : (turns : List Turn) → BothCareful turns → (found : Found) → MayBeFoundThen start turns found → (path : List ℕ)
       → is_new path ≡ false → (run : Bool) (bytes : List ℕ) → HasPutLast run path bytes turns → found path ≡ Some bytes
-  last_stays turns careful start found m path old run bytes h =
+  last_stays turns careful found m path old run bytes h =
       let renamed_turns = (run, renamed h.from path true) ∷ h.earlier in
       let synced_turns = (run, folder_synced true) ∷ (h.middle ++ renamed_turns) in
       let all_careful : BothCareful (h.later ++ synced_turns) = subst BothCareful h.all careful in
@@ -656,7 +667,7 @@ module _ (is_new : List ℕ → Bool) where
       let at_renamed = put_there run h.from path h.earlier renamed_careful in
       let at_synced = stays_put ((run, folder_synced true) ∷ h.middle) renamed_turns path place old at_renamed synced_careful h.none_between in
       let stands : m.scene.names path ≡ place = may_stay_put h.later (h.middle ++ renamed_turns) run path place old at_synced all_careful h.none_later m.scene
-      (subst (λ (t : List Turn). MayStandThen t m.scene) h.all m.stand) in
+      (subst (λ (t : List Turn). MayStandThen start t m.scene) h.all m.stand) in
       let was : IsKeptBy run (newest (own run h.earlier)) bytes renamed_turns = put_kept run h.from path bytes h.earlier renamed_careful h.filled in
       let now : IsKeptBy run (newest (own run h.earlier)) bytes (h.later ++ synced_turns) = kept_through h.later synced_turns run
       (newest (own run h.earlier)) bytes all_careful (kept_through ((run, folder_synced true) ∷ h.middle) renamed_turns run (newest (own run h.earlier)) bytes
@@ -664,3 +675,61 @@ module _ (is_new : List ℕ → Bool) where
       let sure : kept (newest (own run h.earlier)) (own run turns) ≡ Some bytes =
       subst (λ (t : List Turn). kept (newest (own run h.earlier)) (own run t) ≡ Some bytes) (sym h.all) now.is in
       m.each path ∙ ap (held_there start m.disk) stands ∙ ap (λ (b : List ℕ). Some b) (m.sure run (newest (own run h.earlier)) bytes sure)
+
+-- ---- a first save stands in the model
+module _ (start : Found) (beside path bytes : List ℕ) (apart : beside ≢ path) (free : start beside ≡ None) where
+  abbrev scene_first : Scene
+  scene_first = record { names = at_first start; lock = λ run. nothing }
+
+  abbrev scene_made : Scene
+  scene_made = record { names = with_name beside (made_by true 3) (at_first start); lock = with_lock true nothing (λ run. nothing) }
+
+  abbrev scene_claimed : Scene
+  scene_claimed = record { names = scene_made.names; lock = with_lock true (scene_made.names beside) scene_made.lock }
+
+  abbrev scene_put : Scene
+  scene_put = record {
+    names = with_name beside nothing (with_name path (scene_claimed.names beside) scene_claimed.names);
+    lock = with_lock true nothing scene_claimed.lock;
+  }
+
+  made_stands : scene_made.names beside ≡ made_by true 3
+  made_stands = with_same beside (made_by true 3) (at_first start)
+
+  step : (call : Call) (earlier : List Turn) (before after : Scene) → Stands start earlier before → ShowsLock true call (own true earlier) before
+      → after.lock ≡ lock_after true call before → Leaves true call (length (own true earlier)) before after → Stands start ((true, call) ∷ earlier) after
+  step call earlier before after stands shows lock leaves = (before, stands, shows, lock, leaves)
+
+  abbrev opened_turns : List Turn
+  opened_turns = (true, folder_opened true) ∷ (true, looked path true) ∷ (true, name_locked path false) ∷ []
+
+  opened_stands : Stands start opened_turns scene_first
+  opened_stands = step (folder_opened true) ((true, looked path true) ∷ (true, name_locked path false) ∷ []) scene_first scene_first
+      (step (looked path true) ((true, name_locked path false) ∷ []) scene_first scene_first
+      (step (name_locked path false) [] scene_first scene_first (refl, λ run. refl) tt refl (inl (tt, refl))) tt refl (inl (tt, refl))) tt refl (inl (tt, refl))
+
+  abbrev claimed_turns : List Turn
+  claimed_turns = (true, claimed beside true) ∷ (true, made beside true) ∷ opened_turns
+
+  claimed_stands : Stands start claimed_turns scene_claimed
+  claimed_stands = step (claimed beside true) ((true, made beside true) ∷ opened_turns) scene_made scene_claimed
+      (step (made beside true) opened_turns scene_first scene_made opened_stands tt refl
+      (inl (ap (λ (o : Option (List ℕ)). cond (is_some o) (first beside) nothing) free, refl))) (
+        (λ is. made_stands),
+        (λ e. let no : made_by true 3 ≡ nothing = sym made_stands ∙ e in absurd (cc)),
+        (λ e. let no : made_by true 3 ≡ nothing = sym made_stands ∙ e in absurd (cc)),
+      )
+      refl (inl (tt, refl))
+
+  abbrev synced_turns : List Turn
+  synced_turns = (true, synced true) ∷ (true, wrote bytes true) ∷ (true, access_set true) ∷ claimed_turns
+
+  synced_stands : Stands start synced_turns scene_claimed
+  synced_stands = step (synced true) ((true, wrote bytes true) ∷ (true, access_set true) ∷ claimed_turns) scene_claimed scene_claimed
+      (step (wrote bytes true) ((true, access_set true) ∷ claimed_turns) scene_claimed scene_claimed
+      (step (access_set true) claimed_turns scene_claimed scene_claimed claimed_stands tt refl (inl (tt, refl))) tt refl (inl (tt, refl))) tt refl
+      (inl (tt, refl))
+
+  pub first_save_stands : Stands start (first_save beside path bytes) scene_put
+  first_save_stands = step (folder_synced true) ((true, renamed beside path true) ∷ synced_turns) scene_put scene_put
+      (step (renamed beside path true) synced_turns scene_claimed scene_put synced_stands tt refl (inl (tt, refl))) tt refl (inl (tt, refl))

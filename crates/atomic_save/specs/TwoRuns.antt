@@ -1,6 +1,7 @@
 -- Two runs that save in one folder at once: what may be found there, whichever calls of the one come between those of the other.
-use Rattle.std.specs.Prelude.{◌≡◌, ◌≢◌, ◌⊎◌, ℕ, Bool, true, false, not, List, [], ◌∷◌, ◌++◌, length, Contains, Option, Some, None, bytes_eq, if◌then◌else◌}
-use Rattle.atomic_save.specs.Crash.{Call, seized, claimed, compared, removed, made, access_set, wrote, synced}
+use Rattle.std.specs.Prelude.{◌≡◌, ◌≢◌, ◌⊎◌, ℕ, Bool, true, false, not, List, [], ◌∷◌, ◌++◌, length, Contains, Option, Some, None, is_some, bytes_eq, if◌then◌else◌}
+use Rattle.atomic_save.specs.Crash.{folder_opened, looked, name_locked, access_set}
+use Rattle.atomic_save.specs.Crash.{Call, seized, claimed, compared, removed, made, wrote, synced}
 use Rattle.atomic_save.specs.Crash.{renamed, folder_synced, is_done, is_folder_sync, Found, Disk, IsDisk, is_newest_made, newest, kept}
 
 -- A call, and which of the two runs made it. Of a list of them the newest comes first.
@@ -70,17 +71,22 @@ abbrev pub Leaves : Bool → Call → ℕ → Scene → Scene → Type 0
 Leaves run call number before after =
     (MayBeDone call before × (after.names ≡ names_after run number call before.names)) ⊎ ((is_done call ≡ false) × (after.names ≡ before.names))
 
+-- what stands under each path before any call
+abbrev pub at_first : Found → List ℕ → Place
+at_first start path = if is_some (start path) then first path else nothing
+
 -- what stands in the folder after these calls of the two runs
-abbrev pub Stands : List Turn → Scene → Type 0
-Stands [] s = (s.names ≡ first) × ((run : Bool) → s.lock run ≡ nothing)
-Stands ((run, call) ∷ earlier) s =
-    (before : Scene) × Stands earlier before × ShowsLock run call (own run earlier) before × (s.lock ≡ lock_after run call before)
+abbrev pub Stands : Found → List Turn → Scene → Type 0
+Stands start [] s = (s.names ≡ at_first start) × ((run : Bool) → s.lock run ≡ nothing)
+Stands start ((run, call) ∷ earlier) s =
+    (before : Scene) × Stands start earlier before × ShowsLock run call (own run earlier) before × (s.lock ≡ lock_after run call before)
     × Leaves run call (length (own run earlier)) before s
 
 -- what stands where the machine stops: after all of the calls, or after fewer, but none fewer than came before a sync of the folder
-abbrev pub MayStandThen : List Turn → Scene → Type 0
-MayStandThen [] s = Stands [] s
-MayStandThen ((run, call) ∷ earlier) s = Stands ((run, call) ∷ earlier) s ⊎ ((is_folder_sync call ≡ false) × MayStandThen earlier s)
+abbrev pub MayStandThen : Found → List Turn → Scene → Type 0
+MayStandThen start [] s = Stands start [] s
+MayStandThen start ((run, call) ∷ earlier) s =
+    Stands start ((run, call) ∷ earlier) s ⊎ ((is_folder_sync call ≡ false) × MayStandThen start earlier s)
 
 -- what is found where that stands
 abbrev pub held_there : Found → (Bool → Disk) → Place → Option (List ℕ)
@@ -93,8 +99,14 @@ pub record MayBeFoundThen (start : Found) (turns : List Turn) (found : Found) : 
   pub disk : Bool → Disk
   pub scene : Scene
   pub sure : (run : Bool) → IsDisk (disk run) (own run turns)
-  pub stand : MayStandThen turns scene
+  pub stand : MayStandThen start turns scene
   pub each : (path : List ℕ) → found path ≡ held_there start disk (scene.names path)
+
+-- the turns of a save by one run, to a path of which it can lock no file
+abbrev pub first_save : List ℕ → List ℕ → List ℕ → List Turn
+first_save beside path bytes =
+    (true, folder_synced true) ∷ (true, renamed beside path true) ∷ (true, synced true) ∷ (true, wrote bytes true) ∷ (true, access_set true)
+    ∷ (true, claimed beside true) ∷ (true, made beside true) ∷ (true, folder_opened true) ∷ (true, looked path true) ∷ (true, name_locked path false) ∷ []
 
 -- ---- what a run promises the other
 -- the path under which the file stands that a run has locked

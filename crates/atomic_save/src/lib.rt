@@ -19,4 +19,4 @@ pub use memory_folder::MemoryFolder;
 pub use save_folder::SaveFolder;
 pub use saves::{SaveError, save};
 pub use system_folder::SystemFolder;
-pub use two_runs::{the_last_stays, two_runs_lose_nothing};
+pub use two_runs::{a_save_stands, the_last_stays, two_runs_lose_nothing};
