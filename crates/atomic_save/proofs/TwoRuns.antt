@@ -591,7 +591,7 @@ module _ (start : Found) (is_new : List ℕ → Bool) where
         m.each path ∙ ap (held_there start m.disk) stands ∙ ap (λ (b : List ℕ). Some b) (m.sure run number bytes is.is),
       )
 
-  -- ---- who was answered last
+  -- ---- the file that was put in place last
   none_of : (run : Bool) (call : Call) (later : List Turn) (path : List ℕ) → PutNone path ((run, call) ∷ later)
       → PutNone path ((run, call) ∷ []) × PutNone path later
   none_of run (renamed from to ok) later path none = ((none.0, tt), none.1)

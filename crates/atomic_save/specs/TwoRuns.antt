@@ -1,5 +1,6 @@
 -- Two runs that save in one folder at once: what may be found there, whichever calls of the one come between those of the other.
-use Rattle.std.specs.Prelude.{◌≡◌, ◌≢◌, ◌⊎◌, ℕ, Bool, true, false, not, List, [], ◌∷◌, ◌++◌, length, Contains, Option, Some, None, is_some, bytes_eq, if◌then◌else◌}
+use Rattle.std.specs.Prelude.{◌≡◌, ◌≢◌, ◌⊎◌, ℕ, Bool, true, false, not}
+use Rattle.std.specs.Prelude.{List, [], ◌∷◌, ◌++◌, length, Contains, Option, Some, None, is_some, bytes_eq, if◌then◌else◌}
 use Rattle.atomic_save.specs.Crash.{folder_opened, looked, name_locked, access_set}
 use Rattle.atomic_save.specs.Crash.{Call, seized, claimed, compared, removed, made, wrote, synced}
 use Rattle.atomic_save.specs.Crash.{renamed, folder_synced, is_done, is_folder_sync, Found, Disk, IsDisk, is_newest_made, newest, kept}
@@ -161,7 +162,7 @@ abbrev pub IsWhole : Found → List Turn → List ℕ → Found → Type 0
 IsWhole start turns path found =
     (found path ≡ start path) ⊎ ((run : Bool) × (bytes : List ℕ) × Contains (own run turns) (wrote bytes true) × (found path ≡ Some bytes))
 
--- ---- who was answered last
+-- ---- the file that was put in place last
 -- these turns put no file under the path
 abbrev pub PutNone : List ℕ → List Turn → Type 0
 PutNone path [] = Unit {0}
