@@ -147,6 +147,19 @@ def test_a_reload_while_the_page_looks():
         assert page.notices() == [] and len(tabs(page)) == 2
 
 
+def test_a_notice_ends_with_its_map():
+    """Also where a session closes the map, and gives its name to another one."""
+    bench = Bench(served=True)
+    with bench as page:
+        (bench.folder / 'town.tmj').write_bytes(OTHER)
+        focus(page)
+        assert len(page.notices()) == 1
+        page.js('roskevad.bench.act(["discard town", "new town 4 3 16 16 tiles.tsx"])')
+        page.wait(lambda: standing(page) == (0, 0), 'another map has the name')
+        focus(page)
+        assert page.notices() == [], page.notices()
+
+
 # ---- slow saves
 
 SLOW = '''

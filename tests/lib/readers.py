@@ -21,7 +21,10 @@ class Reader(threading.Thread):
 
     def run(self):
         while not self.ends.is_set():
-            data = self.path.read_bytes() if self.path.exists() else None
+            try:
+                data = self.path.read_bytes()
+            except FileNotFoundError:
+                data = None
             self.count += 1
             if data is None or not self.is_whole(data):
                 self.faults.append(data)

@@ -30,6 +30,8 @@ export class OutsideChanges {
   async look() {
     if (this.isLooking) return;
     this.isLooking = true;
+    // One that a session has closed, too.
+    for (const document of this.told.values()) if (!this.editor.notes.isOpen(document)) this.forget(document);
     try {
       for (const document of [...this.editor.notes.documents.values()]) await this.lookAt(document);
     } finally {
