@@ -19,6 +19,7 @@ const ASIDE_FAULTS = new Map([
   [NONE - 9, "two chunks of a layer overlap"],
   [NONE - 10, "made finite, its layers have more than 16,777,216 cells"],
   [NONE - 11, "made finite, it would not come back as it was"],
+  [NONE - 12, "it has more than 200,000 fractions"],
 ]);
 // The longest text that is made, as in the program.
 const LONGEST = 67_108_864;

@@ -4,20 +4,26 @@ tests/test_infinite_maps.py does so with infinite maps. The
 maps are made here; numbers at the edge of what a float can be stand in one of them. Random edits,
 undos and redos follow in runs of their own. Maps that need nothing set aside are saved as without
 the option: the sessions of `sessions/` are heard with it. What is refused says why on standard
-error, and each growth of some sessions is refused in turn. Debian's package `tiled` has example maps:
+error. Maps with as many fractions as can be set aside are opened and saved in less than 1 GiB. Each
+growth of some sessions is refused in turn. Debian's package `tiled` has example maps:
 Tiled exports them, they are opened, edited, undone and saved, and Tiled exports what was saved; with
 that they have the same numbers."""
 import copy
 import json
+import os
 import random
 import re
+import subprocess
 import tempfile
+from pathlib import Path
 
 from lib import tiled_package
 from lib.asides import (
+    MOST_FRACTIONS,
     NAME_TAKEN,
     OPTION,
     TOO_DEEP,
+    TOO_MANY_FRACTIONS,
     TiledPlay,
     exact,
     exact_text,
@@ -27,13 +33,15 @@ from lib.cases import CORES, Case, check_each, in_processes, passed, fail_with, 
 from lib.growths import Refuser, Session
 from lib.json_texts import text_behind, tree_of
 from lib.maps import new_map, objects_in, property_of, text_of, thing, things, tiles
-from lib.places import EXAMPLE_MAPS
+from lib.places import EXAMPLE_MAPS, TILE_EDITOR
 from lib.refusals import refusal
 from lib.sessions import all_runs, fault_of_run, heard
 
 IS_LONG = True
 PACKAGES = ('tiled',)
 SEED, RUNS, STEPS = 20261127, 60, 40
+# The kilobytes of 1 GiB.
+GIB = 1 << 20
 NUMBERS = ['413.333', '0.1', '5e-324', '1.7976931348623157e308', '1e20', '-0', '359.999999', '2.0']
 FLAT = {'ellipse': True, 'rotation': 33.75}
 
@@ -201,6 +209,12 @@ def kept(value):
     return text_of(map_with(tiles(1, 6, 5)))[:-1] + f',"kept":{value}}}'.encode()
 
 
+def many(count, *layers, **members):
+    """The text of a map with so many fractions in a list, and with these layers and members."""
+    return text_of(map_with(tiles(1, 6, 5), *layers, kept=[0.5] * count, **members))
+
+
+BAD_LAYER = tiles(2, 6, 5, chunks=[{}])
 REFUSED = [
     ('the name in the map', kept('{"roskevad":1}'), 51, NAME_TAKEN),
     ('the name by an escape', kept('{"roskeva\\u0064":0.5}'), 51, NAME_TAKEN),
@@ -214,6 +228,11 @@ REFUSED = [
     ('an object that is far away', text_with(map_with(things(1, thing(1, x=1e300)))), 68, None),
     ('a version that is a list', text_with(map_with(tiles(1, 6, 5), version=[0.5])), None, None),
     ('a fraction that nests deep', kept(nested(124)), None, None),
+    ('as many fractions as there may be', many(MOST_FRACTIONS, version=1.5), None, None),
+    ('one more fraction', many(MOST_FRACTIONS + 1), 51, TOO_MANY_FRACTIONS),
+    ('one more, as a place', many(MOST_FRACTIONS, things(2, thing(1, x=0.5))), 51, TOO_MANY_FRACTIONS),
+    ('one more, and a bad chunk', many(MOST_FRACTIONS + 1, BAD_LAYER, infinite=True), 51, TOO_MANY_FRACTIONS),
+    ('one more, and the name', many(MOST_FRACTIONS + 1, roskevad=1), 51, NAME_TAKEN),
 ]
 
 
@@ -229,6 +248,32 @@ def fault_of_refused(case):
 def test_maps_that_are_refused():
     cases = [Case(name, data, (code, reason)) for name, data, code, reason in REFUSED]
     check_each(cases, fault_of_refused, CORES)
+
+
+def points():
+    """A map with as many fractions as there may be, as points of polygons."""
+    polygon = [{'x': 0.5, 'y': -1.25}] * (MOST_FRACTIONS // 20)
+    return text_of(map_with(things(1, *(thing(at, polygon=polygon) for at in range(1, 11)))))
+
+
+def fault_of_memory(case):
+    """What is wrong with how a map is opened and saved, or with the memory that it takes."""
+    with tempfile.TemporaryDirectory() as folder:
+        (Path(folder) / 'm.tmj').write_bytes(case.given)
+        (Path(folder) / 'lines').write_text('open m m.tmj\nsave n.tmj\n')
+        with open(f'{folder}/lines') as lines, open(f'{folder}/replies', 'w') as replies:
+            program = subprocess.Popen([TILE_EDITOR, OPTION], cwd=folder, stdin=lines, stdout=replies)
+            _, program.returncode, usage = os.wait4(program.pid, 0)
+        came = Path(f'{folder}/replies').read_text()
+        is_saved = exact_text(Path(f'{folder}/n.tmj').read_bytes()) == exact_text(case.given)
+    if usage.ru_maxrss >= GIB:
+        return f'{usage.ru_maxrss} KB of memory'
+    return unlike((0, 'ok', True), (program.returncode, came[:2], is_saved))
+
+
+def test_the_most_fractions():
+    rows = {'a list': many(MOST_FRACTIONS), 'points': points()}
+    check_each([Case(name, data, None) for name, data in rows.items()], fault_of_memory, CORES)
 
 
 def test_without_the_option():

@@ -1,7 +1,8 @@
 """Makes infinite maps finite and infinite again by `--all-maps`. 10,000 infinite maps made by chance are
 set aside by `map_report --table`, edited, and put back, and their trees are compared with those of the
 plain program tests/lib/infinite.py, which has one entry for each cell: untouched, the map comes back
-as it was; edited, each cell stands where it stood; and what was put back is set aside again. Maps at
+as it was; edited, each cell stands where it stood; and what was put back is set aside again. New
+chunks are whole, and on the multiples of the map's chunk size, where there is room. Maps at
 the edges of the rules, and maps that are refused, are named here with what must come. Random sessions
 open, edit, undo and save infinite maps by `tile_editor --all-maps`, beside the plain model. Debian's
 package `tiled` has infinite maps: they are edited, moved and saved, and real Tiled, which exports what
@@ -33,7 +34,7 @@ from lib.asides import (
 )
 from lib.cases import CORES, Case, check_each, fail_with, in_processes, passed, unlike
 from lib.json_texts import tree_of
-from lib.maps import group, layer_of, map_of, packed, text_of, thing, things
+from lib.maps import cells_of, group, layer_of, map_of, packed, text_of, thing, things
 from lib.places import EXAMPLES, IN_MEMORY, MAP_REPORT
 from lib.refusals import refusal
 from lib.sessions import heard
@@ -182,6 +183,77 @@ def fault_of_sound(case):
 
 def test_maps_at_the_edges():
     check_each([Case(name, tree, None) for name, tree in [*SOUND, PACKED]], fault_of_sound, CORES)
+
+
+# ---- new chunks
+
+
+def drawn(tree, columns, rows, *places):
+    """What comes back of the chunks of the first layer, as their places and sizes, if the map is set
+    aside, gets this size, and has the value 7 at these places."""
+    finite = set_aside(tree)
+    old = finite['width'], finite['height']
+    layer = finite['layers'][0]
+    cells = dict(zip(itertools.product(range(old[1]), range(old[0])), cells_of(layer)))
+    cells.update({(y, x): 7 for x, y in places})
+    size = max(columns, old[0]), max(rows, old[1])
+    data = [cells.get((y, x), 0) for y in range(size[1]) for x in range(size[0])]
+    layer.update(data=data, width=size[0], height=size[1])
+    finite.update(width=size[0], height=size[1])
+    (came,) = answers('back', [json.dumps(finite).encode()])
+    chunks = json.loads(came)['layers'][0]['chunks']
+    return [(item['x'], item['y'], item['width'], item['height']) for item in chunks]
+
+
+def sides(width, height):
+    return {'editorsettings': {'chunksize': {'width': width, 'height': height}}}
+
+
+def layered(layers):
+    """So many layers, of which each would have 1024 by 512 cells, and a column and a row more."""
+    return plane(*[spread(chunk(0, 0, 16, 16))] * layers, **sides(512, 512))
+
+
+WHOLE = [
+    ('beside a chunk', plane(spread(chunk(0, 0, 16, 16))), (20, 18), [(19, 17)], [(16, 16, 16, 16)]),
+    ('an odd chunk in the block', plane(spread(chunk(-3, 5, 2, 7))), (0, 0), [(0, 0)], [(-4, 4, 1, 1)]),
+    ('before the corner', plane(spread(chunk(20, 40, 1, 1))), (20, 1), [(15, 0)], [(32, 32, 16, 16)]),
+    ('odd chunks', plane(spread(chunk(1, 1, 5, 5)), **sides(8, 8)), (20, 6), [(9, 1)], [(8, 0, 8, 8)]),
+    (
+        'left of the corner and above it',
+        plane(spread(chunk(-3, -3, 1, 1), chunk(29, 29, 1, 1))),
+        (0, 0),
+        [(30, 2), (6, 32)],
+        [(16, -16, 16, 16), (0, 16, 16, 16)],
+    ),
+    (
+        'a chunk of its own size in the block',
+        plane(spread(chunk(2, 2, 3, 3)), **sides(8, 8)),
+        (20, 20),
+        [(4, 4), (5, 4)],
+        [(6, 6, 2, 1)],
+    ),
+    (
+        'no room for whole chunks',
+        plane(spread(chunk(0, 0, 1000, 1000)), **sides(100, 1000)),
+        (1010, 1001),
+        [(1009, 1000)],
+        [(1000, 1000, 10, 1)],
+    ),
+    ('room in all layers', layered(31), (520, 20), [(517, 17)], [(512, 0, 512, 512)]),
+    ('no room in all layers', layered(32), (520, 20), [(517, 17)], [(512, 0, 8, 20)]),
+]
+
+
+def fault_of_whole(case):
+    """The chunks that a map had stay, and new ones come behind them."""
+    tree, size, places, news = case.given
+    olds = [(item['x'], item['y'], item['width'], item['height']) for item in tree['layers'][0]['chunks']]
+    return unlike([*olds, *news], drawn(tree, *size, *places))
+
+
+def test_new_chunks_are_whole():
+    check_each([Case(name, given, None) for name, *given in WHOLE], fault_of_whole, CORES)
 
 
 # ---- what is refused

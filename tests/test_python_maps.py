@@ -247,6 +247,7 @@ def test_maps_that_are_refused():
         ('the note', 51, NOTE_TAKEN, with_data(data_of([1] * 30, ZLIB), roskevad_compression='zlib')),
         ('too deep', 51, 'set aside or put back, it would nest deeper than 127',
          kept(a='deep').replace(b'"deep"', b'[' * 125 + b'0.5' + b']' * 125)),
+        ('too many fractions', 51, 'it has more than 200,000 fractions', kept(a=[0.5] * 200_001)),
         ('another packing', 65, "there is no compression 'lzma'", with_data('', 'lzma')),
         ('a chunk of another size', 66, BAD_DATA, chunks_with(1, 16, data_of([1] * 255, ZLIB))),
         ('a chunk without a size', 51, bad_chunk, chunks_with(1, 0, data_of([1], ZLIB))),

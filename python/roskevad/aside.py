@@ -21,6 +21,7 @@ _FAULTS = {
     library.OVERLAP: 'two chunks of a layer overlap',
     library.TOO_LARGE: 'made finite, its layers have more than 16,777,216 cells',
     library.UNLIKE: 'made finite, it would not come back as it was',
+    library.TOO_MANY_FRACTIONS: 'it has more than 200,000 fractions',
 }
 # The longest text that is made, as in the program.
 _LONGEST = 67_108_864

@@ -19,6 +19,7 @@ BAD_CHUNK = 2**64 - 9
 OVERLAP = 2**64 - 10
 TOO_LARGE = 2**64 - 11
 UNLIKE = 2**64 - 12
+TOO_MANY_FRACTIONS = 2**64 - 13
 
 
 class Slot(ctypes.Structure):

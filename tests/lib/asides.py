@@ -15,6 +15,7 @@ from lib.sessions import fault_of_reasons, fault_of_replies, heard
 OPTION = '--all-maps'
 RESERVED = 'roskevad'
 NAME_TAKEN = 'a member has the reserved name "roskevad"'
+MOST_FRACTIONS, TOO_MANY_FRACTIONS = 200_000, 'it has more than 200,000 fractions'
 TOO_DEEP = 'set aside or put back, it would nest deeper than 127'
 NOT_JSON = 'not JSON'
 # The words for each fault of lib/infinite.py, and for a map that would not come back.

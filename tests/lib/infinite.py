@@ -166,18 +166,20 @@ def finite_of(tree):
     across, down = chunk_side(tree, 'width'), chunk_side(tree, 'height')
     note = {'x': left, 'y': top}
     if is_small:
-        if len(list(chunked_layers(tree.get('layers', [])))) * width * height > MOST_LAYER_CELLS:
+        layers = len(list(chunked_layers(tree.get('layers', []))))
+        if layers * width * height > MOST_LAYER_CELLS:
             raise Fault('TooLarge')
         moved = [0, 0]
         if tree.get('orientation', 'orthogonal') == 'orthogonal':
             moved = [left * tile_side(tree, 'tilewidth'), top * tile_side(tree, 'tileheight')]
         note.update(chunkwidth=across, chunkheight=down, lostx=left % across, losty=top % down)
         note.update(movedx=moved[0], movedy=moved[1])
+        note['most'] = min(MOST_CELLS, MOST_LAYER_CELLS // max(layers, 1))
         for layer in every_layer(tree.get('layers', [])):
             finite_layer(layer, left, top, width, height)
         move_objects(tree.get('layers', []), -moved[0], -moved[1])
     else:
-        names = ('chunkwidth', 'chunkheight', 'lostx', 'losty', 'movedx', 'movedy')
+        names = ('chunkwidth', 'chunkheight', 'lostx', 'losty', 'most', 'movedx', 'movedy')
         note.update({name: 0 for name in names})
     note.update({name: tree[name] for name in ('width', 'height') if name in tree})
     tree.update(width=width, height=height, infinite=False)
@@ -193,12 +195,43 @@ def block_of(note, x, y):
     return (y + note['losty']) // note['chunkheight'], (x + note['lostx']) // note['chunkwidth']
 
 
-def block_at(note, width, height, row, column):
-    """A block as a rectangle, as far as it lies on the map."""
+def block_at(note, row, column):
+    """A block as a rectangle, counted from the corner of the map, which it may reach past."""
     left = column * note['chunkwidth'] - note['lostx']
     top = row * note['chunkheight'] - note['losty']
-    right, bottom = left + note['chunkwidth'], top + note['chunkheight']
+    return left, top, left + note['chunkwidth'], top + note['chunkheight']
+
+
+def has_room(note, width, height):
+    """Whether all blocks that have a cell of the map, and one column and row more, are within the limits."""
+    row, column = block_of(note, width - 1, height - 1)
+    across = (column + 1) * note['chunkwidth'] + 1
+    down = (row + 1) * note['chunkheight'] + 1
+    return max(across, down) <= MOST_SIDE and across * down <= note['most']
+
+
+def chunk_of_block(note, width, height, block):
+    """The whole block, or what of it lies on the map, if there is no room for whole ones."""
+    left, top, right, bottom = block_at(note, *block)
+    if has_room(note, width, height):
+        return left, top, right, bottom
     return max(left, 0), max(top, 0), min(right, width), min(bottom, height)
+
+
+def on_map(rectangle, width, height):
+    """The places of a rectangle that lie on the map, as slices of a layer's cells."""
+    left, top, right, bottom = rectangle
+    return rows_in((max(left, 0), max(top, 0), min(right, width), min(bottom, height)), width)
+
+
+def cut(cells, rectangle, width, height):
+    """The cells of a layer in a rectangle, row by row; 0 outside of the map."""
+    left, top, right, bottom = rectangle
+    return [
+        cells[y * width + x] if 0 <= x < width and 0 <= y < height else 0
+        for y in range(top, bottom)
+        for x in range(left, right)
+    ]
 
 
 def rows_in(rectangle, width):
@@ -222,8 +255,8 @@ def new_rectangles(note, width, height, cells, covered):
     found = []
     for block in sorted(blocks):
         news = blocks[block]
-        for whole in (block_at(note, width, height, *block), around(news)):
-            if not any(any(covered[row]) for row in rows_in(whole, width)):
+        for whole in (chunk_of_block(note, width, height, block), around(news)):
+            if not any(any(covered[row]) for row in on_map(whole, width, height)):
                 news = [whole]
                 break
         found += news
@@ -254,7 +287,7 @@ def infinite_layer(layer, note, width, height):
         layer.pop(name, None)
     layer['chunks'] = [
         {
-            'data': data_of([cell for row in rows_in(rectangle, width) for cell in cells[row]], is_text),
+            'data': data_of(cut(cells, rectangle, width, height), is_text),
             'height': rectangle[3] - rectangle[1],
             'width': rectangle[2] - rectangle[0],
             'x': note['x'] + rectangle[0],
@@ -317,8 +350,9 @@ def wrong_cells(finite, infinite):
         found = cell_places(spread)
         stood = dict(zip(places_in(*sides), cells_of(layer)))
         came = {**dict.fromkeys(stood, 0), **found}
-        if came != stood:
-            place = min(place for place in came if came[place] != stood.get(place))
+        wrong = [place for place in came if came[place] != stood.get(place, 0)]
+        if wrong:
+            place = min(wrong)
             return f'layer {layer["id"]}: the cell at {place} was {stood.get(place)}, and is {came[place]}'
     return None
 

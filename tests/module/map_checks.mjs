@@ -141,6 +141,7 @@ async function mapsThatAreRefused() {
     [packedMap("", "zlib", { roskevad_compression: "zlib" }), 51,
       'a layer has a member of the reserved name "roskevad_compression"'],
     [mapOf([], { kept: { roskevad: 1 } }), 51, NAME_TAKEN],
+    [mapOf([], { kept: Array(200_001).fill(0.5) }), 51, "it has more than 200,000 fractions"],
     [`${"[".repeat(126)}0.5${"]".repeat(126)}`, 51, "set aside or put back, it would nest deeper than 127"],
     ["{", 60, null],
     [Uint8Array.of(34, 255, 34), 60, null],

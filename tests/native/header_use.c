@@ -12,7 +12,7 @@ int main(void)
     roskevad_heard heard = {0, 0, 0, 0};
     const size_t told[] = {ROSKEVAD_DONE, ROSKEVAD_NONE, ROSKEVAD_IS_CLOSED, ROSKEVAD_NO_MEMORY, ROSKEVAD_TOO_GREAT, ROSKEVAD_BAD_NAME};
     const size_t faults[] = {ROSKEVAD_NOT_JSON, ROSKEVAD_NAME_TAKEN, ROSKEVAD_TOO_DEEP, ROSKEVAD_BAD_CHUNK, ROSKEVAD_OVERLAP,
-                             ROSKEVAD_TOO_LARGE, ROSKEVAD_UNLIKE};
+                             ROSKEVAD_TOO_LARGE, ROSKEVAD_UNLIKE, ROSKEVAD_TOO_MANY_FRACTIONS};
     size_t sum = told[0] + faults[0] + sizeof ROSKEVAD_VERSION;
     sum += roskevad_editor_open(&slot, ROSKEVAD_GREATEST_LIMIT);
     sum += roskevad_editor_step(&slot, line, sizeof line - 1, room, sizeof room);

@@ -177,7 +177,7 @@ static void check_unmade(size_t (*make)(const void *, size_t, void *, size_t), c
 /* Fractions and infinite maps, set aside and put back, and each reason why not. */
 static void check_asides(void)
 {
-    static char deep[300], large[2000];
+    static char deep[300], large[2000], many[4 * 200001 + 3];
     check_made(roskevad_editor_set_aside, "{\"a\":0.5}", HALF_ASIDE);
     check_made(roskevad_editor_put_back, HALF_ASIDE, "{\"a\":0.5}");
     check_unmade(roskevad_editor_set_aside, "{\"a\":1,\"version\":1.5}", ROSKEVAD_NONE);
@@ -190,6 +190,11 @@ static void check_asides(void)
     memcpy(deep + 126, "0.5", 3);
     memset(deep + 129, ']', 126);
     check_unmade(roskevad_editor_set_aside, deep, ROSKEVAD_TOO_DEEP);
+    for (int at = 0; at < 200001; at++)
+        memcpy(many + 4 * at + 1, "0.5,", 4);
+    many[0] = '[';
+    many[4 * 200001] = ']';
+    check_unmade(roskevad_editor_set_aside, many, ROSKEVAD_TOO_MANY_FRACTIONS);
     check_unmade(roskevad_editor_set_aside, INFINITE("{\"chunks\":[{}]}"), ROSKEVAD_BAD_CHUNK);
     check_unmade(roskevad_editor_set_aside, INFINITE("{\"chunks\":[" CHUNK("") "," CHUNK("") "]}"), ROSKEVAD_OVERLAP);
     check_unmade(roskevad_editor_set_aside, INFINITE("{\"chunks\":[" CHUNK(",\"a\":1") "]}"), ROSKEVAD_UNLIKE);

@@ -1,11 +1,11 @@
 -- What may be found after one call more, and after more of them.
-use Rattle.std.proofs.Common.{◌≡◌, ◌≢◌, ◌⊎◌, inl, inr, ⊎_elim, ℕ, ◌≤◌, ◌<◌, Bool, true, false, cond, List, [], ◌∷◌, ◌++◌, length, Option, Some, bytes_eq, refl}
+use Rattle.std.proofs.Common.{◌≡◌, ◌≢◌, ◌⊎◌, inl, inr, ⊎_elim, ℕ, ◌≤◌, ◌<◌, true, false, List, [], ◌∷◌, ◌++◌, length, Some, bytes_eq, refl}
 use Rattle.std.proofs.Common.{sym, ap, subst, ◌∙◌, arith, append_assoc, length-append}
 use Rattle.std.proofs.lemmas.Bool.{cond-true, cond-false, cases_lt, false_from_ne_true}
 use Rattle.std.proofs.lemmas.Slice.Eq.{bytes_eq-Decides}
-use Rattle.atomic_save.specs.Crash.{Call, removed, made, synced, compared, renamed, folder_synced, none_refused, Standing, file, nothing, Names, with_name}
-use Rattle.atomic_save.specs.Crash.{after_call, Found, Disk, held, Stand, MayStand, IsDisk, MayBeFound, kept}
-use Rattle.atomic_save.specs.Saving.{IsOldOrNew, LosesNothing, IsKept, IsInPlace, Only}
+use Rattle.atomic_save.specs.Crash.{Call, Standing, Names, with_name}
+use Rattle.atomic_save.specs.Crash.{after_call, Found, Disk, held, Stand, MayStand, IsDisk, MayBeFound, spoils}
+use Rattle.atomic_save.specs.Saving.{IsOldOrNew, LosesNothing}
 use Rattle.atomic_save.proofs.Sure.{StaysSure}
 
 -- ---- names
@@ -47,7 +47,8 @@ module _ (IsBeside : List ℕ → Type 0) (path bytes : List ℕ) where
   as_it_was : (calls : List Call) (start found : Found) → MayBeFound start calls found → Result calls start found
   as_it_was calls start found m = (found, m, record { whole = inl refl; others = λ other a b. refl })
 
-  module _ (call : Call) (calls : List Call) (others : LeavesOthers call calls) (at_path : LeavesPath call calls) (stays : StaysSure calls (call ∷ calls))
+  module _ (call : Call) (calls : List Call) (spares : spoils call calls ≡ false)
+      (others : LeavesOthers call calls) (at_path : LeavesPath call calls) (stays : StaysSure calls (call ∷ calls))
       (start found : Found) (m : MayBeFound start (call ∷ calls) found) where
     -- what is found is what could have been found where these names stood
     from : (before : Names) → MayStand start m.disk calls before → ((other : List ℕ) → other ≢ path → (IsBeside other → ⊥) → m.names other ≡ before other)
@@ -66,30 +67,32 @@ module _ (IsBeside : List ℕ → Type 0) (path bytes : List ℕ) where
         (λ other a b. ap (λ (f : Names). f other) e ∙ others before other a b)
         (⊎_elim (λ q. inl (ap (λ (f : Names). f path) e ∙ q)) (λ q. inr (ap (λ (f : Names). held start m.disk (f path)) e ∙ q))
         (at_path start m.disk before m.sure s))
-    found_after (inl (before, s, shows, inr (failed, e))) = from before (stand_may start m.disk calls before s) (λ other a b. ap (λ (f : Names). f other) e)
+    found_after (inl (before, s, shows, inr (inr spoiled))) = absurd (cc)
+    found_after (inl (before, s, shows, inr (inl (failed, e)))) = from before (stand_may start m.disk calls before s)
+        (λ other a b. ap (λ (f : Names). f other) e)
         (inl (ap (λ (f : Names). f path) e))
     found_after (inr (unsynced, may)) = from m.names may (λ other a b. refl) (inl refl)
 
     pub after_it : Result calls start found
     after_it = found_after m.stand
 
-  pub one_call : (call : Call) (calls : List Call) → LeavesOthers call calls → LeavesPath call calls → StaysSure calls (call ∷ calls)
-      → LosesNothing IsBeside path bytes calls (call ∷ calls)
-  one_call call calls others at_path stays = record { calls = (call ∷ [], refl); each = each }
+  pub one_call : (call : Call) (calls : List Call) → spoils call calls ≡ false → LeavesOthers call calls → LeavesPath call calls
+      → StaysSure calls (call ∷ calls) → LosesNothing IsBeside path bytes calls (call ∷ calls)
+  one_call call calls spares others at_path stays = record { calls = (call ∷ [], refl); each = each }
     where
       each : (later sofar : List Call) → call ∷ calls ≡ later ++ sofar → length calls ≤ length sofar → (start found : Found) → MayBeFound start sofar found
           → Result calls start found
       each [] sofar e long start found m = subst (λ (l : List Call). MayBeFound start l found → Result calls start found) e
-          (λ n. after_it call calls others at_path stays start found n) m
+          (λ n. after_it call calls spares others at_path stays start found n) m
       each (c ∷ []) sofar e long start found m = let rest : calls ≡ sofar = cc in
           subst (λ (l : List Call). MayBeFound start l found → Result calls start found) rest (λ n. as_it_was calls start found n) m
       each (c ∷ d ∷ later) sofar e long start found m = absurd (omega (arith, ap length e, length-append (c ∷ d ∷ later) sofar, long))
 
   -- a call that changes no name but those beside the path
-  pub harmless : (call : Call) (calls : List Call) → (IsBeside path → ⊥)
+  pub harmless : (call : Call) (calls : List Call) → spoils call calls ≡ false → (IsBeside path → ⊥)
       → ((names : Names) (other : List ℕ) → (IsBeside other → ⊥) → after_call call (length calls) names other ≡ names other)
       → StaysSure calls (call ∷ calls) → LosesNothing IsBeside path bytes calls (call ∷ calls)
-  harmless call calls apart leaves stays = one_call call calls (λ names other a b. leaves names other b)
+  harmless call calls spares apart leaves stays = one_call call calls spares (λ names other a b. leaves names other b)
       (λ start disk names is s. inl (leaves names path apart)) stays
 
   -- ---- more calls

@@ -3,8 +3,8 @@ use Rattle.std.proofs.Common.{◌≡◌, ℕ, ◌≤◌, ◌==◌, Bool, true, f
 use Rattle.std.proofs.Common.{arith}
 use Rattle.std.proofs.lemmas.Bool.{cond-false, false_from_ne_true}
 use Rattle.std.proofs.lemmas.Bool.Decides.{Decides-eqb}
-use Rattle.atomic_save.specs.Crash.{Call, looked, folder_opened, listed, seized, claimed, compared, removed, made, access_set, wrote, synced, renamed}
-use Rattle.atomic_save.specs.Crash.{folder_synced, newest, written, kept}
+use Rattle.atomic_save.specs.Crash.{Call, made, wrote, synced}
+use Rattle.atomic_save.specs.Crash.{newest, written, kept}
 
 pub itself : (number : ℕ) → (number == number) ≡ true
 itself number = (Decides-eqb number number).1 refl

@@ -1,6 +1,7 @@
 -- What is found in a folder where the machine stops, by the calls that were made on it: those of a file system that keeps the order of what is done to
 -- names, renames in one step, and is sure of what a file holds only once the file is synced.
-use Rattle.std.specs.Prelude.{◌≡◌, ◌⊎◌, ℕ, ◌==◌, Bool, true, false, ◌&&◌, List, [], ◌∷◌, ◌++◌, length, Option, Some, None, option_map, bytes_eq, if◌then◌else◌}
+use Rattle.std.specs.Prelude.{◌≡◌, ◌⊎◌, ℕ, ◌+◌, ◌==◌, Bool, true, false, not, ◌&&◌}
+use Rattle.std.specs.Prelude.{List, [], ◌∷◌, ◌++◌, length, Option, Some, None, option_map, bytes_eq, if◌then◌else◌}
 
 -- A call on a folder, and whether it was answered that it is done. A write and a sync are of the file that was opened last.
 pub data Call : Type 0 where
@@ -45,6 +46,24 @@ is_done (folder_synced ok) = ok
 abbrev pub is_folder_sync : Call → Bool
 is_folder_sync (folder_synced ok) = ok
 is_folder_sync call = false
+
+-- 1 for a call that a save needs and that was refused
+abbrev pub refusal : Call → ℕ
+refusal (looked path ok) = if ok then 0 else 1
+refusal (folder_opened ok) = if ok then 0 else 1
+refusal (claimed path ok) = if ok then 0 else 1
+refusal (made path ok) = if ok then 0 else 1
+refusal (access_set ok) = if ok then 0 else 1
+refusal (wrote bytes ok) = if ok then 0 else 1
+refusal (synced ok) = if ok then 0 else 1
+refusal (renamed from to ok) = if ok then 0 else 1
+refusal (folder_synced ok) = if ok then 0 else 1
+refusal call = 0
+
+-- how many calls that a save needs were refused
+abbrev pub refusals : List Call → ℕ
+refusals [] = 0
+refusals (call ∷ earlier) = refusal call + refusals earlier
 
 -- no write and no sync was refused
 abbrev pub none_refused : List Call → Bool
@@ -93,12 +112,27 @@ abbrev pub Shows : Found → Disk → Call → List Call → Names → Type 0
 Shows start disk (synced true) (compared path bytes true ∷ earlier) names = none_refused earlier ≡ true → held start disk (names path) ≡ Some bytes
 Shows start disk call earlier names = Unit {0}
 
--- The names after these calls, of which the newest comes first. A call that was answered by an error may have been done all the same.
+-- whether the file that was opened last is one that a call made
+abbrev pub is_newest_made : List Call → Bool
+is_newest_made [] = false
+is_newest_made (made path ok ∷ earlier) = true
+is_newest_made (seized path ok ∷ earlier) = false
+is_newest_made (compared path bytes ok ∷ earlier) = false
+is_newest_made (call ∷ earlier) = is_newest_made earlier
+
+-- a write to a file that no call made, or new access bits of it
+abbrev pub spoils : Call → List Call → Bool
+spoils (access_set ok) earlier = not (is_newest_made earlier)
+spoils (wrote bytes ok) earlier = not (is_newest_made earlier)
+spoils call earlier = false
+
+-- The names after these calls, of which the newest comes first. A call that was answered by an error may have been done all the same. Once a file that was
+-- there before was written to, anything may stand under any path.
 abbrev pub Stand : Found → Disk → List Call → Names → Type 0
 Stand start disk [] names = names ≡ first
 Stand start disk (call ∷ earlier) names =
     (before : Names) × Stand start disk earlier before × Shows start disk call earlier before
-    × ((names ≡ after_call call (length earlier) before) ⊎ ((is_done call ≡ false) × (names ≡ before)))
+    × ((names ≡ after_call call (length earlier) before) ⊎ ((is_done call ≡ false) × (names ≡ before)) ⊎ (spoils call earlier ≡ true))
 
 -- The names that are found where the machine stops: those after all of the calls, or after fewer of them, but none fewer than came before a sync of the folder.
 abbrev pub MayStand : Found → Disk → List Call → Names → Type 0

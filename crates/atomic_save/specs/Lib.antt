@@ -1,3 +1,4 @@
 pub mod Crash
 pub mod Saving
 pub mod Note
+pub mod TwoRuns

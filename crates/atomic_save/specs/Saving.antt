@@ -1,6 +1,8 @@
 -- What a save leaves, wherever the machine stops.
-use Rattle.std.specs.Prelude.{◌≡◌, ◌≢◌, ◌⊎◌, ℕ, ◌≤◌, List, ◌∷◌, ◌++◌, length, Some, true}
-use Rattle.atomic_save.specs.Crash.{Call, made, Found, Disk, held, IsDisk, Names, Stand, MayBeFound}
+use Rattle.std.specs.Prelude.{◌≡◌, ◌≢◌, ◌⊎◌, ℕ, ◌<◌, ◌≤◌, List, ◌∷◌, ◌++◌, length, Some, true}
+use Rattle.atomic_save.specs.Crash.{Call, made, Found, Disk, held, IsDisk, Names, Stand, MayBeFound, refusals}
+use Rattle.atomic_save.specs.declared.saves.SaveError.{SaveError}
+use Rattle.atomic_save.specs.declared.saves.SaveError.TheVariants.{Refused, Memory}
 
 -- Under the path stands what stood there or the new bytes, whole. Nothing else is changed but what is beside it.
 pub record IsOldOrNew (IsBeside : List ℕ → Type 0) (path bytes : List ℕ) (before found : Found) : Type 0 where
@@ -37,3 +39,8 @@ IsBeside front path = (rest : List ℕ) × (path ≡ front ++ rest)
 -- the last call made a file
 abbrev pub IsMade : List ℕ → List Call → Type 0
 IsMade path calls = (earlier : List Call) × (calls ≡ made path true ∷ earlier)
+
+-- a save ends with an error only where a call that it needs was refused in it, or a path found no memory
+abbrev pub IsReason : SaveError → List Call → List Call → Type 0
+IsReason (Refused error) old new = refusals old < refusals new
+IsReason (Memory error) old new = Unit {0}

@@ -51,11 +51,12 @@ pub trait SaveFolder {
     fn create(&mut self, path: &str, access: Option<u32>) -> io::Result<()>
         ensures { log self.new ≡ made path.now (is_ok result) ∷ log self.old };
 
-    /// Gives the file that was made last these access bits, where there are some.
+    /// Gives the file that was opened last these access bits, where there are some. Where no call made that file, nothing is sure of
+    /// any file any more.
     fn set_access(&mut self, access: Option<u32>) -> io::Result<()>
         ensures { log self.new ≡ access_set (is_ok result) ∷ log self.old };
 
-    /// Writes to the end of the file that was opened last.
+    /// Writes to the end of the file that was opened last. Where no call made that file, nothing is sure of any file any more.
     fn write(&mut self, bytes: &[u8]) -> io::Result<()>
         ensures { log self.new ≡ wrote bytes.now (is_ok result) ∷ log self.old };
 

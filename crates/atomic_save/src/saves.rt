@@ -1,5 +1,8 @@
-ghost use Rattle.std.specs.Prelude.{◌≢◌, ℕ, List, IfOk, OnOk, IsTrue, string_bytes};
-ghost use Rattle.atomic_save.specs.Saving.{LosesNothing, IsKept, IsInPlace, IsMade, IsBeside, Only, NoPath};
+ghost use Rattle.std.specs.Prelude.{◌≡◌, ◌≢◌, ◌<◌, ℕ, List, IfErr, IfOk, OnErr, OnOk, IsTrue, string_bytes};
+ghost use Rattle.atomic_save.specs.Crash.{refusals};
+ghost use Rattle.atomic_save.specs.Saving.{LosesNothing, IsKept, IsInPlace, IsMade, IsBeside, IsReason, Only, NoPath};
+ghost use Rattle.atomic_save.specs.declared.saves.SaveError.TheVariants.{Refused, Memory};
+ghost use Rattle.atomic_save.specs.TwoRuns.{IsPut, IsRenamed, StaysCareful};
 
 use crate::save_folder::SaveFolder;
 use std::alloc::{AllocError, Global};
@@ -14,9 +17,25 @@ const MOST_NAMES: u64 = 1000;
 #[derive(Debug, Drop, Error)]
 pub enum SaveError {
     #[error("{0}")]
-    Refused(#[from] io::Error),
+    Refused(io::Error),
     #[error("out of memory")]
-    Memory(#[from] AllocError),
+    Memory(AllocError),
+}
+
+impl From<io::Error> for SaveError {
+    ghost from_gives = { λ error e. e ≡ Refused error };
+
+    fn from(error: io::Error) -> SaveError {
+        SaveError::Refused(error)
+    }
+}
+
+impl From<AllocError> for SaveError {
+    ghost from_gives = { λ error e. e ≡ Memory error };
+
+    fn from(error: AllocError) -> SaveError {
+        SaveError::Memory(error)
+    }
 }
 
 // The path of the new file with this number.
@@ -28,8 +47,9 @@ fn path_beside(alloc: Global, front: &str, number: u64) -> Result<String, AllocE
 
 // Takes away a file that a killed run left.
 fn clear_one<F: SaveFolder>(alloc: Global, folder: &mut F, front: &str, number: u64)
-    ensures { (path bytes : List ℕ) → (IsBeside front.now path → ⊥)
+    ensures safe { (path bytes : List ℕ) → (IsBeside front.now path → ⊥)
         → LosesNothing (IsBeside front.now) path bytes (F.log folder.old) (F.log folder.new) }
+    ensures careful { (path : List ℕ) → StaysCareful (IsBeside front.now) path (F.log folder.old) (F.log folder.new) }
 {
     let Ok(beside) = path_beside(alloc, front, number) else {
         return;
@@ -43,8 +63,9 @@ fn clear_one<F: SaveFolder>(alloc: Global, folder: &mut F, front: &str, number: 
 
 // Takes away what killed runs left, as far as nobody else has it locked.
 fn clear<F: SaveFolder>(alloc: Global, folder: &mut F, front: &str)
-    ensures { (path bytes : List ℕ) → (IsBeside front.now path → ⊥)
+    ensures safe { (path bytes : List ℕ) → (IsBeside front.now path → ⊥)
         → LosesNothing (IsBeside front.now) path bytes (F.log folder.old) (F.log folder.new) }
+    ensures careful { (path : List ℕ) → StaysCareful (IsBeside front.now) path (F.log folder.old) (F.log folder.new) }
 {
     let Ok(numbers) = folder.left_overs(alloc, front) else {
         return;
@@ -62,7 +83,9 @@ fn is_unchanged<F: SaveFolder>(
     bytes: &[u8],
 ) -> bool
     ensures safe { LosesNothing NoPath path.now bytes.now (F.log folder.old) (F.log folder.new) }
+    ensures careful { StaysCareful NoPath path.now (F.log folder.old) (F.log folder.new) }
     ensures kept { IsTrue result → IsKept path.now bytes.now (F.log folder.new) }
+    ensures put { IsTrue result → IsPut path.now bytes.now (F.log folder.new) }
 {
     if access.is_none() {
         return false;
@@ -87,7 +110,10 @@ fn fill<F: SaveFolder>(
     requires apart { beside.now ≢ path.now }
     requires made { IsMade beside.now (F.log folder.old) }
     ensures safe { LosesNothing (Only beside.now) path.now bytes.now (F.log folder.old) (F.log folder.new) }
+    ensures careful { StaysCareful (Only beside.now) path.now (F.log folder.old) (F.log folder.new) }
     ensures placed { OnOk result (IsInPlace path.now bytes.now (F.log folder.new)) }
+    ensures put { OnOk result (IsRenamed path.now bytes.now (F.log folder.new)) }
+    ensures reason { OnErr result (refusals (F.log folder.old) < refusals (F.log folder.new)) }
 {
     folder.claim(beside)?;
     folder.set_access(access)?;
@@ -98,8 +124,9 @@ fn fill<F: SaveFolder>(
 
 // Takes a new file away that could not be put in place, if its path still leads to it.
 fn take_back<F: SaveFolder>(folder: &mut F, beside: &str)
-    ensures { (path bytes : List ℕ) → beside.now ≢ path
+    ensures safe { (path bytes : List ℕ) → beside.now ≢ path
         → LosesNothing (Only beside.now) path bytes (F.log folder.old) (F.log folder.new) }
+    ensures careful { (path : List ℕ) → StaysCareful (Only beside.now) path (F.log folder.old) (F.log folder.new) }
 {
     if folder.claim(beside).is_err() {
         return;
@@ -117,7 +144,10 @@ fn save_beside<F: SaveFolder>(
 ) -> io::Result<()>
     requires { beside.now ≢ path.now }
     ensures safe { LosesNothing (Only beside.now) path.now bytes.now (F.log folder.old) (F.log folder.new) }
+    ensures careful { StaysCareful (Only beside.now) path.now (F.log folder.old) (F.log folder.new) }
     ensures kept { OnOk result (IsKept path.now bytes.now (F.log folder.new)) }
+    ensures put { OnOk result (IsPut path.now bytes.now (F.log folder.new)) }
+    ensures reason { OnErr result (refusals (F.log folder.old) < refusals (F.log folder.new)) }
 {
     folder.create(beside, access)?;
     if let Err(error) = fill(folder, beside, path, access, bytes) {
@@ -138,14 +168,17 @@ fn replace<F: SaveFolder>(
 ) -> Result<(), SaveError>
     requires { IsBeside front.now path.now → ⊥ }
     ensures safe { LosesNothing (IsBeside front.now) path.now bytes.now (F.log folder.old) (F.log folder.new) }
+    ensures careful { StaysCareful (IsBeside front.now) path.now (F.log folder.old) (F.log folder.new) }
     ensures kept { OnOk result (IsKept path.now bytes.now (F.log folder.new)) }
+    ensures put { OnOk result (IsPut path.now bytes.now (F.log folder.new)) }
+    ensures reason { IfErr result (λ error. IsReason error (F.log folder.old) (F.log folder.new)) }
 {
     for number in 0..MOST_NAMES {
         let beside = path_beside(alloc, front, number)?;
         match save_beside(folder, beside.as_str(), path, access, bytes) {
             Ok(()) => return Ok(()),
             Err(error) if error.kind() == ErrorKind::AlreadyExists => {}
-            Err(error) => return Err(error.into()),
+            Err(error) => return Err(SaveError::Refused(error)),
         }
     }
     Err(SaveError::Refused(ErrorKind::AlreadyExists.into()))
@@ -161,7 +194,10 @@ fn save_open<F: SaveFolder>(
 ) -> Result<(), SaveError>
     requires { IsBeside front.now path.now → ⊥ }
     ensures safe { LosesNothing (IsBeside front.now) path.now bytes.now (F.log folder.old) (F.log folder.new) }
+    ensures careful { StaysCareful (IsBeside front.now) path.now (F.log folder.old) (F.log folder.new) }
     ensures kept { OnOk result (IsKept path.now bytes.now (F.log folder.new)) }
+    ensures put { OnOk result (IsPut path.now bytes.now (F.log folder.new)) }
+    ensures reason { IfErr result (λ error. IsReason error (F.log folder.old) (F.log folder.new)) }
 {
     let access = folder.access(path)?;
     folder.open_folder()?;
@@ -178,8 +214,9 @@ fn save_open<F: SaveFolder>(
 /// the machine stops from then on. At an error it has the old one, but for one of the folder's sync, which comes last. A file
 /// that has these bytes already is left alone, and only synced.
 ///
-/// Of several saves of a path one waits for another, 10 seconds at most. What stands there and is no file, as a folder or a pipe, is
-/// not replaced.
+/// Of several saves of a path one waits for another, 10 seconds at most. A run takes away, writes to and renames no file that
+/// another has locked, so of two that save at once each keeps what the other has put in place whole. What stands there and is no
+/// file, as a folder or a pipe, is not replaced.
 ///
 /// New files that killed runs left are taken away, but for those that another run has locked. `Memory` only if there was no
 /// room for a name, before anything was written.
@@ -192,7 +229,10 @@ pub fn save<F: SaveFolder>(
 ) -> Result<(), SaveError>
     requires { IsBeside front.now path.now → ⊥ }
     ensures safe { LosesNothing (IsBeside front.now) path.now bytes.now (F.log folder.old) (F.log folder.new) }
+    ensures careful { StaysCareful (IsBeside front.now) path.now (F.log folder.old) (F.log folder.new) }
     ensures kept { OnOk result (IsKept path.now bytes.now (F.log folder.new)) }
+    ensures put { OnOk result (IsPut path.now bytes.now (F.log folder.new)) }
+    ensures reason { IfErr result (λ error. IsReason error (F.log folder.old) (F.log folder.new)) }
 {
     let _ = folder.lock_name(path);
     let result = save_open(alloc, folder, path, front, bytes);

@@ -1,3 +1,5 @@
+ghost use Rattle.std.specs.Prelude.{◌≡◌, ◌<◌, [], length};
+
 use crate::asked::Asked;
 use crate::left_overs::numbers_in;
 use crate::lock_file::LockFile;
@@ -39,8 +41,11 @@ pub struct SystemFolder<'a, R: Files> {
 }
 
 impl<'a, R: Files> SystemFolder<'a, R> {
-    /// A folder of which nothing was asked yet. Its path is not empty.
-    pub fn new(rt: &'a R, path: &'a str) -> SystemFolder<'a, R> {
+    /// A folder of which nothing was asked yet.
+    pub fn new(rt: &'a R, path: &'a str) -> SystemFolder<'a, R>
+        requires { 0 < length path.now }
+        ensures { result.asked.log.calls ≡ [] }
+    {
         SystemFolder {
             rt,
             path,

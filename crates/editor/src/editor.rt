@@ -73,7 +73,7 @@ impl<C: Command> Editor<C> {
     /// Does what a line asks for, but for an edit, which is left to be put into a box and committed.
     ///
     /// The editor is as it was after an edit that was planned and after every refusal. The store is called for the lines
-    /// `open` and `save` alone, and at most once.
+    /// `open` and `save` alone, and at most once. A map is said to be saved only where the store keeps its text.
     pub fn plan<S: MapStore>(&mut self, alloc: Global, store: &mut S, line: &Line<'_>) -> Planned
         requires held { IsHeld C.change self.old }
         requires spelled { CanBeSpelled line.now }
@@ -81,7 +81,7 @@ impl<C: Command> Editor<C> {
         ensures turns { PlansTurns line.now (workspace (machine_of C.change self.old) (S.stored store.old)) result (workspace (machine_of C.change self.new) (S.stored store.new)) }
         ensures unchanged { KeepsPlan result (machine_of C.change self.old) (machine_of C.change self.new) }
         ensures fits { FitsPlan (machine_of C.change self.new) result }
-        ensures asks { PlanAsks line.now (machine_of C.change self.old) result (S.asked store.old) (S.asked store.new) }
+        ensures asks { PlanAsks line.now (machine_of C.change self.old) (S.keeps store.new) result (S.asked store.old) (S.asked store.new) }
 
         // Where no step is that of a free command, this is the machine's step.
         ensures sound { IsSound C.change self.old → IsSound C.change self.new }

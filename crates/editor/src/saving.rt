@@ -5,7 +5,7 @@ ghost use Rattle.map_store.specs.Files.{SameOthers};
 ghost use Rattle.document_lines.specs.Acts.{OrNoMemoryForFile, OrStoreFails, OutsideMacros, Saves};
 ghost use Rattle.undo_stack.specs.Moving.{clean_answer};
 ghost use Rattle.document_lines.specs.Planning.{KeepsReply};
-ghost use Rattle.editor.specs.Asking.{AsksOutside};
+ghost use Rattle.editor.specs.Asking.{AsksOutside, KeepsSaved};
 
 use command_api::Command;
 use map_json::write_map;
@@ -30,6 +30,7 @@ pub fn save_document<C: Command, S: MapStore>(
     ensures unchanged { KeepsReply result (history C.change stack.old) (history C.change stack.new) }
     ensures kept { nestings stack.new ≡ nestings stack.old }
     ensures asks { AsksOutside file.now (clean_answer (history C.change stack.old)) result (S.asked store.old) (S.asked store.new) }
+    ensures saved { KeepsSaved file.now (history C.change stack.old) (S.keeps store.new) result }
 {
     if stack.depth() > 0 {
         return Reply::Refused(Refusal::Stack(StackFault::MacroOpen));

@@ -2,3 +2,15 @@ pub mod Walks
 pub mod Sizes
 pub mod Words
 pub mod Loops
+pub mod Places
+pub mod Covers
+pub mod Pieces
+pub mod Blocks
+pub mod Together
+pub mod ChunkCells
+pub mod ChunkPlaces
+pub mod ChunkLists
+pub mod Widened
+pub mod LayerLaw
+pub mod Keeps
+pub mod TreeLaw

@@ -1,6 +1,5 @@
 -- Which cells of a map rectangles cover, as a list with a truth value for each cell.
-use Rattle.std.specs.Prelude.{ℕ, zero, suc, ◌-◌, List, [], ◌∷◌, Bool, true, false, not, ◌||◌, ◌==◌, nat_le, replicate, slice_set, fold, count_by, Option, Some}
-use Rattle.std.specs.Prelude.{None, if◌then◌else◌}
+use Rattle.std.specs.Prelude.{ℕ, zero, suc, List, [], ◌∷◌, Bool, true, false, not, ◌&&◌, ◌||◌, replicate, slice_set, slice_index_or, fold}
 use Rattle.infinite_maps.specs.declared.rectangle.Rectangle.{Rectangle}
 use Rattle.infinite_maps.specs.Rectangles.{area, place}
 
@@ -16,20 +15,16 @@ with_covered columns cover r = covered_to columns r (area r) cover
 abbrev pub cover_of : ℕ → ℕ → List Rectangle → List Bool
 cover_of columns size rs = fold (with_covered columns) (replicate size false) rs
 
--- how many of so many cells are left beside rectangles, if they have no more
-abbrev pub left_beside : ℕ → List Rectangle → Option ℕ
-left_beside n [] = Some n
-left_beside n (r ∷ rs) = if nat_le (area r) n then left_beside (n - area r) rs else None
-
--- as many cells are not covered as the rectangles leave: so none overlaps another
-abbrev pub is_so_many : Option ℕ → ℕ → Bool
-is_so_many None n = false
-is_so_many (Some m) n = m == n
-
-abbrev pub are_apart : ℕ → ℕ → List Rectangle → Bool
-are_apart columns size rs = is_so_many (left_beside size rs) (count_by not (cover_of columns size rs))
-
 -- whether a test holds for a number below n
 abbrev pub any_below : (ℕ → Bool) → ℕ → Bool
 any_below test zero = false
 any_below test (suc n) = any_below test n || test n
+
+-- no rectangle covers a cell of this one
+abbrev pub is_uncovered : ℕ → List Bool → Rectangle → Bool
+is_uncovered columns cover r = not (any_below (λ k. slice_index_or cover (place columns r k) true) (area r))
+
+-- none overlaps one before it, or what is covered already
+abbrev pub are_apart : ℕ → List Bool → List Rectangle → Bool
+are_apart columns cover [] = true
+are_apart columns cover (r ∷ rs) = is_uncovered columns cover r && are_apart columns (with_covered columns cover r) rs

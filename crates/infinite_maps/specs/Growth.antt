@@ -4,7 +4,7 @@ use Rattle.std.specs.Prelude.{Option, Some, None, if◌then◌else◌}
 use Rattle.infinite_maps.specs.declared.rectangle.Rectangle.{Rectangle}
 use Rattle.infinite_maps.specs.declared.plane.Plane.{Plane}
 use Rattle.infinite_maps.specs.Rectangles.{area, place, cell_of, bounds}
-use Rattle.infinite_maps.specs.Coverage.{any_below}
+use Rattle.infinite_maps.specs.Coverage.{is_uncovered}
 
 -- where the k-th block of a side begins, of which the first has lost so many cells; at most the limit
 abbrev pub edge : ℕ → ℕ → ℕ → ℕ → ℕ
@@ -25,10 +25,6 @@ block_at p j i = record {
 
 abbrev pub is_new : List ℕ → List Bool → ℕ → Bool
 is_new cells cover at = nat_lt 0 (slice_index cells at) && not (slice_index_or cover at true)
-
--- no rectangle covers a cell of this one
-abbrev pub is_uncovered : ℕ → List Bool → Rectangle → Bool
-is_uncovered columns cover r = not (any_below (λ k. slice_index_or cover (place columns r k) true) (area r))
 
 -- the new ones of the first n cells of a rectangle
 abbrev pub new_cells : ℕ → List ℕ → List Bool → Rectangle → ℕ → List Rectangle

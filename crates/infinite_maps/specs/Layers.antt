@@ -1,5 +1,5 @@
 -- A tile layer of a finite map as one of an infinite map.
-use Rattle.std.specs.Prelude.{ℕ, ◌*◌, ◌==◌, List, [], ◌∷◌, ◌++◌, map, length, codes, ℤ, pos, Bool, false, Option, Some, None, option_and_then, unwrap_or}
+use Rattle.std.specs.Prelude.{ℕ, ◌==◌, List, [], ◌∷◌, ◌++◌, map, length, codes, ℤ, pos, Bool, false, replicate, Option, Some, None, option_and_then, unwrap_or}
 use Rattle.std.specs.Prelude.{if◌then◌else◌}
 use Rattle.std.specs.Int.{w64, int_wrapping_add}
 use Rattle.serde_json.specs.Data.{unsigned, Data, number, array, object, Items, no_items, Members, no_members, put}
@@ -12,10 +12,8 @@ use Rattle.infinite_maps.specs.Rectangles.{width, height, bounds}
 use Rattle.infinite_maps.specs.Cells.{is_text, cells_of, cells_data, cut}
 use Rattle.infinite_maps.specs.Coverage.{cover_of, are_apart}
 use Rattle.infinite_maps.specs.Growth.{grown}
+use Rattle.infinite_maps.specs.Wide.{size, wide, widened}
 use Rattle.infinite_maps.specs.Notes.{mark, noted_all}
-
-abbrev pub size : Plane → ℕ
-size p = p.columns * p.rows
 
 abbrev pub if_so_many : ℕ → Option (List ℕ) → Option (List ℕ)
 if_so_many n None = None
@@ -30,10 +28,11 @@ abbrev pub chunk_items : Option Data → Items
 chunk_items note = unwrap_or (option_and_then as_array (option_and_then (get (codes "chunks")) note)) no_items
 
 abbrev pub if_apart : Plane → List Rectangle → List Rectangle
-if_apart p rs = if are_apart p.columns (size p) rs then rs else []
+if_apart p rs = if are_apart p.columns (replicate (size p) false) rs then rs else []
 
+-- counted from the corner of the wide map, as all that follow
 abbrev pub old_rectangles : Plane → Option Data → List Rectangle
-old_rectangles p note = if_apart p (noted_all p.columns p.rows (chunk_items note))
+old_rectangles p note = if_apart (wide p) (noted_all p (chunk_items note))
 
 -- a place on the plane
 abbrev pub place_at : ℤ → ℕ → Data
@@ -94,9 +93,17 @@ abbrev pub with_chunks : Plane → Option Data → Bool → List ℕ → List Re
 with_chunks p note text cells olds news ms = put (codes "chunks") (chunks p text cells (olds ++ news))
     (with_right_bounds p note (olds ++ news) news (rest_of ms))
 
+-- the rectangles of new chunks, beside those of old ones
+abbrev pub new_rectangles : Plane → List ℕ → List Rectangle → List Rectangle
+new_rectangles p cells olds = grown p cells (cover_of p.columns (size p) olds)
+
+-- the layer of a wide map, its cells in chunks
+abbrev pub tiles_on : Plane → Option Data → Bool → List ℕ → List Rectangle → Members → Members
+tiles_on p note text cells olds ms = with_chunks p note text cells olds (new_rectangles p cells olds) ms
+
 -- the layer, its cells in chunks
 abbrev pub tiles : Plane → Option Data → Bool → List ℕ → Members → Members
-tiles p note text cells ms = with_chunks p note text cells (old_rectangles p note) (grown p cells (cover_of p.columns (size p) (old_rectangles p note))) ms
+tiles p note text cells ms = tiles_on (wide p) note text (widened p cells) (old_rectangles p note) ms
 
 -- a layer without a cell for each cell of the map stays as it is
 abbrev pub is_text_at : Option Data → Bool

@@ -2,6 +2,10 @@ pub mod Rectangles
 pub mod Cells
 pub mod Coverage
 pub mod Growth
+pub mod Wide
+pub mod Placed
 pub mod Notes
 pub mod Layers
 pub mod Infinite
+pub mod Laws
+pub mod Sound

@@ -1,7 +1,6 @@
 // Which cells of a map rectangles cover.
-ghost use Rattle.std.specs.Prelude.{◌≡◌, IfOk, not, true, count_by, slice_set, slice_index_or};
-ghost use Rattle.infinite_maps.specs.Rectangles.{area};
-ghost use Rattle.infinite_maps.specs.Coverage.{covered_to, with_covered, cover_of, left_beside, is_so_many, are_apart};
+ghost use Rattle.std.specs.Prelude.{◌≡◌, IfOk, true, false, replicate, slice_set, slice_index_or};
+ghost use Rattle.infinite_maps.specs.Coverage.{covered_to, with_covered, cover_of, is_uncovered, are_apart};
 
 use crate::rectangle::Rectangle;
 use std::alloc::{AllocError, Global};
@@ -40,51 +39,34 @@ pub fn cover_of(
     Ok(cover)
 }
 
-// How many of so many cells are left beside rectangles, if they have no more.
-fn left_beside(size: usize, rectangles: &[Rectangle]) -> Option<usize>
-    ensures { result ≡ left_beside size rectangles.now }
+/// Whether no rectangle covers a cell of this one.
+pub fn is_uncovered(columns: u16, cover: &[bool], rectangle: Rectangle) -> bool
+    ensures { result ≡ is_uncovered columns cover.now rectangle }
 {
-    let mut left = size;
-    for rectangle in rectangles {
-        let area = rectangle.area();
-        if left < area {
-            return None;
-        }
-        left -= area;
+    let mut found = false;
+    for k in 0..rectangle.area() {
+        found = found || is_covered(cover, rectangle.place(columns, k));
     }
-    Some(left)
+    !found
 }
 
-fn is_so_many(left: Option<usize>, count: usize) -> bool
-    ensures { result ≡ is_so_many left count }
-{
-    match left {
-        Some(left) => left == count,
-        None => false,
-    }
-}
-
-fn uncovered(cover: &[bool]) -> usize
-    ensures { result ≡ count_by not cover.now }
-{
-    cover.iter().filter(|covered| !**covered).count()
-}
-
-/// Whether none of them overlaps another, and each lies within so many cells.
+/// Whether none of them overlaps one before it, and each lies within so many cells.
 pub fn are_apart(
     alloc: Global,
     columns: u16,
     size: usize,
     rectangles: &[Rectangle],
 ) -> Result<bool, AllocError>
-    ensures { IfOk result (λ apart. apart ≡ are_apart columns size rectangles.now) }
+    ensures { IfOk result (λ apart. apart ≡ are_apart columns (replicate size false) rectangles.now) }
 {
-    let left = left_beside(size, rectangles);
-    if left.is_none() {
-        return Ok(false);
+    let mut cover = vec![in alloc; false; size]?;
+    for rectangle in rectangles {
+        if !is_uncovered(columns, &cover, *rectangle) {
+            return Ok(false);
+        }
+        add(&mut cover, columns, *rectangle);
     }
-    let cover = cover_of(alloc, columns, size, rectangles)?;
-    Ok(is_so_many(left, uncovered(&cover)))
+    Ok(true)
 }
 
 /// Whether the cell at a place is covered; one past the end is.

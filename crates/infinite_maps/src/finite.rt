@@ -1,11 +1,14 @@
 // A finite map made of an infinite one.
-ghost use Rattle.std.specs.Prelude.{◌≡◌, IfOk, IfSome, IsTrue, Some, true, false, is_some};
+ghost use Rattle.std.specs.Prelude.{◌≡◌, IfOk, IfErr, IfSome, IsTrue, Some, true, false, is_some};
 ghost use Rattle.serde_json.specs.View.{view as data_of};
 ghost use Rattle.infinite_maps.specs.Infinite.{infinite_of, is_infinite};
+ghost use Rattle.infinite_maps.specs.Sound.{has_bad_chunk};
+ghost use Rattle.infinite_maps.specs.declared.fault.Fault.TheVariants.{Memory, BadChunk};
 
 use crate::fault::Fault;
+use crate::look::has_bad_chunk;
 use crate::members::{MARK, put_copy};
-use crate::notes::{MAX_SIDE, integer};
+use crate::notes::{MAX_CELLS, MAX_SIDE, integer};
 use crate::part::Part;
 use crate::pasting::put_finite;
 use crate::plane::Plane;
@@ -15,9 +18,6 @@ use crate::survey::{Extent, Survey, survey_layers};
 use json_members::found;
 use serde_json::{Map, Value};
 use std::alloc::{AllocError, Global};
-
-/// The most cells of a finite map.
-const MAX_CELLS: usize = 1_048_576;
 
 /// The most cells of all layers of a finite map.
 const MAX_LAYER_CELLS: u64 = 16_777_216;
@@ -107,8 +107,13 @@ fn box_of(around: Option<Extent>) -> Extent {
     }
 }
 
-// Where the finite map lies, if it is not above the limits.
-fn plane_of(value: &Value, around: Extent) -> Option<Plane> {
+// The most cells that each of so many layers may have.
+fn most_cells(layers: u64) -> u32 {
+    (MAX_LAYER_CELLS / layers.max(1)).min(MAX_CELLS as u64) as u32
+}
+
+// Where the finite map of so many layers lies, if it is not above the limits.
+fn plane_of(value: &Value, around: Extent, layers: u64) -> Option<Plane> {
     let columns = u16::try_from(around.right.wrapping_sub(around.left) as i128).ok()?;
     let rows = u16::try_from(around.bottom.wrapping_sub(around.top) as i128).ok()?;
     let across = chunk_side(value, "width");
@@ -122,6 +127,7 @@ fn plane_of(value: &Value, around: Extent) -> Option<Plane> {
         down,
         lost_x: lost(around.left, across),
         lost_y: lost(around.top, down),
+        most: most_cells(layers),
         moved_x: pixels(value, around.left, "tilewidth"),
         moved_y: pixels(value, around.top, "tileheight"),
     };
@@ -153,6 +159,7 @@ fn note_of(alloc: Global, value: &Value, plane: Plane) -> Result<Value, AllocErr
         ("chunkheight", plane.down as i64),
         ("lostx", plane.lost_x as i64),
         ("losty", plane.lost_y as i64),
+        ("most", plane.most as i64),
         ("movedx", plane.moved_x),
         ("movedy", plane.moved_y),
     ];
@@ -236,6 +243,7 @@ fn corner_of(around: Extent) -> Plane {
         down: 0,
         lost_x: 0,
         lost_y: 0,
+        most: 0,
         moved_x: 0,
         moved_y: 0,
     }
@@ -289,7 +297,7 @@ fn finite_map(
 ) -> Result<Map<String, Value>, Fault> {
     let survey = surveyed(members)?;
     let around = box_of(survey.around);
-    let Some(plane) = plane_of(value, around) else {
+    let Some(plane) = plane_of(value, around, survey.layers) else {
         return too_large(alloc, value, around);
     };
     if survey.layers.saturating_mul(plane.size() as u64) > MAX_LAYER_CELLS {
@@ -309,6 +317,7 @@ fn finite_of(alloc: Global, value: &Value) -> Result<Value, Fault> {
 fn comes_back(alloc: Global, finite: &Value, value: &Value) -> Result<bool, Fault>
     ensures finite { IfOk result (λ same. IsTrue same → is_infinite (data_of finite.now) ≡ false) }
     ensures back { IfOk result (λ same. IsTrue same → infinite_of (data_of finite.now) ≡ Some (data_of value.now)) }
+    ensures memory { IfErr result (λ fault. fault ≡ Memory) }
 {
     if is_infinite(finite) {
         return Ok(false);
@@ -319,20 +328,38 @@ fn comes_back(alloc: Global, finite: &Value, value: &Value) -> Result<bool, Faul
     }
 }
 
+// A map, or why it was not made: a chunk is blamed only if one is not sound.
+fn told(alloc: Global, value: &Value, made: Result<Value, Fault>) -> Result<Value, Fault>
+    ensures { IfErr result (λ fault. fault ≡ BadChunk → has_bad_chunk (data_of value.now) ≡ true) }
+{
+    match made {
+        Err(Fault::BadChunk) => if has_bad_chunk(alloc, value)? {
+            Err(Fault::BadChunk)
+        } else {
+            Err(Fault::Unlike)
+        },
+        _ => made,
+    }
+}
+
 /// The finite map of a map whose `infinite` is true; `None` for another.
 ///
 /// Cells and objects keep their places beside each other. A map above the limits, which are 4,096 columns, 4,096 rows and
 /// 1,048,576 cells, keeps its layers and gets its sizes, so that a reader refuses it for them.
+///
+/// `BadChunk` comes only where a chunk of a layer has no place or size, lies past 2^31 cells, or has not a whole number for each
+/// of its cells.
 pub fn made_finite(alloc: Global, value: &Value) -> Result<Option<Value>, Fault>
     ensures plain { is_infinite (data_of value.now) ≡ false → result ≡ Ok None }
     ensures some { IfOk result (λ map. is_some map ≡ is_infinite (data_of value.now)) }
     ensures finite { IfOk result (λ map. IfSome map (λ finite. is_infinite (data_of finite) ≡ false)) }
     ensures back { IfOk result (λ map. IfSome map (λ finite. infinite_of (data_of finite) ≡ Some (data_of value.now))) }
+    ensures bad { IfErr result (λ fault. fault ≡ BadChunk → has_bad_chunk (data_of value.now) ≡ true) }
 {
     if !is_infinite(value) {
         return Ok(None);
     }
-    let finite = finite_of(alloc, value)?;
+    let finite = told(alloc, value, finite_of(alloc, value))?;
     if comes_back(alloc, &finite, value)? {
         Ok(Some(finite))
     } else {

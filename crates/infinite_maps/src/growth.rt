@@ -1,20 +1,20 @@
 // Rectangles for the cells that are not 0 and that no rectangle covers.
 ghost use Rattle.std.specs.Prelude.{◌≡◌, ◌++◌, ◌<◌, ◌^◌, IfOk, OnOk};
 ghost use Rattle.infinite_maps.specs.Rectangles.{area, bounds};
-ghost use Rattle.infinite_maps.specs.Growth.{edge, block_count, block_at, is_new, is_uncovered, new_cells, pieces_by, pieces, row_pieces, rows_pieces, grown};
+ghost use Rattle.infinite_maps.specs.Growth.{edge, block_count, block_at, is_new, new_cells, pieces_by, pieces, row_pieces, rows_pieces, grown};
 
 use crate::cells::cell_at;
-use crate::cover::is_covered;
+use crate::cover::{is_covered, is_uncovered};
 use crate::plane::Plane;
 use crate::rectangle::{Rectangle, bounds};
 use std::alloc::{AllocError, Global};
 
 #[tactic(auto, using(crate::proofs::Sizes::products))]
-fn edge(side: u16, lost: u16, limit: u16, k: u32) -> u16
+fn edge(side: u16, lost: u16, limit: u16, k: u32) -> u32
     ensures { result ≡ edge side lost limit k }
 {
     let end = (k as u64 * side as u64).saturating_sub(lost as u64);
-    end.min(limit as u64) as u16
+    end.min(limit as u64) as u32
 }
 
 #[tactic(auto, using(crate::proofs::Sizes::counts))]
@@ -42,16 +42,6 @@ fn is_new(cells: &[u64], cover: &[bool], at: usize) -> bool
     ensures { result ≡ is_new cells.now cover.now at }
 {
     0 < cell_at(cells, at) && !is_covered(cover, at)
-}
-
-fn is_uncovered(columns: u16, cover: &[bool], rectangle: Rectangle) -> bool
-    ensures { result ≡ is_uncovered columns cover.now rectangle }
-{
-    let mut found = false;
-    for k in 0..rectangle.area() {
-        found = found || is_covered(cover, rectangle.place(columns, k));
-    }
-    !found
 }
 
 fn new_cells(

@@ -4,10 +4,8 @@ ghost use Rattle.serde_json.specs.Data.{Data};
 ghost use Rattle.serde_json.specs.Find.{get_member};
 ghost use Rattle.serde_json.specs.View.{view as data_of, members_view};
 ghost use Rattle.infinite_maps.specs.Cells.{is_text};
-ghost use Rattle.infinite_maps.specs.Coverage.{cover_of};
-ghost use Rattle.infinite_maps.specs.Growth.{grown};
 ghost use Rattle.infinite_maps.specs.Rectangles.{bounds};
-ghost use Rattle.infinite_maps.specs.Layers.{size, layer_cells, if_so_many, chunk_items, if_apart, old_rectangles, place_at, whole_number, with_place, chunk, chunks, with_old_bounds, with_bounds, with_right_bounds, rest_of, with_chunks, tiles, is_text_at, layer_by, layer_of, nothing};
+ghost use Rattle.infinite_maps.specs.Layers.{layer_cells, if_so_many, chunk_items, if_apart, old_rectangles, place_at, whole_number, with_place, chunk, chunks, with_old_bounds, with_bounds, with_right_bounds, rest_of, with_chunks, new_rectangles, tiles_on, tiles, is_text_at, layer_by, layer_of, nothing};
 ghost use Rattle.infinite_maps.specs.Notes.{mark, noted_all};
 
 use crate::cells::{cells_data, cells_of, cut};
@@ -56,12 +54,12 @@ fn noted_rectangles(
     note: &Option<Value>,
 ) -> Result<Vec<Rectangle>, AllocError>
     ensures { IfOk result (λ found. found.items
-        ≡ noted_all plane.columns plane.rows (chunk_items (option_map data_of note.now))) }
+        ≡ noted_all plane (chunk_items (option_map data_of note.now))) }
 {
     match note {
         Some(note) => match note.get("chunks") {
             Some(chunks) => match chunks.as_array() {
-                Some(values) => noted_all(alloc, plane.columns, plane.rows, values),
+                Some(values) => noted_all(alloc, plane, values),
                 None => Ok(Vec::new(alloc)),
             },
             None => Ok(Vec::new(alloc)),
@@ -80,14 +78,15 @@ fn old_rectangles(
         ≡ old_rectangles plane (option_map data_of note.now)) }
 {
     let rectangles = noted_rectangles(alloc, plane, note)?;
-    if are_apart(alloc, plane.columns, plane.size(), &rectangles)? {
+    let wide = plane.wide();
+    if are_apart(alloc, wide.columns, wide.size(), &rectangles)? {
         Ok(rectangles)
     } else {
         Ok(Vec::new(alloc))
     }
 }
 
-fn place_at(from: i64, cells: u16) -> Value
+fn place_at(from: i64, cells: u32) -> Value
     ensures { data_of result ≡ place_at from cells }
 {
     Value::from(from.wrapping_add(cells as i64))
@@ -273,8 +272,7 @@ fn new_rectangles(
     cells: &[u64],
     olds: &[Rectangle],
 ) -> Result<Vec<Rectangle>, AllocError>
-    ensures { IfOk result (λ found. found.items
-        ≡ grown plane cells.now (cover_of plane.columns (size plane) olds.now)) }
+    ensures { IfOk result (λ found. found.items ≡ new_rectangles plane cells.now olds.now) }
 {
     let cover = cover_of(alloc, plane.columns, plane.size(), olds)?;
     grown(alloc, plane, cells, &cover)
@@ -292,8 +290,10 @@ fn put_chunks(
 {
     let note = copy_of(found(members, MARK))?;
     let rectangles = old_rectangles(alloc, plane, &note)?;
-    let news = new_rectangles(alloc, plane, cells, &rectangles)?;
-    put_all(alloc, plane, &note, text, cells, rectangles, &news, members)
+    let wide = plane.wide();
+    let cells = plane.widened(alloc, cells)?;
+    let news = new_rectangles(alloc, wide, &cells, &rectangles)?;
+    put_all(alloc, wide, &note, text, &cells, rectangles, &news, members)
 }
 
 /// Puts the cells of a layer into chunks, where it has one for each cell of the map.

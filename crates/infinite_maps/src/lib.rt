@@ -6,7 +6,9 @@ mod cover;
 mod fault;
 mod finite;
 mod growth;
+mod laws;
 mod layer;
+mod look;
 mod members;
 mod notes;
 mod part;
@@ -19,5 +21,6 @@ mod survey;
 
 pub use fault::Fault;
 pub use finite::made_finite;
+pub use laws::layers_stay;
 pub use same::is_within;
 pub use spread::made_infinite;

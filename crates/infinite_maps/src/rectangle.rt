@@ -2,30 +2,30 @@
 ghost use Rattle.std.specs.Prelude.{◌≡◌, ◌<◌};
 ghost use Rattle.infinite_maps.specs.Rectangles.{width, height, area, place, cell_of, joined, around, bounds};
 
-/// A rectangle of cells, counted from the corner of the finite map; `right` and `bottom` are past its last column and row.
+/// A rectangle of cells, counted from the corner of a map; `right` and `bottom` are past its last column and row.
 #[derive(Clone, Copy)]
 pub struct Rectangle {
-    pub left: u16,
-    pub top: u16,
-    pub right: u16,
-    pub bottom: u16,
+    pub left: u32,
+    pub top: u32,
+    pub right: u32,
+    pub bottom: u32,
 }
 
 impl Rectangle {
-    pub fn width(self) -> u16
+    pub fn width(self) -> u32
         ensures { result ≡ width self }
     {
         self.right.saturating_sub(self.left)
     }
 
-    pub fn height(self) -> u16
+    pub fn height(self) -> u32
         ensures { result ≡ height self }
     {
         self.bottom.saturating_sub(self.top)
     }
 
     /// The number of its cells.
-    #[tactic(auto, using(crate::proofs::Sizes::products))]
+    #[tactic(auto, using(crate::proofs::Sizes::areas))]
     pub fn area(self) -> usize
         ensures { result ≡ area self }
     {
@@ -51,8 +51,8 @@ impl Rectangle {
         ensures { result ≡ cell_of self k }
     {
         let width = self.width().max(1) as usize;
-        let left = self.left + (k % width) as u16;
-        let top = self.top + (k / width) as u16;
+        let left = self.left + (k % width) as u32;
+        let top = self.top + (k / width) as u32;
         Rectangle {
             left,
             top,

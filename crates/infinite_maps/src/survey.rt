@@ -31,10 +31,10 @@ impl Extent {
     /// The part of a finite map that it is.
     pub fn on(self, plane: Plane) -> Option<Rectangle> {
         Some(Rectangle {
-            left: u16::try_from(self.left.wrapping_sub(plane.x) as i128).ok()?,
-            top: u16::try_from(self.top.wrapping_sub(plane.y) as i128).ok()?,
-            right: u16::try_from(self.right.wrapping_sub(plane.x) as i128).ok()?,
-            bottom: u16::try_from(self.bottom.wrapping_sub(plane.y) as i128).ok()?,
+            left: u32::try_from(self.left.wrapping_sub(plane.x) as i128).ok()?,
+            top: u32::try_from(self.top.wrapping_sub(plane.y) as i128).ok()?,
+            right: u32::try_from(self.right.wrapping_sub(plane.x) as i128).ok()?,
+            bottom: u32::try_from(self.bottom.wrapping_sub(plane.y) as i128).ok()?,
         })
     }
 }

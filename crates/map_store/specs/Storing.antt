@@ -1,5 +1,5 @@
 -- What a store that is honest answers, and what its files are then.
-use Rattle.std.specs.Prelude.{◌≡◌, ℕ, List, None, Some, Result, Ok, Err, Vec}
+use Rattle.std.specs.Prelude.{◌≡◌, ◌⊎◌, ℕ, List, None, Some, Result, Ok, Err, Vec}
 use Rattle.std.specs.Global.{Global}
 use Rattle.std.specs.FinMap.{get, insert}
 use Rattle.map_store.specs.Files.{Files, SameOthers}
@@ -19,3 +19,8 @@ Stores name bytes old (Ok done) new = new ≡ insert old name bytes
 Stores name bytes old (Err Missing) new = ⊥
 Stores name bytes old (Err Device) new = SameOthers name old new
 Stores name bytes old (Err Memory) new = new ≡ old
+
+-- under the name stands what stood there or these bytes, whole; every other file is as before
+pub record IsOldOrNew (name bytes : List ℕ) (old new : Files) : Type 0 where
+  pub whole : (get new name ≡ get old name) ⊎ (get new name ≡ Some bytes)
+  pub others : SameOthers name old new

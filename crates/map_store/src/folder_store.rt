@@ -1,16 +1,17 @@
-ghost use Rattle.std.specs.Prelude.{◌≡◌, ℕ, List, ◌+◌, ◌-◌, ◌^◌, ◌<◌, ◌≤◌, ◌⊎◌, ◌∷◌, IfOk, IfSome, IfNone, IsErrOf, IsTrue, OnOk, [], vec_len, length, take, slice_range, string_bytes};
+ghost use Rattle.std.specs.Prelude.{◌≡◌, ℕ, List, ◌+◌, ◌-◌, ◌^◌, ◌<◌, ◌≤◌, ◌⊎◌, ◌∷◌, IfOk, IfSome, IfNone, IsErrOf, IsTrue, true, false, OnOk, [], vec_len, length, take, slice_range, string_bytes};
 ghost use Rattle.std.specs.Io.KnownBytes.{Consumes, IsAtEnd};
-ghost use Rattle.atomic_save.specs.Saving.{IsBeside};
+ghost use Rattle.atomic_save.specs.Saving.{IsBeside, IsKept, LosesNothing};
+ghost use Rattle.atomic_save.specs.TwoRuns.{IsPut, StaysCareful};
 ghost use Rattle.map_store.specs.Asking.{loading};
 ghost use Rattle.map_store.specs.Answers.{IsAnswered};
 ghost use Rattle.map_store.specs.Files.{HasFailed};
-ghost use Rattle.map_store.specs.Paths.{path_to, front_of, IsName};
+ghost use Rattle.map_store.specs.Paths.{path_to, front_of, is_of_new_file, IsName};
 ghost use Rattle.map_store.specs.Storing.{Loads};
 
 use crate::map_store::MapStore;
 use crate::reason::Reason;
 use crate::store_log::{StoreCall, StoreLog};
-use atomic_save::{LockFile, SaveError, SystemFolder, save};
+use atomic_save::{LockFile, SaveError, SaveFolder, SystemFolder, save};
 use refusals::StoreFault;
 use std::alloc::{AllocError, Global};
 use std::fmt::Display;
@@ -64,9 +65,12 @@ impl LoadError {
         ensures { IsAnswered self.now result }
     {
         match self {
-            LoadError::Open(reason) if reason.kind() == ErrorKind::NotFound => StoreFault::Missing,
+            LoadError::Open(reason) => match reason.kind() {
+                ErrorKind::NotFound => StoreFault::Missing,
+                _ => StoreFault::Device,
+            },
             LoadError::Memory => StoreFault::Memory,
-            _ => StoreFault::Device,
+            LoadError::Read(_) | LoadError::NotAFile | LoadError::TooLong => StoreFault::Device,
         }
     }
 }
@@ -143,12 +147,14 @@ fn read_whole<F: Read>(alloc: Global, file: &mut F, size: usize) -> Result<Vec<u
             }
         }
     }
-    Err(LoadError::TooLong)
+    Err(LoadError::Read(Reason::of(ErrorKind::Interrupted.into())))
 }
 
-/// No new file that stands beside a file, while that is stored, has the path of a file of the store.
+/// No new file that stands beside a file, while that is stored, has the path of a file of the store. By its path it is told from those.
 pub fn new_files_are_apart()
-    ensures { (folder name other : List ℕ) → IsName other → IsBeside (front_of folder name) (path_to folder other) → ⊥ }
+    ensures apart { (folder name other : List ℕ) → IsName other → IsBeside (front_of folder name) (path_to folder other) → ⊥ }
+    ensures told { (folder name at : List ℕ) → IsBeside (front_of folder name) at → is_of_new_file folder at ≡ true }
+    ensures others { (folder name : List ℕ) → IsName name → is_of_new_file folder (path_to folder name) ≡ false }
 {}
 
 impl<'a, R: Files + Clock + Eprint> FolderStore<'a, R>
@@ -158,8 +164,9 @@ where
     ghost use Rattle.std.specs.Prelude.{false};
     ghost use Rattle.std.specs.FinMap.{empty};
 
-    /// The files of a folder, which is not looked at yet. Its path is not empty. Nothing is told on standard error.
+    /// The files of a folder, which is not looked at yet. Nothing is told on standard error.
     pub fn new(rt: &'a R, folder: &'a str) -> FolderStore<'a, R>
+        requires { 0 < length folder.now }
         ensures stored { ⟦<FolderStore<'a, R> as MapStore>⟧.stored result ≡ record { files = empty; failures = 0; honest = false } }
         ensures asked { ⟦<FolderStore<'a, R> as MapStore>⟧.asked result ≡ [] }
     {
@@ -230,6 +237,8 @@ where
         ensures raised { result ≡ StoreFault.Device → (self.old.failures < self.new.failures) ⊎ (self.old.failures ≡ 2 ^ 64 - 1) }
         ensures count { self.old.failures ≤ self.new.failures }
         ensures asked { self.new.log.asked ≡ self.old.log.asked }
+        ensures folder { self.new.folder ≡ self.old.folder }
+        ensures saves { self.new.saves ≡ self.old.saves }
     {
         if fault == StoreFault::Device {
             self.failures = self.failures.saturating_add(1);
@@ -248,6 +257,14 @@ where
     ghost stored = { λ s. record { files = empty; failures = s.failures; honest = false } };
 
     ghost asked = { λ s. s.log.asked };
+
+    ghost keeps = { λ s name bytes. IsKept (path_to s.folder.now name) bytes (⟦<SystemFolder<'a, R> as SaveFolder>⟧.log s.saves)
+        × IsPut (path_to s.folder.now name) bytes (⟦<SystemFolder<'a, R> as SaveFolder>⟧.log s.saves) };
+
+    ghost loses_nothing = { λ old new name bytes. LosesNothing (IsBeside (front_of old.folder.now name)) (path_to old.folder.now name) bytes
+        (⟦<SystemFolder<'a, R> as SaveFolder>⟧.log old.saves) (⟦<SystemFolder<'a, R> as SaveFolder>⟧.log new.saves)
+        × StaysCareful (IsBeside (front_of old.folder.now name)) (path_to old.folder.now name)
+        (⟦<SystemFolder<'a, R> as SaveFolder>⟧.log old.saves) (⟦<SystemFolder<'a, R> as SaveFolder>⟧.log new.saves) };
 
     /// A file of more than 67,108,864 bytes is a fault of the device.
     fn load(&mut self, alloc: Global, name: &str) -> Result<Vec<u8>, StoreFault>

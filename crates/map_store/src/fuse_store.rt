@@ -72,13 +72,18 @@ impl FuseStore {
 }
 
 impl MapStore for FuseStore {
-    ghost use Rattle.std.specs.Prelude.{◌≡◌, ◌≤◌, ◌↔◌, ◌∷◌, IsErrOf, true};
+    ghost use Rattle.std.specs.Prelude.{◌≡◌, ◌≤◌, ◌↔◌, ◌∷◌, IsErrOf, OnOk, Some, true};
+    ghost use Rattle.std.specs.FinMap.{get};
     ghost use Rattle.map_store.specs.Asking.{loading, storing};
-    ghost use Rattle.map_store.specs.Storing.{Loads, Stores};
+    ghost use Rattle.map_store.specs.Storing.{IsOldOrNew, Loads, Stores};
 
     ghost stored = { λ s. record { files = s.files; failures = s.failures; honest = true } };
 
     ghost asked = { λ s. s.asked };
+
+    ghost keeps = { λ s name bytes. get s.files name ≡ Some bytes };
+
+    ghost loses_nothing = { λ old new name bytes. IsOldOrNew name bytes old.files new.files };
 
     fn load(&mut self, alloc: Global, name: &str) -> Result<Vec<u8>, StoreFault>
         ensures fails { IsErrOf result StoreFault.Device ↔ (self.old.left ≡ 1) }
@@ -109,6 +114,8 @@ impl MapStore for FuseStore {
             → HasFailed (⟦<FuseStore as MapStore>⟧.stored self.old) (⟦<FuseStore as MapStore>⟧.stored self.new) }
         ensures count { self.old.failures ≤ self.new.failures }
         ensures asked { self.new.asked ≡ storing name.now ∷ self.old.asked }
+        ensures kept { OnOk result (get self.new.files name.now ≡ Some bytes.now) }
+        ensures safe { IsOldOrNew name.now bytes.now self.old.files self.new.files }
     {
         self.log.note(&StoreCall::Store(name));
         if self.burns() {

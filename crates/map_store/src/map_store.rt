@@ -1,4 +1,4 @@
-ghost use Rattle.std.specs.Prelude.{◌≡◌, ◌≤◌, ◌∷◌, List, IsErrOf, IsTrue};
+ghost use Rattle.std.specs.Prelude.{◌≡◌, ◌≤◌, ◌∷◌, ℕ, List, IsErrOf, IsTrue, OnOk};
 ghost use Rattle.map_store.specs.Asking.{Asked, loading, storing};
 ghost use Rattle.map_store.specs.Files.{StoreParts, HasFailed};
 
@@ -17,6 +17,13 @@ pub trait MapStore {
 
     /// What it was asked so far, the newest first.
     ghost asked: { Self → List Asked };
+
+    /// Whether these bytes are kept under this name, wherever the machine stops from now on.
+    ghost keeps: { Self → List ℕ → List ℕ → Type 0 };
+
+    /// Whether no file was lost from the first of these states to the second, wherever the machine stopped between them: under this
+    /// name stands what stood there or these bytes, whole, and no other file has changed.
+    ghost loses_nothing: { Self → Self → List ℕ → List ℕ → Type 0 };
 
     /// The bytes of a file. No file changes.
     ///
@@ -39,5 +46,7 @@ pub trait MapStore {
         ensures found { IsErrOf result StoreFault.Missing → ⊥ }
         ensures device { IsErrOf result StoreFault.Device → HasFailed (stored self.old) (stored self.new) }
         ensures count { (stored self.old).failures ≤ (stored self.new).failures }
-        ensures asked { asked self.new ≡ storing name.now ∷ asked self.old };
+        ensures asked { asked self.new ≡ storing name.now ∷ asked self.old }
+        ensures kept { OnOk result (keeps self.new name.now bytes.now) }
+        ensures safe { loses_nothing self.old self.new name.now bytes.now };
 }

@@ -66,12 +66,18 @@ impl MemoryStore {
 }
 
 impl MapStore for MemoryStore {
-    ghost use Rattle.std.specs.Prelude.{true};
+    ghost use Rattle.std.specs.Prelude.{◌≡◌, Some, true};
+    ghost use Rattle.std.specs.FinMap.{get};
     ghost use Rattle.map_store.specs.Stored.{files_of};
+    ghost use Rattle.map_store.specs.Storing.{IsOldOrNew};
 
     ghost stored = { λ s. record { files = files_of s.files; failures = 0; honest = true } };
 
     ghost asked = { λ s. s.log.asked };
+
+    ghost keeps = { λ s name bytes. get (files_of s.files) name ≡ Some bytes };
+
+    ghost loses_nothing = { λ old new name bytes. IsOldOrNew name bytes (files_of old.files) (files_of new.files) };
 
     fn load(&mut self, alloc: Global, name: &str) -> Result<Vec<u8>, StoreFault> {
         self.log.note(&StoreCall::Load(name));

@@ -1,3 +1,6 @@
+ghost use Rattle.std.specs.Prelude.{◌≡◌};
+ghost use Rattle.std.specs.IoError.{error_kind};
+
 use arrayvec::ArrayString;
 use std::fmt::{Display, Formatter, Write};
 use std::io::ErrorKind;
@@ -20,7 +23,9 @@ impl Reason {
     }
 
     /// The kind of the error.
-    pub fn kind(&self) -> ErrorKind {
+    pub fn kind(&self) -> ErrorKind
+        ensures { result ≡ error_kind self.now.error }
+    {
         self.error.kind()
     }
 }

@@ -2,15 +2,17 @@
 use Rattle.std.specs.Prelude.{◌≡◌, ℕ, List, length, Result, Ok, Err, Option, Some, None, Vec}
 use Rattle.std.specs.Global.{Global}
 use Rattle.tiled_maps.specs.declared.fault.Fault.{Fault}
-use Rattle.tiled_maps.specs.declared.fault.Fault.TheVariants.{Memory, NotJson, NameTaken, TooDeep, BadChunk, Overlap, TooLarge, Unlike}
+use Rattle.tiled_maps.specs.declared.fault.Fault.TheVariants.{Memory, NotJson, NameTaken, TooManyFractions, TooDeep, BadChunk, Overlap, TooLarge, Unlike}
 use Rattle.tiled_maps.specs.Texts.{SetsAside, PutsBack}
 use Rattle.roskevad_session.specs.Buffers.{written}
 use Rattle.roskevad_c.specs.declared.answers.TheConstants.{NONE, NO_MEMORY, NOT_JSON, NAME_TAKEN, TOO_DEEP, BAD_CHUNK, OVERLAP, TOO_LARGE, UNLIKE}
+use Rattle.roskevad_c.specs.declared.answers.TheConstants.{TOO_MANY_FRACTIONS}
 
 abbrev pub number_of : Fault → ℕ
 number_of Memory = NO_MEMORY
 number_of NotJson = NOT_JSON
 number_of NameTaken = NAME_TAKEN
+number_of TooManyFractions = TOO_MANY_FRACTIONS
 number_of TooDeep = TOO_DEEP
 number_of BadChunk = BAD_CHUNK
 number_of Overlap = OVERLAP

@@ -41,6 +41,9 @@ pub const TOO_LARGE: usize = usize::MAX - 10;
 /// Made finite, the map would not come back as it was.
 pub const UNLIKE: usize = usize::MAX - 11;
 
+/// The map has too many fractions.
+pub const TOO_MANY_FRACTIONS: usize = usize::MAX - 12;
+
 // Each is the number that `include/roskevad.h` gives it, which is fixed for callers that are built already.
 const _: () = prove!(DONE == 0);
 
@@ -67,3 +70,5 @@ const _: () = prove!(OVERLAP == 18_446_744_073_709_551_606);
 const _: () = prove!(TOO_LARGE == 18_446_744_073_709_551_605);
 
 const _: () = prove!(UNLIKE == 18_446_744_073_709_551_604);
+
+const _: () = prove!(TOO_MANY_FRACTIONS == 18_446_744_073_709_551_603);

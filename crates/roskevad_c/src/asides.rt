@@ -3,7 +3,8 @@ ghost use Rattle.std.specs.Prelude.{◌≡◌};
 ghost use Rattle.roskevad_c.specs.Asides.{number_of, made_size, made_bytes};
 
 use crate::answers::{
-    BAD_CHUNK, NAME_TAKEN, NO_MEMORY, NONE, NOT_JSON, OVERLAP, TOO_DEEP, TOO_LARGE, UNLIKE,
+    BAD_CHUNK, NAME_TAKEN, NO_MEMORY, NONE, NOT_JSON, OVERLAP, TOO_DEEP, TOO_LARGE,
+    TOO_MANY_FRACTIONS, UNLIKE,
 };
 use crate::copies::copy_text;
 use tiled_maps::Fault;
@@ -15,6 +16,7 @@ fn number_of(fault: Fault) -> usize
         Fault::Memory => NO_MEMORY,
         Fault::NotJson => NOT_JSON,
         Fault::NameTaken => NAME_TAKEN,
+        Fault::TooManyFractions => TOO_MANY_FRACTIONS,
         Fault::TooDeep => TOO_DEEP,
         Fault::BadChunk => BAD_CHUNK,
         Fault::Overlap => OVERLAP,

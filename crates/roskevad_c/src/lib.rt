@@ -425,8 +425,8 @@ pub extern "C" fn roskevad_close(alloc: Global, slot: &mut Slot)
 
 /// Copies the text of a map with what the editor's format refuses set aside, as `tiled_maps::set_aside` makes it. Answers its size,
 /// `NONE` where there is nothing to set aside, so that the bytes can be read as they are, or why it is not set aside: `NOT_JSON`,
-/// `NAME_TAKEN`, `TOO_DEEP`, `BAD_CHUNK`, `OVERLAP`, `TOO_LARGE`, `UNLIKE` or `NO_MEMORY`. The text is made anew at each call; most fit
-/// into twice as many bytes as are given, and no text has a bound that is useful.
+/// `NAME_TAKEN`, `TOO_MANY_FRACTIONS`, `TOO_DEEP`, `BAD_CHUNK`, `OVERLAP`, `TOO_LARGE`, `UNLIKE` or `NO_MEMORY`. The text is made anew
+/// at each call; most fit into twice as many bytes as are given, and no text has a bound that is useful.
 #[unsafe(no_mangle)]
 pub extern "C" fn roskevad_set_aside(alloc: Global, bytes: &[u8], text: &mut [u8]) -> usize
     ensures { TellsAside bytes.now result text.old text.new }

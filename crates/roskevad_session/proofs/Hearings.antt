@@ -187,6 +187,7 @@ module _ (stops : Bool) (bytes buffer : List ℕ) (start : SessionParts) (heard 
         run = g.run;
         step = step;
         accepted = g.accepted;
+        fits = g.fits;
         refused = is_refused;
         room = sym (le-leb _ _ room);
         size = omega (arith, g.size, fits.1, both_size);
@@ -211,6 +212,7 @@ module _ (stops : Bool) (bytes buffer : List ℕ) (start : SessionParts) (heard 
         run = g.run;
         step = step;
         accepted = g.accepted;
+        fits = g.fits;
         refused = is_refused;
         room = sym (lt-leb _ _ much);
         size = g.size;

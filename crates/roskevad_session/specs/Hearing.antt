@@ -43,6 +43,7 @@ pub record HearsUpTo (stops : Bool) (bytes buffer : List ℕ) (start : SessionPa
   pub run : LeadsTo start before replies mid
   pub step : StepsTo line mid now
   pub accepted : IsTrue stops → All IsAccepted replies
+  pub fits : length (output replies) ≤ length buffer
   pub refused : heard.is_refused ≡ is_refusal now.reply
   pub room : heard.has_room ≡ nat_le (length (output (replies ++ option_to_list now.reply))) (length buffer)
   pub size : heard.replies ≡ length (output (told heard.has_room replies now.reply))

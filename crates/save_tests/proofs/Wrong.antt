@@ -113,6 +113,18 @@ module _ (beside path bytes : List ℕ) (apart : beside ≢ path) where
       (λ e. let no : None ≡ Some [] = sym is ∙ e in absurd (cc))
       (λ e. let no : None ≡ Some bytes = sym is ∙ e in absurd (cc))
 
+  pub appended : (old : List ℕ) → LosesNothing (Only beside) path bytes [] (wrote bytes true ∷ compared path old true ∷ []) → ⊥
+  appended old =
+      let start : Found = λ other. Some [] in
+      let names : Names = with_name path nothing first in
+      let calls = wrote bytes true ∷ compared path old true ∷ [] in
+      let found : Found = λ other. held start (torn bytes) (names other) in
+      let is : found path ≡ None = ap (λ (s : Standing). held start (torn bytes) s) (with_same path nothing first) in
+      loses_it beside path bytes calls start found
+      (torn_found start bytes calls names (λ number. either_none (0 == number)) (inl (first, (first, refl, tt, inl refl), tt, inr (inr refl))))
+      (λ e. let no : None ≡ Some [] = sym is ∙ e in absurd (cc))
+      (λ e. let no : None ≡ Some bytes = sym is ∙ e in absurd (cc))
+
 -- where the path had nothing at first, and what was done since is not found
 gone : (path bytes : List ℕ) (calls : List Call) (disk : Disk) → IsDisk disk calls → MayStand Empty disk calls first → IsKept path bytes calls → ⊥
 gone path bytes calls disk is may keeps =
@@ -132,4 +144,4 @@ not_synced path bytes = gone path bytes (folder_synced true ∷ compared path by
 pub failed_before : (path bytes : List ℕ) → IsKept path bytes (folder_synced true ∷ synced true ∷ compared path bytes true ∷ synced false ∷ []) → ⊥
 failed_before path bytes = gone path bytes (folder_synced true ∷ synced true ∷ compared path bytes true ∷ synced false ∷ []) (torn bytes)
     (λ number sure e. let both : None ≡ Some sure = sym (refused_none (1 == number) (0 == number)) ∙ e in absurd (cc))
-    (inl (first, (first, (first, (first, refl, tt, inr (refl, refl)), tt, inl refl), (λ no. absurd (cc)), inl refl), tt, inl refl))
+    (inl (first, (first, (first, (first, refl, tt, inr (inl (refl, refl))), tt, inl refl), (λ no. absurd (cc)), inl refl), tt, inl refl))

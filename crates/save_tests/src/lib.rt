@@ -15,6 +15,10 @@ pub fn wrong_runs()
     ensures renamed_too_soon { (beside path bytes : List ℕ) → beside ≢ path
         → LosesNothing (Only beside) path bytes [] (renamed beside path true ∷ wrote bytes true ∷ made beside true ∷ []) → ⊥ }
 
+    // The old map is read, and written to.
+    ensures appended { (beside path bytes old : List ℕ) → beside ≢ path
+        → LosesNothing (Only beside) path bytes [] (wrote bytes true ∷ compared path old true ∷ []) → ⊥ }
+
     // A sync that failed is asked for again, and then believed.
     ensures synced_again { (beside path bytes : List ℕ) → beside ≢ path → LosesNothing (Only beside) path bytes []
         (renamed beside path true ∷ synced true ∷ synced false ∷ wrote bytes true ∷ made beside true ∷ []) → ⊥ }

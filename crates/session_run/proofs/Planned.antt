@@ -12,6 +12,7 @@ use Rattle.document_lines.specs.declared.planned.Planned.TheVariants as planned
 use Rattle.document_lines.specs.Machine.{Machine, Workspace, active_of, workspace}
 use Rattle.document_lines.specs.Rules.{Edits, OnActive, OnDocuments, OnFiles, Rule, MachineStep, rule_of}
 use Rattle.document_lines.specs.Planning.{IsOfActive, edit_change}
+use Rattle.editor.specs.Asking.{Keeps}
 use Rattle.editor.specs.Kinds.{CommitKinds, Kinds, StepKinds}
 use Rattle.editor.specs.Planning.{Commits, IsEditOf, Plans}
 use Rattle.editor.proofs.Asking.{unasked}
@@ -53,9 +54,9 @@ edit-IsOfActive (OnActive act) active c p = absurd p
 edit-IsOfActive (Edits names edit) active c p = tt
 
 -- for an edit no store is asked, whatever its reply is
-pub unasked_edit : (line : Line) (m : Machine) (active : Option History) (c : Change) (reply : Reply) (old new : List Asked)
-    → IsEditOf (rule_of line) active c → new ≡ old → LineAsks line m (Some reply) old new
-unasked_edit line m active c reply old new p e = rw e (unasked line m (planned.Reply reply) old (edit-IsOfActive (rule_of line) active c p))
+pub unasked_edit : (line : Line) (m : Machine) (keeps : Keeps) (active : Option History) (c : Change) (reply : Reply) (old new : List Asked)
+    → IsEditOf (rule_of line) active c → new ≡ old → LineAsks line m keeps (Some reply) old new
+unasked_edit line m keeps active c reply old new p e = rw e (unasked line m keeps (planned.Reply reply) old (edit-IsOfActive (rule_of line) active c p))
 
 -- what the commit made of which steps are macros, the line has made of it
 pub push_kinds : (line : Line) (old mid new : Machine) (edit : Edit) (w : Change) (reply : Reply) (os ms ns : List Kinds)

@@ -88,7 +88,7 @@ fn carry_out<C: Command, S: MapStore, F: Fn(Edit) -> Option<C>>(
     ensures step { MachineStep line.now
         (workspace (machine_of C.change editor.old) (S.stored store.old)) result (workspace (machine_of C.change editor.new) (S.stored store.new)) }
     ensures kinds { StepKinds line.now (machine_of C.change editor.old) result (machine_of C.change editor.new) (kinds_in editor.old) (kinds_in editor.new) }
-    ensures asks { LineAsks line.now (machine_of C.change editor.old) result (S.asked store.old) (S.asked store.new) }
+    ensures asks { LineAsks line.now (machine_of C.change editor.old) (S.keeps store.new) result (S.asked store.old) (S.asked store.new) }
 {
     match editor.plan(alloc, store, line) {
         Planned::Quiet => None,
@@ -116,7 +116,7 @@ fn step_parsed<C: Command, S: MapStore, F: Fn(Edit) -> Option<C>>(
     ensures step { MachineStepIn line.now
         (workspace (machine_of C.change editor.old) (S.stored store.old)) result (workspace (machine_of C.change editor.new) (S.stored store.new)) }
     ensures kinds { StepKindsIn line.now (machine_of C.change editor.old) result (machine_of C.change editor.new) (kinds_in editor.old) (kinds_in editor.new) }
-    ensures asks { AsksIn line.now (machine_of C.change editor.old) result (S.asked store.old) (S.asked store.new) }
+    ensures asks { AsksIn line.now (machine_of C.change editor.old) (S.keeps store.new) result (S.asked store.old) (S.asked store.new) }
 {
     match &parse_line(line) {
         Ok(line) => carry_out(alloc, editor, store, line, put),
@@ -127,7 +127,8 @@ fn step_parsed<C: Command, S: MapStore, F: Fn(Edit) -> Option<C>>(
 /// Does what a line asks for, and gives the reply to it, and none to a quiet one. The line has no newline at its end. What it
 /// plans is put into a command by `put`.
 ///
-/// The store is called for the lines `open` and `save` alone, and at most once.
+/// The store is called for the lines `open` and `save` alone, and at most once. A map is said to be saved only where the store
+/// keeps its text.
 #[inline(always)]
 pub fn step<C: Command, S: MapStore, F: Fn(Edit) -> Option<C>>(
     alloc: Global,
@@ -143,7 +144,7 @@ pub fn step<C: Command, S: MapStore, F: Fn(Edit) -> Option<C>>(
     ensures step { MachineStepIn line.now
         (workspace (machine_of C.change editor.old) (S.stored store.old)) result (workspace (machine_of C.change editor.new) (S.stored store.new)) }
     ensures kinds { StepKindsIn line.now (machine_of C.change editor.old) result (machine_of C.change editor.new) (kinds_in editor.old) (kinds_in editor.new) }
-    ensures asks { AsksIn line.now (machine_of C.change editor.old) result (S.asked store.old) (S.asked store.new) }
+    ensures asks { AsksIn line.now (machine_of C.change editor.old) (S.keeps store.new) result (S.asked store.old) (S.asked store.new) }
 {
     // A frequent line is done without a parsed line and a plan.
     match frequent_line(line) {

@@ -1,3 +1,5 @@
+ghost use Rattle.std.specs.Prelude.{◌≡◌};
+
 use map_store::Reason;
 use std::io;
 use std::io::{Read, Write};
@@ -22,6 +24,15 @@ impl<T> Watched<T> {
     pub fn reason(&self) -> Option<&Reason> {
         self.reason.as_ref()
     }
+
+    // Keeps the reason of a call that has failed, and gives an error of its kind.
+    fn keep(&mut self, error: io::Error) -> io::Error
+        ensures { self.new.stream ≡ self.old.stream }
+    {
+        let kind = error.kind();
+        self.reason = Some(Reason::of(error));
+        kind.into()
+    }
 }
 
 impl<T: Read> Read for Watched<T> {
@@ -30,11 +41,7 @@ impl<T: Read> Read for Watched<T> {
     fn read(&mut self, buf: &mut [u8]) -> io::Result<usize> {
         match self.stream.read(buf) {
             Ok(count) => Ok(count),
-            Err(error) => {
-                let kind = error.kind();
-                self.reason = Some(Reason::of(error));
-                Err(kind.into())
-            }
+            Err(error) => Err(self.keep(error)),
         }
     }
 }
@@ -45,22 +52,14 @@ impl<T: Write> Write for Watched<T> {
     fn write(&mut self, buf: &[u8]) -> io::Result<usize> {
         match self.stream.write(buf) {
             Ok(count) => Ok(count),
-            Err(error) => {
-                let kind = error.kind();
-                self.reason = Some(Reason::of(error));
-                Err(kind.into())
-            }
+            Err(error) => Err(self.keep(error)),
         }
     }
 
     fn flush(&mut self) -> io::Result<()> {
         match self.stream.flush() {
             Ok(()) => Ok(()),
-            Err(error) => {
-                let kind = error.kind();
-                self.reason = Some(Reason::of(error));
-                Err(kind.into())
-            }
+            Err(error) => Err(self.keep(error)),
         }
     }
 }

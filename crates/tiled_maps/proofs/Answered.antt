@@ -1,22 +1,22 @@
 -- The facts about an answer, from what was seen of its tree.
 use Rattle.std.proofs.Common.{◌≡◌, inr, ℕ, ◌≤◌, ◌<◌, nat_le, leb-false, List, Bool, true, false, not, ◌||◌, true≢false, Option, Some, None, is_some, Vec}
 use Rattle.std.proofs.Common.{Global, Err, refl, sym, ap, ◌∙◌, arith}
-use Rattle.std.proofs.lemmas.Bool.{or_right}
+use Rattle.std.proofs.lemmas.Bool.{or_right, leb-true}
 use Rattle.std.specs.Prelude.{unwrap_or}
 use Rattle.serde_json.specs.Data.{Data, depth}
 use Rattle.serde_json.specs.Read.{max_depth}
 use Rattle.infinite_maps.specs.Infinite.{is_infinite}
 use Rattle.tiled_maps.specs.declared.fault.Fault.{Fault}
-use Rattle.tiled_maps.specs.declared.fault.Fault.TheVariants.{Memory, NotJson, NameTaken, TooDeep, BadChunk, Overlap, TooLarge, Unlike}
+use Rattle.tiled_maps.specs.declared.fault.Fault.TheVariants.{Memory, NotJson, NameTaken, TooManyFractions, TooDeep, BadChunk, Overlap, TooLarge, Unlike}
 use Rattle.tiled_maps.specs.declared.place.Place.TheVariants.{Map}
 use Rattle.tiled_maps.specs.Members.{has_name}
-use Rattle.tiled_maps.specs.Fractions.{has_fraction}
+use Rattle.tiled_maps.specs.Fractions.{has_fraction, fractions_in, most_fractions, HasFewFractions}
 use Rattle.tiled_maps.specs.Aside.{reserved_name, set_aside_of}
 use Rattle.tiled_maps.specs.Back.{back}
 use Rattle.tiled_maps.specs.Trees.{put_back_of, IsFiniteOf, MakesFinite}
 use Rattle.tiled_maps.specs.Texts.{IsTreeOf, IsSetAside, IsPutBack, IsInfinite, SetsAside, text_or}
 use Rattle.tiled_maps.proofs.Meeting.{is_infinite-set_aside_of, put_back_of-plain, put_back_of-spread, put_back_of-free}
-use Rattle.tiled_maps.proofs.Whole.{has_fraction-aside, aside-unchanged, back-unchanged, depth-back}
+use Rattle.tiled_maps.proofs.Whole.{has_fraction-aside, HasFewFractions-none, aside-unchanged, back-unchanged, depth-back}
 use Rattle.tiled_maps.proofs.ReadTrees.{IsReadTree-read}
 
 or_false : (a b : Bool) → b ≡ false → (a || b) ≡ a
@@ -27,12 +27,18 @@ pub if_not : (b : Bool) → true ≡ not b → b ≡ false
 if_not true e = absurd (true≢false e)
 if_not false e = refl
 
+-- what the count of fractions says
+pub few_seen : (d : Data) → nat_le (fractions_in Map d) most_fractions ≡ true → HasFewFractions d
+few_seen d e = leb-true (fractions_in Map d) most_fractions e
+
 -- a map that is not infinite
 IsSetAside-plain : (bytes : List ℕ) (text : Option (Vec ℕ Global)) (d : Data) → IsTreeOf bytes d → has_name reserved_name d ≡ false
-    → is_infinite d ≡ false → IsTreeOf (text_or bytes text) (set_aside_of d) → is_some text ≡ has_fraction Map d → IsSetAside bytes text d (set_aside_of d)
-IsSetAside-plain bytes text d tree free plain text_tree some = record {
+    → HasFewFractions d → is_infinite d ≡ false → IsTreeOf (text_or bytes text) (set_aside_of d) → is_some text ≡ has_fraction Map d
+    → IsSetAside bytes text d (set_aside_of d)
+IsSetAside-plain bytes text d tree free few plain text_tree some = record {
   tree = tree;
   free = free;
+  few = few;
   text_tree = text_tree;
   aside = record { plain = λ e. refl; spread = λ e. absurd (true≢false (sym e ∙ plain)) };
   put_back = put_back_of-plain d (IsReadTree-read bytes d tree.1) free;
@@ -45,23 +51,25 @@ IsSetAside-plain bytes text d tree free plain text_tree some = record {
 pub SetsAside-none : (bytes : List ℕ) (d : Data) → IsTreeOf bytes d → has_name reserved_name d ≡ false → has_fraction Map d ≡ false
     → is_infinite (set_aside_of d) ≡ false → IsSetAside bytes None d (set_aside_of d)
 SetsAside-none bytes d tree free none plain =
-    IsSetAside-plain bytes None d tree free (sym (is_infinite-set_aside_of d) ∙ plain) (tree.0, tree.1 ∙ ap (λ t. Some t) (sym (aside-unchanged Map d none)))
-    (sym none)
+    IsSetAside-plain bytes None d tree free (HasFewFractions-none d none) (sym (is_infinite-set_aside_of d) ∙ plain)
+    (tree.0, tree.1 ∙ ap (λ t. Some t) (sym (aside-unchanged Map d none))) (sym none)
 
 -- a map with a fraction
 pub SetsAside-whole : (bytes : List ℕ) (text : Vec ℕ Global) (d : Data) → IsTreeOf bytes d → has_name reserved_name d ≡ false
-    → has_fraction Map d ≡ true → is_infinite (set_aside_of d) ≡ false → IsTreeOf text.items (set_aside_of d) → IsSetAside bytes (Some text) d (set_aside_of d)
-SetsAside-whole bytes text d tree free some plain text_tree =
-    IsSetAside-plain bytes (Some text) d tree free (sym (is_infinite-set_aside_of d) ∙ plain) text_tree (sym some)
+    → HasFewFractions d → has_fraction Map d ≡ true → is_infinite (set_aside_of d) ≡ false → IsTreeOf text.items (set_aside_of d)
+    → IsSetAside bytes (Some text) d (set_aside_of d)
+SetsAside-whole bytes text d tree free few some plain text_tree =
+    IsSetAside-plain bytes (Some text) d tree free few (sym (is_infinite-set_aside_of d) ∙ plain) text_tree (sym some)
 
 -- an infinite map
 pub SetsAside-finite : (bytes : List ℕ) (text : Vec ℕ Global) (d t : Data) → IsTreeOf bytes d → has_name reserved_name d ≡ false
-    → is_infinite (set_aside_of d) ≡ true → IsFiniteOf (set_aside_of d) t → IsTreeOf text.items t → IsSetAside bytes (Some text) d t
-SetsAside-finite bytes text d t tree free infinite finite text_tree =
+    → HasFewFractions d → is_infinite (set_aside_of d) ≡ true → IsFiniteOf (set_aside_of d) t → IsTreeOf text.items t → IsSetAside bytes (Some text) d t
+SetsAside-finite bytes text d t tree free few infinite finite text_tree =
     let is : is_infinite d ≡ true = sym (is_infinite-set_aside_of d) ∙ infinite in
     record {
       tree = tree;
       free = free;
+      few = few;
       text_tree = text_tree;
       aside = record { plain = λ e. absurd (true≢false (sym is ∙ e)); spread = λ e. finite.spread };
       put_back = put_back_of-spread d t (IsReadTree-read bytes d tree.1) free finite.spread;
@@ -71,19 +79,21 @@ SetsAside-finite bytes text d t tree free infinite finite text_tree =
     }
 
 -- ---- faults
-infinite_fault : (bytes : List ℕ) (d a : Data) → IsTreeOf bytes d → a ≡ set_aside_of d → is_infinite a ≡ true → IsInfinite bytes
-infinite_fault bytes d a tree is h = (d, tree, sym (is_infinite-set_aside_of d) ∙ ap is_infinite (sym is) ∙ h)
+infinite_fault : (bytes : List ℕ) (d a : Data) → IsTreeOf bytes d → HasFewFractions d → a ≡ set_aside_of d → is_infinite a ≡ true
+    → IsInfinite bytes
+infinite_fault bytes d a tree few is h = (d, tree, few, sym (is_infinite-set_aside_of d) ∙ ap is_infinite (sym is) ∙ h)
 
-pub finite_fault : (bytes : List ℕ) (d a : Data) (fault : Fault) → IsTreeOf bytes d → a ≡ set_aside_of d → MakesFinite a (Err fault)
-    → SetsAside bytes (Err fault)
-finite_fault bytes d a Memory tree is h = tt
-finite_fault bytes d a NotJson tree is h = absurd h
-finite_fault bytes d a NameTaken tree is h = absurd h
-finite_fault bytes d a TooDeep tree is h = (d, tree, inr (h.1.0, h.1.1 ∙ ap (λ t. Some t) is, h.1.2))
-finite_fault bytes d a BadChunk tree is h = infinite_fault bytes d a tree is h
-finite_fault bytes d a Overlap tree is h = infinite_fault bytes d a tree is h
-finite_fault bytes d a TooLarge tree is h = infinite_fault bytes d a tree is h
-finite_fault bytes d a Unlike tree is h = infinite_fault bytes d a tree is h
+pub finite_fault : (bytes : List ℕ) (d a : Data) (fault : Fault) → IsTreeOf bytes d → HasFewFractions d → a ≡ set_aside_of d
+    → MakesFinite a (Err fault) → SetsAside bytes (Err fault)
+finite_fault bytes d a Memory tree few is h = tt
+finite_fault bytes d a NotJson tree few is h = absurd h
+finite_fault bytes d a NameTaken tree few is h = absurd h
+finite_fault bytes d a TooManyFractions tree few is h = absurd h
+finite_fault bytes d a TooDeep tree few is h = (d, tree, few, inr (h.1.0, h.1.1 ∙ ap (λ t. Some t) is, h.1.2))
+finite_fault bytes d a BadChunk tree few is h = infinite_fault bytes d a tree few is h
+finite_fault bytes d a Overlap tree few is h = infinite_fault bytes d a tree few is h
+finite_fault bytes d a TooLarge tree few is h = infinite_fault bytes d a tree few is h
+finite_fault bytes d a Unlike tree few is h = infinite_fault bytes d a tree few is h
 
 -- ---- put back
 -- a tree without the reserved name

@@ -1,7 +1,7 @@
 -- What setting aside leaves: no fraction, and a tree without one as it is; and what putting back leaves.
 use Rattle.std.proofs.Common.{◌≡◌, ℕ, suc, ◌≤◌, max, List, codes, ℤ, pos, negsuc, Option, Some, None, option_map, option_and_then, Ordering, Less, Equal}
 use Rattle.std.proofs.Common.{Greater, nat_cmp, cond, Bool, true, false, ◌||◌, true≢false, Float, refl, sym, ap, ◌∙◌, arith}
-use Rattle.std.specs.Prelude.{unwrap_or}
+use Rattle.std.specs.Prelude.{unwrap_or, if◌then◌else◌}
 use Rattle.std.specs.Cmp.Lexicographic.{slice_cmp}
 use Rattle.std.specs.Ordering.{match_ordering}
 use Rattle.serde_json.specs.Data.{Num, unsigned, negative, float, Data, null, boolean, number, string, array, object, Items, no_items, item, Members}
@@ -13,6 +13,7 @@ use Rattle.json_members.specs.Members.{without, put_some}
 use Rattle.tiled_maps.specs.Members.{has_name, items_have_name, members_have_name}
 use Rattle.tiled_maps.specs.Places.{below, inside}
 use Rattle.tiled_maps.specs.Fractions.{is_fraction, has_fraction, items_have_fraction, members_have_fraction}
+use Rattle.tiled_maps.specs.Fractions.{fractions_in, fractions_in_items, fractions_in_members, HasFewFractions}
 use Rattle.tiled_maps.specs.Aside.{reserved_name, stand_in, whole_part, fraction_at, note_of, notes_of, with_notes, aside, items_aside, members_aside}
 use Rattle.tiled_maps.specs.Back.{restored, members_restored, number_in, notes_in, joined, back, items_back, members_back}
 use Rattle.json_members.proofs.MembersLemmas.{same_name}
@@ -127,6 +128,39 @@ mutual
   members_have_fraction-members_aside : (p : Place) (ms : Members) → members_have_fraction p (members_aside p ms) ≡ false
   members_have_fraction-members_aside p no_members = refl
   members_have_fraction-members_aside p (member k d ms) = neither _ _ (has_fraction-aside (below p k) d) (members_have_fraction-members_aside p ms)
+
+-- ---- where there is none, their number is 0
+none_here : (b : Bool) → b ≡ false → ◌≡◌ {A = ℕ} (if b then 1 else 0) 0
+none_here true e = absurd (true≢false e)
+none_here false e = refl
+
+mutual
+  fractions_in-none : (p : Place) (d : Data) → has_fraction p d ≡ false → fractions_in p d ≡ 0
+  fractions_in-none p null h = refl
+  fractions_in-none p (boolean b) h = refl
+  fractions_in-none p (number n) h = none_here (is_fraction p n) h
+  fractions_in-none p (string s) h = refl
+  fractions_in-none p (array ds) h = fractions_in_items-none (inside p) ds h
+  fractions_in-none p (object ms) h = fractions_in_members-none p ms h
+
+  fractions_in_items-none : (p : Place) (ds : Items) → items_have_fraction p ds ≡ false → fractions_in_items p ds ≡ 0
+  fractions_in_items-none p no_items h = refl
+  fractions_in_items-none p (item d ds) h =
+      let first : fractions_in p d ≡ 0 = fractions_in-none p d (or_left (has_fraction p d) (items_have_fraction p ds) h) in
+      let rest : fractions_in_items p ds ≡ 0 = fractions_in_items-none p ds (or_right (has_fraction p d) (items_have_fraction p ds) h) in
+      rw (first, rest) refl
+
+  fractions_in_members-none : (p : Place) (ms : Members) → members_have_fraction p ms ≡ false → fractions_in_members p ms ≡ 0
+  fractions_in_members-none p no_members h = refl
+  fractions_in_members-none p (member k d ms) h =
+      let first : fractions_in (below p k) d ≡ 0
+      = fractions_in-none (below p k) d (or_left (has_fraction (below p k) d) (members_have_fraction p ms) h) in
+      let rest : fractions_in_members p ms ≡ 0
+      = fractions_in_members-none p ms (or_right (has_fraction (below p k) d) (members_have_fraction p ms) h) in
+      rw (first, rest) refl
+
+pub HasFewFractions-none : (d : Data) → has_fraction Map d ≡ false → HasFewFractions d
+HasFewFractions-none d h = let none : fractions_in Map d ≡ 0 = fractions_in-none Map d h in rw none (omega arith)
 
 -- ---- what has no fraction is as it was
 float_same : (p : Place) (x : Float) → is_fraction p (float x) ≡ false → aside p (number (float x)) ≡ number (float x)

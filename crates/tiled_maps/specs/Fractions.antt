@@ -1,5 +1,5 @@
 -- Fractions: numbers that are no whole numbers of 64 bits.
-use Rattle.std.specs.Prelude.{Bool, false, ◌||◌}
+use Rattle.std.specs.Prelude.{ℕ, ◌+◌, ◌≤◌, Bool, false, ◌||◌, if◌then◌else◌}
 use Rattle.serde_json.specs.Data.{Num, Data, null, boolean, number, string, array, object, Items, no_items, item, Members, no_members, member}
 use Rattle.serde_json.specs.Find.{is_float}
 use Rattle.tiled_maps.specs.declared.place.Place.{Place}
@@ -32,3 +32,29 @@ abbrev mutual
   pub members_have_fraction : Place → Members → Bool
   members_have_fraction p no_members = false
   members_have_fraction p (member k d ms) = has_fraction (below p k) d || members_have_fraction p ms
+
+-- how many there are
+abbrev mutual
+  pub fractions_in : Place → Data → ℕ
+  fractions_in p null = 0
+  fractions_in p (boolean b) = 0
+  fractions_in p (number n) = if is_fraction p n then 1 else 0
+  fractions_in p (string s) = 0
+  fractions_in p (array ds) = fractions_in_items (inside p) ds
+  fractions_in p (object ms) = fractions_in_members p ms
+
+  pub fractions_in_items : Place → Items → ℕ
+  fractions_in_items p no_items = 0
+  fractions_in_items p (item d ds) = fractions_in p d + fractions_in_items p ds
+
+  pub fractions_in_members : Place → Members → ℕ
+  fractions_in_members p no_members = 0
+  fractions_in_members p (member k d ms) = fractions_in (below p k) d + fractions_in_members p ms
+
+-- how many a map may have
+abbrev pub most_fractions : ℕ
+most_fractions = 200000
+
+-- the tree of a map has no more
+abbrev pub HasFewFractions : Data → Type 0
+HasFewFractions d = fractions_in Map d ≤ most_fractions

@@ -7,10 +7,10 @@ use Rattle.serde_json.specs.View.{view}
 use Rattle.serde_json.specs.declared.value.Value.{Value}
 use Rattle.infinite_maps.specs.Infinite.{is_infinite, infinite_of}
 use Rattle.tiled_maps.specs.declared.fault.Fault.{Fault}
-use Rattle.tiled_maps.specs.declared.fault.Fault.TheVariants.{Memory, NotJson, NameTaken, TooDeep, BadChunk, Overlap, TooLarge, Unlike}
+use Rattle.tiled_maps.specs.declared.fault.Fault.TheVariants.{Memory, NotJson, NameTaken, TooManyFractions, TooDeep, BadChunk, Overlap, TooLarge, Unlike}
 use Rattle.tiled_maps.specs.declared.place.Place.TheVariants.{Map}
 use Rattle.tiled_maps.specs.Members.{has_name}
-use Rattle.tiled_maps.specs.Fractions.{has_fraction}
+use Rattle.tiled_maps.specs.Fractions.{has_fraction, fractions_in, most_fractions, HasFewFractions}
 use Rattle.tiled_maps.specs.Aside.{reserved_name}
 use Rattle.tiled_maps.specs.Trees.{IsAside, put_back_of, IsTooDeep}
 
@@ -23,12 +23,13 @@ abbrev pub text_or : List ℕ → Option (Vec ℕ Global) → List ℕ
 text_or bytes None = bytes
 text_or bytes (Some text) = text.items
 
--- The bytes have the tree d, and no member in it has the reserved name. The text has the tree t, which is d with its fractions set
--- aside and made finite: put back, it is d again; it has no fraction, and is no infinite map. There is a text of its own only if
--- d has a fraction or is an infinite map.
+-- The bytes have the tree d. No member in it has the reserved name, and it has few fractions. The text has the tree t, which is d
+-- with its fractions set aside and made finite: put back, it is d again; it has no fraction, and is no infinite map. There is a
+-- text of its own only if d has a fraction or is an infinite map.
 pub record IsSetAside (bytes : List ℕ) (text : Option (Vec ℕ Global)) (d t : Data) : Type 0 where
   pub tree : IsTreeOf bytes d
   pub free : has_name reserved_name d ≡ false
+  pub few : HasFewFractions d
   pub text_tree : IsTreeOf (text_or bytes text) t
   pub aside : IsAside d t
   pub put_back : put_back_of t ≡ d
@@ -36,9 +37,9 @@ pub record IsSetAside (bytes : List ℕ) (text : Option (Vec ℕ Global)) (d t :
   pub finite : is_infinite t ≡ false
   pub some : is_some text ≡ (has_fraction Map d || is_infinite d)
 
--- the bytes have the tree of an infinite map, which is not made finite
+-- the bytes have the tree of an infinite map with few fractions, which is not made finite
 abbrev pub IsInfinite : List ℕ → Type 0
-IsInfinite bytes = (d : Data) × IsTreeOf bytes d × (is_infinite d ≡ true)
+IsInfinite bytes = (d : Data) × IsTreeOf bytes d × HasFewFractions d × (is_infinite d ≡ true)
 
 -- what `set_aside` answers
 abbrev pub SetsAside : List ℕ → Result (Option (Vec ℕ Global)) Fault → Type 0
@@ -46,7 +47,8 @@ SetsAside bytes (Ok text) = (d : Data) × (t : Data) × IsSetAside bytes text d 
 SetsAside bytes (Err Memory) = Unit {0}
 SetsAside bytes (Err NotJson) = IsUtf8 bytes → read bytes ≡ None
 SetsAside bytes (Err NameTaken) = (d : Data) × IsTreeOf bytes d × (has_name reserved_name d ≡ true)
-SetsAside bytes (Err TooDeep) = (d : Data) × IsTreeOf bytes d × IsTooDeep d
+SetsAside bytes (Err TooManyFractions) = (d : Data) × IsTreeOf bytes d × (has_name reserved_name d ≡ false) × (most_fractions < fractions_in Map d)
+SetsAside bytes (Err TooDeep) = (d : Data) × IsTreeOf bytes d × HasFewFractions d × IsTooDeep d
 SetsAside bytes (Err BadChunk) = IsInfinite bytes
 SetsAside bytes (Err Overlap) = IsInfinite bytes
 SetsAside bytes (Err TooLarge) = IsInfinite bytes
@@ -65,6 +67,7 @@ PutsBack bytes (Ok text) = (d : Data) × IsPutBack bytes text d
 PutsBack bytes (Err Memory) = Unit {0}
 PutsBack bytes (Err NotJson) = IsUtf8 bytes → read bytes ≡ None
 PutsBack bytes (Err NameTaken) = ⊥
+PutsBack bytes (Err TooManyFractions) = ⊥
 PutsBack bytes (Err TooDeep) = (d : Data) × IsTreeOf bytes d × (is_some (infinite_of d) ≡ true) × (max_depth < depth (put_back_of d))
 PutsBack bytes (Err BadChunk) = ⊥
 PutsBack bytes (Err Overlap) = ⊥
@@ -78,6 +81,7 @@ Reads bytes (Ok value) = IsTreeOf bytes (view value)
 Reads bytes (Err Memory) = Unit {0}
 Reads bytes (Err NotJson) = IsUtf8 bytes → read bytes ≡ None
 Reads bytes (Err NameTaken) = ⊥
+Reads bytes (Err TooManyFractions) = ⊥
 Reads bytes (Err TooDeep) = ⊥
 Reads bytes (Err BadChunk) = ⊥
 Reads bytes (Err Overlap) = ⊥

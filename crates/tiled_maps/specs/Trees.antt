@@ -8,7 +8,7 @@ use Rattle.infinite_maps.specs.Infinite.{is_infinite, infinite_of}
 use Rattle.infinite_maps.specs.declared.fault.Fault.{Fault as InfiniteFault}
 use Rattle.infinite_maps.specs.declared.fault.Fault.TheVariants as infinite
 use Rattle.tiled_maps.specs.declared.fault.Fault.{Fault}
-use Rattle.tiled_maps.specs.declared.fault.Fault.TheVariants.{Memory, NotJson, NameTaken, TooDeep, BadChunk, Overlap, TooLarge, Unlike}
+use Rattle.tiled_maps.specs.declared.fault.Fault.TheVariants.{Memory, NotJson, NameTaken, TooManyFractions, TooDeep, BadChunk, Overlap, TooLarge, Unlike}
 use Rattle.tiled_maps.specs.declared.place.Place.TheVariants.{Map}
 use Rattle.tiled_maps.specs.Fractions.{has_fraction}
 use Rattle.tiled_maps.specs.Aside.{set_aside_of}
@@ -44,6 +44,7 @@ MakesWhole d (Ok whole) = (view whole ≡ set_aside_of d) × (depth d ≤ max_de
 MakesWhole d (Err Memory) = Unit {0}
 MakesWhole d (Err NotJson) = ⊥
 MakesWhole d (Err NameTaken) = ⊥
+MakesWhole d (Err TooManyFractions) = ⊥
 MakesWhole d (Err TooDeep) = max_depth < depth (set_aside_of d)
 MakesWhole d (Err BadChunk) = ⊥
 MakesWhole d (Err Overlap) = ⊥
@@ -64,6 +65,7 @@ MakesFinite a (Ok (Some finite)) = (is_infinite a ≡ true) × IsFiniteOf a (vie
 MakesFinite a (Err Memory) = Unit {0}
 MakesFinite a (Err NotJson) = ⊥
 MakesFinite a (Err NameTaken) = ⊥
+MakesFinite a (Err TooManyFractions) = ⊥
 MakesFinite a (Err TooDeep) = (is_infinite a ≡ true) × ((t : Data) × (infinite_of t ≡ Some a) × (max_depth < depth t))
 MakesFinite a (Err BadChunk) = is_infinite a ≡ true
 MakesFinite a (Err Overlap) = is_infinite a ≡ true

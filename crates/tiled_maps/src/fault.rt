@@ -13,6 +13,8 @@ pub enum Fault {
     NotJson,
     /// A member has the name `roskevad`.
     NameTaken,
+    /// The map has more than 200,000 fractions.
+    TooManyFractions,
     /// The text that would be given nests deeper than 127.
     TooDeep,
     /// A chunk of an infinite map has no place or size, lies past 2^31 cells, or has not a whole number for each cell.
@@ -32,6 +34,7 @@ impl Fault {
             Fault::Memory => "out of memory",
             Fault::NotJson => "not JSON",
             Fault::NameTaken => "a member has the reserved name \"roskevad\"",
+            Fault::TooManyFractions => "it has more than 200,000 fractions",
             Fault::TooDeep => "set aside or put back, it would nest deeper than 127",
             Fault::BadChunk =>
                 "a chunk has no place, no size, or not a cell for each of its places",

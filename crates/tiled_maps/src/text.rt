@@ -6,7 +6,7 @@ ghost use Rattle.tiled_maps.specs.Texts.{Reads, SetsAside, PutsBack};
 use crate::back::back;
 use crate::fault::Fault;
 use crate::fraction::RESERVED_NAME;
-use crate::fractions::has_fraction;
+use crate::fractions::{has_few_fractions, has_fraction};
 use crate::members::has_name;
 use crate::place::Place;
 use crate::tree::{MAX_DEPTH, finite, infinite, whole};
@@ -42,15 +42,19 @@ fn read(alloc: Global, bytes: &[u8]) -> Result<Value, Fault>
 /// member `roskevad`, which has the stand-in of each of them that is a fraction. Then the map is made finite as by
 /// `infinite_maps::made_finite`; a map above its limits gets its sizes alone.
 ///
-/// `NotJson` where the bytes have no tree, `NameTaken` where a member has the name `roskevad` already, `TooDeep` where the text
-/// would nest too deep, and `Memory` where there was not enough. `BadChunk`, `Overlap`, `TooLarge` and `Unlike` come for infinite
-/// maps alone. What `put_back` makes of the text has the tree of the bytes again. The caller bounds how long the text may be.
+/// `NotJson` where the bytes have no tree, `NameTaken` where a member has the name `roskevad` already, `TooManyFractions` where the
+/// map has more than 200,000, `TooDeep` where the text would nest too deep, and `Memory` where there was not enough. `BadChunk`,
+/// `Overlap`, `TooLarge` and `Unlike` come for infinite maps alone. What `put_back` makes of the text has the tree of the bytes
+/// again. The caller bounds how long the text may be.
 pub fn set_aside(alloc: Global, bytes: &[u8]) -> Result<Option<Vec<u8>>, Fault>
     ensures { SetsAside bytes.now result }
 {
     let value = read(alloc, bytes)?;
     if has_name(RESERVED_NAME, &value) {
         return Err(Fault::NameTaken);
+    }
+    if !has_few_fractions(&value) {
+        return Err(Fault::TooManyFractions);
     }
     let is_whole = !has_fraction(Place::Map, &value);
     let whole = whole(alloc, is_whole, value)?;

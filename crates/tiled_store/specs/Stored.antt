@@ -33,6 +33,7 @@ abbrev pub refuses : Fault → Bool
 refuses fault.Memory = false
 refuses fault.NotJson = false
 refuses fault.NameTaken = true
+refuses fault.TooManyFractions = true
 refuses fault.TooDeep = true
 refuses fault.BadChunk = true
 refuses fault.Overlap = true
@@ -60,6 +61,11 @@ abbrev pub PutsFor : Bool → List ℕ → List ℕ → Type 0
 PutsFor false bytes file = file ≡ bytes
 PutsFor true bytes file =
     ((own : Option (Vec ℕ Global)) × (file ≡ text_or bytes own) × PutsBack bytes (Ok own) × IsShort own) ⊎ ((file ≡ bytes) × PutsBack bytes (Err fault.NotJson))
+
+-- what a store puts for a text, if it sets maps aside; else the text as it is
+abbrev pub PutsBy : Bool → Bool → List ℕ → List ℕ → Type 0
+PutsBy false has_set_aside bytes file = file ≡ bytes
+PutsBy true has_set_aside bytes file = PutsFor has_set_aside bytes file
 
 -- what was set aside in a text is not put back: the text would nest too deep, or be too long
 abbrev pub IsNotPut : Bool → List ℕ → Type 0

@@ -1,9 +1,9 @@
-ghost use Rattle.std.specs.Prelude.{◌≡◌, ◌-◌, ◌^◌, ◌<◌, ◌≤◌, ◌⊎◌, ◌∷◌, [], IsErrOf, IsOk, IfOk, IsTrue, Bool, true, false, Ok, None};
+ghost use Rattle.std.specs.Prelude.{◌≡◌, ◌-◌, ◌^◌, ◌<◌, ◌≤◌, ◌⊎◌, ◌∷◌, [], ℕ, List, IsErrOf, IsOk, IfOk, OnOk, IsTrue, Bool, true, false, Ok, None};
 ghost use Rattle.map_store.specs.Asking.{loading, storing};
 ghost use Rattle.map_store.specs.Files.{HasFailed};
 ghost use Rattle.map_store.specs.Storing.{Loads, Stores};
 ghost use Rattle.tiled_maps.specs.Texts.{text_or};
-ghost use Rattle.tiled_store.specs.Stored.{AtMostOnce, Gives, GivesFor, IsRefused, PutsFor, IsNotPut, LoadsFrom, StoresTo};
+ghost use Rattle.tiled_store.specs.Stored.{AtMostOnce, Gives, GivesFor, IsRefused, PutsBy, PutsFor, IsNotPut, LoadsFrom, StoresTo};
 
 use crate::fault_report::FaultReport;
 use map_store::{MapStore, StoreCall, StoreFault, StoreLog};
@@ -145,6 +145,7 @@ impl<S: MapStore, T: FaultReport> TiledStore<S, T> {
         ensures plain { self.now.sets_aside ≡ false → result ≡ Ok None }
         ensures puts { IsTrue self.now.sets_aside
             → IfOk result (λ own. PutsFor self.now.has_set_aside bytes.now (text_or bytes.now own)) }
+        ensures by { IfOk result (λ own. PutsBy self.now.sets_aside self.now.has_set_aside bytes.now (text_or bytes.now own)) }
         ensures refused { IsErrOf result StoreFault.Device → IsNotPut self.now.has_set_aside bytes.now }
         ensures found { IsErrOf result StoreFault.Missing → ⊥ }
     {
@@ -173,6 +174,9 @@ impl<S: MapStore, T: FaultReport> TiledStore<S, T> {
         ensures asked { self.new.log ≡ self.old.log }
         ensures below { AtMostOnce name.now (S.asked self.old.store) (S.asked self.new.store) }
         ensures stored { IsOk result → S.asked self.new.store ≡ storing name.now ∷ S.asked self.old.store }
+        ensures kept { OnOk result ((file : List ℕ) × PutsBy self.old.sets_aside self.old.has_set_aside bytes.now file × S.keeps self.new.store name.now file) }
+        ensures safe { (self.new.store ≡ self.old.store) ⊎ ((file : List ℕ) × PutsBy self.old.sets_aside self.old.has_set_aside bytes.now file
+            × S.loses_nothing self.old.store self.new.store name.now file) }
     {
         match self.put_back_of(alloc, name, bytes)? {
             Some(text) => self.store.store(alloc, name, text.as_slice()),
@@ -187,6 +191,11 @@ impl<S: MapStore, T: FaultReport> MapStore for TiledStore<S, T> {
     ghost stored = { λ s. record { files = (S.stored s.store).files; failures = s.failures; honest = false } };
 
     ghost asked = { λ s. s.log.asked };
+
+    ghost keeps = { λ s name bytes. (file : List ℕ) × PutsBy s.sets_aside s.has_set_aside bytes file × S.keeps s.store name file };
+
+    ghost loses_nothing = { λ old new name bytes. (new.store ≡ old.store)
+        ⊎ ((file : List ℕ) × PutsBy old.sets_aside old.has_set_aside bytes file × S.loses_nothing old.store new.store name file) };
 
     fn load(&mut self, alloc: Global, name: &str) -> Result<Vec<u8>, StoreFault>
         ensures loads_from { IsTrue (S.stored self.old.store).honest → IsTrue self.old.sets_aside
@@ -226,6 +235,8 @@ impl<S: MapStore, T: FaultReport> MapStore for TiledStore<S, T> {
             → HasFailed (⟦<TiledStore<S, T> as MapStore>⟧.stored self.old) (⟦<TiledStore<S, T> as MapStore>⟧.stored self.new) }
         ensures count { (⟦<TiledStore<S, T> as MapStore>⟧.stored self.old).failures ≤ (⟦<TiledStore<S, T> as MapStore>⟧.stored self.new).failures }
         ensures asked { self.new.log.asked ≡ storing name.now ∷ self.old.log.asked }
+        ensures kept { OnOk result (⟦<TiledStore<S, T> as MapStore>⟧.keeps self.new name.now bytes.now) }
+        ensures safe { ⟦<TiledStore<S, T> as MapStore>⟧.loses_nothing self.old self.new name.now bytes.now }
     {
         self.log.note(&StoreCall::Store(name));
         match self.put(alloc, name, bytes) {

@@ -127,7 +127,7 @@ impl<C: Command> Editor<C> {
         ensures step { MachineStep line.now (workspace (machine_of C.change self.old) (S.stored store.old)) (Some result) (workspace (machine_of C.change self.new) (S.stored store.new)) }
         ensures unchanged { KeepsReply result (machine_of C.change self.old) (machine_of C.change self.new) }
         ensures kinds { StepKinds line.now (machine_of C.change self.old) (Some result) (machine_of C.change self.new) (kinds_in self.old) (kinds_in self.new) }
-        ensures asks { Asks line.now (machine_of C.change self.old) result (S.asked store.old) (S.asked store.new) }
+        ensures asks { Asks line.now (machine_of C.change self.old) (S.keeps store.new) result (S.asked store.old) (S.asked store.new) }
     {
         match line {
             Line::New {

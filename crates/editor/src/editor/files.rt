@@ -68,7 +68,7 @@ impl<C: Command> Editor<C> {
             (S.stored store.old) (S.stored store.new) (machine_of C.change self.old) (Some result) (machine_of C.change self.new) }
         ensures unchanged { KeepsReply result (machine_of C.change self.old) (machine_of C.change self.new) }
         ensures kinds { kinds_in self.new ≡ kinds_in self.old }
-        ensures asks { AsksToSave file.now (active_of (machine_of C.change self.old)) result (S.asked store.old) (S.asked store.new) }
+        ensures asks { AsksToSave file.now (active_of (machine_of C.change self.old)) (S.keeps store.new) result (S.asked store.old) (S.asked store.new) }
     {
         match self.group.active_mut() {
             Some(stack) => save_document(alloc, store, stack, file),

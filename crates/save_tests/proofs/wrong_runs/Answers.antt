@@ -1,4 +1,4 @@
-use Rattle.save_tests.proofs.Wrong.{renamed_too_soon, synced_again, written_in_place, removed_first, not_kept_by_a_rename, not_synced, failed_before}
+use Rattle.save_tests.proofs.Wrong.{renamed_too_soon, synced_again, written_in_place, removed_first, not_kept_by_a_rename, not_synced, failed_before, appended}
 use Rattle.save_tests.proofs.wrong_runs.Goals as goal
 
 pub returns-clause-written_in_place : goal.returns-clause-written_in_place
@@ -9,6 +9,9 @@ returns-clause-removed_first c = removed_first
 
 pub returns-clause-renamed_too_soon : goal.returns-clause-renamed_too_soon
 returns-clause-renamed_too_soon c = renamed_too_soon
+
+pub returns-clause-appended : goal.returns-clause-appended
+returns-clause-appended c = λ beside path bytes old apart. appended beside path bytes apart old
 
 pub returns-clause-synced_again : goal.returns-clause-synced_again
 returns-clause-synced_again c = synced_again

@@ -3,6 +3,8 @@ use Rattle.std.proofs.Common.{◌≡◌, List, ◌∷◌, is_ok, refl, sym, ap, 
 use Rattle.atomic_save.specs.Crash.{Call}
 use Rattle.atomic_save.specs.Saving.{LosesNothing, IsInPlace, Only}
 use Rattle.atomic_save.proofs.Filled.{not_claimed, not_given, not_written, not_synced, renamed_or_not, placed}
+use Rattle.atomic_save.specs.TwoRuns.{StaysCareful}
+use Rattle.atomic_save.proofs.Careful.{filled_careful, filled_put}
 use Rattle.atomic_save.proofs.saves.fill.Goals as goal
 
 on_ok : {T E : Type 0} (P : Type 0) (r : Result T E) → (is_ok r ≡ true → P) → OnOk r P
@@ -24,7 +26,7 @@ returns-in_err-set_access-clause-safe g c =
     let old = g.F.SaveFolder.log c.args.folder.now in
     subst (λ (l : List Call). LosesNothing (Only c.args.beside.now) c.args.path.now c.args.bytes.now old l)
     (sym (also c.in_ok-claim.ensures c.in_err-set_access.ensures))
-    (not_given c.args.beside.now c.args.path.now c.args.bytes.now c.requires.apart old)
+    (not_given c.args.beside.now c.args.path.now c.args.bytes.now c.requires.apart old c.requires.made)
 
 pub returns-in_err-write-clause-safe : goal.returns-in_err-write-clause-safe
 returns-in_err-write-clause-safe g c =
@@ -53,3 +55,17 @@ returns-clause-placed g c =
     on_ok _ c.rename.result (λ ok. subst (λ (l : List Call). IsInPlace c.args.path.now c.args.bytes.now l)
     (sym (also (also (also (also c.in_ok-claim.ensures c.in_ok-set_access.ensures) c.in_ok-write.ensures) c.in_ok-sync.ensures) c.rename.ensures))
     (placed c.args.beside.now c.args.path.now c.args.bytes.now c.requires.apart (is_ok c.rename.result) ok old c.requires.made))
+
+pub returns-clause-careful : goal.returns-clause-careful
+returns-clause-careful g c =
+    let old = g.F.SaveFolder.log c.args.folder.now in
+    subst (λ (l : List Call). StaysCareful (Only c.args.beside.now) c.args.path.now old l)
+    (sym (also (also (also (also c.in_ok-claim.ensures c.in_ok-set_access.ensures) c.in_ok-write.ensures) c.in_ok-sync.ensures) c.rename.ensures))
+    (filled_careful c.args.beside.now c.args.path.now c.args.bytes.now (is_ok c.rename.result) old c.requires.made)
+
+pub returns-clause-put : goal.returns-clause-put
+returns-clause-put g c =
+    on_ok _ c.rename.result (λ ok. filled_put c.args.beside.now c.args.path.now c.args.bytes.now (is_ok c.rename.result) ok
+    (g.F.SaveFolder.log c.args.folder.now) _
+    (also (also (also (also c.in_ok-claim.ensures c.in_ok-set_access.ensures) c.in_ok-write.ensures) c.in_ok-sync.ensures) c.rename.ensures)
+    c.requires.made)

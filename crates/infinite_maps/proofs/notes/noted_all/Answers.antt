@@ -18,14 +18,13 @@ pub loop-value-preserved : goal.loop-value-preserved
 loop-value-preserved c =
     let l = c.loop-value in
     let vs = c.deref-value-items.result.now in
-    let columns = c.args.columns in
-    let rows = c.args.rows in
+    let p = c.args.plane in
     let r = c.noted-rectangle.result in
-    let rest : List Rectangle = noted_all columns rows (items_view (drop (l.value-index + 1) vs)) in
+    let rest : List Rectangle = noted_all p (items_view (drop (l.value-index + 1) vs)) in
     let by = λ (b : Bool) (s : Rectangle). if b then s ∷ rest else rest in
-    let before : noted_all columns rows (items_view (drop l.value-index vs)) ≡ by (nat_lt 0 c.area.result) r
-    = at_drop_more (λ (ws : List Value). noted_all columns rows (items_view ws)) vs l.value-index c.value-item.result c.loop-value-test.true
-    ∙ (ap (λ (v : Value). by (nat_lt 0 (area (noted columns rows (view v)))) (noted columns rows (view v))) (sym c.value-item.is)
+    let before : noted_all p (items_view (drop l.value-index vs)) ≡ by (nat_lt 0 c.area.result) r
+    = at_drop_more (λ (ws : List Value). noted_all p (items_view ws)) vs l.value-index c.value-item.result c.loop-value-test.true
+    ∙ (ap (λ (v : Value). by (nat_lt 0 (area (noted p (view v)))) (noted p (view v))) (sym c.value-item.is)
     ∙ (ap (λ (s : Rectangle). by (nat_lt 0 (area s)) s) (sym c.noted-rectangle.ensures) ∙ ap (λ (n : ℕ). by (nat_lt 0 n) r) (sym c.area.ensures))) in
     elim c.if-area-gt0.branch [
       | then-area-gt0+in_ok-push w ↦

@@ -26,11 +26,11 @@ returns-in-None-clause-step g c =
 
 pub returns-in-Some-clause-asks : goal.returns-in-Some-clause-asks
 returns-in-Some-clause-asks g c =
-    unasked_edit c.args.line.now _ _ (edit_change c.in-Push.edit) c.commit.result _ _ (c.in-Push.ensures.plans c.requires.sound).1 c.in-Push.ensures.asks
+    unasked_edit c.args.line.now _ _ _ (edit_change c.in-Push.edit) c.commit.result _ _ (c.in-Push.ensures.plans c.requires.sound).1 c.in-Push.ensures.asks
 
 pub returns-in-None-clause-asks : goal.returns-in-None-clause-asks
 returns-in-None-clause-asks g c =
-    unasked_edit c.args.line.now _ _ (edit_change c.in-Push.edit) (Refused NoMemory) _ _ (c.in-Push.ensures.plans c.requires.sound).1 c.in-Push.ensures.asks
+    unasked_edit c.args.line.now _ _ _ (edit_change c.in-Push.edit) (Refused NoMemory) _ _ (c.in-Push.ensures.plans c.requires.sound).1 c.in-Push.ensures.asks
 
 pub returns-in-Some-clause-kinds : goal.returns-in-Some-clause-kinds
 returns-in-Some-clause-kinds g c =

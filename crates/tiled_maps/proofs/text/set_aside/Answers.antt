@@ -7,26 +7,28 @@ use Rattle.serde_json.proofs.Nesting.{depth-read}
 use Rattle.infinite_maps.specs.Infinite.{is_infinite}
 use Rattle.tiled_maps.specs.declared.place.Place.TheVariants.{Map}
 use Rattle.tiled_maps.specs.Aside.{reserved_name, set_aside_of}
-use Rattle.tiled_maps.specs.Fractions.{has_fraction}
+use Rattle.tiled_maps.specs.Fractions.{has_fraction, HasFewFractions}
 use Rattle.tiled_maps.specs.Members.{has_name}
 use Rattle.tiled_maps.specs.Texts.{IsTreeOf}
 use Rattle.tiled_maps.specs.Trees.{MakesFinite}
-use Rattle.tiled_maps.proofs.Answered.{SetsAside-none, SetsAside-whole, SetsAside-finite, finite_fault}
+use Rattle.tiled_maps.proofs.Answered.{few_seen, SetsAside-none, SetsAside-whole, SetsAside-finite, finite_fault}
 use Rattle.tiled_maps.proofs.text.set_aside.Goals as goal
 
 pub returns-in_err-finite : goal.returns-in_err-finite
 returns-in_err-finite c =
     let d = view c.in_ok-value.value in
     let tree : IsTreeOf c.args.bytes.now d = c.in_ok-value.ensures in
+    let few : HasFewFractions d = few_seen d (sym c.has_few_fractions.ensures ∙ c.if-not-has_few_fractions.false) in
     let is : view c.in_ok-whole.whole ≡ set_aside_of d = c.in_ok-whole.ensures.0 in
     let p = err_from_is_err_and c.from_residual-in_err-finite.result c.from_residual-in_err-finite.ensures.1 in
-    rw (p.1, p.2) (finite_fault c.args.bytes.now d (view c.in_ok-whole.whole) _ tree is c.in_err-finite.ensures)
+    rw (p.1, p.2) (finite_fault c.args.bytes.now d (view c.in_ok-whole.whole) _ tree few is c.in_err-finite.ensures)
 
 pub returns-in-Some : goal.returns-in-Some
 returns-in-Some c =
     let d = view c.in_ok-value.value in
     let tree : IsTreeOf c.args.bytes.now d = c.in_ok-value.ensures in
     let free : has_name reserved_name d ≡ false = sym c.has_name.ensures ∙ c.if-has_name.false in
+    let few : HasFewFractions d = few_seen d (sym c.has_few_fractions.ensures ∙ c.if-not-has_few_fractions.false) in
     let is : view c.in_ok-whole.whole ≡ set_aside_of d = c.in_ok-whole.ensures.0 in
     let seen : MakesFinite (view c.in_ok-whole.whole) (Ok (Some c.in-Some.finite))
     = subst (λ o. MakesFinite (view c.in_ok-whole.whole) (Ok o)) c.in-Some.is c.in_ok-finite.ensures in
@@ -34,7 +36,7 @@ returns-in-Some c =
     let text = c.in_ok-to_vec-in-Some.field-0 in
     let text_tree : IsTreeOf text.items (view c.in-Some.finite)
     = (c.in_ok-to_vec-in-Some.ensures.utf8, c.in_ok-to_vec-in-Some.ensures.reads_back made.1.within) in
-    (d, view c.in-Some.finite, SetsAside-finite c.args.bytes.now text d (view c.in-Some.finite) tree free made.0 made.1 text_tree)
+    (d, view c.in-Some.finite, SetsAside-finite c.args.bytes.now text d (view c.in-Some.finite) tree free few made.0 made.1 text_tree)
 
 pub returns-then-is_whole : goal.returns-then-is_whole
 returns-then-is_whole c =
@@ -52,6 +54,7 @@ returns c =
     let d = view c.in_ok-value.value in
     let tree : IsTreeOf c.args.bytes.now d = c.in_ok-value.ensures in
     let free : has_name reserved_name d ≡ false = sym c.has_name.ensures ∙ c.if-has_name.false in
+    let few : HasFewFractions d = few_seen d (sym c.has_few_fractions.ensures ∙ c.if-not-has_few_fractions.false) in
     let is : view c.in_ok-whole.whole ≡ set_aside_of d = c.in_ok-whole.ensures.0 in
     let seen : is_infinite (view c.in_ok-whole.whole) ≡ false
     = subst (λ o. MakesFinite (view c.in_ok-whole.whole) (Ok o)) c.in-None.is c.in_ok-finite.ensures in
@@ -60,4 +63,4 @@ returns c =
     let text = c.in_ok-to_vec-in-None.field-0 in
     let text_tree : IsTreeOf text.items (set_aside_of d)
     = (c.in_ok-to_vec-in-None.ensures.utf8, c.in_ok-to_vec-in-None.ensures.reads_back within ∙ ap (λ t. Some t) is) in
-    (d, set_aside_of d, SetsAside-whole c.args.bytes.now text d tree free some (ap is_infinite (sym is) ∙ seen) text_tree)
+    (d, set_aside_of d, SetsAside-whole c.args.bytes.now text d tree free few some (ap is_infinite (sym is) ∙ seen) text_tree)

@@ -1,9 +1,8 @@
 -- A log of no bytes is made, and begins with no call.
 use Rattle.std.proofs.Common.{[], ◌∷◌, refl}
 use Rattle.std.proofs.raw_atomic.Walks.{proved}
-use base.Fml.{ftrue}
 use mir.Val.{Val, vstruct, vcons, vnil}
-use types.Kit.{‵, raw, ◌$◌, ◌∵◌, !, qed, keep, join, suffices, done}
+use types.Kit.{raw, ◌$◌, ◌∵◌, !, qed, keep, join, suffices, done}
 use types.Run.{no_more, and_then, returns, enter}
 use types.Part.{agg}
 use types.ByLocal.{alloc_all, pass_all, free_all, look_at, get, sets}

@@ -1,21 +1,21 @@
 -- Nothing is done. The log is opened, and closed at one call more, which no memory holds.
-use Rattle.std.proofs.Common.{◌≡◌, ℕ, List, [], ◌∷◌, refl, MutBor}
+use Rattle.std.proofs.Common.{List, [], ◌∷◌, refl}
 use Rattle.std.proofs.raw_atomic.Walks.{proved}
 use base.Fml.{ftrue, flft}
 use base.Logic.{id⊢}
 use mir.Syntax.{named}
 use mir.Val.{Val, vunit}
-use types.Kit.{‵, raw, ◌⊛◌, ◌$◌, ◌∵◌, !, qed, move, keep, drop, use1, split, join, fsplit, fsplit3, fjoin, feq_i, suffices, frame, group, done}
+use types.Kit.{‵, raw, ◌⊛◌, ◌$◌, ◌∵◌, !, qed, move, drop, use1, split, join, fsplit, fsplit3, feq_i, suffices, frame, group, done}
 use types.Run.{unit_lit, of_opd, returns, enter}
 use types.ByLocal.{alloc_all, pass_all, free_all, look_at, sets}
 use denote.Builtin.{bool}
 use denote.Exit.{yes}
 use denote.Plain.{bool_vals, bool_Tells}
 use denote.RattleType.{owns}
-use denote.Ref.{MutRef, mut_vals, mut_Tells, ShrRef, shr_vals, shr_Tells}
+use denote.Ref.{mut_vals, mut_Tells, shr_vals, shr_Tells}
 use denote.Signature.{Slot, plain, types_at, shr_ref_to, named_lft, name_of, meet_at}
 use denote.Steps.{nothing, opens, closes}
-use denote.Triple.Walked.{Stays, walk_of, says, stay_ref, Goes-ref, stay_dropped, Goes-dropped, ends_at}
+use denote.Triple.Walked.{Stays, says, stay_ref, Goes-ref, stay_dropped, Goes-dropped, ends_at}
 use Rattle.atomic_save.specs.Note.{call_of}
 use Rattle.atomic_save.specs.declared.call_log.CallLog.{CallLog}
 use Rattle.atomic_save.specs.contracts.call_log.CallLog.{the_row as Row}
