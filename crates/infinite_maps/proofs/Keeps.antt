@@ -13,7 +13,7 @@ use Rattle.infinite_maps.specs.declared.plane.Plane.{Plane}
 use Rattle.infinite_maps.specs.Notes.{mark}
 use Rattle.infinite_maps.specs.Rectangles.{width, height, bounds}
 use Rattle.infinite_maps.specs.Wide.{wide, widened}
-use Rattle.infinite_maps.specs.Layers.{chunks, whole_number, place_at, nothing, with_bounds, with_old_bounds, with_right_bounds, rest_of, with_chunks}
+use Rattle.infinite_maps.specs.Layers.{chunks, no_cell, whole_number, place_at, with_bounds, with_old_bounds, with_right_bounds, rest_of, with_chunks}
 use Rattle.infinite_maps.specs.Layers.{layer_cells, layer_by, layer_of, is_text_at, old_rectangles, new_rectangles}
 
 -- a member of another name
@@ -67,24 +67,25 @@ module _ (q : List ℕ) (o : IsOther q) where
       ∙ (put_some_keeps q (codes "starty") (get (codes "starty") note) a o.starty
       ∙ put_some_keeps q (codes "width") (get (codes "width") note) ms o.width))
 
-  right_bounds_keep : (p : Plane) (note : Option Data) (rs news : List Rectangle) (ms : Members)
-      → get_member q (with_right_bounds p note rs news ms) ≡ get_member q ms
-  right_bounds_keep p None rs news ms = bounds_keep p (unwrap_or (bounds rs) nothing) ms
-  right_bounds_keep p (Some note) rs [] ms = old_bounds_keep note ms
-  right_bounds_keep p (Some note) rs (n ∷ ns) ms = bounds_keep p (unwrap_or (bounds rs) nothing) ms
+  right_bounds_keep : (p : Plane) (none : Rectangle) (note : Option Data) (rs news : List Rectangle) (ms : Members)
+      → get_member q (with_right_bounds p none note rs news ms) ≡ get_member q ms
+  right_bounds_keep p none None rs news ms = bounds_keep p (unwrap_or (bounds rs) none) ms
+  right_bounds_keep p none (Some note) rs [] ms = old_bounds_keep note ms
+  right_bounds_keep p none (Some note) rs (n ∷ ns) ms = bounds_keep p (unwrap_or (bounds rs) none) ms
 
-  chunks_keep : (p : Plane) (note : Option Data) (text : Bool) (cells : List ℕ) (olds news : List Rectangle) (ms : Members)
-      → get_member q (with_chunks p note text cells olds news ms) ≡ get_member q ms
-  chunks_keep p note text cells olds news ms =
-      put_keeps q (codes "chunks") (chunks p text cells (olds ++ news)) (with_right_bounds p note (olds ++ news) news (rest_of ms)) o.chunks
-      ∙ (right_bounds_keep p note (olds ++ news) news (rest_of ms) ∙ rest_keeps ms)
+  chunks_keep : (p : Plane) (none : Rectangle) (note : Option Data) (text : Bool) (cells : List ℕ) (olds news : List Rectangle) (ms : Members)
+      → get_member q (with_chunks p none note text cells olds news ms) ≡ get_member q ms
+  chunks_keep p none note text cells olds news ms =
+      put_keeps q (codes "chunks") (chunks p text cells (olds ++ news)) (with_right_bounds p none note (olds ++ news) news (rest_of ms)) o.chunks
+      ∙ (right_bounds_keep p none note (olds ++ news) news (rest_of ms) ∙ rest_keeps ms)
 
   layer_by_keeps : (p : Plane) (c : Option (List ℕ)) (ms : Members) → get_member q (layer_by p c ms) ≡ get_member q ms
   layer_by_keeps p None ms = refl
   layer_by_keeps p (Some cells) ms =
       let note = get_member mark ms in
       let olds = old_rectangles p note in
-      chunks_keep (wide p) note (is_text_at (get_member (codes "data") ms)) (widened p cells) olds (new_rectangles (wide p) (widened p cells) olds) ms
+      let text = is_text_at (get_member (codes "data") ms) in
+      chunks_keep (wide p) (no_cell p) note text (widened p cells) olds (new_rectangles (wide p) (widened p cells) olds) ms
 
   pub layer_keeps : (p : Plane) (ms : Members) → get_member q (layer_of p ms) ≡ get_member q ms
   unfolding layer_of

@@ -19,7 +19,8 @@ use Rattle.infinite_maps.specs.declared.part.Part.TheVariants.{Layers, Objects, 
 use Rattle.infinite_maps.specs.Infinite.{below, moved_by, spread, items_spread, members_spread, note_of, with_size, map_by, infinite_of}
 use Rattle.infinite_maps.specs.Notes.{mark, plane_of}
 use Rattle.infinite_maps.specs.Wide.{wide, widened}
-use Rattle.infinite_maps.specs.Layers.{chunk, chunks, with_right_bounds, rest_of, layer_cells, layer_by, layer_of, is_text_at, old_rectangles, new_rectangles}
+use Rattle.infinite_maps.specs.Layers.{chunk, chunks, no_cell, with_right_bounds, rest_of, layer_cells, layer_by, layer_of, is_text_at}
+use Rattle.infinite_maps.specs.Layers.{old_rectangles, new_rectangles}
 use Rattle.infinite_maps.specs.Laws.{CellsStand, chunks_of, layer_at, AreSpelled, old_chunks, object_at, pixels, LayerStays, AllLayersStay}
 use Rattle.infinite_maps.proofs.ChunkPlaces.{number_read}
 use Rattle.infinite_maps.proofs.Keeps.{put_keeps, put_some_keeps, layer_keeps, layers, objects}
@@ -192,7 +193,8 @@ chunks_put p ms cells e =
     let news = new_rectangles (wide p) (widened p cells) olds in
     ap (λ o. chunks_of (layer_by p o ms)) e
     ∙ ap (λ o. unwrap_or (option_and_then as_array o) no_items)
-    (get_member-put (codes "chunks") (chunks (wide p) text (widened p cells) (olds ++ news)) (with_right_bounds (wide p) note (olds ++ news) news (rest_of ms)))
+    (get_member-put (codes "chunks") (chunks (wide p) text (widened p cells) (olds ++ news))
+    (with_right_bounds (wide p) (no_cell p) note (olds ++ news) news (rest_of ms)))
 
 cells_stand : (p : Plane) (ms : Members) (cells : List ℕ) → IsUsual p → layer_cells p (get_member (codes "data") ms) ≡ Some cells
     → AreSpelled (get_member (codes "data") ms) cells → CellsStand p cells (chunks_of (layer_of p ms))

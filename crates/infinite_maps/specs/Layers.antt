@@ -12,7 +12,7 @@ use Rattle.infinite_maps.specs.Rectangles.{width, height, bounds}
 use Rattle.infinite_maps.specs.Cells.{is_text, cells_of, cells_data, cut}
 use Rattle.infinite_maps.specs.Coverage.{cover_of, are_apart}
 use Rattle.infinite_maps.specs.Growth.{grown}
-use Rattle.infinite_maps.specs.Wide.{size, wide, widened}
+use Rattle.infinite_maps.specs.Wide.{before_x, before_y, size, wide, widened}
 use Rattle.infinite_maps.specs.Notes.{mark, noted_all}
 
 abbrev pub if_so_many : ℕ → Option (List ℕ) → Option (List ℕ)
@@ -77,33 +77,34 @@ with_bounds p b ms =
     put (codes "starty") (place_at p.y b.top) (
     put (codes "width") (whole_number (width b)) ms)))
 
-abbrev pub nothing : Rectangle
-nothing = record { left = 0; top = 0; right = 0; bottom = 0 }
+-- no cell, at the corner of the map, counted from that of the wide map
+abbrev pub no_cell : Plane → Rectangle
+no_cell p = record { left = before_x p; top = before_y p; right = before_x p; bottom = before_y p }
 
--- a layer that had chunks, and gets no new ones, keeps its bounds
-abbrev pub with_right_bounds : Plane → Option Data → List Rectangle → List Rectangle → Members → Members
-with_right_bounds p None rs news ms = with_bounds p (unwrap_or (bounds rs) nothing) ms
-with_right_bounds p (Some note) rs [] ms = with_old_bounds note ms
-with_right_bounds p (Some note) rs (n ∷ ns) ms = with_bounds p (unwrap_or (bounds rs) nothing) ms
+-- A layer that had chunks, and gets no new ones, keeps its bounds. One without chunks has those of no cell.
+abbrev pub with_right_bounds : Plane → Rectangle → Option Data → List Rectangle → List Rectangle → Members → Members
+with_right_bounds p none None rs news ms = with_bounds p (unwrap_or (bounds rs) none) ms
+with_right_bounds p none (Some note) rs [] ms = with_old_bounds note ms
+with_right_bounds p none (Some note) rs (n ∷ ns) ms = with_bounds p (unwrap_or (bounds rs) none) ms
 
 abbrev pub rest_of : Members → Members
 rest_of ms = without (codes "data") (without (codes "height") (without (codes "width") (without mark ms)))
 
-abbrev pub with_chunks : Plane → Option Data → Bool → List ℕ → List Rectangle → List Rectangle → Members → Members
-with_chunks p note text cells olds news ms = put (codes "chunks") (chunks p text cells (olds ++ news))
-    (with_right_bounds p note (olds ++ news) news (rest_of ms))
+abbrev pub with_chunks : Plane → Rectangle → Option Data → Bool → List ℕ → List Rectangle → List Rectangle → Members → Members
+with_chunks p none note text cells olds news ms = put (codes "chunks") (chunks p text cells (olds ++ news))
+    (with_right_bounds p none note (olds ++ news) news (rest_of ms))
 
 -- the rectangles of new chunks, beside those of old ones
 abbrev pub new_rectangles : Plane → List ℕ → List Rectangle → List Rectangle
 new_rectangles p cells olds = grown p cells (cover_of p.columns (size p) olds)
 
 -- the layer of a wide map, its cells in chunks
-abbrev pub tiles_on : Plane → Option Data → Bool → List ℕ → List Rectangle → Members → Members
-tiles_on p note text cells olds ms = with_chunks p note text cells olds (new_rectangles p cells olds) ms
+abbrev pub tiles_on : Plane → Rectangle → Option Data → Bool → List ℕ → List Rectangle → Members → Members
+tiles_on p none note text cells olds ms = with_chunks p none note text cells olds (new_rectangles p cells olds) ms
 
 -- the layer, its cells in chunks
 abbrev pub tiles : Plane → Option Data → Bool → List ℕ → Members → Members
-tiles p note text cells ms = tiles_on (wide p) note text (widened p cells) (old_rectangles p note) ms
+tiles p note text cells ms = tiles_on (wide p) (no_cell p) note text (widened p cells) (old_rectangles p note) ms
 
 -- a layer without a cell for each cell of the map stays as it is
 abbrev pub is_text_at : Option Data → Bool

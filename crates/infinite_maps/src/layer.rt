@@ -5,7 +5,7 @@ ghost use Rattle.serde_json.specs.Find.{get_member};
 ghost use Rattle.serde_json.specs.View.{view as data_of, members_view};
 ghost use Rattle.infinite_maps.specs.Cells.{is_text};
 ghost use Rattle.infinite_maps.specs.Rectangles.{bounds};
-ghost use Rattle.infinite_maps.specs.Layers.{layer_cells, if_so_many, chunk_items, if_apart, old_rectangles, place_at, whole_number, with_place, chunk, chunks, with_old_bounds, with_bounds, with_right_bounds, rest_of, with_chunks, new_rectangles, tiles_on, tiles, is_text_at, layer_by, layer_of, nothing};
+ghost use Rattle.infinite_maps.specs.Layers.{layer_cells, if_so_many, chunk_items, if_apart, old_rectangles, place_at, whole_number, with_place, chunk, chunks, with_old_bounds, with_bounds, with_right_bounds, rest_of, with_chunks, new_rectangles, tiles_on, tiles, is_text_at, layer_by, layer_of, no_cell};
 ghost use Rattle.infinite_maps.specs.Notes.{mark, noted_all};
 
 use crate::cells::{cells_data, cells_of, cut};
@@ -180,38 +180,48 @@ fn put_bounds(
     serde_json::put(members, alloc, "height", height)
 }
 
-fn bounds_or_nothing(rectangles: &[Rectangle]) -> Rectangle
-    ensures { result ≡ unwrap_or (bounds rectangles.now) nothing }
+// No cell, at the corner of the map, counted from that of the wide map.
+fn no_cell(plane: Plane) -> Rectangle
+    ensures { result ≡ no_cell plane }
+{
+    let left = plane.before_x() as u32;
+    let top = plane.before_y() as u32;
+    Rectangle {
+        left,
+        top,
+        right: left,
+        bottom: top,
+    }
+}
+
+fn bounds_or(rectangles: &[Rectangle], none: Rectangle) -> Rectangle
+    ensures { result ≡ unwrap_or (bounds rectangles.now) none }
 {
     match bounds(rectangles) {
         Some(around) => around,
-        None => Rectangle {
-            left: 0,
-            top: 0,
-            right: 0,
-            bottom: 0,
-        },
+        None => none,
     }
 }
 
 fn put_right_bounds(
     alloc: Global,
     plane: Plane,
+    none: Rectangle,
     note: &Option<Value>,
     rectangles: &[Rectangle],
     news: &[Rectangle],
     members: &mut Map<String, Value>,
 ) -> Result<(), AllocError>
     ensures { OnOk result (members_view members.new.entries
-        ≡ with_right_bounds plane (option_map data_of note.now) rectangles.now news.now (members_view members.old.entries)) }
+        ≡ with_right_bounds plane none (option_map data_of note.now) rectangles.now news.now (members_view members.old.entries)) }
 {
     match note {
         Some(note) => if news.is_empty() {
             put_old_bounds(alloc, note, members)
         } else {
-            put_bounds(alloc, plane, bounds_or_nothing(rectangles), members)
+            put_bounds(alloc, plane, bounds_or(rectangles, none), members)
         },
-        None => put_bounds(alloc, plane, bounds_or_nothing(rectangles), members),
+        None => put_bounds(alloc, plane, bounds_or(rectangles, none), members),
     }
 }
 
@@ -244,10 +254,11 @@ fn copy_of(value: Option<&Value>) -> Result<Option<Value>, AllocError>
     }
 }
 
-// Puts the cells into chunks: those that the layer had, and new ones.
+// Puts the cells into chunks: those that the layer had, and new ones. A layer without chunks lies at `none`.
 fn put_all(
     alloc: Global,
     plane: Plane,
+    none: Rectangle,
     note: &Option<Value>,
     text: bool,
     cells: &[u64],
@@ -256,12 +267,12 @@ fn put_all(
     members: &mut Map<String, Value>,
 ) -> Result<(), AllocError>
     ensures { OnOk result (members_view members.new.entries
-        ≡ with_chunks plane (option_map data_of note.now) text cells.now rectangles.items news.now (members_view members.old.entries)) }
+        ≡ with_chunks plane none (option_map data_of note.now) text cells.now rectangles.items news.now (members_view members.old.entries)) }
 {
     rectangles.extend_from_slice(news)?;
     let chunks = chunks(alloc, plane, text, cells, &rectangles)?;
     remove_own(members);
-    put_right_bounds(alloc, plane, note, &rectangles, news, members)?;
+    put_right_bounds(alloc, plane, none, note, &rectangles, news, members)?;
     serde_json::put(members, alloc, "chunks", chunks)
 }
 
@@ -293,7 +304,17 @@ fn put_chunks(
     let wide = plane.wide();
     let cells = plane.widened(alloc, cells)?;
     let news = new_rectangles(alloc, wide, &cells, &rectangles)?;
-    put_all(alloc, wide, &note, text, &cells, rectangles, &news, members)
+    put_all(
+        alloc,
+        wide,
+        no_cell(plane),
+        &note,
+        text,
+        &cells,
+        rectangles,
+        &news,
+        members,
+    )
 }
 
 /// Puts the cells of a layer into chunks, where it has one for each cell of the map.
