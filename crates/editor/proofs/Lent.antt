@@ -14,7 +14,7 @@ use Rattle.document_lines.specs.Machine.{active_of, with_active}
 use Rattle.editor.specs.declared.editor.Editor.{Editor}
 use Rattle.editor.specs.Editors.{AreSteady, IsHeld, IsSound, machine_of, stacks_in}
 use Rattle.editor.specs.Turns.{PutsActive}
-use Rattle.editor.proofs.Steady.{active-steady, with_active-AreSteady}
+use Rattle.editor.proofs.Histories.{active-has, with_active-have}
 
 module _ {C : Type 0} (f : C → Change) where
   -- the editor stands for this group
@@ -28,7 +28,7 @@ module _ {C : Type 0} (f : C → Change) where
 
   -- the active document is steady
   pub active-IsSteady : (editor : Editor C) (h : History) → IsSound f editor → Some h ≡ active_of (machine_of f editor) → IsSteady h
-  active-IsSteady editor h sound at = active-steady h (group_of f editor.group) sound.steady (sym at)
+  active-IsSteady editor h sound at = active-has IsSteady h (group_of f editor.group) sound.steady (sym at)
 
 module _ {C : Type 0} (f : C → Change) (old new : Editor C) (s : Stack C) (same : new.limit ≡ old.limit) (left : IsLeft f old.group s new.group) where
   pub left-IsHeld : IsHeld f old → IsHeld f new
@@ -37,7 +37,7 @@ module _ {C : Type 0} (f : C → Change) (old new : Editor C) (s : Stack C) (sam
   pub left-IsSound : IsSteady (history f s) → IsSound f old → IsSound f new
   left-IsSound steady sound =
       group-IsSound f new (groups.with_active (history f s) (group_of f old.group)) (left-IsHeld sound.held) left.group
-      (with_active-AreSteady (history f s) (group_of f old.group) steady sound.steady)
+      (with_active-have IsSteady (history f s) (group_of f old.group) steady sound.steady)
 
   pub left-machine : machine_of f new ≡ with_active (history f s) (machine_of f old)
   left-machine = rw (same, left.group) refl

@@ -3,3 +3,11 @@ pub mod Progress
 pub mod Endings
 pub mod Ends
 pub mod Planned
+pub mod Tame
+pub mod Once
+pub mod Acts
+pub mod Lines
+pub mod Tamed
+pub mod Stays
+pub mod Again
+pub mod Journals

@@ -2,9 +2,11 @@
 #![tactic(auto)]
 
 mod frequent;
+mod laws;
 mod running;
 mod strict;
 mod writing;
 
+pub use laws::{journals_lead_to_the_same_documents, runs_are_one, runs_have_journals};
 pub use running::{RunFault, Summary, run, step};
 pub use strict::{Report, StrictFault, Unsaved, run_strict};

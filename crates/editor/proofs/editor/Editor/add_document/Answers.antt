@@ -9,7 +9,7 @@ use Rattle.editor.specs.Editors.{stacks_in}
 use Rattle.editor.specs.Kinds.{AddsKinds}
 use Rattle.editor.proofs.KindLists.{added-AddsKinds, kinds_of}
 use Rattle.editor.proofs.Lent.{group-IsSound}
-use Rattle.editor.proofs.Steady.{added-AreSteady}
+use Rattle.editor.proofs.Histories.{added-have}
 use Rattle.editor.proofs.editor.Editor.add_document.Goals as goal
 
 pub returns-in-Ok-clause-held : goal.returns-in-Ok-clause-held
@@ -26,7 +26,7 @@ returns-in-Ok-clause-sound g c = λ sound.
     let h = history f c.new-stack.result in
     group-IsSound f _ (chosen (Some name) (added name h old))
     (record { limit = c.requires.held.limit; group = c.add_active.ensures.sound }) c.in-Ok.ensures.added
-    (added-AreSteady name h old.documents (subst (λ (k : History). IsSteady k) (sym c.new-stack.ensures.history) tt) sound.steady)
+    (added-have IsSteady name h old.documents (subst (λ (k : History). IsSteady k) (sym c.new-stack.ensures.history) tt) sound.steady)
 
 pub returns-in-Err-clause-sound : goal.returns-in-Err-clause-sound
 returns-in-Err-clause-sound g c = λ sound.

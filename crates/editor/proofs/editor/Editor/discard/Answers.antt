@@ -1,11 +1,12 @@
 use Rattle.std.proofs.Common.{ℕ, List, map, subst}
+use Rattle.undo_stack.specs.Turning.{IsSteady}
 use Rattle.undo_group.specs.Groups.{active_history, removed}
 use Rattle.undo_group.specs.Stacks.{group_of, stacks_of}
 use Rattle.editor.specs.Editors.{stacks_in}
 use Rattle.editor.specs.Kinds.{LosesKinds}
 use Rattle.editor.proofs.KindLists.{kinds_of, status_UnlessRefused, taken-LosesKinds}
 use Rattle.editor.proofs.Lent.{group-IsSound}
-use Rattle.editor.proofs.Steady.{without-AreSteady}
+use Rattle.editor.proofs.Histories.{without-have}
 use Rattle.editor.proofs.editor.Editor.discard.Goals as goal
 
 pub status-requires : goal.status-requires
@@ -16,7 +17,7 @@ returns-clause-sound g c = λ sound.
     let f = g.C.Command.change in
     let old = group_of f c.args.self.now.group in
     group-IsSound f _ (removed c.as_str.result.now old) (record { limit = c.requires.limit; group = c.remove.ensures.sound }) c.in-Ok.ensures.removed
-    (without-AreSteady c.as_str.result.now old.documents sound.steady)
+    (without-have IsSteady c.as_str.result.now old.documents sound.steady)
 
 pub returns-clause-kinds : goal.returns-clause-kinds
 returns-clause-kinds g c =

@@ -1,0 +1,224 @@
+-- Journals of runs.
+use Rattle.std.proofs.Common.{◌≡◌, ℕ, List, [], ◌∷◌, ◌++◌, IsTrue, Option, Some, None, refl, sym, ap, ap₂, subst, subst₂, ◌∙◌}
+use Rattle.std.specs.Prelude.{option_to_list}
+use Rattle.std.proofs.lemmas.List.Elements.{All-head, All-tail}
+use Rattle.refusals.specs.declared.refusal.Refusal.{Refusal}
+use Rattle.map_store.specs.Files.{StoreParts}
+use Rattle.session.specs.declared.reply.Reply.{Reply}
+use Rattle.session.specs.declared.reply.Reply.TheVariants.{Refused}
+use Rattle.session.specs.Grammar.{line_of}
+use Rattle.document_lines.specs.Machine.{Machine, Workspace, started_machine, workspace}
+use Rattle.document_lines.specs.Rules.{MachineStepIn}
+use Rattle.session_run.specs.Runs.{IsAccepted, Run}
+use Rattle.session_run.specs.Journals.{AreHeard, AreSure, Entry, HaveJournals, Hears, IsHeardAs, IsJournal, IsNotedAs, IsSure, JournalsLead, Notes}
+use Rattle.session_run.specs.Journals.{RunsAreOne, having}
+use Rattle.session_run.proofs.Acts.{AllSure, AreAlike}
+use Rattle.session_run.proofs.Again.{CanBeHeard, line-heard}
+use Rattle.editor.proofs.Histories.{none-have}
+use Rattle.session_run.proofs.Lines.{IsTameMachine, step-once}
+use Rattle.session_run.proofs.Stays.{IsNoNews, step-stays}
+use Rattle.session_run.proofs.Tame.{IsTame}
+use Rattle.session_run.proofs.Tamed.{step-keeps}
+
+started-tame : (limit : ℕ) → IsTameMachine (started_machine limit)
+started-tame limit = none-have IsTame
+
+-- ---- a reply is a refusal, or accepted
+by_reply : (P : Reply → Type 0) → ((refusal : Refusal) → P (Refused refusal)) → ((reply : Reply) → IsAccepted reply → P reply) → (reply : Reply) → P reply
+by_reply P refused accepted (Refused refusal) = refused refusal
+by_reply P refused accepted reply = accepted reply refl
+
+-- an accepted reply, heard again
+heard-more : (reply first : Reply) (replies rest : List Reply) → IsAccepted reply → IsHeardAs reply first → AreHeard replies rest
+    → AreHeard (reply ∷ replies) (first ∷ rest)
+heard-more (Refused refusal) first replies rest accepted one more = absurd cc
+heard-more reply first replies rest accepted one more = (first, rest, one, more, refl)
+
+noted-entry : (line : List ℕ) (stored : StoreParts) (reply : Reply) (entry : Entry) → IsAccepted reply → IsNotedAs (line_of line) line stored entry
+    → Notes line stored (Some reply) (entry ∷ [])
+noted-entry line stored (Refused refusal) entry accepted noted = absurd cc
+noted-entry line stored reply entry accepted noted = (entry, noted, refl)
+
+-- ---- what a line leaves to be heard
+-- the entries of a line, and that they lead on: each way to hear the rest is one of all
+pub record LeadsOn (old mid : Machine) (reply : Option Reply) (first : List Entry) : Type 0 where
+  pub on : (rest : List Entry) (replies heard : List Reply) (new : Machine) → Hears mid rest heard new → AreHeard replies heard
+      → (all : List Reply) × Hears old (first ++ rest) all new × AreHeard (option_to_list reply ++ replies) all
+
+nothing-leads : (old mid : Machine) (reply : Option Reply) → mid ≡ old → IsNoNews reply → LeadsOn old mid reply []
+nothing-leads old mid None same none = record {
+  on = λ rest replies heard new hears are. (heard, subst (λ m. Hears m rest heard new) same hears, are);
+}
+nothing-leads old mid (Some (Refused refusal)) same none = record {
+  on = λ rest replies heard new hears are. (heard, subst (λ m. Hears m rest heard new) same hears, are);
+}
+nothing-leads old mid (Some reply) same none = absurd none
+
+entry-leads : (old mid : Machine) (reply : Reply) (entry : Entry) → IsAccepted reply → CanBeHeard old reply mid entry
+    → LeadsOn old mid (Some reply) (entry ∷ [])
+entry-leads old mid reply entry accepted can = record {
+  on = λ rest replies heard new hears are. (
+    can.0 ∷ heard,
+    (mid, can.1, can.0, heard, can.2, hears, refl),
+    heard-more reply can.0 replies heard accepted can.3 are,
+  );
+}
+
+line-leads : (line : List ℕ) (old mid : Workspace) (reply : Option Reply) → MachineStepIn line old reply mid
+    → (first : List Entry) × Notes line old.stored reply first × LeadsOn old.machine mid.machine reply first
+line-leads line old mid None step = ([], refl, nothing-leads old.machine mid.machine None (step-stays line old mid None tt step) tt)
+line-leads line old mid (Some reply) step = by_reply Leads of_refusal of_accepted reply step
+  where
+    Leads : Reply → Type 0
+    Leads r = MachineStepIn line old (Some r) mid → (first : List Entry) × Notes line old.stored (Some r) first × LeadsOn old.machine mid.machine (Some r) first
+
+    of_refusal : (refusal : Refusal) → Leads (Refused refusal)
+    of_refusal refusal s = ([], refl, nothing-leads old.machine mid.machine (Some (Refused refusal)) (step-stays line old mid (Some (Refused refusal)) tt s) tt)
+
+    of_accepted : (r : Reply) → IsAccepted r → Leads r
+    of_accepted r accepted s =
+        let noted = (line-heard line old mid r accepted s).noted in
+        (noted.0 ∷ [], noted-entry line old.stored r noted.0 accepted noted.1, entry-leads old.machine mid.machine r noted.0 accepted noted.2)
+
+-- ---- each run has a journal
+run-heard : (lines : List (List ℕ)) (old new : Workspace) (replies : List Reply) (run : Run old lines replies new)
+    → (entries : List Entry) × (heard : List Reply) × IsJournal old lines replies new run entries × Hears old.machine entries heard new.machine
+    × AreHeard replies heard
+run-heard [] old new replies run =
+    ([], [], refl, (refl, ap (λ w. w.machine) run.1), subst (λ rs. AreHeard rs []) (sym run.0) refl)
+run-heard (line ∷ lines) old new replies run =
+    let rest = run-heard lines run.0 new run.2 run.4 in
+    let first = line-leads line old run.0 run.1 run.3 in
+    let all = first.2.on rest.0 run.2 rest.1 new.machine rest.3 rest.4 in (
+      first.0 ++ rest.0,
+      all.0,
+      (first.0, rest.0, first.1, rest.2, refl),
+      all.1,
+      subst (λ rs. AreHeard rs all.0) (sym run.5) all.2,
+    )
+
+pub have_journals : HaveJournals
+have_journals limit stored lines replies new run = run-heard lines (workspace (started_machine limit) stored) new replies run
+
+-- ---- and each that it has leads to its machine
+-- how the entries of a line are heard: they lead to the line's machine, and there the rest is heard
+pub record LedOn (mid : Machine) (reply : Option Reply) (rest : List Entry) (heard : List Reply) (there : Machine) : Type 0 where
+  pub more : List Reply
+  pub hears : Hears mid rest more there
+  pub sure : AreSure more
+  pub are : (replies : List Reply) → AreHeard replies more → AreHeard (option_to_list reply ++ replies) heard
+
+nothing-led : (old mid : Machine) (reply : Option Reply) (first rest : List Entry) (heard : List Reply) (there : Machine) → mid ≡ old → IsNoNews reply
+    → first ≡ [] → Hears old (first ++ rest) heard there → AreSure heard → LedOn mid reply rest heard there
+nothing-led old mid None first rest heard there same none is hears sure = record {
+  more = heard;
+  hears = subst₂ (λ m es. Hears m (es ++ rest) heard there) (sym same) is hears;
+  sure = sure;
+  are = λ replies are. are;
+}
+nothing-led old mid (Some (Refused refusal)) first rest heard there same none is hears sure = record {
+  more = heard;
+  hears = subst₂ (λ m es. Hears m (es ++ rest) heard there) (sym same) is hears;
+  sure = sure;
+  are = λ replies are. are;
+}
+nothing-led old mid (Some reply) first rest heard there same none is hears sure = absurd none
+
+-- an accepted reply is sure, and so is what is heard in its place
+accepted-sure : (reply : Reply) → IsAccepted reply → IsSure reply
+accepted-sure reply accepted = (λ is. let none = subst IsAccepted is accepted in absurd cc, λ is. let none = subst IsAccepted is accepted in absurd cc)
+
+some-same : (one other : Reply) → Some one ≡ Some other → one ≡ other
+some-same one other same = cc
+
+entry-led : (old mid : Machine) (reply : Reply) (entry : Entry) (rest : List Entry) (heard : List Reply) (there : Machine) → IsTameMachine old
+    → IsAccepted reply → CanBeHeard old reply mid entry → Hears old (entry ∷ rest) heard there → AreSure heard → LedOn mid (Some reply) rest heard there
+entry-led old mid reply entry rest heard there tame accepted can hears sure =
+    let all : AreSure (hears.2 ∷ hears.3) = subst AreSure hears.6 sure in
+    let first = All-head IsSure hears.2 hears.3 all in
+    let stored = having entry.files in
+    let alike : AreAlike stored stored = record { files = refl; honest = refl; also = refl } in
+    let one = step-once entry.line old stored stored (workspace mid can.1) (workspace hears.0 hears.1) (Some can.0) (Some hears.2) tame alike
+    (accepted-sure can.0 can.4) first can.2 hears.4 in
+    let said : can.0 ≡ hears.2 = some-same can.0 hears.2 one.0 in
+    record {
+      more = hears.3;
+      hears = subst (λ m. Hears m rest hears.3 there) (sym one.1) hears.5;
+      sure = All-tail IsSure hears.2 hears.3 all;
+      are = λ replies are. subst (λ hs. AreHeard (reply ∷ replies) hs) (sym hears.6)
+          (heard-more reply hears.2 replies hears.3 accepted (subst (IsHeardAs reply) said can.3) are);
+    }
+
+entry-noted : (line : List ℕ) (stored : StoreParts) (reply : Reply) (first : List Entry) → IsAccepted reply → Notes line stored (Some reply) first
+    → (entry : Entry) × IsNotedAs (line_of line) line stored entry × (first ≡ entry ∷ [])
+entry-noted line stored (Refused refusal) first accepted notes = absurd cc
+entry-noted line stored reply first accepted notes = notes
+
+line-led : (line : List ℕ) (old mid : Workspace) (reply : Option Reply) (first rest : List Entry) (heard : List Reply) (there : Machine)
+    → IsTameMachine old.machine → IsTrue old.stored.honest → MachineStepIn line old reply mid → Notes line old.stored reply first
+    → Hears old.machine (first ++ rest) heard there → AreSure heard → LedOn mid.machine reply rest heard there
+line-led line old mid None first rest heard there tame honest step notes hears sure =
+    nothing-led old.machine mid.machine None first rest heard there (step-stays line old mid None tt step) tt notes hears sure
+line-led line old mid (Some reply) first rest heard there tame honest step notes hears sure = by_reply Led of_refusal of_accepted reply step notes
+  where
+    Led : Reply → Type 0
+    Led r = MachineStepIn line old (Some r) mid → Notes line old.stored (Some r) first → LedOn mid.machine (Some r) rest heard there
+
+    of_refusal : (refusal : Refusal) → Led (Refused refusal)
+    of_refusal refusal s n =
+        let same = step-stays line old mid (Some (Refused refusal)) tt s in
+        nothing-led old.machine mid.machine (Some (Refused refusal)) first rest heard there same tt n hears sure
+
+    of_accepted : (r : Reply) → IsAccepted r → Led r
+    of_accepted r accepted s n =
+        let noted = entry-noted line old.stored r first accepted n in
+        let can = (line-heard line old mid r accepted s).each honest noted.0 noted.1 in
+        let own = subst (λ es. Hears old.machine (es ++ rest) heard there) noted.2 hears in
+        entry-led old.machine mid.machine r noted.0 rest heard there tame accepted can own sure
+
+run-led : (lines : List (List ℕ)) (old new : Workspace) (replies : List Reply) (run : Run old lines replies new) (entries : List Entry) (heard : List Reply)
+    (there : Machine) → IsTameMachine old.machine → IsTrue old.stored.honest → IsJournal old lines replies new run entries
+    → Hears old.machine entries heard there → AreSure heard → (there ≡ new.machine) × AreHeard replies heard
+run-led [] old new replies run entries heard there tame honest journal hears sure =
+    let ended : (heard ≡ []) × (there ≡ old.machine) = subst (λ es. Hears old.machine es heard there) journal hears in
+    (ended.1 ∙ sym (ap (λ w. w.machine) run.1), subst₂ AreHeard (sym run.0) (sym ended.0) refl)
+run-led (line ∷ lines) old new replies run entries heard there tame honest journal hears sure =
+    let begun = subst (λ es. Hears old.machine es heard there) journal.4 hears in
+    let led = line-led line old run.0 run.1 journal.0 journal.1 heard there tame honest run.3 journal.2 begun sure in
+    let keeps = step-keeps line old run.0 run.1 tame run.3 in
+    let more = run-led lines run.0 new run.2 run.4 journal.1 led.more there keeps.0 (keeps.1 honest) journal.3 led.hears led.sure in
+    (more.0, subst (λ rs. AreHeard rs heard) (sym run.5) (led.are run.2 more.1))
+
+pub journals_lead : JournalsLead
+journals_lead limit stored lines replies new honest run entries journal heard there hears sure =
+    run-led lines (workspace (started_machine limit) stored) new replies run entries heard there (started-tame limit) honest journal hears sure
+
+-- ---- and there is one run
+-- the replies of a line and those after it
+sure-line : (reply : Option Reply) (rest : List Reply) → AreSure (option_to_list reply ++ rest) → AllSure reply × AreSure rest
+sure-line None rest sure = (tt, sure)
+sure-line (Some reply) rest sure = (All-head IsSure reply rest sure, All-tail IsSure reply rest sure)
+
+runs-once : (lines : List (List ℕ)) (old : Machine) (before since : StoreParts) (new end : Workspace) (replies others : List Reply) → IsTameMachine old
+    → AreAlike before since → Run (workspace old before) lines replies new → Run (workspace old since) lines others end → AreSure replies → AreSure others
+    → (replies ≡ others) × (new.machine ≡ end.machine) × (new.stored.files ≡ end.stored.files)
+runs-once [] old before since new end replies others tame alike run also sure sure_also = (
+  run.0 ∙ sym also.0,
+  ap (λ w. w.machine) run.1 ∙ sym (ap (λ w. w.machine) also.1),
+  ap (λ w. w.stored.files) run.1 ∙ alike.files ∙ sym (ap (λ w. w.stored.files) also.1),
+)
+runs-once (line ∷ lines) old before since new end replies others tame alike run also sure sure_also =
+    let one = sure-line run.1 run.2 (subst AreSure run.5 sure) in
+    let other = sure-line also.1 also.2 (subst AreSure also.5 sure_also) in
+    let step = step-once line old before since run.0 also.0 run.1 also.1 tame alike one.0 other.0 run.3 also.3 in
+    let keeps = step-keeps line (workspace old before) run.0 run.1 tame run.3 in
+    let honest = (step-keeps line (workspace old since) also.0 also.1 tame also.3).1 alike.also in
+    let after : AreAlike run.0.stored also.0.stored = record { files = step.2; honest = keeps.1 alike.honest; also = honest } in
+    let rest = runs-once lines run.0.machine run.0.stored also.0.stored new end run.2 also.2 keeps.0 after run.4
+    (subst (λ m. Run (workspace m also.0.stored) lines also.2 end) (sym step.1) also.4) one.1 other.1 in
+    (run.5 ∙ ap₂ (λ r rs. option_to_list r ++ rs) step.0 rest.0 ∙ sym also.5, rest.1, rest.2)
+
+pub runs_are_one : RunsAreOne
+runs_are_one limit stored lines replies others new end honest run also sure sure_also =
+    let alike : AreAlike stored stored = record { files = refl; honest = honest; also = honest } in
+    runs-once lines (started_machine limit) stored stored new end replies others (started-tame limit) alike run also sure sure_also
