@@ -9,7 +9,7 @@ from lib.places import NATIVE
 
 SANITIZED = ['-fsanitize=undefined', '-fno-sanitize-recover=all', '-g']
 # The module's memory lies below 4 GiB, and that of the program must, too.
-PLACED = ['-no-pie', '-Wl,--defsym=__heap_base=0x40000123']
+PLACED = ['-no-pie', '-Wl,--defsym=__heap_base=0x60000123']
 # A seed, how many calls, and how many pages there are.
 RUNS = [('1', '200000', '32768'), ('2', '200000', '1000'), ('3', '200000', '200'), ('4', '9', '1')]
 

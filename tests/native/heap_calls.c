@@ -10,8 +10,9 @@
 #include <sys/mman.h>
 
 #define BLOCKS 4000
-/* Where the memory stands, as `--defsym=__heap_base` says: below 4 GiB, as the module's. */
-#define MEMORY 0x40000000ul
+/* Where the memory stands, as `--defsym=__heap_base` says: below 4 GiB, as the module's, and past the first GiB, in which the
+ * system places the heap of this process. */
+#define MEMORY 0x60000000ul
 #define WANT(what) ((what) ? (void)0 : (fprintf(stderr, "heap_calls: call %ld, line %d: %s\n", call, __LINE__, #what), exit(1)))
 
 static unsigned long pages, most_pages, growths;
