@@ -1,7 +1,7 @@
 -- Journals of runs.
 use Rattle.std.proofs.Common.{◌≡◌, ℕ, List, [], ◌∷◌, ◌++◌, IsTrue, Option, Some, None, refl, sym, ap, ap₂, subst, subst₂, ◌∙◌}
 use Rattle.std.specs.Prelude.{option_to_list}
-use Rattle.std.proofs.lemmas.List.Elements.{All-head, All-tail}
+use Rattle.std.proofs.lemmas.List.Elements.{All-cons, All-head, All-nil, All-tail}
 use Rattle.refusals.specs.declared.refusal.Refusal.{Refusal}
 use Rattle.map_store.specs.Files.{StoreParts}
 use Rattle.session.specs.declared.reply.Reply.{Reply}
@@ -28,6 +28,13 @@ by_reply : (P : Reply → Type 0) → ((refusal : Refusal) → P (Refused refusa
 by_reply P refused accepted (Refused refusal) = refused refusal
 by_reply P refused accepted reply = accepted reply refl
 
+-- one that is accepted is sure
+accepted-sure : (reply : Reply) → IsAccepted reply → IsSure reply
+accepted-sure reply accepted = (λ is. let none = subst IsAccepted is accepted in absurd cc, λ is. let none = subst IsAccepted is accepted in absurd cc)
+
+some-same : (one other : Reply) → Some one ≡ Some other → one ≡ other
+some-same one other same = cc
+
 -- an accepted reply, heard again
 heard-more : (reply first : Reply) (replies rest : List Reply) → IsAccepted reply → IsHeardAs reply first → AreHeard replies rest
     → AreHeard (reply ∷ replies) (first ∷ rest)
@@ -42,25 +49,26 @@ noted-entry line stored reply entry accepted noted = (entry, noted, refl)
 -- ---- what a line leaves to be heard
 -- the entries of a line, and that they lead on: each way to hear the rest is one of all
 pub record LeadsOn (old mid : Machine) (reply : Option Reply) (first : List Entry) : Type 0 where
-  pub on : (rest : List Entry) (replies heard : List Reply) (new : Machine) → Hears mid rest heard new → AreHeard replies heard
-      → (all : List Reply) × Hears old (first ++ rest) all new × AreHeard (option_to_list reply ++ replies) all
+  pub on : (rest : List Entry) (replies heard : List Reply) (new : Machine) → Hears mid rest heard new → AreHeard replies heard → AreSure heard
+      → (all : List Reply) × Hears old (first ++ rest) all new × AreHeard (option_to_list reply ++ replies) all × AreSure all
 
 nothing-leads : (old mid : Machine) (reply : Option Reply) → mid ≡ old → IsNoNews reply → LeadsOn old mid reply []
 nothing-leads old mid None same none = record {
-  on = λ rest replies heard new hears are. (heard, subst (λ m. Hears m rest heard new) same hears, are);
+  on = λ rest replies heard new hears are sure. (heard, subst (λ m. Hears m rest heard new) same hears, are, sure);
 }
 nothing-leads old mid (Some (Refused refusal)) same none = record {
-  on = λ rest replies heard new hears are. (heard, subst (λ m. Hears m rest heard new) same hears, are);
+  on = λ rest replies heard new hears are sure. (heard, subst (λ m. Hears m rest heard new) same hears, are, sure);
 }
 nothing-leads old mid (Some reply) same none = absurd none
 
 entry-leads : (old mid : Machine) (reply : Reply) (entry : Entry) → IsAccepted reply → CanBeHeard old reply mid entry
     → LeadsOn old mid (Some reply) (entry ∷ [])
 entry-leads old mid reply entry accepted can = record {
-  on = λ rest replies heard new hears are. (
+  on = λ rest replies heard new hears are sure. (
     can.0 ∷ heard,
     (mid, can.1, can.0, heard, can.2, hears, refl),
     heard-more reply can.0 replies heard accepted can.3 are,
+    All-cons IsSure can.0 heard (accepted-sure can.0 can.4) sure,
   );
 }
 
@@ -83,22 +91,48 @@ line-leads line old mid (Some reply) step = by_reply Leads of_refusal of_accepte
 -- ---- each run has a journal
 run-heard : (lines : List (List ℕ)) (old new : Workspace) (replies : List Reply) (run : Run old lines replies new)
     → (entries : List Entry) × (heard : List Reply) × IsJournal old lines replies new run entries × Hears old.machine entries heard new.machine
-    × AreHeard replies heard
+    × AreHeard replies heard × AreSure heard
 run-heard [] old new replies run =
-    ([], [], refl, (refl, ap (λ w. w.machine) run.1), subst (λ rs. AreHeard rs []) (sym run.0) refl)
+    ([], [], refl, (refl, ap (λ w. w.machine) run.1), subst (λ rs. AreHeard rs []) (sym run.0) refl, All-nil IsSure)
 run-heard (line ∷ lines) old new replies run =
     let rest = run-heard lines run.0 new run.2 run.4 in
     let first = line-leads line old run.0 run.1 run.3 in
-    let all = first.2.on rest.0 run.2 rest.1 new.machine rest.3 rest.4 in (
+    let all = first.2.on rest.0 run.2 rest.1 new.machine rest.3 rest.4 rest.5 in (
       first.0 ++ rest.0,
       all.0,
       (first.0, rest.0, first.1, rest.2, refl),
       all.1,
       subst (λ rs. AreHeard rs all.0) (sym run.5) all.2,
+      all.3,
     )
 
+-- and that is heard in one way
+hears-once : (entries : List Entry) (old new there : Machine) (heard others : List Reply) → IsTameMachine old → Hears old entries heard new
+    → Hears old entries others there → AreSure heard → AreSure others → (others ≡ heard) × (there ≡ new)
+hears-once [] old new there heard others tame one other sure also = (other.0 ∙ sym one.0, other.1 ∙ sym one.1)
+hears-once (entry ∷ entries) old new there heard others tame one other sure also =
+    let stored = having entry.files in
+    let alike : AreAlike stored stored = record { files = refl; honest = refl; also = refl } in
+    let all : AreSure (one.2 ∷ one.3) = subst AreSure one.6 sure in
+    let too : AreSure (other.2 ∷ other.3) = subst AreSure other.6 also in
+    let step = step-once entry.line old stored stored (workspace other.0 other.1) (workspace one.0 one.1) (Some other.2) (Some one.2) tame alike
+    (All-head IsSure other.2 other.3 too) (All-head IsSure one.2 one.3 all) other.4 one.4 in
+    let keeps = step-keeps entry.line (workspace old stored) (workspace one.0 one.1) (Some one.2) tame one.4 in
+    let rest = hears-once entries one.0 new there one.3 other.3 keeps.0 one.5 (subst (λ m. Hears m entries other.3 there) step.1 other.5)
+    (All-tail IsSure one.2 one.3 all) (All-tail IsSure other.2 other.3 too) in
+    (other.6 ∙ ap₂ (λ r rs. r ∷ rs) (some-same other.2 one.2 step.0) rest.0 ∙ sym one.6, rest.1)
+
 pub have_journals : HaveJournals
-have_journals limit stored lines replies new run = run-heard lines (workspace (started_machine limit) stored) new replies run
+have_journals limit stored lines replies new run =
+    let found = run-heard lines (workspace (started_machine limit) stored) new replies run in (
+      found.0,
+      found.1,
+      found.2,
+      found.3,
+      found.4,
+      λ others there hears sure.
+          hears-once found.0 (started_machine limit) new.machine there found.1 others (started-tame limit) found.3 hears found.5 sure,
+    )
 
 -- ---- and each that it has leads to its machine
 -- how the entries of a line are heard: they lead to the line's machine, and there the rest is heard
@@ -123,13 +157,6 @@ nothing-led old mid (Some (Refused refusal)) first rest heard there same none is
   are = λ replies are. are;
 }
 nothing-led old mid (Some reply) first rest heard there same none is hears sure = absurd none
-
--- an accepted reply is sure, and so is what is heard in its place
-accepted-sure : (reply : Reply) → IsAccepted reply → IsSure reply
-accepted-sure reply accepted = (λ is. let none = subst IsAccepted is accepted in absurd cc, λ is. let none = subst IsAccepted is accepted in absurd cc)
-
-some-same : (one other : Reply) → Some one ≡ Some other → one ≡ other
-some-same one other same = cc
 
 entry-led : (old mid : Machine) (reply : Reply) (entry : Entry) (rest : List Entry) (heard : List Reply) (there : Machine) → IsTameMachine old
     → IsAccepted reply → CanBeHeard old reply mid entry → Hears old (entry ∷ rest) heard there → AreSure heard → LedOn mid (Some reply) rest heard there

@@ -70,12 +70,13 @@ abbrev pub AreSure : List Reply → Type 0
 AreSure replies = All IsSure replies
 
 -- ---- laws
--- a run has a journal, and that can be heard
+-- a run has a journal, and that can be heard; each way to hear it is this one, if memory lasts
 abbrev pub HaveJournals : Type 0
 HaveJournals = (limit : ℕ) (stored : StoreParts) (lines : List (List ℕ)) (replies : List Reply) (new : Workspace)
     → (run : Run (workspace (started_machine limit) stored) lines replies new)
     → (entries : List Entry) × (heard : List Reply) × IsJournal (workspace (started_machine limit) stored) lines replies new run entries
     × Hears (started_machine limit) entries heard new.machine × AreHeard replies heard
+    × ((others : List Reply) (there : Machine) → Hears (started_machine limit) entries others there → AreSure others → (others ≡ heard) × (there ≡ new.machine))
 
 -- over an honest store, each journal of a run leads to its machine, however it is heard, if memory lasts
 abbrev pub JournalsLead : Type 0

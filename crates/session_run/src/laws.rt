@@ -4,12 +4,13 @@ ghost use Rattle.session_run.specs.Journals.{HaveJournals, JournalsLead, RunsAre
 
 /// Each run has a journal: the lines that were accepted and are not quiet. It can be heard again from the start, each `save` as
 /// `clean` and each `open` over the bytes that it found. So it leads to the same documents, with the same replies but those of a
-/// `save`.
+/// `save`; and each way to hear it does, if memory lasts.
 pub fn runs_have_journals()
     ensures { HaveJournals }
 {}
 
-/// However the journal of a run over an honest store is heard again, it leads to the same documents, if memory lasts.
+/// Whatever journal is kept of a run over an honest store, by the bytes that its files had, each way to hear it leads to the same
+/// documents, if memory lasts.
 pub fn journals_lead_to_the_same_documents()
     ensures { JournalsLead }
 {}
