@@ -62,9 +62,8 @@ def beside(name: str) -> bytes:
 
 
 def sources() -> Dict[str, bytes]:
-    """The files of the package, with the page, but without what the page is built from."""
-    paths = sorted(path for path in (HERE / NAME).rglob('*')
-                   if (path.suffix in SUFFIXES or path.name == 'py.typed') and path.parent.name != 'static')
+    """The files of the package, with the page."""
+    paths = sorted(path for path in (HERE / NAME).rglob('*') if path.suffix in SUFFIXES or path.name == 'py.typed')
     return {path.relative_to(HERE).as_posix(): path.read_bytes() for path in paths}
 
 

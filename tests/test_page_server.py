@@ -456,7 +456,7 @@ def test_the_wheel_has_the_page():
     with tempfile.TemporaryDirectory() as top:
         with zipfile.ZipFile(wheel_in(Path(top))) as archive:
             archive.extractall(f'{top}/installed')
-            assert not [name for name in archive.namelist() if '/static/' in name]
+            assert not [name for name in archive.namelist() if name.endswith('.js')]
         words = [sys.executable, '-m', 'roskevad.page']
         program = subprocess.Popen(words, cwd=f'{top}/installed', stdout=subprocess.PIPE, text=True)
         try:
