@@ -3,9 +3,8 @@ import { Bars } from "./panels/bars.js";
 import { Bench } from "./core/bench.js";
 import { Documents } from "./core/documents.js";
 import { byId } from "./panels/dom.js";
-import { EDGE_KEYS } from "./panels/edge_keys.js";
-import { Editor } from "./core/editor.js";
-import { bindFieldKeys } from "./panels/field_keys.js";
+import { PageEditor } from "./core/page_editor.js";
+import { bindFieldUndo } from "./panels/field_undo.js";
 import { recordSum } from "./core/journal.js";
 import { Example, isExample } from "./panels/example.js";
 import { JournalNotices } from "./panels/journal_notices.js";
@@ -15,21 +14,21 @@ import { LinePanel } from "./panels/line_panel.js";
 import { Look } from "./view/look.js";
 import { MapKeys, TileKeys } from "./tools/map_keys.js";
 import { MapView } from "./view/map_view.js";
-import { Marks } from "./view/marks.js";
+import { Overlay } from "./view/overlay.js";
 import { MiniMap } from "./view/mini_map.js";
-import { notDrawn } from "./view/not_drawn.js";
-import { endNotice, notice } from "./panels/notices.js";
+import { undrawnFeatures } from "./view/undrawn_features.js";
+import { endNotice, notice } from "./panels/notice_bars.js";
 import { ObjectList } from "./panels/object_list.js";
 import { loadModule } from "./core/own_module.js";
 import { Palette } from "./panels/palette.js";
-import { Panels } from "./panels/panels.js";
+import { EDGE_KEYS, Panels } from "./panels/panels.js";
 import { PlacePanel } from "./panels/place_panel.js";
 import { ServedFiles } from "./files/places.js";
 import { Player } from "./core/player.js";
 import { PropertyPanel } from "./panels/property_panel.js";
 import { Readers } from "./panels/readers.js";
 import { Recovery } from "./core/recovery.js";
-import { bindRows, groupsOfLists } from "./panels/row_keys.js";
+import { bindLists, groupsOfLists } from "./panels/list_navigation.js";
 import { ScrollBars } from "./view/scroll_bars.js";
 import { StartPage } from "./panels/start_page.js";
 import { StatusBar } from "./panels/status_bar.js";
@@ -56,10 +55,10 @@ class Page {
     this.panels = new Panels(() => this.bench.tell("layout"));
     this.tilesets = new Tilesets(editor);
     this.view = new MapView(byId("view"), editor, this.tilesets);
-    this.marks = new Marks(this.view, editor, this.tilesets);
+    this.overlay = new Overlay(this.view, editor, this.tilesets);
     this.scrollBars = new ScrollBars(this.view);
     this.miniMap = new MiniMap(this.view, editor);
-    const bench = this.bench = new Bench(editor, this.view, this.marks, this.tilesets);
+    const bench = this.bench = new Bench(editor, this.view, this.overlay, this.tilesets);
     this.bars = new Bars(this);
     this.tools = new Tools(bench);
     this.documents = new Documents(bench);
@@ -83,23 +82,23 @@ class Page {
     this.layouts = new Layouts(this);
     this.example = new Example(this);
     this.readers = new Readers(bench, this.layers);
-    this.rowKeys = bindRows(bench, this.documents, this.layers);
+    this.lists = bindLists(bench, this.documents, this.layers);
     this.mapKeys = new MapKeys(this.tools, words => this.readers.say(words));
     this.tileKeys = new TileKeys(this.palette);
-    this.toolbar.keys.places = [...groupsOfLists(this.rowKeys), this.mapKeys.group, this.tileKeys.group, EDGE_KEYS];
+    this.toolbar.keys.places = [...groupsOfLists(this.lists), this.mapKeys.group, this.tileKeys.group, EDGE_KEYS];
     this.shownDocument = null;
     this.showing = Promise.resolve();
     this.listen();
-    bindFieldKeys(bench);
+    bindFieldUndo(bench);
     this.tools.choose("brush");
   }
 
   listen() {
-    const { bench, editor, marks, panel, view } = this;
+    const { bench, editor, overlay, panel, view } = this;
     panel.onTilesets = () => this.showTilesets().catch(fault => console.warn(fault));
     editor.addEventListener("map", () => (this.showing = this.showMap()));
     editor.addEventListener("cells", ({ detail }) => view.refresh(detail));
-    editor.addEventListener("selection", () => marks.redraw());
+    editor.addEventListener("selection", () => overlay.redraw());
     editor.addEventListener("state", () => this.showState());
     bench.addEventListener("free", () => this.showState());
     bench.addEventListener("chosen", () => this.showChosen());
@@ -114,7 +113,7 @@ class Page {
     view.onMove = () => {
       const percents = view.scale * 100;
       byId("scale").textContent = `${percents < 10 ? Math.round(percents * 10) / 10 : Math.round(percents)} %`;
-      marks.redraw();
+      overlay.redraw();
       this.scrollBars.show();
       this.miniMap.show();
       this.layouts.keep();
@@ -123,7 +122,7 @@ class Page {
 
   // Another map: its tilesets may be others. Where its document is another one it is shown as it was left, and whole at first.
   async showMap() {
-    const { active } = this.editor.notes;
+    const { active } = this.editor.openDocuments;
     const isOther = active !== this.shownDocument;
     this.shownDocument = active;
     if (isOther) this.bench.tell("document");
@@ -136,7 +135,7 @@ class Page {
     if (isOther && !kept) this.view.fit();
     this.view.takeMap();
     this.showNotDrawn();
-    this.marks.redraw();
+    this.overlay.redraw();
     await this.editor.during(this.showTilesets());
     if (this.shownDocument !== active) return;
     const whyKept = kept ? this.layouts.enterTiles(kept) : "";
@@ -165,7 +164,7 @@ class Page {
   }
 
   showNotDrawn() {
-    this.status.showNotDrawn(notDrawn(this.editor.map, this.tilesets, this.view.images));
+    this.status.showNotDrawn(undrawnFeatures(this.editor.map, this.tilesets, this.view.images));
   }
 
   showState() {
@@ -204,7 +203,7 @@ async function start() {
   if (missing.length) return notice("needed", `This page cannot work here. It needs ${missing.join(", ")}.`);
   const key = isExample() ? null : new URLSearchParams(location.search).get("key");
   const [module, served] = await Promise.all([loadModule(), key === null ? null : servedBy(key)]);
-  const editor = new Editor(module, served?.told.limit ?? 0);
+  const editor = new PageEditor(module, served?.told.limit ?? 0);
   if (served) editor.place = served.place;
   const page = new Page(editor);
   await editor.journal.start();

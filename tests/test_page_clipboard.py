@@ -406,7 +406,7 @@ def test_slow_files():
     with Maps('one', 'two') as page:
         page.js('roskevad.bench.takeStamp({width: 1, height: 1, values: arguments[0]}); roskevad.layouts.all.clear()', TILES[:1])
         page.js(SLOW + 'roskevad.bench.act(["use two"])')
-        page.wait(lambda: page.js('return roskevad.editor.notes.active') == 'two', 'the other map')
+        page.wait(lambda: page.js('return roskevad.editor.openDocuments.active') == 'two', 'the other map')
         assert hand(page) == moved(TILES[:1], 36)
         page.js('roskevad.palette.takeTiles([3, 0], [3, 0])')
         assert 'still being read' in page.bubble() and hand(page) == moved(TILES[:1], 36), page.bubble()

@@ -70,11 +70,11 @@ def test_a_drawing():
         assert standing(fox) == (1, 2, True)
         see_saved(fox)
         stroke(fox, [(3, 24), (8, 24)])
-        before = fox.js('return window.roskevad.editor.session.step("show")')
+        before = fox.js('return window.roskevad.editor.editor.step("show")')
         fox.reload()
         fox.settle()
         assert standing(fox) == (2, 2, False)
-        assert fox.js('return window.roskevad.editor.session.step("show")') == before
+        assert fox.js('return window.roskevad.editor.editor.step("show")') == before
         assert fox.js('return window.roskevad.tilesets.all.map(set => set.image !== null)') == [True]
         fox.press(CONTROL, 'z')
         assert standing(fox) == (1, 2, True)

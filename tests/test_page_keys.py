@@ -47,8 +47,8 @@ def focused(page):
 
 # What keys do in lists, on the map and on the tiles, by the tables that bind them there.
 PLACE_KEYS = '''
-const {rowKeys, mapKeys, tileKeys} = roskevad;
-return [...rowKeys, mapKeys, tileKeys].flatMap(({group}) => group.rows.map(([keys, text]) => [keys, text]));'''
+const {lists, mapKeys, tileKeys} = roskevad;
+return [...lists, mapKeys, tileKeys].flatMap(({group}) => group.rows.map(([keys, text]) => [keys, text]));'''
 
 
 def test_list_of_keys():

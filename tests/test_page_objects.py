@@ -226,7 +226,7 @@ def test_handles():
         hand.pointer_down(button=0)
         hand.move_to_location(x + 30, y + 9)
         chain.perform()
-        assert page.js('return roskevad.marks.dragged.id') == INN
+        assert page.js('return roskevad.overlay.dragged.id') == INN
         type_keys(page, Keys.ESCAPE)
         chain = ActionChains(page.driver, duration=30)
         chain.w3c_actions.pointer_action.pointer_up(button=0)

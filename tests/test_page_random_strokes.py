@@ -49,8 +49,8 @@ def tell(page, line):
 
 # The cells that the page has drawn last, of which it has asked the editor, or drawn them itself.
 SEEN = '''
-const {editor: {map}, view: {seen}} = roskevad;
-return [seen.box, [...seen.cellsOf(map.layers[0].id)]]'''
+const {editor: {map}, view: {cache}} = roskevad;
+return [cache.box, [...cache.cellsOf(map.layers[0].id)]]'''
 
 
 def take_tool(page, numbers):

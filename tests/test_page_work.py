@@ -147,7 +147,7 @@ def test_refusals():
             'const box = document.getElementById("bubble").getBoundingClientRect(); return [box.left, box.top]'
         )
         hand = page.point((3, 20))
-        assert page.js('return roskevad.marks.hand') is None
+        assert page.js('return roskevad.overlay.hand') is None
         assert (
             page.bubble() == f'{things} has objects and no tiles. Choose a tile layer to draw.'
             and abs(place[0] - hand[0]) < 160

@@ -3,13 +3,13 @@ import { Bubble } from "../panels/bubble.js";
 import { CarriedTiles } from "../tools/carried_tiles.js";
 import { Clipboard } from "../tools/clipboard.js";
 import { isField } from "../panels/dom.js";
-import { LayerBars, whyBarred, whyNoTiles } from "../tools/layer_bars.js";
+import { BarredLayers, whyBarred, whyNoTiles } from "../tools/barred_layers.js";
 import { saidOf } from "./refusals.js";
 
 export class Bench extends EventTarget {
-  constructor(editor, view, marks, tilesets) {
+  constructor(editor, view, overlay, tilesets) {
     super();
-    Object.assign(this, { editor, view, marks, tilesets });
+    Object.assign(this, { editor, view, overlay, tilesets });
     this.layerId = null;
     this.objectId = null;
     this.brushSize = 1;
@@ -22,7 +22,7 @@ export class Bench extends EventTarget {
     // Whether a button is down on the map: the panels wait until it is up.
     this.isHeld = false;
     this.bubble = new Bubble(() => view.drawnBox());
-    this.bars = new LayerBars(this);
+    this.barredLayers = new BarredLayers(this);
     this.handX = this.handY = 100;
     addEventListener("pointermove", event => this.moveHand(event.clientX, event.clientY), true);
     addEventListener("pointerdown", event => this.moveHand(event.clientX, event.clientY), true);
@@ -45,10 +45,10 @@ export class Bench extends EventTarget {
   // Keeps to a layer and an object that are there.
   settle() {
     if (this.map && !this.layer) this.layerId = (this.map.layers.find(layer => layer.isTiles) ?? this.map.layers[0])?.id ?? null;
-    const { active } = this.editor.notes;
+    const { active } = this.editor.openDocuments;
     if (active !== this.document || !this.map?.object(this.objectId)) this.objectId = null;
     this.document = active;
-    this.marks.chosen = this.objectId;
+    this.overlay.chosen = this.objectId;
     this.tell("chosen");
   }
 
@@ -63,7 +63,7 @@ export class Bench extends EventTarget {
     if (id !== null) this.layerId = this.map.object(id).layer.id;
     this.settle();
     this.tell("object chosen");
-    this.marks.redraw();
+    this.overlay.redraw();
   }
 
   // The object that is chosen, with its layer; null where there is none.
@@ -82,7 +82,7 @@ export class Bench extends EventTarget {
   barredLayer() {
     const why = this.layer ? whyNoTiles(this.map, this.layer) : "";
     if (why) this.say(why);
-    return why !== "" || this.bars.bars();
+    return why !== "" || this.barredLayers.bars();
   }
 
   // The value of a fill: the first tile of the stamp; 0 where it has none. (Its first cell may be one that leaves the map as it is.)

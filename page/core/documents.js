@@ -82,7 +82,7 @@ export class Documents {
   async made({ name, width, height, side, tall, source }) {
     const file = `${name}.tmj`;
     const names = await this.editor.during(this.editor.place.names().catch(() => []));
-    const isOpen = this.editor.notes.documents.has(name);
+    const isOpen = this.editor.openDocuments.byName.has(name);
     if (!isOpen && names.some(({ path }) => path === file)) return { words: `The file ${file} is there already. Choose another name.`, field: "name" };
     return this.bench.attempt([`new ${name} ${width} ${height} ${side} ${tall} ${source}`], { 11: "name" });
   }
@@ -118,7 +118,7 @@ export class Documents {
     const { file, active, isClean } = this.editor.standing();
     if (!active) return this.bench.act(["save map.tmj"]);
     if (!file) return this.saveAs();
-    if (!isClean) return this.saveTo(this.editor.notes.document, file);
+    if (!isClean) return this.saveTo(this.editor.openDocuments.document, file);
     this.bench.say(`${file} is saved already.`);
     return { isHeard: true };
   }
@@ -133,7 +133,7 @@ export class Documents {
   }
 
   // Asks for a name and saves a document under it. Where that is refused it asks anew, with why; but not where the user kept a file as it is.
-  async saveAs(document = this.editor.notes.document, typed = null, refusal = null) {
+  async saveAs(document = this.editor.openDocuments.document, typed = null, refusal = null) {
     if (!document) return this.bench.act(["save map.tmj"]);
     const field = { name: "file", label: "File", value: typed ?? document.file?.path ?? `${document.name}.tmj`, kind: KINDS.path };
     const told = await ask("Save the map", [field], ["OK"], undefined, refusal);
@@ -145,13 +145,13 @@ export class Documents {
   // ---- closing
   // Closes a document; where it is not saved, or is being saved, asks first.
   async close(name) {
-    const document = this.editor.notes.documents.get(name);
+    const document = this.editor.openDocuments.byName.get(name);
     const found = this.editor.documents().find(each => each.name === name);
     if (!document) return null;
     if (found.isClean) return this.closed(document);
     const told = await (found.isWriting ? this.askWriting(found) : ask(`${titleOf(found)} has changes that are not saved.`, [], [SAVE, DISCARD]));
     if (told?.answer === DISCARD.text || told?.answer === LEAVE.text) return this.closed(document, "discard");
-    if (told?.answer === WAIT) return document.written().then(() => this.editor.notes.isOpen(document) && this.close(name));
+    if (told?.answer === WAIT) return document.written().then(() => this.editor.openDocuments.isOpen(document) && this.close(name));
     if (told?.answer !== SAVE) return null;
     const saved = await this.saveOf(document);
     return saved.isHeard ? this.closed(document) : null;
@@ -164,7 +164,7 @@ export class Documents {
   // Where it was the active one, its neighbour is active then: the one to the right, or else to the left.
   async closed(document, word = "close") {
     const { name } = document;
-    if (!this.editor.notes.isOpen(document)) return null;
+    if (!this.editor.openDocuments.isOpen(document)) return null;
     const documents = this.editor.documents();
     const at = documents.findIndex(each => each.name === name);
     const neighbour = documents[at]?.isActive ? documents[at + 1] ?? documents[at - 1] : null;

@@ -3,7 +3,7 @@
 //
 // Where the database takes nothing, as on a full disk, the journal is broken off until it does again. Then what was added meanwhile is
 // written behind what is there. Where that is gone, the journal is written anew, whole, from what the window holds.
-import { forgetBroken, noteBroken } from "./broken_notes.js";
+import { forgetBroken, noteBroken } from "./broken_journals.js";
 import { Database } from "./database.js";
 import { hashOf, sumOf } from "../files/hashes.js";
 import { HeldEntries, sizeOf } from "./held_entries.js";

@@ -33,19 +33,19 @@ export const isFollowing = line => /^(?:\S+ )?\S+\+(?: |$)/.test(line);
 export const isQuiet = line => /^ *$|^#/.test(line);
 
 // What the step at a place is about, for an undo or a redo of it.
-function ofStep(session, at) {
-  return session.isMacro(at) === false ? OF_TEXTS[session.actionText(at)] ?? ALL : ALL;
+function ofStep(editor, at) {
+  return editor.isMacro(at) === false ? OF_TEXTS[editor.actionText(at)] ?? ALL : ALL;
 }
 
 // What a line may change of the active map, asked before it is done. `painted` tells where its steps have painted: PaintedSteps, or null.
-export function changesOf(session, line, painted) {
+export function changesOf(editor, line, painted) {
   const word = wordOf(line);
   if (PAINTS.has(word)) return CELLS;
   if (word === "select") return SELECTION;
   if (painted && (word === "undo" || word === "redo")) {
     const at = word === "undo" ? painted.index - 1 : painted.index;
     const part = painted.of(at);
-    return part ? { ...CELLS, part } : ofStep(session, at);
+    return part ? { ...CELLS, part } : ofStep(editor, at);
   }
   if (word === "goto" || word === "resize" || DOCUMENTS.has(word)) return ALL;
   return EDITS.has(word) ? OUTLINE : NOTHING;

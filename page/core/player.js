@@ -47,7 +47,7 @@ export class Player {
     const { lines } = session;
     if (!lines.length || !(await this.mayPlay(session))) return;
     await this.editor.free();
-    const isMacro = this.editor.notes.active !== null && this.editor.stand().depth === 0 && session.areEdits;
+    const isMacro = this.editor.openDocuments.active !== null && this.editor.stand().depth === 0 && session.areEdits;
     const progress = new Progress(this.bench, lines.length);
     const playing = isMacro ? this.asMacro(lines, progress) : this.oneByOne(lines, progress);
     const done = await this.editor.during(playing.finally(() => progress.end()));

@@ -1,12 +1,12 @@
 // What the journals are for: at the start of the page the documents of windows that live no more are offered, with all their steps.
 //
 // A journal that fails, whatever it throws, is told of and kept. It stops neither the page nor another journal.
-import { brokenNotes, forgetBroken } from "./broken_notes.js";
+import { brokenJournals, forgetBroken } from "./broken_journals.js";
 import { ask, byId, destroying } from "../panels/dom.js";
 import { HeldEntries } from "./held_entries.js";
 import { heldLocks, lock } from "./journal.js";
 import { brokenNames, isOld, isUntouched, isWhole, leftOf, namesOf } from "./left_journals.js";
-import { notice } from "../panels/notices.js";
+import { notice } from "../panels/notice_bars.js";
 import { ChosenFiles, FolderFiles, download } from "../files/places.js";
 import { OfDocument } from "./replay.js";
 import { isSameSource, wordsOf } from "../files/sources.js";
@@ -36,7 +36,7 @@ export class Recovery {
 
   async takeLeft(left) {
     if (!this.journal.database) return false;
-    this.broken = brokenNotes();
+    this.broken = brokenJournals();
     const mine = this.journal.ownOf(left);
     const rows = await this.withoutEnded(left, mine);
     await this.sayNotKept(rows);
@@ -146,8 +146,8 @@ export class Recovery {
       const held = new HeldEntries();
       try {
         const made = await this.replayOf(row, { held, without: new Set(faults.keys()) });
-        if (!faults.size || made.notes.documents.size) return { made, held, faults };
-        made.session.close();
+        if (!faults.size || made.openDocuments.byName.size) return { made, held, faults };
+        made.editor.close();
         break;
       } catch (fault) {
         if (!(fault instanceof OfDocument)) throw fault;

@@ -1,9 +1,9 @@
-// The lines of a journal, done anew in a module and a session of their own, which then may stand in the place of those of the window.
-import { Editor as Session } from "../../js/roskevad.js";
+// The lines of a journal, done anew in a module and an editor of their own, which then may stand in the place of those of the window.
+import { Editor } from "../../js/roskevad.js";
 import { isAboutDocuments, wordOf } from "./line_kinds.js";
 import { cellsIn } from "./log_words.js";
 import { FileNames } from "../files/names.js";
-import { Notes } from "./notes.js";
+import { OpenDocuments } from "./open_documents.js";
 import { MOST_AT_ONCE, SAVED, cut, isRefusal, opened, pause, replyOf } from "./replies.js";
 
 const BEGINNINGS = new Set(["new", "open"]);
@@ -23,9 +23,9 @@ export class Replay {
   // One that is lenient takes other words of a reply, and goes on where a document fails, which stays as it was then: `fault` is what has
   // failed last. `without` has the lives of documents that are left out.
   constructor(module, limit, { isLenient = false, without = new Set() } = {}) {
-    Object.assign(this, { module, limit, isLenient, fault: null, session: new Session(module, { limit }) });
+    Object.assign(this, { module, limit, isLenient, fault: null, editor: new Editor(module, { limit }) });
     // The rows of the log, and the saves that are not known to have arrived: a row and what was sent, by their documents.
-    Object.assign(this, { notes: new Notes(limit), names: new FileNames(), listed: [], pending: new Map() });
+    Object.assign(this, { openDocuments: new OpenDocuments(limit), names: new FileNames(), listed: [], pending: new Map() });
     // The names of open documents that are left out, whether one of them is the active one, and the entries of the others and of these.
     Object.assign(this, { without, aside: new Set(), isAside: false, entries: [], others: [] });
     // The lives of documents that stay as they are.
@@ -43,7 +43,7 @@ export class Replay {
       }
     } catch (fault) {
       if (!this.isLenient || this.module.isBroken) {
-        this.session.close();
+        this.editor.close();
         throw fault;
       }
       this.fault = fault;
@@ -52,15 +52,15 @@ export class Replay {
 
   // The saves of which the journal does not say that they have arrived: [{ document, row, sent }].
   get pendingSaves() {
-    return [...this.pending].filter(([document]) => this.notes.isOpen(document)).map(([document, told]) => ({ document, ...told }));
+    return [...this.pending].filter(([document]) => this.openDocuments.isOpen(document)).map(([document, told]) => ({ document, ...told }));
   }
 
   async takeEntry(entry) {
     const isAside = this.leavesOut(entry);
     if (this.without.size) this.divide(entry, isAside);
     if (isAside) return;
-    if (entry.isElsewhere) this.notes.lives++;
-    else if (entry.isParted) this.notes.part();
+    if (entry.isElsewhere) this.openDocuments.lives++;
+    else if (entry.isParted) this.openDocuments.part();
     else if (entry.sent || entry.written) this.takeFile(entry);
     else await this.takeAccepted(entry);
   }
@@ -71,9 +71,9 @@ export class Replay {
     if (line === undefined) return this.without.has((sent ?? written)?.life);
     const [word, name] = [wordOf(line), line.split(" ")[1]];
     if (BEGINNINGS.has(word)) {
-      this.isAside = this.without.has(this.notes.lives + 1);
+      this.isAside = this.without.has(this.openDocuments.lives + 1);
       if (!this.isAside) return false;
-      this.notes.lives++;
+      this.openDocuments.lives++;
       this.aside.add(name);
       return true;
     }
@@ -93,14 +93,14 @@ export class Replay {
   // The life of the document that a line is about, or undefined.
   lifeOf(line) {
     const [word, name] = [wordOf(line), line.split(" ")[1]];
-    if (BEGINNINGS.has(word)) return this.notes.lives + 1;
-    return (isAboutDocuments(line) ? this.notes.documents.get(name) : this.notes.document)?.life;
+    if (BEGINNINGS.has(word)) return this.openDocuments.lives + 1;
+    return (isAboutDocuments(line) ? this.openDocuments.byName.get(name) : this.openDocuments.document)?.life;
   }
 
   // ---- what is done
   async takeAccepted(entry) {
     const { line, reply, file, gesture } = entry;
-    if (!isAboutDocuments(line) && this.ended.has(this.notes.document?.life)) return;
+    if (!isAboutDocuments(line) && this.ended.has(this.openDocuments.document?.life)) return;
     try {
       await this.takeLine(entry);
     } catch (fault) {
@@ -108,10 +108,10 @@ export class Replay {
       return;
     }
     if (file && file.path !== null) this.names.take(line.split(" ")[2], file.path);
-    this.notes.note(entry);
+    this.openDocuments.note(entry);
     const row = [this.listed.length + 1, cut(line), reply === SAVED ? "no 51 store failed" : reply, null, cellsIn(line), gesture];
-    if (wordOf(line) === "save") this.pending.set(this.notes.document, { row });
-    if (wordOf(line) === "dirty") this.pending.delete(this.notes.document);
+    if (wordOf(line) === "save") this.pending.set(this.openDocuments.document, { row });
+    if (wordOf(line) === "dirty") this.pending.delete(this.openDocuments.document);
     this.listed.push(row);
   }
 
@@ -121,19 +121,19 @@ export class Replay {
     if (life === undefined) throw fault;
     if (!this.isLenient || this.module.isBroken) throw new OfDocument(life, fault);
     this.fault = fault;
-    if (life <= this.notes.lives) {
+    if (life <= this.openDocuments.lives) {
       this.ended.add(life);
       return;
     }
-    this.notes.lives++;
+    this.openDocuments.lives++;
     this.aside.add(line.split(" ")[1]);
     this.isAside = true;
   }
 
   // Does a line of a journal. A save marks the map, and writes no file.
   async takeLine({ line, reply, file }) {
-    if (reply === SAVED) return this.see(line, replyOf(this.session, "clean").startsWith("ok "), reply);
-    const came = file ? (await opened(this.session, line.split(" ")[1], file.bytes))[0] : replyOf(this.session, line);
+    if (reply === SAVED) return this.see(line, replyOf(this.editor, "clean").startsWith("ok "), reply);
+    const came = file ? (await opened(this.editor, line.split(" ")[1], file.bytes))[0] : replyOf(this.editor, line);
     return this.see(line, came === reply || (this.isLenient && !isRefusal(came)), reply, came);
   }
 
@@ -145,7 +145,7 @@ export class Replay {
   takeFile({ sent, written }) {
     const { word, path, mark } = sent ?? written;
     this.names.take(word, path);
-    const document = this.notes.found(sent ?? written);
+    const document = this.openDocuments.found(sent ?? written);
     if (document && sent) {
       document.send(sent);
       if (this.pending.has(document)) this.pending.get(document).sent = sent;

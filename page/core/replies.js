@@ -1,4 +1,4 @@
-// The replies of a session to lines, whatever they are.
+// The replies of an editor to lines, whatever they are.
 import { NoMemory, Refused } from "../../js/roskevad.js";
 import { isQuiet } from "./line_kinds.js";
 
@@ -12,10 +12,10 @@ export const isRefusal = reply => reply?.startsWith("no ") ?? false;
 export const cut = text => (text.length <= LISTED ? text : `${text.slice(0, LISTED)} ..`);
 export const pause = (time = 0) => new Promise(done => setTimeout(done, time));
 
-// The reply of a session to a line, whatever it is; null where the line is quiet.
-export function replyOf(session, line) {
+// The reply of an editor to a line, whatever it is; null where the line is quiet.
+export function replyOf(editor, line) {
   try {
-    const reply = session.step(line);
+    const reply = editor.step(line);
     return reply === "" && isQuiet(line) ? null : reply;
   } catch (fault) {
     if (fault instanceof Refused) return `no ${fault.code} ${fault.words}`;
@@ -24,10 +24,10 @@ export function replyOf(session, line) {
   }
 }
 
-// The reply to `open` of a session, and why the map was refused, where that is known.
-export async function opened(session, name, bytes) {
+// The reply to `open` of an editor, and why the map was refused, where that is known.
+export async function opened(editor, name, bytes) {
   try {
-    return [await session.openMap(name, bytes), null];
+    return [await editor.openMap(name, bytes), null];
   } catch (fault) {
     if (fault instanceof Refused) return [`no ${fault.code} ${fault.words}`, fault.why];
     if (fault instanceof NoMemory) return ["no 90 no memory", null];

@@ -106,7 +106,7 @@ export class TileNumbers {
 
   // What stands for the active document.
   get home() {
-    return homeOf(this.editor.notes.document);
+    return homeOf(this.editor.openDocuments.document);
   }
 
   // Whether a copy was taken from the active map.

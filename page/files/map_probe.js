@@ -1,5 +1,5 @@
 // Tells why a map would be refused, before it is opened: in a module of its own, which goes with the list of maps.
-import { Editor as Session, Refused } from "../../js/roskevad.js";
+import { Editor, Refused } from "../../js/roskevad.js";
 import { loadModule } from "../core/own_module.js";
 
 export class MapProbe {
@@ -7,7 +7,7 @@ export class MapProbe {
     this.module = null;
   }
 
-  // Words for a file: why it would be refused, and none where it would not. Then `use` may look at the session that has it: what that
+  // Words for a file: why it would be refused, and none where it would not. Then `use` may look at the editor that has it: what that
   // gives is `found`.
   async look(place, path, use) {
     const found = await place.read(path);
@@ -17,15 +17,15 @@ export class MapProbe {
   // The same for the bytes of a file.
   async lookInto(bytes, use = () => null) {
     if (!this.module || this.module.isBroken) this.module = await loadModule();
-    const session = new Session(this.module, { limit: 1 });
+    const editor = new Editor(this.module, { limit: 1 });
     try {
-      await session.openMap("map", bytes);
-      return { words: "", isRefused: false, found: await use(session) };
+      await editor.openMap("map", bytes);
+      return { words: "", isRefused: false, found: await use(editor) };
     } catch (fault) {
       if (!(fault instanceof Refused)) throw fault;
       return { words: `${fault.words} (${fault.code})${fault.why ? `: ${fault.why}` : ""}`, isRefused: true };
     } finally {
-      if (!this.module.isBroken) session.close();
+      if (!this.module.isBroken) editor.close();
     }
   }
 }

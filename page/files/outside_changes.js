@@ -3,7 +3,7 @@
 // What waits for an answer or for a file holds the document itself. A document that is closed meanwhile is left alone.
 import { ask, destroying } from "../panels/dom.js";
 import { lastOf } from "./names.js";
-import { endNotice, hasNotice, notice } from "../panels/notices.js";
+import { endNotice, hasNotice, notice } from "../panels/notice_bars.js";
 import { saidOf } from "../core/refusals.js";
 
 const REPLACE = "Replace it";
@@ -31,9 +31,9 @@ export class OutsideChanges {
     if (this.isLooking) return;
     this.isLooking = true;
     // One that a session has closed, too.
-    for (const document of this.told.values()) if (!this.editor.notes.isOpen(document)) this.forget(document);
+    for (const document of this.told.values()) if (!this.editor.openDocuments.isOpen(document)) this.forget(document);
     try {
-      for (const document of [...this.editor.notes.documents.values()]) await this.lookAt(document);
+      for (const document of [...this.editor.openDocuments.byName.values()]) await this.lookAt(document);
     } finally {
       this.isLooking = false;
     }
@@ -42,7 +42,7 @@ export class OutsideChanges {
   async lookAt(document) {
     const { file } = document;
     const isChanged = file && !document.isWriting && (await this.editor.isChanged(document).catch(() => false));
-    if (!this.editor.notes.isOpen(document) || document.file !== file) return;
+    if (!this.editor.openDocuments.isOpen(document) || document.file !== file) return;
     if (isChanged && !document.isWriting) this.sayChanged(document);
     else this.forget(document);
   }
@@ -86,10 +86,10 @@ export class OutsideChanges {
   // file cannot be opened or its steps are to be kept. Gives whether nothing is left to be answered.
   async reload(document) {
     await document.written();
-    if (!this.editor.notes.isOpen(document) || !document.file) return true;
+    if (!this.editor.openDocuments.isOpen(document) || !document.file) return true;
     const { path } = document.file;
     const found = await this.readable(path);
-    if (!this.editor.notes.isOpen(document) || document.own(path) === null) return true;
+    if (!this.editor.openDocuments.isOpen(document) || document.own(path) === null) return true;
     if (found.words) return this.sayNotLoaded(document, found.words);
     const isKept = await this.keeps(document);
     if (isKept === null) return false;

@@ -57,7 +57,7 @@ export class Example {
     if (!this.name) await panel.takeChosen(files());
     this.name ??= found();
     if (!this.document) return;
-    if (editor.notes.active !== this.name) await bench.act([`use ${this.name}`]);
+    if (editor.openDocuments.active !== this.name) await bench.act([`use ${this.name}`]);
     await this.lesson.begin();
   }
 }

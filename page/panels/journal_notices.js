@@ -1,7 +1,7 @@
 // What is said where the journal of this window is broken off, or full, and where a map cannot be shown; and how the journal begins anew.
 import { ask, byId, destroying } from "./dom.js";
 import { lastOf } from "../files/names.js";
-import { endNotice, hasNotice, notice } from "./notices.js";
+import { endNotice, hasNotice, notice } from "./notice_bars.js";
 import { download } from "../files/places.js";
 
 const MEBIBYTE = 1024 * 1024;
@@ -86,7 +86,7 @@ export class JournalNotices {
 
   // Resolves once the saves have ended that are under way.
   saved() {
-    return Promise.all([...this.editor.notes.documents.values()].map(document => document.written()));
+    return Promise.all([...this.editor.openDocuments.byName.values()].map(document => document.written()));
   }
 
   // ---- full
@@ -104,7 +104,7 @@ export class JournalNotices {
     if (!(await this.endMacros())) return false;
     for (const { name, isClean, path } of this.editor.documents()) {
       if (isClean && path) continue;
-      const done = await this.documents.saveOf(this.editor.notes.documents.get(name));
+      const done = await this.documents.saveOf(this.editor.openDocuments.byName.get(name));
       if (!done.isHeard) return false;
     }
     await this.editor.beginAnew();
@@ -118,7 +118,7 @@ export class JournalNotices {
     if (!open.length) return true;
     const names = open.map(titleOf).join(" and ");
     if (!(await ask(`A macro is open in ${names}. It ends where the journal begins anew; what is in it stays, as one step.`, [], [END]))) return false;
-    const back = `use ${this.editor.notes.active ?? "-"}`;
+    const back = `use ${this.editor.openDocuments.active ?? "-"}`;
     const lines = open.flatMap(({ name, depth }) => [`use ${name}`, ...Array(depth).fill("end")]);
     return this.bench.sayRefusal(this.editor.doLines([...lines, back])).isHeard;
   }

@@ -2,9 +2,9 @@
 import { ask, button, byId, element } from "./dom.js";
 import { iconButton, showIcon } from "./icons.js";
 import { KINDS } from "../core/kinds.js";
-import { isLocked } from "../tools/layer_bars.js";
+import { isLocked } from "../tools/barred_layers.js";
 import { LayerDrag } from "./layer_drag.js";
-import { putRows } from "./rows.js";
+import { putRows } from "./list_rows.js";
 
 const LAYER_KINDS = { tilelayer: "tiles", objectgroup: "objects", imagelayer: "image", group: "group" };
 

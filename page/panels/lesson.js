@@ -76,7 +76,7 @@ export class Lesson {
     const { editor, bench } = this.page;
     if (this.document() === null) return this.leave();
     const { parts, end } = TASKS[this.task];
-    const isHere = editor.notes.active === this.document() && bench.map !== null;
+    const isHere = editor.openDocuments.active === this.document() && bench.map !== null;
     while (isHere && !bench.isHeld && parts[this.part]?.isDone(this.page, this.start)) this.part++;
     const part = parts[this.part];
     const wanted = !isHere ? this.back() : part ? part.needs?.find(need => !need.isMet(this.page)) ?? part : { words: end, at: () => this.next };

@@ -1,7 +1,7 @@
 // The objects of the map in a list, by their layers, with a search. It stands in the place of the tiles while a tool for objects is in hand.
 import { byId, element } from "./dom.js";
 import { boxOf } from "../view/object_shapes.js";
-import { NO_NAME } from "../core/unsaid.js";
+import { NO_NAME } from "../core/unsupported_edits.js";
 
 // How many rows the list has at most: others are found by the search.
 const MOST_ROWS = 1000;
@@ -119,7 +119,7 @@ export class ObjectList {
     bench.chooseObject(id);
     const { view } = bench;
     const { object, layer } = bench.chosenObject;
-    const [x, y] = bench.marks.screenPlace(middleOf(bench.marks.shapeOf(object)), layer);
+    const [x, y] = bench.overlay.screenPlace(middleOf(bench.overlay.shapeOf(object)), layer);
     if (x > 0 && y > 0 && x < view.canvas.width && y < view.canvas.height) return;
     view.pan(Math.round(view.canvas.width / 2 - x), Math.round(view.canvas.height / 2 - y));
   }

@@ -1,7 +1,7 @@
-// The panels around the map: a click at a head folds one, and the edges between them are dragged. An edge is thin, so that it covers nothing;
-// so grips below it, the bar below the map, or the head of the panel below it are dragged, too.
+// The panels around the map: a click at a head folds one, and the edges between them are dragged, by arrow keys too. An edge is thin, so
+// that it covers nothing; so grips below it, the bar below the map, or the head of the panel below it are dragged as well.
 import { byId, element } from "./dom.js";
-import { edgeByKeys } from "./edge_keys.js";
+import { ARROW_KEYS, callsOf, pressed } from "../tools/key_tables.js";
 import { icon } from "./icons.js";
 
 // The least width of a column and height of a panel or of the lines, and the most of the window that a column takes.
@@ -10,6 +10,32 @@ const LEAST_HEIGHT = 34;
 const MOST = 0.6;
 // How far the hand moves before a press is a drag, in pixels of the page.
 const SHORTEST_DRAG = 4;
+// How far an arrow key moves an edge, in pixels of the page.
+const STEP = 16;
+
+// Moves an edge by an arrow key. `drag` takes where the edge is to be, as an event of the mouse has it.
+function moveEdge(edge, isFlat, drag, [right, down]) {
+  if (!(isFlat ? down : right)) return false;
+  const frame = edge.getBoundingClientRect();
+  drag({ clientX: (frame.left + frame.right) / 2 + right * STEP, clientY: (frame.top + frame.bottom) / 2 + down * STEP });
+  edge.ariaValueNow = String(Math.round(isFlat ? edge.getBoundingClientRect().top : edge.getBoundingClientRect().left));
+  return true;
+}
+
+// The rows of the table of keys for an edge.
+const rowsOfEdge = (edge, isFlat, drag) => [[ARROW_KEYS, "Move the edge", to => moveEdge(edge, isFlat, drag, to)]];
+
+export const EDGE_KEYS = { title: "The edge of a panel, by Tab", rows: rowsOfEdge() };
+
+function edgeByKeys(edge, isFlat, drag) {
+  edge.tabIndex = 0;
+  edge.role = "separator";
+  edge.ariaLabel = edge.title;
+  edge.ariaOrientation = isFlat ? "horizontal" : "vertical";
+  const calls = callsOf(rowsOfEdge(edge, isFlat, drag));
+  edge.addEventListener("keydown", event => pressed(calls, event));
+  edge.ariaValueNow = "0";
+}
 
 export class Panels {
   // `onChange` is called where something is another size, or folded.

@@ -1,7 +1,7 @@
 // Where the files come from: a folder of this machine, files that are chosen or dropped, or the folder that a server gives.
 import { byId, element } from "./dom.js";
 import { iconButton } from "./icons.js";
-import { endNotice, notice } from "./notices.js";
+import { endNotice, notice } from "./notice_bars.js";
 import { ChosenFiles, FolderFiles, IN_XML, chosen, isMapName, isTilesetName, isXmlMapName } from "../files/places.js";
 import { isSameSource, sourceOf, wordsOf } from "../files/sources.js";
 
@@ -52,9 +52,9 @@ export class PlacePanel {
     const [before, place] = [sourceOf(this.editor.place), new FolderFiles(folder)];
     const isOther = before.kind === place.kind && !(await isSameSource(before, place));
     this.take(place);
-    if (isOther && [...this.editor.notes.documents.values()].some(document => document.file)) this.part(before);
+    if (isOther && [...this.editor.openDocuments.byName.values()].some(document => document.file)) this.part(before);
     this.editor.journal.keepSource();
-    if (!this.editor.notes.documents.size) await this.documents.open();
+    if (!this.editor.openDocuments.byName.size) await this.documents.open();
   }
 
   // The documents are of files of another source: here they have none.

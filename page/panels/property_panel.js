@@ -5,7 +5,7 @@ import { KINDS, TYPES } from "../core/kinds.js";
 import { cutText } from "../files/members.js";
 import { folderOf } from "../files/names.js";
 import { saidOf } from "../core/refusals.js";
-import { NO_NAME, whyNotSet } from "../core/unsaid.js";
+import { NO_NAME, whyNotSet } from "../core/unsupported_edits.js";
 
 const OWNERS = ["map", "layer", "object"];
 // What a field has where a new property is made, and nothing was typed.
@@ -27,7 +27,7 @@ export class PropertyPanel {
     this.body = element("tbody");
     this.around = {
       map: () => bench.map,
-      files: () => ({ place: bench.editor.place, folder: folderOf(bench.editor.notes.file?.path ?? "") }),
+      files: () => ({ place: bench.editor.place, folder: folderOf(bench.editor.openDocuments.file?.path ?? "") }),
     };
     this.last = this.newRow();
     const columns = Array.from({ length: 3 }, () => element("col"));
@@ -40,7 +40,7 @@ export class PropertyPanel {
 
   choose(kind) {
     this.kind = kind;
-    this.shownDocument = this.bench.editor.notes.active;
+    this.shownDocument = this.bench.editor.openDocuments.active;
     this.show();
   }
 
@@ -55,7 +55,7 @@ export class PropertyPanel {
   }
 
   show() {
-    const { active } = this.bench.editor.notes;
+    const { active } = this.bench.editor.openDocuments;
     if (active !== this.shownDocument) this.kind = "map";
     this.shownDocument = active;
     const owner = this.owner();

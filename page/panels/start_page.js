@@ -26,7 +26,7 @@ export class StartPage {
   }
 
   get isShown() {
-    return this.editor.notes.active === null;
+    return this.editor.openDocuments.active === null;
   }
 
   async show() {
@@ -103,7 +103,7 @@ export class StartPage {
     const { place } = this;
     const { path, size } = card.dataset;
     const isOver = () => !card.isConnected || !this.isShown;
-    const looked = await this.probe.look(place, path, session => sketch(session, place, path, card.querySelector("canvas"), isOver));
+    const looked = await this.probe.look(place, path, editor => sketch(editor, place, path, card.querySelector("canvas"), isOver));
     card.classList.toggle("refused", looked.isRefused);
     const map = looked.found;
     card.querySelector(".told").textContent = map ? `${map.width} × ${map.height} · ${sizeOf(Number(size))}` : looked.words;

@@ -15,7 +15,7 @@ export class StepPanel {
   // What a layer or an object is called, or was before the last line.
   nameOf(kind, id) {
     const { map, editor } = this.bench;
-    const kept = this.names.get(editor.notes.active)?.[`${kind}s`].get(Number(id));
+    const kept = this.names.get(editor.openDocuments.active)?.[`${kind}s`].get(Number(id));
     const now = () => (kind === "layer" ? map?.layer(Number(id))?.data : map?.object(Number(id))?.object)?.name;
     return kept || now() || `${kind} ${id}`;
   }

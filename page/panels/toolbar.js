@@ -58,8 +58,8 @@ export class Toolbar {
     byId("undo").title = `${why}Undo (Ctrl+Z)`;
     byId("redo").title = `${why}Redo (Ctrl+Shift+Z, Ctrl+Y)`;
     this.showMacro(state.depth);
-    byId("turn-names").classList.toggle("on", this.bench.marks.hasNames);
-    byId("grid").classList.toggle("on", this.bench.marks.hasGrid);
+    byId("turn-names").classList.toggle("on", this.bench.overlay.hasNames);
+    byId("grid").classList.toggle("on", this.bench.overlay.hasGrid);
     byId("brush-size").value = String(this.bench.brushSize);
   }
 
@@ -87,14 +87,14 @@ export class Toolbar {
   }
 
   turnGrid() {
-    this.bench.marks.hasGrid = !this.bench.marks.hasGrid;
-    this.bench.marks.redraw();
+    this.bench.overlay.hasGrid = !this.bench.overlay.hasGrid;
+    this.bench.overlay.redraw();
     this.show();
   }
 
   turnNames() {
-    this.bench.marks.hasNames = !this.bench.marks.hasNames;
-    this.bench.marks.redraw();
+    this.bench.overlay.hasNames = !this.bench.overlay.hasNames;
+    this.bench.overlay.redraw();
     this.show();
   }
 

@@ -1,7 +1,7 @@
 // Tiles that come from another map, or that were taken before the tilesets of this one were changed: the hand has them as this map numbers
 // them, or it does not have them, and why is said.
 import { folderOf, pathFrom } from "../files/names.js";
-import { endNotice, notice } from "../panels/notices.js";
+import { endNotice, notice } from "../panels/notice_bars.js";
 import { listed } from "./object_copies.js";
 import { TileNumbers } from "../core/tile_numbers.js";
 
@@ -101,9 +101,9 @@ export class CarriedTiles {
     bench.takeStamp(NO_TILE);
     bench.say(words);
     if (read.past.length || !read.lost.every(set => this.isFile(set))) return null;
-    const document = this.editor.notes.document;
+    const document = this.editor.openDocuments.document;
     const add = async () => {
-      if (document !== this.editor.notes.document || !(await this.add(read.lost, copy))) return false;
+      if (document !== this.editor.openDocuments.document || !(await this.add(read.lost, copy))) return false;
       return this.bring(copy, done, go);
     };
     const what = read.lost.length > 1 ? "them" : "it";
@@ -118,7 +118,7 @@ export class CarriedTiles {
 
   // Adds tilesets to the map, as one step, behind all tiles that are known or used, and has them read. Gives whether they are there.
   async add(lost, copy) {
-    const folder = folderOf(this.editor.notes.file?.path ?? "");
+    const folder = folderOf(this.editor.openDocuments.file?.path ?? "");
     let first = this.numbers.nextFirst();
     const lines = lost.map(set => {
       const line = `tileset add ${first} ${pathFrom(folder, set.path)}`;

@@ -1,7 +1,6 @@
 // The table of keys: Tiled's, where Tiled has one. The page's keys are bound from it, and it can be listed.
 import { isTyping } from "../panels/dom.js";
-import { showKeys } from "../panels/key_list.js";
-import { ARROWS, ARROW_KEYS, callsOf, keyOf, wordOf } from "./key_rows.js";
+import { ARROWS, ARROW_KEYS, callsOf, keyOf, showKeys, wordOf } from "./key_tables.js";
 import { flippedToSide, flippedUpDown, turnedLeft, turnedRight } from "./stamps.js";
 
 const DIGITS = [1, 2, 3, 4, 5, 6, 7, 8, 9];

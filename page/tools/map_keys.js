@@ -1,6 +1,6 @@
 // The map and the tiles by keys. Where Tab has reached the map, arrow keys move a cell of the keys, and Enter does there what a click does.
 import { byId } from "../panels/dom.js";
-import { ARROW_KEYS, callsOf, pressed } from "./key_rows.js";
+import { ARROW_KEYS, callsOf, pressed } from "./key_tables.js";
 
 const WITH_SHIFT = ARROW_KEYS.map(key => `Shift+${key}`);
 // How many cells an arrow key goes with Shift, and how near to an edge of the view the cell may come, in pixels of the page.

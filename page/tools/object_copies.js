@@ -1,8 +1,8 @@
 // Copies of objects: one step of `object add` and of a `prop set` for each property. What no line can copy is named.
 import { ask } from "../panels/dom.js";
 import { KINDS } from "../core/kinds.js";
-import { endNotice, notice } from "../panels/notices.js";
-import { unsaidOf } from "../core/unsaid.js";
+import { endNotice, notice } from "../panels/notice_bars.js";
+import { lostByCopy } from "../core/unsupported_edits.js";
 
 const ABOUT = "copy";
 
@@ -12,7 +12,7 @@ export const nameOf = object => object.name || `Object ${object.id}`;
 // The lines that make a copy with an id in a layer.
 function linesOf(object, id, layer, x, y, name) {
   const size = [object.width ?? 0, object.height ?? 0].map(Math.floor).join(" ");
-  const unsaid = new Set(unsaidOf({ properties: object.properties }));
+  const unsaid = new Set(lostByCopy({ properties: object.properties }));
   const said = (object.properties ?? []).filter(each => !unsaid.has(`the property ${each.name}`));
   return [
     `object add ${layer} ${Math.round(x)} ${Math.round(y)} ${size} ${name}`,
@@ -42,7 +42,7 @@ export class ObjectCopies {
   // Calls `go` where lines can copy an object whole. Else it says what they cannot, and offers to copy the rest.
   whole(object, done, go) {
     endNotice(ABOUT);
-    const unsaid = unsaidOf(object);
+    const unsaid = lostByCopy(object);
     if (!unsaid.length) return go();
     const words = `${nameOf(object)} is not ${done}: no line can copy ${listed(unsaid)}.`;
     this.bench.say(words);
@@ -75,7 +75,7 @@ export class ObjectCopies {
     if (!layer || bench.barsObjects(layer, "pasted")) return null;
     const at = bench.place;
     const up = object.gid ? -1 : 1;
-    const [x, y] = at ? bench.marks.inLayer(layer, at.pixelX, at.pixelY) : besides(object, bench.map);
+    const [x, y] = at ? bench.overlay.inLayer(layer, at.pixelX, at.pixelY) : besides(object, bench.map);
     const place = at ? [x - (object.width ?? 0) / 2, y - up * (object.height ?? 0) / 2] : [x, y];
     const isThere = await this.put(object, layer.id, ...place, "Paste Object || paste object");
     if (isThere && left.length) bench.say(`Without ${listed(left.map(each => each.name))}: an object of the other map is named there.`);

@@ -16,14 +16,14 @@ export class ObjectTool {
     // A run of arrow keys is one step, up to the next line that is not of it.
     this.run = null;
     bench.editor.addEventListener("done", () => this.isNudging || (this.run = null));
-    bench.addEventListener("tool", () => bench.marks.redraw());
+    bench.addEventListener("tool", () => bench.overlay.redraw());
   }
 
   // ---- the hand
   // Shows by the pointer what a press would do.
   hover(place) {
-    const { view, marks } = this.bench;
-    if (!this.drag) view.box.dataset.over = this.handleAt(place) ?? (marks.objectAt(place.pixelX, place.pixelY, this.bench.layerId) ? "object" : "");
+    const { view, overlay } = this.bench;
+    if (!this.drag) view.box.dataset.over = this.handleAt(place) ?? (overlay.objectAt(place.pixelX, place.pixelY, this.bench.layerId) ? "object" : "");
     return null;
   }
 
@@ -31,16 +31,16 @@ export class ObjectTool {
   handleAt(place) {
     const { bench } = this;
     const chosen = bench.chosenObject;
-    if (!chosen || !bench.marks.isShown(chosen)) return null;
-    const { marks, view } = bench;
-    const at = marks.ownPlace(chosen.object, chosen.layer, place.pixelX, place.pixelY);
-    return handleAt(marks.shapeOf(chosen.object), at, view.scale / view.ratio);
+    if (!chosen || !bench.overlay.isShown(chosen)) return null;
+    const { overlay, view } = bench;
+    const at = overlay.ownPlace(chosen.object, chosen.layer, place.pixelX, place.pixelY);
+    return handleAt(overlay.shapeOf(chosen.object), at, view.scale / view.ratio);
   }
 
   down(place) {
     const { bench } = this;
     const handle = this.handleAt(place);
-    const found = handle ? bench.chosenObject : bench.marks.objectAt(place.pixelX, place.pixelY, bench.layerId);
+    const found = handle ? bench.chosenObject : bench.overlay.objectAt(place.pixelX, place.pixelY, bench.layerId);
     if (!handle) bench.chooseObject(found?.object.id ?? null);
     if (!found && !bench.map.layers.some(layer => layer.data.objects?.length)) bench.say("This map has no objects. The tool Insert (I) makes one.");
     this.drag = found && { ...found, handle, from: place, isMoved: false };
@@ -52,23 +52,23 @@ export class ObjectTool {
     if (!drag.isMoved && Math.hypot(place.x - drag.from.x, place.y - drag.from.y) < SHORTEST_DRAG * this.bench.view.ratio) return;
     if (!drag.isMoved && this.bench.barsObjects(drag.layer, drag.handle ? "resized" : "moved")) return this.cancel();
     drag.isMoved = true;
-    this.bench.marks.dragged = { id: drag.object.id, ...this.goal(place, event) };
-    this.bench.marks.redraw();
+    this.bench.overlay.dragged = { id: drag.object.id, ...this.goal(place, event) };
+    this.bench.overlay.redraw();
   }
 
   async up(place, event) {
     const { drag, bench } = this;
     this.drag = null;
     if (drag?.isMoved) await this.send(drag.object, this.goal(place, event, drag));
-    bench.marks.dragged = null;
-    bench.marks.redraw();
+    bench.overlay.dragged = null;
+    bench.overlay.redraw();
   }
 
   // Ends a drag, which then does nothing.
   cancel() {
     this.drag = null;
-    this.bench.marks.dragged = null;
-    this.bench.marks.redraw();
+    this.bench.overlay.dragged = null;
+    this.bench.overlay.redraw();
   }
 
   // Where the object goes, or how large it is: with Ctrl on the grid.
@@ -79,7 +79,7 @@ export class ObjectTool {
     const snapTo = side => at => (isOnGrid ? Math.round(at / side) * side : Math.round(at));
     const snaps = map.projection.side.map(snapTo);
     if (handle) {
-      const [[toX, toY], [fromX, fromY]] = [place, from].map(at => this.bench.marks.ownPlace(object, layer, at.pixelX, at.pixelY));
+      const [[toX, toY], [fromX, fromY]] = [place, from].map(at => this.bench.overlay.ownPlace(object, layer, at.pixelX, at.pixelY));
       return resized(object, handle, [toX - fromX, toY - fromY], snaps);
     }
     // Where the hand has not moved it one way, it keeps the whole part that it has there, and so its fraction.
@@ -182,7 +182,7 @@ export async function insertObject(bench, [x, y, width, height]) {
   const layer = layerForObjects(bench);
   if (!layer || bench.barsObjects(layer, "added")) return null;
   const [left, top, ...size] = map.projection.objectBox([x, y, x + width, y + height]);
-  const box = [...bench.marks.inLayer(layer, left, top).map(Math.round), ...size];
+  const box = [...bench.overlay.inLayer(layer, left, top).map(Math.round), ...size];
   const field = { name: "name", label: "Name", value: "object", kind: KINDS.text };
   const told = await ask("A new object", [field], ["OK"], ({ name }) => bench.attempt([`object add ${layer.id} ${box.join(" ")} ${name}`]));
   if (!told) return null;

@@ -28,7 +28,7 @@ export class StrokeTool {
 
   // The cell from which Shift draws a line: the last one of the stroke before, in the same document.
   get start() {
-    return this.last?.document === this.bench.editor.notes.active ? this.last.cell : null;
+    return this.last?.document === this.bench.editor.openDocuments.active ? this.last.cell : null;
   }
 
   hover(place, event) {
@@ -41,7 +41,7 @@ export class StrokeTool {
   down(place, event) {
     const { bench } = this;
     const from = event.shiftKey ? this.start : null;
-    this.document = bench.editor.notes.active;
+    this.document = bench.editor.openDocuments.active;
     this.isBarred = true;
     this.stroke = new Stroke(bench.map, (x, y) => this.blockAt(x, y), line => this.hear(line), from);
     this.draw(place, event);
@@ -68,7 +68,7 @@ export class StrokeTool {
 
   draw(place, event) {
     const { editor, view } = this.bench;
-    if (editor.notes.active !== this.document) return;
+    if (editor.openDocuments.active !== this.document) return;
     const edits = this.stroke.moveTo(...place.cell);
     if (this.isBarred) this.sayBar(place.cell);
     if (!edits.length) return;

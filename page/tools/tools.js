@@ -219,11 +219,11 @@ export class Tools {
   }
 
   showHand(place, event = null) {
-    const { marks, map, view } = this.bench;
+    const { overlay, map, view } = this.bench;
     view.box.classList.toggle("astray", this.isAstray);
     const hand = place && map && !this.isAstray ? this.all[this.busy].hover(place, event) : null;
-    marks.hand = hand && { ...hand, layer: ON_LAYER.has(this.busy) ? this.bench.layer : null };
-    marks.redrawHand();
+    overlay.hand = hand && { ...hand, layer: ON_LAYER.has(this.busy) ? this.bench.layer : null };
+    overlay.redrawHand();
     this.bench.place = place;
     this.bench.tell("hand");
   }

@@ -69,8 +69,8 @@ function topLayers(view, layers, cells) {
   return { tops, lowest };
 }
 
-function topCells({ map, seen, tilesets }, layer, at, tops, [x0, y0, x1, y1]) {
-  const [values, [left, top, right]] = [seen.cellsOf(layer.id), seen.box];
+function topCells({ map, cache, tilesets }, layer, at, tops, [x0, y0, x1, y1]) {
+  const [values, [left, top, right]] = [cache.cellsOf(layer.id), cache.box];
   let found = 0;
   for (let y = y0, spot = 0; y < y1; y++) {
     for (let place = (y - top) * (right - left) + x0 - left, end = place + x1 - x0; place < end; place++, spot++) {
@@ -82,8 +82,8 @@ function topCells({ map, seen, tilesets }, layer, at, tops, [x0, y0, x1, y1]) {
   return found;
 }
 
-function addMeans({ map, seen, tilesets }, layer, at, tops, pixels, [x0, y0, x1, y1]) {
-  const [values, [left, top, right]] = [seen.cellsOf(layer.id), seen.box];
+function addMeans({ map, cache, tilesets }, layer, at, tops, pixels, [x0, y0, x1, y1]) {
+  const [values, [left, top, right]] = [cache.cellsOf(layer.id), cache.box];
   for (let y = y0, spot = 0; y < y1; y++) {
     for (let place = (y - top) * (right - left) + x0 - left, end = place + x1 - x0; place < end; place++, spot++) {
       const value = values[place];

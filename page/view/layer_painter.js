@@ -116,8 +116,8 @@ export class LayerPainter {
 
   // Notes where a layer hides what is below it, and gives in how many cells it is the first to do so.
   hide(layer, at, tops, [x0, y0, x1, y1]) {
-    const { map, seen, tilesets } = this.view;
-    const [values, [left, top, right]] = [seen.cellsOf(layer.id), seen.box];
+    const { map, cache, tilesets } = this.view;
+    const [values, [left, top, right]] = [cache.cellsOf(layer.id), cache.box];
     let found = 0;
     for (let y = y0, spot = 0; y < y1; y++) {
       for (let place = (y - top) * (right - left) + x0 - left, end = place + x1 - x0; place < end; place++, spot++) {
@@ -131,9 +131,9 @@ export class LayerPainter {
 
   paintTiles(layer, at, { tops, cells: [x0, y0, x1, y1] }, box) {
     const { view } = this;
-    const { map: { projection }, seen } = view;
+    const { map: { projection }, cache } = view;
     const part = view.boxOnMap(box, layer, true);
-    const [values, [left, top, right]] = [seen.cellsOf(layer.id), seen.box];
+    const [values, [left, top, right]] = [cache.cellsOf(layer.id), cache.box];
     const mayHide = tops !== null && isPlain(layer);
     const isHidden = (x, y) => x >= x0 && x < x1 && y >= y0 && y < y1 && tops[(y - y0) * (x1 - x0) + x - x0] > at;
     const tinted = layer.tint ? image => this.tints.of(image, layer.tint) : null;

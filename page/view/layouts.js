@@ -42,14 +42,14 @@ export class Layouts {
   }
 
   keyOf(document) {
-    const path = this.editor.notes.fileOf(document)?.path;
+    const path = this.editor.openDocuments.fileOf(document)?.path;
     return path === undefined ? `map ${document}` : `file ${path}`;
   }
 
   // ---- keeping
   // Keeps how the map is shown that stands there.
   keep() {
-    if (this.document === null || this.editor.notes.active !== this.document) return;
+    if (this.document === null || this.editor.openDocuments.active !== this.document) return;
     this.put();
     clearTimeout(this.timer);
     this.timer = setTimeout(() => this.store(), LATER);
@@ -72,7 +72,7 @@ export class Layouts {
 
   // A map that has no file is kept for as long as it is open.
   store() {
-    const open = new Set([...this.editor.notes.documents.keys()].map(document => this.keyOf(document)));
+    const open = new Set([...this.editor.openDocuments.byName.keys()].map(document => this.keyOf(document)));
     for (const key of this.all.keys()) if (key.startsWith("map ") && !open.has(key)) this.all.delete(key);
     const last = [...this.all].slice(-MOST_MAPS).map(([key, each]) => [key, { ...each, stamp: storedStamp(each.stamp) }]);
     try {

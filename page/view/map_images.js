@@ -30,7 +30,7 @@ export class MapImages {
   }
 
   pathOf(layer) {
-    return layer.data.image ? folderOf(this.editor.notes.file?.path ?? "") + layer.data.image : null;
+    return layer.data.image ? folderOf(this.editor.openDocuments.file?.path ?? "") + layer.data.image : null;
   }
 
   // The image of a layer; null where it has none, or not yet.

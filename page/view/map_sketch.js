@@ -3,7 +3,7 @@ import { LayerPainter } from "./layer_painter.js";
 import { MapImages } from "./map_images.js";
 import { MapModel } from "../core/map_model.js";
 import { MapView } from "./map_view.js";
-import { SeenCells } from "./seen_cells.js";
+import { CellCache } from "./cell_cache.js";
 import { Tilesets } from "./tilesets.js";
 
 // How often it is painted anew while images and looks of tiles come, and how long it waits between.
@@ -12,9 +12,9 @@ const PAUSE = 50;
 // The most pixels of its images together.
 const MOST_PIXELS = 16 * 1024 * 1024;
 
-// Paints a map of an open session into a canvas, as large as fits there. `isOver` tells whether it is not wanted any more.
-export async function sketch(session, place, path, canvas, isOver) {
-  const map = new MapModel(session.outline(), (...words) => session.cells(...words));
+// Paints the map of an editor into a canvas, as large as fits there. `isOver` tells whether it is not wanted any more.
+export async function sketch(editor, place, path, canvas, isOver) {
+  const map = new MapModel(editor.outline(), (...words) => editor.cells(...words));
   const view = await viewOf(map, place, path, canvas);
   let isLate = true;
   view.tilesets.onLooks = view.images.onImage = () => {
@@ -32,19 +32,19 @@ export async function sketch(session, place, path, canvas, isOver) {
 
 // A view of the whole map, without a box of the page and without an editor.
 async function viewOf(map, place, path, canvas) {
-  const editor = { map, place, notes: { file: { path } } };
+  const editor = { map, place, openDocuments: { file: { path } } };
   const tilesets = new Tilesets(editor, MOST_PIXELS);
   const images = new MapImages(editor, tilesets);
   await tilesets.take(map);
   const { width, height } = map.projection;
   const scale = Math.min(canvas.width / width, canvas.height / height);
-  const view = Object.assign(Object.create(MapView.prototype), { editor, tilesets, images, canvas, scale, hidden: null, seen: new SeenCells() });
+  const view = Object.assign(Object.create(MapView.prototype), { editor, tilesets, images, canvas, scale, hidden: null, cache: new CellCache() });
   view.pen = canvas.getContext("2d");
   view.behind = getComputedStyle(canvas).backgroundColor;
   view.originX = Math.round((canvas.width - width * scale) / 2);
   view.originY = Math.round((canvas.height - height * scale) / 2);
   view.painter = new LayerPainter(view, images);
-  view.seen.takeMap(map);
-  view.seen.takeBox(view.boxSeen());
+  view.cache.takeMap(map);
+  view.cache.takeBox(view.boxSeen());
   return view;
 }

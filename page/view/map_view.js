@@ -1,7 +1,7 @@
 // Shows a part of the map: only what is seen is drawn, and behind a stroke only what it has changed. Lengths are pixels of the screen.
 import { LayerPainter } from "./layer_painter.js";
 import { MapImages } from "./map_images.js";
-import { SeenCells } from "./seen_cells.js";
+import { CellCache } from "./cell_cache.js";
 
 export { drawTile } from "./draw_tile.js";
 
@@ -42,7 +42,7 @@ export class MapView {
     this.hidden = null;
     this.isWhole = true;
     this.moved = [0, 0];
-    this.seen = new SeenCells();
+    this.cache = new CellCache();
     this.measures = [];
     // When the page began to work on the hand's last event.
     this.work = 0;
@@ -213,7 +213,7 @@ export class MapView {
     for (const { block, changed } of edits) {
       for (let at = 0; at < changed.places.length; at++) {
         const [x, y] = [changed.places[at] % width, Math.floor(changed.places[at] / width)];
-        this.seen.put(block.layer, x, y, changed.after[at]);
+        this.cache.put(block.layer, x, y, changed.after[at]);
         this.widen(x, y);
       }
     }
@@ -222,8 +222,8 @@ export class MapView {
 
   // Draws those of the cells that are seen which are others by now; with a part, in which alone any may be: { layer, box }.
   refresh(part = null) {
-    if (this.isWhole) this.seen.forget();
-    const box = this.map ? this.seen.refresh(part) : null;
+    if (this.isWhole) this.cache.forget();
+    const box = this.map ? this.cache.refresh(part) : null;
     if (box) {
       this.widen(box[0], box[1]);
       this.widen(box[2], box[3]);
@@ -234,7 +234,7 @@ export class MapView {
   // Shows the map that the editor has.
   takeMap() {
     this.drawn = null;
-    this.seen.takeMap(this.map);
+    this.cache.takeMap(this.map);
     this.redraw();
   }
 
@@ -298,7 +298,7 @@ export class MapView {
     this.isWhole = false;
     this.changed = null;
     this.moved = [0, 0];
-    if (this.map) this.seen.takeBox(this.boxSeen());
+    if (this.map) this.cache.takeBox(this.boxSeen());
     if (isWhole || !this.map) this.painter.paint([0, 0, this.canvas.width, this.canvas.height]);
     else if (isMoved) this.drawMoved(...moved);
     if (changed && this.map && !isWhole) this.painter.paint(this.boxOfChanged(changed));
@@ -328,7 +328,7 @@ export class MapView {
 
   // A part of the map within the cells that may be seen.
   within([x0, y0, x1, y1]) {
-    const [left, top, right, bottom] = this.seen.box;
+    const [left, top, right, bottom] = this.cache.box;
     return [Math.max(x0, left), Math.max(y0, top), Math.min(x1, right), Math.min(y1, bottom)];
   }
 

@@ -143,13 +143,13 @@ export class Tilesets {
 
   // Those of the active map, as tile numbers are read by them, also while their files are being read.
   get sets() {
-    const { map, notes, place } = this.editor;
-    const path = notes.file?.path ?? "";
+    const { map, openDocuments, place } = this.editor;
+    const path = openDocuments.file?.path ?? "";
     if (this.known?.map === map && this.known.path === path && this.known.place === place) return this.known.sets;
     const all = map?.data.tilesets ?? [];
-    const said = JSON.stringify([all, path, notes.active]);
+    const said = JSON.stringify([all, path, openDocuments.active]);
     const isSame = this.known?.said === said && this.known.place === place;
-    const sets = isSame ? this.known.sets : setsOf(all, folderOf(path), place, lastOf(path) || notes.active);
+    const sets = isSame ? this.known.sets : setsOf(all, folderOf(path), place, lastOf(path) || openDocuments.active);
     this.known = { map, path, place, said, sets };
     return sets;
   }
@@ -163,7 +163,7 @@ export class Tilesets {
   // `reading` ends with that.
   async take(map) {
     const wanted = map ? map.data.tilesets : [];
-    const folder = folderOf(this.editor.notes.file?.path ?? "");
+    const folder = folderOf(this.editor.openDocuments.file?.path ?? "");
     const said = JSON.stringify([wanted, map?.tileWidth, map?.tileHeight, folder]);
     if (said === this.said) return false;
     this.said = said;

@@ -119,7 +119,7 @@ class Session:
     def state(self):
         return self.page.js(
             'const {editor} = roskevad;'
-            'return {...editor.standing(), selection: editor.session.selection()}'
+            'return {...editor.standing(), selection: editor.editor.selection()}'
         )
 
     def map(self):
@@ -127,7 +127,7 @@ class Session:
 
     def shown(self):
         """The bytes of the map, as the line `show` tells them."""
-        return self.page.js('return roskevad.editor.session.step("show").slice(4)').encode()
+        return self.page.js('return roskevad.editor.editor.step("show").slice(4)').encode()
 
     def session(self):
         return self.page.js('return roskevad.editor.copied()').encode()

@@ -23,7 +23,7 @@ function whyNotCopied(property) {
 }
 
 // What a copy of an object cannot have, in words: no line makes it.
-export function unsaidOf(object) {
+export function lostByCopy(object) {
   const isWhole = [object.width ?? 0, object.height ?? 0].every(Number.isInteger);
   const parts = [
     [object.gid !== undefined, "its tile"],

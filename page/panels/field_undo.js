@@ -16,7 +16,7 @@ function wanted({ key, shiftKey }) {
   return letter === "z" ? (shiftKey ? "redo" : "undo") : null;
 }
 
-export function bindFieldKeys(bench) {
+export function bindFieldUndo(bench) {
   document.addEventListener("input", event => (event.inputType === "historyUndo" ? undone.add(event.target) : undone.delete(event.target)));
   document.addEventListener("keydown", event => {
     const field = document.activeElement;

@@ -1,6 +1,6 @@
 // What a map has that the page does not draw, or draws otherwise than Tiled, in words.
 import { MOST_PIXELS, grouped } from "../files/image_files.js";
-import { MOST_CORNERS, MOST_WHOLE } from "./marks.js";
+import { MOST_CORNERS, MOST_WHOLE } from "./overlay.js";
 import { LONGEST_TEXT } from "../files/members.js";
 import { cornersOf } from "./object_shapes.js";
 
@@ -48,7 +48,7 @@ function imageWords(tilesets, images) {
 }
 
 // The words for a map with its tilesets and the images of its layers; none where all is drawn as Tiled does.
-export function notDrawn(map, tilesets, images) {
+export function undrawnFeatures(map, tilesets, images) {
   if (!map) return [];
   const isMoved = layer => [layer.data.parallaxx, layer.data.parallaxy].some(part => part !== undefined && part !== 1);
   const odd = [map.odd, ...tilesets.odd].filter(each => each.count > 0);

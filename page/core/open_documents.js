@@ -1,22 +1,22 @@
-// What no line tells of a session: which documents are open, in which order, which one is active, and of each its lines and its file.
+// What no line tells of an editor: which documents are open, in which order, which one is active, and of each its lines and its file.
 import { isAboutDocuments, wordOf } from "./line_kinds.js";
 import { OpenDocument } from "./open_document.js";
 
-export class Notes {
+export class OpenDocuments {
   // `limit` is the undo limit of new documents.
   constructor(limit) {
     this.limit = limit;
     // The name of the active document.
     this.active = null;
     // The open documents by their names, these names in the order of the tabs, and how many documents were opened until now.
-    this.documents = new Map();
+    this.byName = new Map();
     this.order = [];
     this.lives = 0;
   }
 
   // The active document, or null.
   get document() {
-    return this.documents.get(this.active) ?? null;
+    return this.byName.get(this.active) ?? null;
   }
 
   // The file of the active document, or null.
@@ -29,22 +29,22 @@ export class Notes {
   }
 
   fileOf(name) {
-    return this.documents.get(name)?.file ?? null;
+    return this.byName.get(name)?.file ?? null;
   }
 
   // The document that has a file; null where none has.
   withFile(path) {
-    return [...this.documents.values()].find(each => each.own(path)) ?? null;
+    return [...this.byName.values()].find(each => each.own(path)) ?? null;
   }
 
   // Whether this life of a document is not over.
   isOpen(document) {
-    return this.documents.get(document.name) === document;
+    return this.byName.get(document.name) === document;
   }
 
   // The document that an entry of a journal is about; null where its life is over.
   found({ document, life }) {
-    const found = this.documents.get(document) ?? null;
+    const found = this.byName.get(document) ?? null;
     return life === undefined || found?.life === life ? found : null;
   }
 
@@ -63,7 +63,7 @@ export class Notes {
   noteDocument(word, name, line, instead) {
     if (word === "new" || word === "open") this.begin(name, line, instead);
     else if (word !== "use") {
-      this.documents.delete(name);
+      this.byName.delete(name);
       this.order = this.order.filter(each => each !== name);
       if (name !== this.active) return;
       name = "-";
@@ -74,15 +74,15 @@ export class Notes {
   // A document begins; instead of another one it stands in front of that, which has its file no more.
   begin(name, line, instead) {
     this.lives++;
-    this.documents.set(name, new OpenDocument(name, this.lives, line, this.limit > 0));
+    this.byName.set(name, new OpenDocument(name, this.lives, line, this.limit > 0));
     const at = this.order.indexOf(instead);
     this.order.splice(at < 0 ? this.order.length : at, 0, name);
-    if (at >= 0) this.documents.get(instead).file = null;
+    if (at >= 0) this.byName.get(instead).file = null;
   }
 
   // From now on no document has a file.
   part() {
-    for (const document of this.documents.values()) document.part();
+    for (const document of this.byName.values()) document.part();
   }
 
   // The session of the active document, where a comment names each file that no line can spell.

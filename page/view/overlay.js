@@ -1,6 +1,6 @@
 // Draws over the map: the grid, the selection, the objects, and what the hand is about to do.
-import { isLockedIn } from "../tools/layer_bars.js";
-import { CellMarks } from "./cell_marks.js";
+import { isLockedIn } from "../tools/barred_layers.js";
+import { CellOverlay } from "./cell_overlay.js";
 import { areaOf, boxOf, cornersOf, handlePlaces, isOn, ownPlace } from "./object_shapes.js";
 import { alignedAt, paintThing } from "./thing_painter.js";
 import { colourOfText } from "./tints.js";
@@ -16,14 +16,14 @@ const OUTLINE = "#e4e7eb";
 // The side of a handle, in pixels of the page.
 const HANDLE = 8;
 
-export class Marks {
+export class Overlay {
   constructor(view, editor, tilesets) {
     this.view = view;
     this.editor = editor;
     this.tilesets = tilesets;
     this.canvas = view.box.querySelector("#marks");
     this.pen = this.canvas.getContext("2d");
-    this.cells = new CellMarks(view, this.pen, view.box.querySelector("#hand").getContext("2d"));
+    this.cells = new CellOverlay(view, this.pen, view.box.querySelector("#hand").getContext("2d"));
     this.hasGrid = true;
     this.hasNames = true;
     this.chosen = null;

@@ -6,7 +6,7 @@ const SMALLEST_OUTLINE = 4;
 // How many cells that are no rectangles are outlined one by one.
 const MOST_SHAPES = 20_000;
 
-export class CellMarks {
+export class CellOverlay {
   // `pen` draws below the objects, and `handPen` over all.
   constructor(view, pen, handPen) {
     Object.assign(this, { view, pen, handPen });

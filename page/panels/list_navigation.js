@@ -1,13 +1,13 @@
 // Lists by keys: Tab reaches a list at its chosen row, and arrow keys go through its rows.
 import { byId, isField } from "./dom.js";
-import { callsOf, pressed } from "../tools/key_rows.js";
+import { callsOf, pressed } from "../tools/key_tables.js";
 
 const UP_AND_DOWN = ["arrowup", "arrowdown"];
 const GO = "Go to another row; a layer or an object is chosen at once";
 const NAMES = ["place", "layer", "object", "document"];
 const keyOf = row => NAMES.map(name => row.dataset[name] ?? "").join(" ");
 
-export class RowKeys {
+export class ListNavigation {
   // `selector` finds the rows; `arrows` are the keys to the row before and behind, and `go` says so; `follows` tells whether a row is chosen
   // as soon as it is gone to; `more` is a table of other keys, each with a call that is given the row.
   constructor(id, { title, selector, arrows = UP_AND_DOWN, go = GO, follows = false, more = [] }) {
@@ -83,7 +83,7 @@ export class RowKeys {
 }
 
 // The lists of the page.
-export function bindRows(bench, documents, layers) {
+export function bindLists(bench, documents, layers) {
   const layerOf = row => bench.map.layer(Number(row.dataset.layer));
   const turnFold = (row, isFolded) => {
     const layer = layerOf(row);
@@ -100,10 +100,10 @@ export function bindRows(bench, documents, layers) {
   ];
   const ofTabs = [click, [["delete"], "Closes the map", row => void documents.close(row.dataset.document)]];
   return [
-    new RowKeys("tabs", { title: "The tabs", selector: ".tab", arrows: ["arrowleft", "arrowright"], go: "Go to another tab", more: ofTabs }),
-    new RowKeys("layers", { title: "The layers", selector: "li", follows: true, more: ofLayers }),
-    new RowKeys("objects", { title: "The objects", selector: "li[data-object], li[data-layer]", follows: true }),
-    new RowKeys("steps", { title: "The steps", selector: "li[data-place]", more: [click] }),
+    new ListNavigation("tabs", { title: "The tabs", selector: ".tab", arrows: ["arrowleft", "arrowright"], go: "Go to another tab", more: ofTabs }),
+    new ListNavigation("layers", { title: "The layers", selector: "li", follows: true, more: ofLayers }),
+    new ListNavigation("objects", { title: "The objects", selector: "li[data-object], li[data-layer]", follows: true }),
+    new ListNavigation("steps", { title: "The steps", selector: "li[data-place]", more: [click] }),
   ];
 }
 

@@ -26,7 +26,7 @@ export function forgetBroken(id) {
 }
 
 // What was kept so, by the ids of the journals.
-export function brokenNotes() {
+export function brokenJournals() {
   const found = new Map();
   try {
     for (let at = 0; at < localStorage.length; at++) {

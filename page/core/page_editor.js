@@ -1,15 +1,15 @@
-// The editor of this window: hears lines, keeps them in the journal, and tells what has changed.
+// The editor of this window, with its journal and its files: hears lines, keeps them in the journal, and tells what has changed.
 //
 // Lines are done at once, in the order in which they come. Of `open` and `save` the file is read and written beside them.
-import { Broken, Editor as Session, FORMS, NoMemory, VERSION, documentName } from "../../js/roskevad.js";
-import { Anew } from "./anew.js";
+import { Broken, Editor, FORMS, NoMemory, VERSION, documentName } from "../../js/roskevad.js";
+import { FreshEditor } from "./fresh_editor.js";
 import { Journal } from "./journal.js";
 import { cellsIn } from "./log_words.js";
 import { ALL, NOTHING, bothChanges, changesOf, isAboutDocuments, isLook, isTurn, wordOf } from "./line_kinds.js";
 import { MapModel } from "./map_model.js";
 import { hashOf } from "../files/hashes.js";
 import { FileNames, freeName } from "../files/names.js";
-import { Notes } from "./notes.js";
+import { OpenDocuments } from "./open_documents.js";
 import { loadModule } from "./own_module.js";
 import { Changed, ChosenFiles } from "../files/places.js";
 import { shortHintOf } from "./refusals.js";
@@ -53,17 +53,17 @@ class NotReplaced extends Error {}
 //   broken     the engine has ended the editor
 //   unopened   a map was not opened, since it cannot be shown; the detail is { path, why }
 //   unshown    the detail is the active document, where its map cannot be shown, and why: { document, why }; null where it is shown
-export class Editor extends EventTarget {
+export class PageEditor extends EventTarget {
   constructor(module, limit) {
     super();
     Object.assign(this, { module, limit, forms: Object.fromEntries(FORMS), version: VERSION, place: new ChosenFiles() });
-    this.session = new Session(module, { limit });
+    this.editor = new Editor(module, { limit });
     this.journal = new Journal(VERSION, limit);
     this.journal.summary = () => this.summary();
     this.journal.source = () => sourceOf(this.place);
     this.journal.files = () => [...(this.place.files ?? [])].map(([path, { bytes, time }]) => ({ path, bytes, time }));
     this.names = new FileNames();
-    this.notes = new Notes(limit);
+    this.openDocuments = new OpenDocuments(limit);
     this.state = { change: 0, documents: [], steps: [], firstStep: 0, index: 0, count: 0, depth: 0, isClean: true, active: null, file: null };
     this.map = null;
     // Whether the active document has a map that cannot be shown, and whether no line is taken, since the journal begins anew.
@@ -165,8 +165,8 @@ export class Editor extends EventTarget {
     let reply;
     let changes;
     try {
-      changes = changesOf(this.session, line, this.notes.paintedNow);
-      reply = this.isHeld(line) ? "no 13 unsaved changes" : replyOf(this.session, line);
+      changes = changesOf(this.editor, line, this.openDocuments.paintedNow);
+      reply = this.isHeld(line) ? "no 13 unsaved changes" : replyOf(this.editor, line);
     } catch (fault) {
       this.break(fault);
       return "no 90 no memory";
@@ -179,7 +179,7 @@ export class Editor extends EventTarget {
   // Takes an accepted line that does not only look. `file` is what an `open` has read, and `instead` the document whose place it takes.
   take(line, reply, changes, { file = null, gesture = null, instead = null } = {}) {
     const entry = { line, reply, ...(file && { file }), ...(gesture && { gesture }), ...(instead && { instead }) };
-    this.notes.note(entry);
+    this.openDocuments.note(entry);
     this.journal.add(entry);
     this.changed = bothChanges(this.changed, changes);
   }
@@ -190,7 +190,7 @@ export class Editor extends EventTarget {
   }
 
   isWriting(name) {
-    return this.notes.documents.get(name)?.isWriting ?? false;
+    return this.openDocuments.byName.get(name)?.isWriting ?? false;
   }
 
   // The engine has broken the editor off: what was accepted is in the journal.
@@ -225,7 +225,7 @@ export class Editor extends EventTarget {
     const was = this.isUnshown;
     Object.assign(this, { map: null, isUnshown: false });
     try {
-      if (this.notes.active !== null) this.map = this.modelNow();
+      if (this.openDocuments.active !== null) this.map = this.modelNow();
     } catch (fault) {
       this.unshow(fault);
     }
@@ -234,7 +234,7 @@ export class Editor extends EventTarget {
 
   takeSelection() {
     try {
-      this.map?.select(this.session.selection());
+      this.map?.select(this.editor.selection());
     } catch (fault) {
       this.unshow(fault);
     }
@@ -243,13 +243,13 @@ export class Editor extends EventTarget {
   unshow(fault) {
     console.warn(fault);
     Object.assign(this, { map: null, isUnshown: true });
-    this.tell("unshown", { document: this.notes.document, why: whyNotShown(fault) });
+    this.tell("unshown", { document: this.openDocuments.document, why: whyNotShown(fault) });
   }
 
-  // A model of the map that is active in the session. Throws where it cannot be shown.
+  // A model of the map that is active in the editor. Throws where it cannot be shown.
   modelNow() {
-    const map = new MapModel(this.session.outline(), (...words) => this.session.cells(...words));
-    map.select(this.session.selection());
+    const map = new MapModel(this.editor.outline(), (...words) => this.editor.cells(...words));
+    map.select(this.editor.selection());
     return map;
   }
 
@@ -294,7 +294,7 @@ export class Editor extends EventTarget {
     await this.ready();
     let told;
     try {
-      told = await opened(this.session, name, bytes);
+      told = await opened(this.editor, name, bytes);
     } catch (fault) {
       this.break(fault);
       return { ...UNHEARD, barred: this.barred };
@@ -308,7 +308,7 @@ export class Editor extends EventTarget {
     return { replies: [reply], isHeard: !isRefusal(reply), refusal: isRefusal(reply) ? reply : null, why };
   }
 
-  // Why the map that is active in the session cannot be shown; "" where it can.
+  // Why the map that is active in the editor cannot be shown; "" where it can.
   whyUnshown() {
     try {
       this.modelNow();
@@ -320,8 +320,8 @@ export class Editor extends EventTarget {
   }
 
   notOpened(line, name, path, why) {
-    replyOf(this.session, `discard ${name}`);
-    replyOf(this.session, `use ${this.notes.active ?? "-"}`);
+    replyOf(this.editor, `discard ${name}`);
+    replyOf(this.editor, `use ${this.openDocuments.active ?? "-"}`);
     this.tell("unopened", { path, why });
     return this.failed(line, "no 51 store failed", `${path} cannot be shown: ${why}.`);
   }
@@ -332,7 +332,7 @@ export class Editor extends EventTarget {
   }
 
   freeNameFor(path) {
-    return freeName(documentName(path), made => this.notes.documents.has(made));
+    return freeName(documentName(path), made => this.openDocuments.byName.has(made));
   }
 
   // Opens a file of any name, as a document of a name made from it.
@@ -348,7 +348,7 @@ export class Editor extends EventTarget {
 
   // The word for a file, whose path no line may spell.
   async wordOf(path) {
-    const known = this.notes.withFile(path);
+    const known = this.openDocuments.withFile(path);
     if (known) return known.file.word;
     const maps = await this.during(this.place.maps().catch(() => []));
     return this.names.wordOf(path, name => maps.some(each => each.path === name));
@@ -358,9 +358,9 @@ export class Editor extends EventTarget {
   saveInto(document, path) {
     return this.during(this.wordOf(path).then(async word => {
       await this.ready();
-      const { active } = this.notes;
+      const { active } = this.openDocuments;
       if (this.isBroken) return { ...UNHEARD, barred: this.barred };
-      if (!this.notes.isOpen(document)) return UNHEARD;
+      if (!this.openDocuments.isOpen(document)) return UNHEARD;
       if (document.name === active) return this.save(word);
       this.doLines([`use ${document.name}`]);
       const saved = this.save(word);
@@ -372,10 +372,10 @@ export class Editor extends EventTarget {
   // Writes the active map into a file. The clean mark is set first, so that no later edit goes into the step that is written; where the
   // file cannot be written it is taken away.
   async save(word) {
-    const [line, path, { document }] = [`save ${word}`, this.names.pathOf(word), this.notes];
+    const [line, path, { document }] = [`save ${word}`, this.names.pathOf(word), this.openDocuments];
     const { depth } = this.stand();
     if (document === null || depth) return this.failed(line, document === null ? "no 10 no active document" : "no 20 macro open");
-    const saved = this.session.saveMap();
+    const saved = this.editor.saveMap();
     this.take(line, SAVED, NOTHING);
     // Saves of one file come one behind the other.
     const turn = Promise.all([saved, this.writes.get(path)]).then(([bytes]) => this.write(document, path, word, bytes), fault => fault);
@@ -394,7 +394,7 @@ export class Editor extends EventTarget {
     const isWritten = typeof came === "number";
     const reply = isWritten ? `saved ${line.slice("save ".length)} ${came}` : "no 51 store failed";
     this.list(line, reply);
-    if (!isWritten && this.notes.isOpen(document)) {
+    if (!isWritten && this.openDocuments.isOpen(document)) {
       document.unwritten(line);
       this.unsave(document);
     }
@@ -414,12 +414,12 @@ export class Editor extends EventTarget {
 
   sends(document, sent) {
     document.send(sent);
-    if (this.notes.isOpen(document)) this.journal.add({ sent: { document: document.name, life: document.life, ...sent } });
+    if (this.openDocuments.isOpen(document)) this.journal.add({ sent: { document: document.name, life: document.life, ...sent } });
   }
 
   arrives(document, file) {
     document.arrive(file);
-    if (this.notes.isOpen(document)) this.journal.add({ written: { document: document.name, life: document.life, ...file } });
+    if (this.openDocuments.isOpen(document)) this.journal.add({ written: { document: document.name, life: document.life, ...file } });
   }
 
   // The mark of a file that is written. It replaces what the document was read from or written to last, and another file where the user
@@ -440,8 +440,8 @@ export class Editor extends EventTarget {
 
   // Takes the clean mark of a document away.
   unsave(document) {
-    if (!this.notes.isOpen(document)) return;
-    const [name, back] = [document.name, this.notes.active];
+    if (!this.openDocuments.isOpen(document)) return;
+    const [name, back] = [document.name, this.openDocuments.active];
     this.doLines(name === back ? ["dirty"] : [`use ${name}`, "dirty", `use ${back ?? "-"}`]);
   }
 
@@ -474,7 +474,7 @@ export class Editor extends EventTarget {
     }
     this.telling = null;
     // What is closed is kept no more.
-    if (!this.notes.documents.size && this.journal.row?.count) this.journal.restart([]);
+    if (!this.openDocuments.byName.size && this.journal.row?.count) this.journal.restart([]);
   }
 
   // Whether nothing is written, or about to be told.
@@ -498,68 +498,68 @@ export class Editor extends EventTarget {
     const first = Math.max(0, stands.index - this.steps);
     const last = Math.min(stands.count, stands.index + this.steps);
     const steps = Array.from({ length: Math.max(0, last - first) }, (_, at) => this.step(first + at));
-    const { active, file } = this.notes;
+    const { active, file } = this.openDocuments;
     const isWriting = this.isWriting(active);
-    return { ...stands, documents: this.documents(), active, file: file?.path ?? null, cleanIndex: this.session.cleanIndex(), firstStep: first, steps,
+    return { ...stands, documents: this.documents(), active, file: file?.path ?? null, cleanIndex: this.editor.cleanIndex(), firstStep: first, steps,
       isWriting, isClean: stands.isClean && !isWriting };
   }
 
   stand() {
-    const [, index, count, mark, depth] = STATUS.exec(replyOf(this.session, "status")) ?? [null, 0, 0, "clean", 0];
+    const [, index, count, mark, depth] = STATUS.exec(replyOf(this.editor, "status")) ?? [null, 0, 0, "clean", 0];
     return { index: Number(index), count: Number(count), isClean: mark === "clean", depth: Number(depth) };
   }
 
   step(at) {
-    const subject = this.notes.document?.subjects.of(at) ?? null;
-    return { text: replyOf(this.session, `text ${at}`).slice("text ".length), isMacro: this.session.isMacro(at) !== false, subject };
+    const subject = this.openDocuments.document?.subjects.of(at) ?? null;
+    return { text: replyOf(this.editor, `text ${at}`).slice("text ".length), isMacro: this.editor.isMacro(at) !== false, subject };
   }
 
   // The open documents in the order of the tabs. No line tells how one stands that is not active, so each is made the active one for a
   // moment.
   documents() {
-    const { active, order: names } = this.notes;
+    const { active, order: names } = this.openDocuments;
     const all = names.map(name => {
-      if (name !== active || names.length > 1) this.session.step(`use ${name}`);
+      if (name !== active || names.length > 1) this.editor.step(`use ${name}`);
       const { index, count, isClean, depth } = this.stand();
-      const path = this.notes.fileOf(name)?.path ?? null;
+      const path = this.openDocuments.fileOf(name)?.path ?? null;
       const isWriting = this.isWriting(name);
       return { name, isActive: name === active, isClean: isClean && !isWriting, isWriting, index, count, depth, path };
     });
-    if (names.length > 1 || active === null) this.session.step(`use ${active ?? "-"}`);
+    if (names.length > 1 || active === null) this.editor.step(`use ${active ?? "-"}`);
     return all;
   }
 
   // What the journal tells of the documents, for who finds it later.
   summary() {
     if (this.isBroken) return this.journal.row.documents;
-    const linesOf = name => this.notes.documents.get(name)?.lines.length ?? 0;
+    const linesOf = name => this.openDocuments.byName.get(name)?.lines.length ?? 0;
     return this.documents().map(({ name, path, count, isClean }) => ({ name, path, steps: count, isClean, lines: linesOf(name) }));
   }
 
   // The session of the active document.
   copied() {
-    return this.notes.session(this.names);
+    return this.openDocuments.session(this.names);
   }
 
   // ---- the journal
-  // Does the lines of a journal anew, beside this session. Gives a Replay. Throws Damaged, OfDocument where it is not lenient.
+  // Does the lines of a journal anew, beside this editor. Gives a Replay. Throws Damaged, OfDocument where it is not lenient.
   async replay(row, entries, { onLines, isLenient, without } = {}) {
     const made = new Replay(await loadModule(), row.limit, { isLenient, without });
     await made.take(entries, onLines);
     return made;
   }
 
-  // Puts the session of a replay in the place of this one, and gives the saves of which the journal does not say that they have arrived.
-  takeUp({ session, notes, names, listed, limit, module, pendingSaves }) {
-    this.takeOver(session, notes, limit);
+  // Puts the editor of a replay in the place of this one, and gives the saves of which the journal does not say that they have arrived.
+  takeUp({ editor, openDocuments, names, listed, limit, module, pendingSaves }) {
+    this.takeOver(editor, openDocuments, limit);
     Object.assign(this, { names, module, listed, heard: listed.length, changed: ALL });
     return pendingSaves;
   }
 
-  takeOver(session, notes, limit) {
-    this.session.close();
+  takeOver(editor, openDocuments, limit) {
+    this.editor.close();
     this.journal.limit = limit;
-    Object.assign(this, { session, notes, limit });
+    Object.assign(this, { editor, openDocuments, limit });
   }
 
   // Looks whether the saves have arrived of which the journal does not say so, and gives the documents of those that have not: they are not
@@ -578,7 +578,7 @@ export class Editor extends EventTarget {
 
   // From now on no document has a file: those that they had are elsewhere.
   part() {
-    this.notes.part();
+    this.openDocuments.part();
     this.journal.add({ isParted: true });
     this.tellSoon();
   }
@@ -586,13 +586,13 @@ export class Editor extends EventTarget {
   // Begins the journal anew from the maps as they are: their steps end, and open macros. What is not saved stays so. No save is under way.
   async beginAnew() {
     this.isAside = true;
-    const made = new Anew(this.module, this.limit);
+    const made = new FreshEditor(this.module, this.limit);
     try {
       for (const each of this.mapsNow()) await made.open(each, await each.bytes);
-      made.say(`use ${this.notes.active ?? "-"}`);
-      this.takeOver(made.session, made.notes, this.limit);
+      made.say(`use ${this.openDocuments.active ?? "-"}`);
+      this.takeOver(made.editor, made.openDocuments, this.limit);
     } catch (fault) {
-      made.session.close();
+      made.editor.close();
       throw fault;
     } finally {
       this.isAside = false;
@@ -605,14 +605,14 @@ export class Editor extends EventTarget {
   // The documents with their files, and with promises of the bytes of their maps.
   mapsNow() {
     const maps = this.documents().map(({ name, isClean, depth }) => {
-      this.session.step(`use ${name}`);
-      for (let level = 0; level < depth; level++) this.session.step("end");
-      const bytes = this.session.saveMap();
+      this.editor.step(`use ${name}`);
+      for (let level = 0; level < depth; level++) this.editor.step("end");
+      const bytes = this.editor.saveMap();
       // That marks the map as saved.
-      if (!isClean) this.session.step("dirty");
-      return { name, isClean, file: this.notes.fileOf(name), bytes };
+      if (!isClean) this.editor.step("dirty");
+      return { name, isClean, file: this.openDocuments.fileOf(name), bytes };
     });
-    this.session.step(`use ${this.notes.active ?? "-"}`);
+    this.editor.step(`use ${this.openDocuments.active ?? "-"}`);
     return maps;
   }
 

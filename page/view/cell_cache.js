@@ -1,6 +1,6 @@
 // The cells of the tile layers in the part of the map that is seen, as they were drawn last.
 
-export class SeenCells {
+export class CellCache {
   constructor() {
     this.map = null;
     this.box = [0, 0, 0, 0];

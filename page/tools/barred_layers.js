@@ -1,5 +1,5 @@
 // Layers on which the hand draws only where it was told to: those that are hidden or locked, or stand in a group that is.
-import { endNotice, notice } from "../panels/notices.js";
+import { endNotice, notice } from "../panels/notice_bars.js";
 
 const ABOUT = "barred layer";
 
@@ -35,7 +35,7 @@ export function whyNoTiles(map, layer) {
   return `${what} Choose a tile layer ${inGroup.length ? "in it " : ""}to draw.`;
 }
 
-export class LayerBars {
+export class BarredLayers {
   constructor(bench) {
     this.bench = bench;
     // The layers, by their documents and ids, on which the user draws all the same.
@@ -44,7 +44,7 @@ export class LayerBars {
   }
 
   keyOf(layer) {
-    return `${this.bench.editor.notes.active} ${layer.id}`;
+    return `${this.bench.editor.openDocuments.active} ${layer.id}`;
   }
 
   // Whether nothing is drawn on the layer in hand; says so where the hand is, and how to draw all the same.
