@@ -13,7 +13,7 @@ ROOT = $(DESTDIR)$(PREFIX)
 
 SHARED := libroskevad.so.$(VERSION)
 MAN := $(notdir $(wildcard docs/man/*.1))
-LICENCES := LICENSE-APACHE LICENSE-MIT lib/NOTICES.txt
+LICENCES := LICENSE-APACHE LICENSE-MIT js/NOTICES.txt
 # The Python package, which the page to draw on needs.
 PACKAGE := $(sort $(shell find python/roskevad -type f ! -path '*/__pycache__/*'))
 

@@ -19,7 +19,7 @@ TAG = 'py3-none-manylinux2014_x86_64'
 EDITABLE_TAG = 'py3-none-any'
 # What the package needs besides: a source archive has it among its files, and a clone elsewhere.
 LIBRARY, LICENCES = 'roskevad/libroskevad.so', ('LICENSE-APACHE', 'LICENSE-MIT', 'NOTICES.txt')
-OF_CLONE = {LIBRARY: 'lib/libroskevad.so', 'NOTICES.txt': 'lib/NOTICES.txt'}
+OF_CLONE = {LIBRARY: 'lib/libroskevad.so', 'NOTICES.txt': 'js/NOTICES.txt'}
 # The first moment that a zip archive can name.
 DATE = (1980, 1, 1, 0, 0, 0)
 PROGRAM, PLAIN = 0o755, 0o644

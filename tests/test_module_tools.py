@@ -3,7 +3,7 @@ at parts of an LLVM module, and `tools/wasm/lower.py` at parts of a module of We
 import sys
 
 from lib.cases import Case, check_each, unlike
-from lib.places import LIB, TOP
+from lib.places import TOP
 
 sys.path.insert(0, str(TOP / 'tools'))
 from wasm import lower, retarget  # noqa: E402
@@ -125,4 +125,4 @@ def test_numbers():
 def test_the_module_ends_with_its_version():
     version = (TOP / 'VERSION').read_text().strip()
     mark = b'\x00' + lower.sized(lower.sized(lower.MARK) + version.encode())
-    assert (LIB / 'roskevad.wasm').read_bytes().endswith(mark)
+    assert (TOP / 'js' / 'roskevad.wasm').read_bytes().endswith(mark)
