@@ -1,3 +1,4 @@
+// SPDX-License-Identifier: MIT OR Apache-2.0
 // Puts the page together: the editor, the drawing of its map, the tools, and the panels.
 import { Bars } from "./panels/bars.js";
 import { Bench } from "./core/bench.js";

@@ -1,3 +1,4 @@
+# SPDX-License-Identifier: MIT OR Apache-2.0
 """Builds the wheel of this folder: the package, and the library of the clone beside its files. Needs nothing but Python.
 
 The same files make the same bytes: what is written has neither the dates nor the modes nor the order of the files here."""

@@ -1,3 +1,4 @@
+# SPDX-License-Identifier: MIT OR Apache-2.0
 """Sees that the package for JavaScript in `js/` is whole: its files, its licences, its version, and
 the forms of lines, which are those of the Python package; and, by the compiler of TypeScript, that
 its declarations are those of its code."""

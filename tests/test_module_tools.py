@@ -1,3 +1,4 @@
+# SPDX-License-Identifier: MIT OR Apache-2.0
 """Sees that the scripts which make the module stop at what they do not know: `tools/wasm/retarget.py`
 at parts of an LLVM module, and `tools/wasm/lower.py` at parts of a module of WebAssembly."""
 import sys

@@ -1,3 +1,4 @@
+# SPDX-License-Identifier: MIT OR Apache-2.0
 """Compares `js/NOTICES.txt` with the notices of the licences of all crates of the Rattle kit that are
 linked into what is in `bin/`, `lib/` and `js/`, as `tools/notices` makes them from the kit's own
 files. If crates were added, or the kit has changed, run `tools/notices`."""

@@ -1,3 +1,4 @@
+# SPDX-License-Identifier: MIT OR Apache-2.0
 """Builds the wheels and the source archive of the Python package, each twice: they are the same
 bytes, have the licences and the summary, and install the program `roskevad`; also as a package that
 leads to the clone (`-e`). `mypy --strict` finds nothing in the package, nor in a script that uses

@@ -1,3 +1,4 @@
+# SPDX-License-Identifier: MIT OR Apache-2.0
 """Works by chance in browsers that are killed: draws, undoes, saves slowly, closes maps whose saves go
 on and opens others of the same name, loads maps anew that changed outside, and has the browser's disk
 full for a moment. Behind each kill no listed step is missing, no file has another map, and nothing is

@@ -1,3 +1,4 @@
+# SPDX-License-Identifier: MIT OR Apache-2.0
 """Copies, keeps and pastes tiles and objects on the page in Chromium, between maps whose tilesets stand in
 another order, at other first ids, in another folder, in the map itself, or not at all: a tile stays the
 tile that it was, or is refused by name. A copy that is refused leaves nothing older to be pasted."""

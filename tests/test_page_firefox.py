@@ -1,3 +1,4 @@
+# SPDX-License-Identifier: MIT OR Apache-2.0
 """Opens the page's one file in Firefox from a disk: chooses files, draws with the mouse, undoes by keys,
 saves, and loads the page anew in the midst of work."""
 import shutil

@@ -1,3 +1,4 @@
+# SPDX-License-Identifier: MIT OR Apache-2.0
 """Works on the page by keys alone, and looks at what readers of the screen are told: the list of keys,
 the order of Tab, the browser's accessibility tree, the ring of the focus, and the three tasks on the
 example world."""

@@ -1,3 +1,4 @@
+# SPDX-License-Identifier: MIT OR Apache-2.0
 """What waits for a file or for an answer is about one document, from its opening until it is closed, and
 never about its name: maps that are loaded anew when their files were broken outside, saves that are
 slow while their documents are closed and others get their names, questions that destroy something, and

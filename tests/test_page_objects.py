@@ -1,3 +1,4 @@
+# SPDX-License-Identifier: MIT OR Apache-2.0
 """Works with objects on the page in Chromium, by mouse and keys: which one a click chooses, the
 list with its search, a new one and its name, handles and arrow keys, copies and what no line can
 copy, and keys that act on what the tool in hand shows as chosen."""

@@ -1,3 +1,4 @@
+# SPDX-License-Identifier: MIT OR Apache-2.0
 """Draws 40 strokes by chance on the page in Chromium: each is one step or none, an undo gives back
 the map before it, and the page has the map that the editor has."""
 import random

@@ -1,3 +1,4 @@
+# SPDX-License-Identifier: MIT OR Apache-2.0
 """Asks the server of the page, `./tile_page`, over raw sockets for what it must give and what it
 must refuse: addresses, keys, hosts, methods, heads, bodies, files below the root, saves, many and
 slow connections; its ends; the wheel of the package, which serves the page from elsewhere; and

@@ -1,3 +1,4 @@
+# SPDX-License-Identifier: MIT OR Apache-2.0
 """Opens on the page what strangers made: maps and tilesets with one odd member, images, texts, properties and
 polygons that are more than the page shows, and long sessions, which it plays in parts and stops."""
 import base64

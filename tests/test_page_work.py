@@ -1,3 +1,4 @@
+# SPDX-License-Identifier: MIT OR Apache-2.0
 """Works with documents on the page in Chromium: steps, macros, files, refusals, the box of lines,
 sessions that are copied and played, the page loaded anew, and two windows. Most is done on the one
 file, and files and sessions also on what `./tile_page` serves."""

@@ -1,3 +1,4 @@
+# SPDX-License-Identifier: MIT OR Apache-2.0
 """Compares the library in `lib/` and its WebAssembly module in `js/` with those that
 `tools/build_library` builds over what `rt ci` has proved, byte for byte. The bytes of the archive and
 of the shared library depend on the binutils: those in `lib/` are of 2.40, of Debian 12. Besides, it

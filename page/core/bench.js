@@ -1,3 +1,4 @@
+// SPDX-License-Identifier: MIT OR Apache-2.0
 // What the hand works with: the editor, the drawn map, the layer, the stamp, the object that was chosen, and words at the hand.
 import { Bubble } from "../panels/bubble.js";
 import { CarriedTiles } from "../tools/carried_tiles.js";

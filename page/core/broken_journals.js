@@ -1,3 +1,4 @@
+// SPDX-License-Identifier: MIT OR Apache-2.0
 // What is known of a journal that is broken off: how far its documents are kept, and how far they had come. It stands beside the database,
 // which takes nothing then, in a store of the browser that is small and takes words at once.
 const PREFIX = "roskevad-broken-";

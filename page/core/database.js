@@ -1,3 +1,4 @@
+// SPDX-License-Identifier: MIT OR Apache-2.0
 // The journals in the browser's database (IndexedDB): of each one a row, its records in order, and the files that were chosen for it.
 const NAME = "roskevad";
 const ROWS = "journals";

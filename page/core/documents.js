@@ -1,3 +1,4 @@
+// SPDX-License-Identifier: MIT OR Apache-2.0
 // The open documents as tabs, and what is done with whole maps: new, open, save, close, resize.
 import { ask, byId, destroying, element } from "../panels/dom.js";
 import { iconButton } from "../panels/icons.js";

@@ -1,3 +1,4 @@
+// SPDX-License-Identifier: MIT OR Apache-2.0
 // An editor that begins from maps as they are, without steps, and the entries of a journal that begins so.
 import { Editor } from "../../js/roskevad.js";
 import { hashOf } from "../files/hashes.js";

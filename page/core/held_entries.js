@@ -1,3 +1,4 @@
+// SPDX-License-Identifier: MIT OR Apache-2.0
 // The entries of a journal that its window holds, from the first one on, so that the journal can be written anew, whole.
 
 // The most bytes that are held, and what an entry takes beside its line, its reply and its file.

@@ -1,3 +1,4 @@
+// SPDX-License-Identifier: MIT OR Apache-2.0
 // The journal of a window: each accepted line that changes something, with its reply, and the bytes that each `open` had read. It is in
 // the browser's database, and stays there until the documents are closed.
 //

@@ -1,3 +1,4 @@
+// SPDX-License-Identifier: MIT OR Apache-2.0
 // What may stand in a field, or at a word of a line. Each kind says what is wanted, what is wrong with a text, and how a line spells it.
 const encoder = new TextEncoder();
 const MOST_BYTES = 200;

@@ -1,3 +1,4 @@
+// SPDX-License-Identifier: MIT OR Apache-2.0
 // What is said of the journals that windows have left, and which of them can be read.
 import { lastOf } from "../files/names.js";
 

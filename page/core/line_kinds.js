@@ -1,3 +1,4 @@
+// SPDX-License-Identifier: MIT OR Apache-2.0
 // What each session line may change, by its first word, and what an undo of a step may.
 
 // The lines that only look.

@@ -1,3 +1,4 @@
+// SPDX-License-Identifier: MIT OR Apache-2.0
 // What a line has done, in words for those who draw: `Stamp on Ground: 12 cells`.
 import { wordOf } from "./line_kinds.js";
 

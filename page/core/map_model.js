@@ -1,3 +1,4 @@
+// SPDX-License-Identifier: MIT OR Apache-2.0
 // The map as the page knows it: its outline, and its cells where they are asked for.
 import { LAYER, MAP, OddMembers, titleOfLayer } from "../files/members.js";
 import { projectionOf } from "../view/projections.js";

@@ -1,3 +1,4 @@
+// SPDX-License-Identifier: MIT OR Apache-2.0
 // One document from its `new` or `open` on until it is closed: its lines, its file, and the saves of it that are under way.
 //
 // Who waits for something of a document (a save, a question, a reload) holds this, and never its name: of two documents that had one name

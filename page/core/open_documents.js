@@ -1,3 +1,4 @@
+// SPDX-License-Identifier: MIT OR Apache-2.0
 // What no line tells of an editor: which documents are open, in which order, which one is active, and of each its lines and its file.
 import { isAboutDocuments, wordOf } from "./line_kinds.js";
 import { OpenDocument } from "./open_document.js";

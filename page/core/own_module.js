@@ -1,3 +1,4 @@
+// SPDX-License-Identifier: MIT OR Apache-2.0
 // The WebAssembly module that the page has in itself.
 import { Module } from "../../js/roskevad.js";
 import { byId } from "../panels/dom.js";

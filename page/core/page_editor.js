@@ -1,3 +1,4 @@
+// SPDX-License-Identifier: MIT OR Apache-2.0
 // The editor of this window, with its journal and its files: hears lines, keeps them in the journal, and tells what has changed.
 //
 // Lines are done at once, in the order in which they come. Of `open` and `save` the file is read and written beside them.

@@ -1,3 +1,4 @@
+// SPDX-License-Identifier: MIT OR Apache-2.0
 // Where the steps of a document have painted: so an undo is drawn without a look at all that is seen.
 import { isPaint, wordOf } from "./line_kinds.js";
 

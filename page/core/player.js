@@ -1,3 +1,4 @@
+// SPDX-License-Identifier: MIT OR Apache-2.0
 // Plays a session: lines from the clipboard or from a file.
 import { ask, button, byId, element, shown } from "../panels/dom.js";
 import { pause } from "./replies.js";

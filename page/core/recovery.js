@@ -1,3 +1,4 @@
+// SPDX-License-Identifier: MIT OR Apache-2.0
 // What the journals are for: at the start of the page the documents of windows that live no more are offered, with all their steps.
 //
 // A journal that fails, whatever it throws, is told of and kept. It stops neither the page nor another journal.

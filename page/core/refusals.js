@@ -1,3 +1,4 @@
+// SPDX-License-Identifier: MIT OR Apache-2.0
 // Words for a refused line: which of its words is at fault, what is wanted in its place, and what to do.
 import { FORMS, formsOf } from "../../js/roskevad.js";
 import { KINDS, TYPES } from "./kinds.js";

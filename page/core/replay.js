@@ -1,3 +1,4 @@
+// SPDX-License-Identifier: MIT OR Apache-2.0
 // The lines of a journal, done anew in a module and an editor of their own, which then may stand in the place of those of the window.
 import { Editor } from "../../js/roskevad.js";
 import { isAboutDocuments, wordOf } from "./line_kinds.js";

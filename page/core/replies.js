@@ -1,3 +1,4 @@
+// SPDX-License-Identifier: MIT OR Apache-2.0
 // The replies of an editor to lines, whatever they are.
 import { NoMemory, Refused } from "../../js/roskevad.js";
 import { isQuiet } from "./line_kinds.js";

@@ -1,3 +1,4 @@
+// SPDX-License-Identifier: MIT OR Apache-2.0
 // What each step of a document is about, as far as its line tells: a layer, an object, or something that has a name.
 import { isEdit, isFollowing, wordOf } from "./line_kinds.js";
 

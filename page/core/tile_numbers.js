@@ -1,3 +1,4 @@
+// SPDX-License-Identifier: MIT OR Apache-2.0
 // Which tile a number of a map is, and which number a tile has there: the one owner of that.
 //
 // A number is the first id of a tileset plus the id of a tile in it, with four flips in its top bits. So it means a tile only together with

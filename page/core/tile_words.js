@@ -1,3 +1,4 @@
+// SPDX-License-Identifier: MIT OR Apache-2.0
 // A tile in words: its tileset, its id there, and how it is turned, as `tiles 12, flipped`.
 import { DIAGONAL, HEXAGON, TO_SIDE, UP_DOWN, idIn } from "./tile_numbers.js";
 

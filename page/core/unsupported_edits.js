@@ -1,3 +1,4 @@
+// SPDX-License-Identifier: MIT OR Apache-2.0
 // What no line can say of a property or of an object, in words.
 import { KINDS, TYPES } from "./kinds.js";
 import { ODD } from "../files/members.js";

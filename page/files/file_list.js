@@ -1,3 +1,4 @@
+// SPDX-License-Identifier: MIT OR Apache-2.0
 // Files of the folder to choose one from, each with its size and with words of what is in it, which are found when its row is first seen.
 import { button, element, shown } from "../panels/dom.js";
 

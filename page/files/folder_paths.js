@@ -1,3 +1,4 @@
+// SPDX-License-Identifier: MIT OR Apache-2.0
 // The files of a folder, to choose one: their paths from the folder of a map.
 
 // A path that leads from a folder to a file, both told from the same top. The folder ends with a slash, or is empty.

@@ -1,3 +1,4 @@
+// SPDX-License-Identifier: MIT OR Apache-2.0
 // Sums of bytes and of texts.
 
 // The SHA-256 of bytes, as 64 digits.

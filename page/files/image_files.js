@@ -1,3 +1,4 @@
+// SPDX-License-Identifier: MIT OR Apache-2.0
 // The images of files: how large one is, by its head, and what is unpacked of it. A file may claim anything, so its size is known before.
 
 // The most pixels of all images of one map together.

@@ -1,3 +1,4 @@
+// SPDX-License-Identifier: MIT OR Apache-2.0
 // Tells why a map would be refused, before it is opened: in a module of its own, which goes with the list of maps.
 import { Editor, Refused } from "../../js/roskevad.js";
 import { loadModule } from "../core/own_module.js";

@@ -1,3 +1,4 @@
+// SPDX-License-Identifier: MIT OR Apache-2.0
 // The members that the page reads of a map and of a tileset, each with its kind, as Tiled's JSON map format has them. All that the page
 // knows of a file's members comes through these tables: one that is of another kind counts as not there, and is told.
 import { partsOfColour } from "../view/tints.js";

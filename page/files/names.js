@@ -1,3 +1,4 @@
+// SPDX-License-Identifier: MIT OR Apache-2.0
 // The names of documents and of files: those that a session line can spell, and the own names of files, which may be any path.
 import { documentName } from "../../js/roskevad.js";
 

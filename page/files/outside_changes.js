@@ -1,3 +1,4 @@
+// SPDX-License-Identifier: MIT OR Apache-2.0
 // Files that change outside of the page: they are told of, loaded anew, saved over, or left as they are.
 //
 // What waits for an answer or for a file holds the document itself. A document that is closed meanwhile is left alone.

@@ -1,3 +1,4 @@
+// SPDX-License-Identifier: MIT OR Apache-2.0
 // Where the files of maps, tilesets and images are: a folder, files that were chosen one by one, or those that `tile_page` serves.
 //
 // Each place has the same calls. A path leads from the folder of the maps. A mark, `{ hash, size, time }`, tells which bytes a file has.

@@ -1,3 +1,4 @@
+// SPDX-License-Identifier: MIT OR Apache-2.0
 // Where the files of documents are: a folder that a server gives, one that was chosen, or files that were chosen. The name of a file says
 // nothing of another source.
 

@@ -1,3 +1,4 @@
+// SPDX-License-Identifier: MIT OR Apache-2.0
 // What the files of tilesets tell, `.tsx` or `.tsj`: read with care, since a file may claim anything.
 import { Wrong, grouped } from "./image_files.js";
 import { GRID, ODD, OddMembers, TILESET, isRecord } from "./members.js";

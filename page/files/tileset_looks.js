@@ -1,3 +1,4 @@
+// SPDX-License-Identifier: MIT OR Apache-2.0
 // What a tileset tells of how its tiles are drawn, beside their sizes: how far they are moved, where a tile object stands, which picture an
 // animation shows first, which colour of its image is clear, and which images its tiles have of their own.
 import { partsOfColour } from "../view/tints.js";

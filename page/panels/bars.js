@@ -1,3 +1,4 @@
+// SPDX-License-Identifier: MIT OR Apache-2.0
 // Where bars stand over the map: messages, and the tasks of the lesson. They push nothing aside, and cover neither what was drawn last nor
 // where the hand has pressed last, as long as one of their places is free.
 import { isApart } from "./bubble.js";

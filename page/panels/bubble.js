@@ -1,3 +1,4 @@
+// SPDX-License-Identifier: MIT OR Apache-2.0
 // What is said where the hand is: for some seconds, or until the next thing works.
 import { byId, isField } from "./dom.js";
 

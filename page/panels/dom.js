@@ -1,3 +1,4 @@
+// SPDX-License-Identifier: MIT OR Apache-2.0
 // Small helpers for what stands on the page.
 
 export const byId = id => document.getElementById(id);

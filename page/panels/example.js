@@ -1,3 +1,4 @@
+// SPDX-License-Identifier: MIT OR Apache-2.0
 // The example world, which the page has in itself: the town with its tileset, and a lesson on it.
 import { byId } from "./dom.js";
 import { iconButton } from "./icons.js";

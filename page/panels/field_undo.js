@@ -1,3 +1,4 @@
+// SPDX-License-Identifier: MIT OR Apache-2.0
 // Ctrl+Z in a field undoes what was typed there; where nothing was, the last step of the map. Redo is the other way round.
 import { isField } from "./dom.js";
 

@@ -1,3 +1,4 @@
+// SPDX-License-Identifier: MIT OR Apache-2.0
 // Fields for values in a table. What is typed is taken by Enter, or as the field is left; what is refused stays in it, marked, until it is
 // mended or Escape brings the old value back.
 import { ask, button, element, mark } from "./dom.js";

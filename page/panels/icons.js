@@ -1,3 +1,4 @@
+// SPDX-License-Identifier: MIT OR Apache-2.0
 // The pictures on buttons, drawn in the colour of their text on a square of 24.
 import { button } from "./dom.js";
 

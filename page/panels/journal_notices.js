@@ -1,3 +1,4 @@
+// SPDX-License-Identifier: MIT OR Apache-2.0
 // What is said where the journal of this window is broken off, or full, and where a map cannot be shown; and how the journal begins anew.
 import { ask, byId, destroying } from "./dom.js";
 import { lastOf } from "../files/names.js";

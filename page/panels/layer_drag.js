@@ -1,3 +1,4 @@
+// SPDX-License-Identifier: MIT OR Apache-2.0
 // A drag of a layer in the list: it shows where the layer would go among those of its group, and sends one line at the end.
 
 // How far the hand moves before a press is a drag, how near to an edge the list scrolls, and by how much: in pixels.

@@ -1,3 +1,4 @@
+// SPDX-License-Identifier: MIT OR Apache-2.0
 // The layers as a tree: the one that is drawn last stands on top, and a group above the layers in it.
 import { ask, button, byId, element } from "./dom.js";
 import { iconButton, showIcon } from "./icons.js";

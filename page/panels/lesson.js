@@ -1,3 +1,4 @@
+// SPDX-License-Identifier: MIT OR Apache-2.0
 // Three tasks on the example world. A bar over the map tells what to do, a ring stands around where to do it, and each part is seen as done by
 // what the map and the tools have.
 import { button, byId, element, isTyping } from "./dom.js";

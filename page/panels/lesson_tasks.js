@@ -1,3 +1,4 @@
+// SPDX-License-Identifier: MIT OR Apache-2.0
 // The tasks of the lesson. A part has a name, words of what to do, where that is, and whether it is done; `needs` are looked at before it, and
 // the first one that is not met is told in its place.
 import { byId } from "./dom.js";

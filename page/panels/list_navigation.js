@@ -1,3 +1,4 @@
+// SPDX-License-Identifier: MIT OR Apache-2.0
 // Lists by keys: Tab reaches a list at its chosen row, and arrow keys go through its rows.
 import { byId, isField } from "./dom.js";
 import { callsOf, pressed } from "../tools/key_tables.js";

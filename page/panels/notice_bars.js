@@ -1,3 +1,4 @@
+// SPDX-License-Identifier: MIT OR Apache-2.0
 // Bars over the map that stay until they are answered, one for each thing that they are about.
 import { button, byId, element } from "./dom.js";
 

@@ -1,3 +1,4 @@
+// SPDX-License-Identifier: MIT OR Apache-2.0
 // The objects of the map in a list, by their layers, with a search. It stands in the place of the tiles while a tool for objects is in hand.
 import { byId, element } from "./dom.js";
 import { boxOf } from "../view/object_shapes.js";

@@ -1,3 +1,4 @@
+// SPDX-License-Identifier: MIT OR Apache-2.0
 // The palette: the tiles of a tileset, to click at one or to drag over several; and the stamp that the brush has. Only what is seen of it
 // is drawn.
 import { byId } from "./dom.js";

@@ -1,3 +1,4 @@
+// SPDX-License-Identifier: MIT OR Apache-2.0
 // The panels around the map: a click at a head folds one, and the edges between them are dragged, by arrow keys too. An edge is thin, so
 // that it covers nothing; so grips below it, the bar below the map, or the head of the panel below it are dragged as well.
 import { byId, element } from "./dom.js";

@@ -1,3 +1,4 @@
+// SPDX-License-Identifier: MIT OR Apache-2.0
 // Where the files come from: a folder of this machine, files that are chosen or dropped, or the folder that a server gives.
 import { byId, element } from "./dom.js";
 import { iconButton } from "./icons.js";

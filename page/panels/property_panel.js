@@ -1,3 +1,4 @@
+// SPDX-License-Identifier: MIT OR Apache-2.0
 // The properties of the map, of a layer or of an object, in a table; and what else a line can set of an object.
 import { button, byId, element, mark } from "./dom.js";
 import { fieldFor, numberField } from "./fields.js";

@@ -1,3 +1,4 @@
+// SPDX-License-Identifier: MIT OR Apache-2.0
 // What a reader of the screen is told: which part of the page is what, by roles and names, and how things stand, by states. The panels mark
 // by classes what is chosen, pressed or folded; here each mark becomes a state, so that both tell the same.
 import { byId, element } from "./dom.js";

@@ -1,3 +1,4 @@
+// SPDX-License-Identifier: MIT OR Apache-2.0
 // What stands where no map is open: how to begin, and the maps of the folder with pictures, each made when its place is first seen.
 import { byId, element } from "./dom.js";
 import { sizeOf } from "../files/file_list.js";

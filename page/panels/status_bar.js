@@ -1,3 +1,4 @@
+// SPDX-License-Identifier: MIT OR Apache-2.0
 // The bar below the map: how the steps stand, and what is under the hand.
 import { byId } from "./dom.js";
 import { wordsOf } from "../core/tile_words.js";

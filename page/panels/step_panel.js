@@ -1,3 +1,4 @@
+// SPDX-License-Identifier: MIT OR Apache-2.0
 // The steps of the active document: those that were made, each with what it is about, the present place, the clean mark, and those that
 // were undone.
 import { button, byId, element } from "./dom.js";

@@ -1,3 +1,4 @@
+// SPDX-License-Identifier: MIT OR Apache-2.0
 // The tilesets of the map: which one the palette shows, at what scale; one of the folder is added, or one is removed.
 import { byId, element } from "./dom.js";
 import { iconButton } from "./icons.js";

@@ -1,3 +1,4 @@
+// SPDX-License-Identifier: MIT OR Apache-2.0
 // The row of tools, and what its buttons do.
 import { Clips, KeptStamps } from "../tools/clips.js";
 import { byId, element, onEnter } from "./dom.js";

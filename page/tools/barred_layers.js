@@ -1,3 +1,4 @@
+// SPDX-License-Identifier: MIT OR Apache-2.0
 // Layers on which the hand draws only where it was told to: those that are hidden or locked, or stand in a group that is.
 import { endNotice, notice } from "../panels/notice_bars.js";
 

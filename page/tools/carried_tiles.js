@@ -1,3 +1,4 @@
+// SPDX-License-Identifier: MIT OR Apache-2.0
 // Tiles that come from another map, or that were taken before the tilesets of this one were changed: the hand has them as this map numbers
 // them, or it does not have them, and why is said.
 import { folderOf, pathFrom } from "../files/names.js";

@@ -1,3 +1,4 @@
+// SPDX-License-Identifier: MIT OR Apache-2.0
 // What was copied last: tiles, or an object.
 
 export class Clipboard {

@@ -1,3 +1,4 @@
+// SPDX-License-Identifier: MIT OR Apache-2.0
 // What is done by keys with selected cells, with the chosen object, and with what was copied; and the stamps that are kept on digits.
 
 export class Clips {

@@ -1,3 +1,4 @@
+// SPDX-License-Identifier: MIT OR Apache-2.0
 // The tools that fill: joined cells that are alike, or a rectangle.
 import { drawBlock, joinedCells, patternOver } from "./patterns.js";
 import { BARS } from "./stroke_tool.js";

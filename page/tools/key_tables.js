@@ -1,3 +1,4 @@
+// SPDX-License-Identifier: MIT OR Apache-2.0
 // Tables of keys: rows of [keys, what they do, a call]. From such a table keys are bound, and listed. A key is as `Ctrl+Shift+z`.
 import { button, element, shown } from "../panels/dom.js";
 

@@ -1,3 +1,4 @@
+// SPDX-License-Identifier: MIT OR Apache-2.0
 // The table of keys: Tiled's, where Tiled has one. The page's keys are bound from it, and it can be listed.
 import { isTyping } from "../panels/dom.js";
 import { ARROWS, ARROW_KEYS, callsOf, keyOf, showKeys, wordOf } from "./key_tables.js";

@@ -1,3 +1,4 @@
+// SPDX-License-Identifier: MIT OR Apache-2.0
 // The map and the tiles by keys. Where Tab has reached the map, arrow keys move a cell of the keys, and Enter does there what a click does.
 import { byId } from "../panels/dom.js";
 import { ARROW_KEYS, callsOf, pressed } from "./key_tables.js";

@@ -1,3 +1,4 @@
+// SPDX-License-Identifier: MIT OR Apache-2.0
 // Copies of objects: one step of `object add` and of a `prop set` for each property. What no line can copy is named.
 import { ask } from "../panels/dom.js";
 import { KINDS } from "../core/kinds.js";

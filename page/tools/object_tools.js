@@ -1,3 +1,4 @@
+// SPDX-License-Identifier: MIT OR Apache-2.0
 // The tools of the hand for objects: one that chooses, drags and resizes them, and one that adds them.
 import { ask } from "../panels/dom.js";
 import { KINDS } from "../core/kinds.js";

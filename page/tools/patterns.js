@@ -1,3 +1,4 @@
+// SPDX-License-Identifier: MIT OR Apache-2.0
 // A stamp that is repeated over cells, as one step: those of a rectangle, or those that a line `fill` would take.
 import { Stroke } from "./stroke.js";
 

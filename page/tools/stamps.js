@@ -1,3 +1,4 @@
+// SPDX-License-Identifier: MIT OR Apache-2.0
 // Flips and turns a stamp, as Tiled does with its keys X, Y and Z.
 import { DIAGONAL, HEXAGON, TILE, TO_SIDE, UP_DOWN } from "../core/tile_numbers.js";
 

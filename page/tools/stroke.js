@@ -1,3 +1,4 @@
+// SPDX-License-Identifier: MIT OR Apache-2.0
 // A stroke of the brush or of the eraser: one step, however many lines it takes.
 import { lineOf } from "../core/map_model.js";
 

@@ -1,3 +1,4 @@
+// SPDX-License-Identifier: MIT OR Apache-2.0
 // The brush and the eraser.
 import { Stroke } from "./stroke.js";
 

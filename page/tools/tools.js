@@ -1,3 +1,4 @@
+// SPDX-License-Identifier: MIT OR Apache-2.0
 // The tools of the hand on the map, and its events there. Each gives the editor session lines, and nothing else.
 import { FillTool, fillRectangle } from "./fill_tools.js";
 import { ObjectTool, insertObject } from "./object_tools.js";

@@ -1,3 +1,4 @@
+// SPDX-License-Identifier: MIT OR Apache-2.0
 // The wheel and two fingers on the map: they move the view and change its scale.
 
 // How far the wheel turns for a step of the scale, and how far a line and a page are where the browser counts these: in pixels.

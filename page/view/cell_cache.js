@@ -1,3 +1,4 @@
+// SPDX-License-Identifier: MIT OR Apache-2.0
 // The cells of the tile layers in the part of the map that is seen, as they were drawn last.
 
 export class CellCache {

@@ -1,3 +1,4 @@
+// SPDX-License-Identifier: MIT OR Apache-2.0
 // Draws over the cells of a map: the grid, the selection, and what the hand is about to do.
 
 // Below these widths of a cell there is no grid, and the selection has no outline.

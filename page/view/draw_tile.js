@@ -1,3 +1,4 @@
+// SPDX-License-Identifier: MIT OR Apache-2.0
 // Draws a tile into a box of a canvas: a part of its tileset's image, flipped and turned as Tiled does; or a colour with a number.
 import { DIAGONAL, HEXAGON, TILE, TO_SIDE, UP_DOWN, idIn } from "../core/tile_numbers.js";
 import { colourOf } from "./tilesets.js";

@@ -1,3 +1,4 @@
+// SPDX-License-Identifier: MIT OR Apache-2.0
 // Paints tile layers from afar: the mean colour of each cell's tile.
 
 // A colour with at least this alpha hides what is below it.

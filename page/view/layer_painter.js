@@ -1,3 +1,4 @@
+// SPDX-License-Identifier: MIT OR Apache-2.0
 // Paints the layers of a map into a part of the screen, in their order: tiles, images, and of objects those that are tiles or texts.
 import { drawTile } from "./draw_tile.js";
 import { paintFar } from "./far_painter.js";

@@ -1,3 +1,4 @@
+// SPDX-License-Identifier: MIT OR Apache-2.0
 // How each map is shown and worked on: its zoom, its place, its layer, the tool, the stamp and the panels. That is kept for as long as this
 // tab lives, also where the page is loaded anew.
 import { withUsedSets } from "../core/tile_numbers.js";

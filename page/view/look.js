@@ -1,3 +1,4 @@
+// SPDX-License-Identifier: MIT OR Apache-2.0
 // Light or dark: as the system is, or as the user has chosen, which the browser keeps for the next visit.
 import { byId } from "../panels/dom.js";
 import { iconButton, showIcon } from "../panels/icons.js";

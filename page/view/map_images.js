@@ -1,3 +1,4 @@
+// SPDX-License-Identifier: MIT OR Apache-2.0
 // The images of image layers, and tinted ones: asked for when they are first seen, once the tilesets have theirs. They have the pixels that
 // are left then.
 import { PixelBudget, WrongImage, imageFile, unpacked } from "../files/image_files.js";

@@ -1,3 +1,4 @@
+// SPDX-License-Identifier: MIT OR Apache-2.0
 // A small picture of a map that is not open, painted as the page paints an open one.
 import { LayerPainter } from "./layer_painter.js";
 import { MapImages } from "./map_images.js";

@@ -1,3 +1,4 @@
+// SPDX-License-Identifier: MIT OR Apache-2.0
 // Shows a part of the map: only what is seen is drawn, and behind a stroke only what it has changed. Lengths are pixels of the screen.
 import { LayerPainter } from "./layer_painter.js";
 import { MapImages } from "./map_images.js";

@@ -1,3 +1,4 @@
+// SPDX-License-Identifier: MIT OR Apache-2.0
 // The whole map in small, where not all of it is seen: a press there moves the view.
 import { element } from "../panels/dom.js";
 import { alphaOf } from "./far_painter.js";

@@ -1,3 +1,4 @@
+// SPDX-License-Identifier: MIT OR Apache-2.0
 // The shapes of objects: what is under the hand, and what a drag at a handle makes of one. Lengths are pixels of the map.
 //
 // An object's own coordinates begin at its place, and are turned and slanted as it is drawn. `aligned` tells how far a tile reaches to the

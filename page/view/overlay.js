@@ -1,3 +1,4 @@
+// SPDX-License-Identifier: MIT OR Apache-2.0
 // Draws over the map: the grid, the selection, the objects, and what the hand is about to do.
 import { isLockedIn } from "../tools/barred_layers.js";
 import { CellOverlay } from "./cell_overlay.js";

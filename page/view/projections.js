@@ -1,3 +1,4 @@
+// SPDX-License-Identifier: MIT OR Apache-2.0
 // Where the cells of a map stand in its picture, as Tiled draws them: orthogonal, isometric, staggered and hexagonal maps. Lengths are
 // pixels of the map; a tile stands on the lower left corner of its cell's box.
 //

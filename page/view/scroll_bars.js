@@ -1,3 +1,4 @@
+// SPDX-License-Identifier: MIT OR Apache-2.0
 // The bars at the edges of the view: how much of the map is seen, and where; a drag moves the view.
 import { element } from "../panels/dom.js";
 

@@ -1,3 +1,4 @@
+// SPDX-License-Identifier: MIT OR Apache-2.0
 // Paints the objects of a map that are tiles or texts, where the tiles of the map are painted: so a later layer may hide them.
 import { drawTile } from "./draw_tile.js";
 import { idIn } from "../core/tile_numbers.js";

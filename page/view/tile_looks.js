@@ -1,3 +1,4 @@
+// SPDX-License-Identifier: MIT OR Apache-2.0
 // How tiles look from afar: the mean colour of each, and whether it hides all that is below it. That is found when a tile is first drawn,
 // of a bounded number of pixels a frame.
 import { TILE } from "../core/tile_numbers.js";

@@ -1,3 +1,4 @@
+// SPDX-License-Identifier: MIT OR Apache-2.0
 // The tilesets of a map with their images, where those can be had: a tileset is a `.tsx` or `.tsj` file with one image, or stands in the
 // map itself.
 import { PixelBudget, Wrong, imageFile, unpacked } from "../files/image_files.js";

@@ -1,3 +1,4 @@
+// SPDX-License-Identifier: MIT OR Apache-2.0
 // Images with a tint, as Tiled has it: each colour is multiplied by it, and its alpha is that of the whole.
 
 // The parts of a colour of Tiled, `#rrggbb` or `#aarrggbb`: [alpha, red, green, blue], each up to 1; null where it is none.

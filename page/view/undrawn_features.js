@@ -1,3 +1,4 @@
+// SPDX-License-Identifier: MIT OR Apache-2.0
 // What a map has that the page does not draw, or draws otherwise than Tiled, in words.
 import { MOST_PIXELS, grouped } from "../files/image_files.js";
 import { MOST_CORNERS, MOST_WHOLE } from "./overlay.js";

@@ -1,3 +1,4 @@
+# SPDX-License-Identifier: MIT OR Apache-2.0
 """Reads the pages of the repository: their links, the files that they name, their commands, and
 their transcripts, of which each is run as it stands on the page.
 

@@ -1,3 +1,4 @@
+# SPDX-License-Identifier: MIT OR Apache-2.0
 """Chromium without a window, the page in it, the hand on it, and the pixels that it shows."""
 import atexit
 import base64
