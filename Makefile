@@ -13,12 +13,12 @@ ROOT = $(DESTDIR)$(PREFIX)
 
 SHARED := libroskevad.so.$(VERSION)
 MAN := $(notdir $(wildcard docs/man/*.1))
-LICENCES := LICENSE-APACHE LICENSE-MIT lib/NOTICES.txt
+LICENCES := LICENSE-APACHE LICENSE-MIT js/NOTICES.txt
 # The Python package, which the page to draw on needs.
-PACKAGE := $(sort $(shell find python/roskevad -type f ! -path '*/__pycache__/*' ! -path '*/static/*'))
+PACKAGE := $(sort $(shell find python/roskevad -type f ! -path '*/__pycache__/*'))
 
 # The folders that are ours alone, those within others first, and all files, by their paths from PREFIX.
-OWN_FOLDERS := $(shell find python/roskevad -depth -type d ! -name __pycache__ ! -name static | sed 's,^,share/roskevad/,') \
+OWN_FOLDERS := $(shell find python/roskevad -depth -type d ! -name __pycache__ | sed 's,^,share/roskevad/,') \
 	share/roskevad/python share/roskevad share/doc/roskevad
 FOLDERS := bin lib/pkgconfig include share/man/man1 $(OWN_FOLDERS)
 FILES := bin/tile_editor bin/map_report bin/tile_page \

@@ -1,4 +1,5 @@
 #!/usr/bin/env bash
+# SPDX-License-Identifier: MIT OR Apache-2.0
 # Runs a session over a folder of maps. The first refused line ends the run, so nothing is saved after it. Changes that are
 # unsaved at the end fail the run too. Standard error says which line or document it was.
 #

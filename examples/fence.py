@@ -1,3 +1,4 @@
+# SPDX-License-Identifier: MIT OR Apache-2.0
 """Opens a map, draws a fence, takes it back, draws it again and saves the map. From the top of a clone:
 
     python3 examples/fence.py [MAP [FENCED_MAP]]

@@ -1,3 +1,4 @@
+# SPDX-License-Identifier: MIT OR Apache-2.0
 """Adds a spawn point with properties to every map of a folder. From the top of a clone:
 
     python3 examples/spawn_points.py FOLDER

@@ -1,3 +1,4 @@
+// SPDX-License-Identifier: MIT OR Apache-2.0
 // What the library sets aside of a map, in its tree.
 
 // The name under which it stands, in the map, in layers and objects.

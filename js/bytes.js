@@ -1,3 +1,4 @@
+// SPDX-License-Identifier: MIT OR Apache-2.0
 /** Bytes one behind the other. */
 export function joined(parts) {
   const all = new Uint8Array(parts.reduce((size, part) => size + part.length, 0));

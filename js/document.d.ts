@@ -1,3 +1,4 @@
+// SPDX-License-Identifier: MIT OR Apache-2.0
 // The declarations of documents and of what they have. Written by tools/reference from tools/calls.py.
 import type { Editor } from "./roskevad.js";
 

@@ -1,3 +1,4 @@
+// SPDX-License-Identifier: MIT OR Apache-2.0
 // A document of an editor, in the words of its caller.
 import { Closed, Refused } from "./faults.js";
 import { Properties } from "./properties.js";

@@ -1,3 +1,4 @@
+// SPDX-License-Identifier: MIT OR Apache-2.0
 // The forms of the session lines, by their first words, as docs/session-lines.md lists them.
 
 /** The forms of the lines that begin with a word. */

@@ -1,3 +1,4 @@
+// SPDX-License-Identifier: MIT OR Apache-2.0
 // The module of the proved library: how it is loaded, and how it is called.
 import { BadModule, Broken, NoMemory } from "./faults.js";
 

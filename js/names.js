@@ -1,3 +1,4 @@
+// SPDX-License-Identifier: MIT OR Apache-2.0
 // The names of documents that a line can spell.
 const LONGEST = 64;
 

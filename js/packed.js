@@ -1,3 +1,4 @@
+// SPDX-License-Identifier: MIT OR Apache-2.0
 // Maps whose layers are compressed: unpacked before the library reads them, and packed again behind it.
 import { joined } from "./bytes.js";
 import { Edit, NOTE, edited, mapAndLayers } from "./layers.js";

@@ -1,3 +1,4 @@
+// SPDX-License-Identifier: MIT OR Apache-2.0
 // The map editor, called in a page, in a worker or in Node:
 //
 //   const editor = await Editor.create({ limit: 0 });

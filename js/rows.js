@@ -1,3 +1,4 @@
+// SPDX-License-Identifier: MIT OR Apache-2.0
 // The rows of a stamp, and the parts of it that fit into lines.
 import { GREATEST_NUMBER } from "./words.js";
 

@@ -1,3 +1,4 @@
+// SPDX-License-Identifier: MIT OR Apache-2.0
 // What was seen of a document's map: its outline, with what looks things up in it.
 
 /** The layers in drawing order, those that stand in a group behind it. */

@@ -1,3 +1,4 @@
+// SPDX-License-Identifier: MIT OR Apache-2.0
 // The layers of a document, and their objects, as they are at each call.
 import { Refused } from "./faults.js";
 import { Properties } from "./properties.js";

@@ -1,3 +1,4 @@
+// SPDX-License-Identifier: MIT OR Apache-2.0
 // Checks words before they become a line: what no line can say is told with the caller's own words, and
 // nothing is sent.
 

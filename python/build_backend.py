@@ -1,3 +1,4 @@
+# SPDX-License-Identifier: MIT OR Apache-2.0
 """Builds the wheel of this folder: the package, and the library of the clone beside its files. Needs nothing but Python.
 
 The same files make the same bytes: what is written has neither the dates nor the modes nor the order of the files here."""
@@ -19,7 +20,7 @@ TAG = 'py3-none-manylinux2014_x86_64'
 EDITABLE_TAG = 'py3-none-any'
 # What the package needs besides: a source archive has it among its files, and a clone elsewhere.
 LIBRARY, LICENCES = 'roskevad/libroskevad.so', ('LICENSE-APACHE', 'LICENSE-MIT', 'NOTICES.txt')
-OF_CLONE = {LIBRARY: 'lib/libroskevad.so', 'NOTICES.txt': 'lib/NOTICES.txt'}
+OF_CLONE = {LIBRARY: 'lib/libroskevad.so', 'NOTICES.txt': 'js/NOTICES.txt'}
 # The first moment that a zip archive can name.
 DATE = (1980, 1, 1, 0, 0, 0)
 PROGRAM, PLAIN = 0o755, 0o644
@@ -62,9 +63,8 @@ def beside(name: str) -> bytes:
 
 
 def sources() -> Dict[str, bytes]:
-    """The files of the package, with the page, but without what the page is built from."""
-    paths = sorted(path for path in (HERE / NAME).rglob('*')
-                   if (path.suffix in SUFFIXES or path.name == 'py.typed') and path.parent.name != 'static')
+    """The files of the package, with the page."""
+    paths = sorted(path for path in (HERE / NAME).rglob('*') if path.suffix in SUFFIXES or path.name == 'py.typed')
     return {path.relative_to(HERE).as_posix(): path.read_bytes() for path in paths}
 
 

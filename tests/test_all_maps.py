@@ -1,3 +1,4 @@
+# SPDX-License-Identifier: MIT OR Apache-2.0
 """Opens, edits and saves maps with fractions by `tile_editor --all-maps`, and compares replies and
 files with the plain model of tests/lib/asides.py, which sets fractions aside and puts them back;
 tests/test_infinite_maps.py does so with infinite maps. The

@@ -1,3 +1,4 @@
+# SPDX-License-Identifier: MIT OR Apache-2.0
 """Sets aside and puts back 20,000 texts of maps that are changed by chance, by `map_report --table`,
 and compares the trees of what comes with the plain model of tests/lib/asides.py. Each text is a map
 of `examples/maps` or `sessions/maps`, into which stand-ins, notes, fractions, chunks and the reserved

@@ -1,3 +1,4 @@
+# SPDX-License-Identifier: MIT OR Apache-2.0
 """Opens and saves 20,000 maps that are broken by chance: each is a map of `examples/maps` or
 `sessions/maps` with one change, from a fixed seed. Each is answered within seconds, by `ok` or by a
 refusal of docs/refusals.md; what is opened is saved, and what is saved opens again and is saved as

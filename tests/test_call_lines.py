@@ -1,3 +1,4 @@
+# SPDX-License-Identifier: MIT OR Apache-2.0
 """Does calls of documents in both packages, and beside them the lines that they stand for: documents,
 maps, steps and selections are the same then. So it tries stamps of any size, macros that fail,
 strokes, properties of each type, and what the views tell."""

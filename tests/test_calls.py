@@ -1,3 +1,4 @@
+# SPDX-License-Identifier: MIT OR Apache-2.0
 """Compares both packages with the one table of their calls, tools/calls.py: the names of calls and
 values and of their arguments; what each raises, by an expression that must raise it in Python and in
 JavaScript; what their texts say of that; that each call of a closed document raises Closed; and the

@@ -1,3 +1,4 @@
+# SPDX-License-Identifier: MIT OR Apache-2.0
 """Runs the program on command lines, and compares its exit status and the first line that it writes
 on each output. The launchers at the top are tried too: by their names and by links to them they run
 what is in `bin/`. Besides, the program is run where its replies, its help and its version have

@@ -1,3 +1,4 @@
+# SPDX-License-Identifier: MIT OR Apache-2.0
 """Looks whether the pages say what is so:
 
 - each file that a page links or names is there, and each page is reached from the README;

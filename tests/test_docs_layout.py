@@ -1,3 +1,4 @@
+# SPDX-License-Identifier: MIT OR Apache-2.0
 """Sees how the pages are laid out: each line of a page has at most 100 characters, but for rows of
 tables, lines of blocks of code, and lines that are one link or one address; and each row of a table
 has as many cells as its head. A line of a definition, a proof or a Python file has at most 160

@@ -1,3 +1,4 @@
+# SPDX-License-Identifier: MIT OR Apache-2.0
 """Tries documents of the Python package beyond their lines: the files that they are opened from and
 saved to; threads, forks, signal handlers and interrupts; a memory that ends in the midst of a long
 stamp; what is logged, and what documents and their parts tell of themselves."""

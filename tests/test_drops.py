@@ -1,3 +1,4 @@
+# SPDX-License-Identifier: MIT OR Apache-2.0
 """Counts the blocks of memory behind each line, and sees that what a stack lets go of gives back
 all that it owned, each once. That is a box, texts, layers, objects, properties, tilesets and cells:
 each kind of edit is let go of in each way, and at once. native/blocks.c counts, and has a program

@@ -1,3 +1,4 @@
+# SPDX-License-Identifier: MIT OR Apache-2.0
 """Runs the script `examples/build.sh` over a copy of the example maps: with lines that are all
 accepted; with a line that is refused, behind which nothing may be saved; and with an option, which
 it must hand on."""

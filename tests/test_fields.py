@@ -1,3 +1,4 @@
+# SPDX-License-Identifier: MIT OR Apache-2.0
 """Compares the fields of a stack, its steps, a paint and a region with a list, by their names and
 types. No contract tells whether a copy of a document stands in one of them. So whoever adds a field
 adds it here too, and asks what it holds: of all that a stack keeps, one field is a document, and

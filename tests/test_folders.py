@@ -1,3 +1,4 @@
+# SPDX-License-Identifier: MIT OR Apache-2.0
 """Runs the program on folders that are not as they should be, or have more in them than maps:
 missing ones, pipes, links, files that are too long, full disks, and permissions. Each case is a
 function that prepares a folder, and gives rows of a session with its replies, and what must stand

@@ -1,3 +1,4 @@
+# SPDX-License-Identifier: MIT OR Apache-2.0
 """Opens, edits and saves maps with groups of layers, which are made here: at the limits of the
 layers and of the nesting of groups and one past each, with one fault or two in a file; the maps of
 `examples/maps` that have groups, edited in each layer; and 150 random trees, each with 40 random

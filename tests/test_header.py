@@ -1,3 +1,4 @@
+# SPDX-License-Identifier: MIT OR Apache-2.0
 """Compiles a use of each name of `include/roskevad.h` in each standard of C and C++ that the
 compilers here have, with the warnings that strict projects turn on: there are none. The shared
 library gives out what the header declares."""

@@ -1,3 +1,4 @@
+# SPDX-License-Identifier: MIT OR Apache-2.0
 """Makes infinite maps finite and infinite again by `--all-maps`. 10,000 infinite maps made by chance are
 set aside by `map_report --table`, edited, and put back, and their trees are compared with those of the
 plain program tests/lib/infinite.py, which has one entry for each cell: untouched, the map comes back

@@ -1,3 +1,4 @@
+# SPDX-License-Identifier: MIT OR Apache-2.0
 """Installs into an empty folder by the Makefile, and uses what is there: programs, library, header,
 pkg-config file, man pages and the page to draw on. `uninstall` takes out exactly that. The man
 pages have the options that the programs' help has. The example of a Makefile that builds maps is

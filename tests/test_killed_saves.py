@@ -1,3 +1,4 @@
+# SPDX-License-Identifier: MIT OR Apache-2.0
 """Kills the program at each step of a save, and makes each call of a save on files and their folder
 fail, over files of several modes. However a save ends, the file under its name is the old one or
 the new one, whole, and has the old one's mode; no file has a wider mode meanwhile, and the next

@@ -1,3 +1,4 @@
+# SPDX-License-Identifier: MIT OR Apache-2.0
 """Runs the program on the largest maps that it takes: each cell of 1,048,576 set, the map saved,
 opened, resized and turned back; each cell painted by one step of many lines; a layer in base64; a
 selection of many runs; and each list filled to its limit and past it. No contract refuses a program

@@ -1,3 +1,4 @@
+# SPDX-License-Identifier: MIT OR Apache-2.0
 """Tries the launchers `tile_editor`, `map_report` and `tile_page`: they are scripts for any
 `/bin/sh`, start nothing beside the program where `bin/` runs, take at most twice the time of a
 shell that becomes the program, and find their way where it does not run."""

@@ -1,3 +1,4 @@
+# SPDX-License-Identifier: MIT OR Apache-2.0
 """Tries the library in `lib/`: the calls of Python and of C on their edges, on random bytes, and
 under the sanitizers of the C compiler; the examples in both languages, which make the same map; and
 the package's forms of lines, which are those of the program's help."""

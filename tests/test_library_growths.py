@@ -1,3 +1,4 @@
+# SPDX-License-Identifier: MIT OR Apache-2.0
 """Refuses memory to the library at each growth in turn, while a program in C calls it: nothing is
 lost, nothing leaks, and at last all is as where none is refused. native/library_calls.c makes the
 calls, and makes one again for which there was no memory; native/interpose.c refuses."""

@@ -1,3 +1,4 @@
+# SPDX-License-Identifier: MIT OR Apache-2.0
 """Runs the session files of `sessions/`, those without options, through the Python package and the
 library in `lib/`, line by line and many lines in a call: they must give the replies and the files
 that stand there."""

@@ -1,3 +1,4 @@
+# SPDX-License-Identifier: MIT OR Apache-2.0
 """Compares what the library tells of the active map with the text of `show`, on 150 random maps with
 groups and on maps that stand at the limits of groups: the outline, the cells of rectangles in each
 layer, whole, in part, empty and past each edge, and the next ids; and the action text of each step

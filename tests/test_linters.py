@@ -1,10 +1,13 @@
+# SPDX-License-Identifier: MIT OR Apache-2.0
 """Sees that pyflakes3 finds nothing in the Python files, and shellcheck nothing in the shell scripts,
 both as Debian has them: no import that nothing uses, no name that is not there, no word that the
-shell takes apart."""
+shell takes apart. Each source outside `crates/` that takes comments names its licence, as
+`tools/spdx` writes it."""
 import re
 import subprocess
 
-from lib.cases import Case, check_each
+from lib.cases import Case, check_each, fail_with
+from lib.kit import tool
 from lib.places import TOP, tracked
 
 PACKAGES = ('pyflakes3', 'shellcheck')
@@ -29,3 +32,7 @@ def test_linters():
         ],
         fault_of_linter,
     )
+
+
+def test_each_source_names_its_licence():
+    fail_with(f'{path.relative_to(TOP)}: run tools/spdx' for path, _ in tool('spdx').missing())

@@ -1,3 +1,4 @@
+# SPDX-License-Identifier: MIT OR Apache-2.0
 """Refuses each growth of memory in turn while `map_report --table` reads a map and writes it, and
 while `map_report` reports a file. Whichever growth is refused, the answer is either that there is
 no memory or the ordinary one; or the program ends with status 1, where the memory that it wants for

@@ -1,3 +1,4 @@
+# SPDX-License-Identifier: MIT OR Apache-2.0
 """Compares the plain model of the editor, by which other steps tell what must come, with the
 session files, whose replies were written by the rules: it must give the same replies and leave the
 same files. Lines that the model does not read are left out, those that are refused for how they are

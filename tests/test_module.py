@@ -1,3 +1,4 @@
+# SPDX-License-Identifier: MIT OR Apache-2.0
 """Tries the package for JavaScript and the module in `js/` in Node: each call at its edges; editors
 that share a module, and modules beside each other and in workers; memory that ends and stacks that
 are full; modules that are cut short or of another version. The checks are in

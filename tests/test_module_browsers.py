@@ -1,3 +1,4 @@
+# SPDX-License-Identifier: MIT OR Apache-2.0
 """Runs the session files of `sessions/` on the module in Chromium, in Firefox and, where Debian's
 webkit2gtk-driver and xvfb are there, in WebKitGTK, which has the engine of Safari; and the checks of
 the package that test_module.py has in Node."""

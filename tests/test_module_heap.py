@@ -1,3 +1,4 @@
+# SPDX-License-Identifier: MIT OR Apache-2.0
 """Tries the heap of the module, `tools/wasm/heap.c`, by random calls in this machine's own code, also
 where memory ends. Each block keeps its bytes; and when all is freed, the whole memory is one free
 block."""

@@ -1,3 +1,4 @@
+# SPDX-License-Identifier: MIT OR Apache-2.0
 """Opens, edits, undoes and saves maps with fractions, infinite maps and those packed by zlib and gzip by
 the package for JavaScript in Node, and compares what is saved with the source, number by number:
 maps by chance, and what Tiled exports of its examples and of one of them in each tile layer format.

@@ -1,3 +1,4 @@
+# SPDX-License-Identifier: MIT OR Apache-2.0
 """Sees that the memory of the module grows by at most 1.25 times as much in a session as the library
 takes of the heap, and that 10,000,000 lines take no more than 1,000,000."""
 import json

@@ -1,3 +1,4 @@
+# SPDX-License-Identifier: MIT OR Apache-2.0
 """Sees that the package for JavaScript in `js/` is whole: its files, its licences, its version, and
 the forms of lines, which are those of the Python package; and, by the compiler of TypeScript, that
 its declarations are those of its code."""
@@ -7,7 +8,7 @@ import subprocess
 import sys
 
 from lib.cases import Case, check_each, unlike
-from lib.places import LIB, TESTS, TOP
+from lib.places import TESTS, TOP
 
 sys.path.insert(0, str(TOP / 'python'))
 from roskevad.forms import FORMS, forms_of  # noqa: E402
@@ -53,7 +54,6 @@ def names_of(pattern):
 
 def test_files_that_stand_elsewhere_too():
     pairs = [(TOP / name, JS / name) for name in ('LICENSE-MIT', 'LICENSE-APACHE')]
-    pairs += [(LIB / name, JS / name) for name in ('NOTICES.txt', 'roskevad.wasm')]
     cases = [Case(f'js/{copy.name}', copy, first) for first, copy in pairs]
     check_each(
         cases,

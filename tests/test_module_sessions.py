@@ -1,3 +1,4 @@
+# SPDX-License-Identifier: MIT OR Apache-2.0
 """Runs the session files of `sessions/` on the module in `js/` in Node, line by line and many lines in
 a call: it must give the replies and the files that stand there. Besides, it must do what the program does with each example map, with
 lines by chance, and with a map of 1,048,576 cells."""

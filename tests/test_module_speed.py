@@ -1,3 +1,4 @@
+# SPDX-License-Identifier: MIT OR Apache-2.0
 """Measures what lines take on the module in Node and in Chromium, and on the library beside it, and
 tells the ratios. Times depend on the machine and on what else it does, so none fails here:
 docs/speed.md has those of a machine that does nothing else."""

@@ -1,9 +1,10 @@
+# SPDX-License-Identifier: MIT OR Apache-2.0
 """Sees that the scripts which make the module stop at what they do not know: `tools/wasm/retarget.py`
 at parts of an LLVM module, and `tools/wasm/lower.py` at parts of a module of WebAssembly."""
 import sys
 
 from lib.cases import Case, check_each, unlike
-from lib.places import LIB, TOP
+from lib.places import TOP
 
 sys.path.insert(0, str(TOP / 'tools'))
 from wasm import lower, retarget  # noqa: E402
@@ -125,4 +126,4 @@ def test_numbers():
 def test_the_module_ends_with_its_version():
     version = (TOP / 'VERSION').read_text().strip()
     mark = b'\x00' + lower.sized(lower.sized(lower.MARK) + version.encode())
-    assert (LIB / 'roskevad.wasm').read_bytes().endswith(mark)
+    assert (TOP / 'js' / 'roskevad.wasm').read_bytes().endswith(mark)

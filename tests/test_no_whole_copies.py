@@ -1,3 +1,4 @@
+# SPDX-License-Identifier: MIT OR Apache-2.0
 """Sees that an edit asks for memory for what it changes, however many layers stand beside that. Two
 maps, one of 2 layers and one of 255, are alike in all else. Each is opened, once with the lines of
 an edit behind that and once without: with them the session must ask for as many growths of memory

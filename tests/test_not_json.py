@@ -1,3 +1,4 @@
+# SPDX-License-Identifier: MIT OR Apache-2.0
 """Reports texts that are no JSON by the program `map_report`, and compares the line and the column.
 In a text, a number or a word they must be those of the first byte that no JSON could have there;
 where the file ends too early, those of its last byte; at a number that is too great, those of its

@@ -1,3 +1,4 @@
+# SPDX-License-Identifier: MIT OR Apache-2.0
 """Builds the wheels and the source archive of the Python package, each twice: they are the same
 bytes, have the licences and the summary, and install the program `roskevad`; also as a package that
 leads to the clone (`-e`). `mypy --strict` finds nothing in the package, nor in a script that uses
@@ -24,7 +25,7 @@ INFO = f'roskevad-{VERSION}.dist-info'
 LICENCES = {
     'LICENSE-APACHE': TOP / 'LICENSE-APACHE',
     'LICENSE-MIT': TOP / 'LICENSE-MIT',
-    'NOTICES.txt': TOP / 'lib' / 'NOTICES.txt',
+    'NOTICES.txt': TOP / 'js' / 'NOTICES.txt',
 }
 KINDS = ('build_wheel', 'build_editable', 'build_sdist')
 # A script that uses each call by its types.
@@ -85,7 +86,7 @@ def copy_of_the_clone(folder):
     """What the package is built from, elsewhere, with other dates, modes and order of its files."""
     clone = Path(folder) / 'clone'
     ignored = shutil.ignore_patterns('__pycache__')
-    for name in ('lib', 'python'):
+    for name in ('js', 'lib', 'python'):
         shutil.copytree(TOP / name, clone / name, ignore=ignored, copy_function=shutil.copyfile)
     for name in ('LICENSE-APACHE', 'LICENSE-MIT'):
         shutil.copyfile(TOP / name, clone / name)

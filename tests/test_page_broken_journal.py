@@ -1,3 +1,4 @@
+# SPDX-License-Identifier: MIT OR Apache-2.0
 """Works on the page while its journal fails: maps that cannot be shown, rows of the database that are damaged, a
 database that takes nothing for a time or has lost what it had, journals of which only the maps come back, and full
 ones with an open macro. What was done is not lost; where it is, the page says so."""

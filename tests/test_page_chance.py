@@ -1,3 +1,4 @@
+# SPDX-License-Identifier: MIT OR Apache-2.0
 """Works by chance in browsers that are killed: draws, undoes, saves slowly, closes maps whose saves go
 on and opens others of the same name, loads maps anew that changed outside, and has the browser's disk
 full for a moment. Behind each kill no listed step is missing, no file has another map, and nothing is
@@ -26,23 +27,23 @@ WIDTHS = {'town.tmj': 24, 'a/town.tmj': 20, 'b/town.tmj': 16, 'house.tmj': 12}
 HEIGHT = 10
 # Each document: where it stands among its steps, its bytes, its file, and whether it is called saved.
 SNAP = '''
-const {editor} = roskevad, {session, notes} = editor;
-const active = notes.active;
-const told = Object.fromEntries(notes.order.map(name => {
-  session.step(`use ${name}`);
-  const {index, count, isClean} = editor.stand();
-  const path = notes.fileOf(name)?.path ?? null;
-  return [name, {index, count, isClean: isClean && !editor.isWriting(name), path, shown: session.step("show").slice(4)}];
+const {editor: page} = roskevad, {editor, openDocuments} = page;
+const active = openDocuments.active;
+const told = Object.fromEntries(openDocuments.order.map(name => {
+  editor.step(`use ${name}`);
+  const {index, count, isClean} = page.stand();
+  const path = openDocuments.fileOf(name)?.path ?? null;
+  return [name, {index, count, isClean: isClean && !page.isWriting(name), path, shown: editor.step("show").slice(4)}];
 }));
-session.step(`use ${active ?? "-"}`);
+editor.step(`use ${active ?? "-"}`);
 return told;'''
 # The bytes of a document at another place among its steps.
 AT = '''
-const {session, notes} = roskevad.editor, [name, index] = arguments;
-session.step(`use ${name}`);
-session.step(`goto ${index}`);
-const shown = session.step("show").slice(4);
-session.step(`use ${notes.active ?? "-"}`);
+const {editor, openDocuments} = roskevad.editor, [name, index] = arguments;
+editor.step(`use ${name}`);
+editor.step(`goto ${index}`);
+const shown = editor.step("show").slice(4);
+editor.step(`use ${openDocuments.active ?? "-"}`);
 return shown;'''
 STROKES = '''
 let number = Math.floor(Math.random() * 1e6);
@@ -215,7 +216,7 @@ class Chance:
         """The last things are under way when the browser is killed. What was there before them."""
         self.rest()
         before, last = self.page.js(SNAP), self.numbers.choice(['strokes', 'walk', 'save', 'slow save', 'close', 'reload'])
-        active = self.page.js('return roskevad.editor.notes.active')
+        active = self.page.js('return roskevad.editor.openDocuments.active')
         self.say(f'kill in {last}')
         gone = set()
         if last == 'strokes':

@@ -1,3 +1,4 @@
+# SPDX-License-Identifier: MIT OR Apache-2.0
 """Copies, keeps and pastes tiles and objects on the page in Chromium, between maps whose tilesets stand in
 another order, at other first ids, in another folder, in the map itself, or not at all: a tile stays the
 tile that it was, or is refused by name. A copy that is refused leaves nothing older to be pasted."""
@@ -406,7 +407,7 @@ def test_slow_files():
     with Maps('one', 'two') as page:
         page.js('roskevad.bench.takeStamp({width: 1, height: 1, values: arguments[0]}); roskevad.layouts.all.clear()', TILES[:1])
         page.js(SLOW + 'roskevad.bench.act(["use two"])')
-        page.wait(lambda: page.js('return roskevad.editor.notes.active') == 'two', 'the other map')
+        page.wait(lambda: page.js('return roskevad.editor.openDocuments.active') == 'two', 'the other map')
         assert hand(page) == moved(TILES[:1], 36)
         page.js('roskevad.palette.takeTiles([3, 0], [3, 0])')
         assert 'still being read' in page.bubble() and hand(page) == moved(TILES[:1], 36), page.bubble()

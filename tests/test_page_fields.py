@@ -1,3 +1,4 @@
+# SPDX-License-Identifier: MIT OR Apache-2.0
 """Types into the fields and dialogs of the page in Chromium: what each type of property takes, what
 is refused and why, in the field's own terms, Escape and Ctrl+Z in a field, values that no line
 sets, and the words for refused lines."""

@@ -1,3 +1,4 @@
+# SPDX-License-Identifier: MIT OR Apache-2.0
 """Opens the page's one file in Firefox from a disk: chooses files, draws with the mouse, undoes by keys,
 saves, and loads the page anew in the midst of work."""
 import shutil
@@ -70,11 +71,11 @@ def test_a_drawing():
         assert standing(fox) == (1, 2, True)
         see_saved(fox)
         stroke(fox, [(3, 24), (8, 24)])
-        before = fox.js('return window.roskevad.editor.session.step("show")')
+        before = fox.js('return window.roskevad.editor.editor.step("show")')
         fox.reload()
         fox.settle()
         assert standing(fox) == (2, 2, False)
-        assert fox.js('return window.roskevad.editor.session.step("show")') == before
+        assert fox.js('return window.roskevad.editor.editor.step("show")') == before
         assert fox.js('return window.roskevad.tilesets.all.map(set => set.image !== null)') == [True]
         fox.press(CONTROL, 'z')
         assert standing(fox) == (1, 2, True)

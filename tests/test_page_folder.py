@@ -1,3 +1,4 @@
+# SPDX-License-Identifier: MIT OR Apache-2.0
 """Works on a folder that `./tile_page` serves, in Chromium: files that change outside, saves that are
 slow, refused or over another file, files of any name and in sub-folders, tilesets beside the maps, and
 a server that ends. And on a folder that the browser gives, which is one of its own here, since its

@@ -1,3 +1,4 @@
+# SPDX-License-Identifier: MIT OR Apache-2.0
 """Tries the hand on the page in Chromium: lines by Shift, rectangles, fills with a pattern, cut,
 copy and paste of cells, kept stamps, Escape, keys in fields, and where words at the hand stand.
 Each test has a copy of the maps of its own."""

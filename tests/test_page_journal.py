@@ -1,3 +1,4 @@
+# SPDX-License-Identifier: MIT OR Apache-2.0
 """Ends browsers under the page, and looks for what was done behind a new start: killed in the midst of
 strokes, in a save and in a replay; journals that are damaged, replay otherwise, are of another version
 or full; a browser that keeps nothing; and a page that asks no other host for anything."""

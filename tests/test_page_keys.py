@@ -1,3 +1,4 @@
+# SPDX-License-Identifier: MIT OR Apache-2.0
 """Works on the page by keys alone, and looks at what readers of the screen are told: the list of keys,
 the order of Tab, the browser's accessibility tree, the ring of the focus, and the three tasks on the
 example world."""
@@ -47,8 +48,8 @@ def focused(page):
 
 # What keys do in lists, on the map and on the tiles, by the tables that bind them there.
 PLACE_KEYS = '''
-const {rowKeys, mapKeys, tileKeys} = roskevad;
-return [...rowKeys, mapKeys, tileKeys].flatMap(({group}) => group.rows.map(([keys, text]) => [keys, text]));'''
+const {lists, mapKeys, tileKeys} = roskevad;
+return [...lists, mapKeys, tileKeys].flatMap(({group}) => group.rows.map(([keys, text]) => [keys, text]));'''
 
 
 def test_list_of_keys():

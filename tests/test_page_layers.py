@@ -1,3 +1,4 @@
+# SPDX-License-Identifier: MIT OR Apache-2.0
 """Works with the list of layers on the page in Chromium, by mouse and keys: a double click, a drag within a
 group, groups that are folded, and layers that are hidden or locked, on which nothing is drawn unasked."""
 import json

@@ -1,3 +1,4 @@
+# SPDX-License-Identifier: MIT OR Apache-2.0
 """Looks at how the page is laid out: how much of the window the map has, contrasts and targets in light
 and dark, pictures on buttons, the log in words, the page where no map is open, objects' outlines and names."""
 from lib.cases import passed

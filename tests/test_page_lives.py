@@ -1,3 +1,4 @@
+# SPDX-License-Identifier: MIT OR Apache-2.0
 """What waits for a file or for an answer is about one document, from its opening until it is closed, and
 never about its name: maps that are loaded anew when their files were broken outside, saves that are
 slow while their documents are closed and others get their names, questions that destroy something, and
@@ -24,7 +25,7 @@ BROKEN = {
 
 def files_of(page):
     """The file of each document that has one."""
-    code = 'return [...roskevad.editor.notes.documents.values()].filter(each => each.file).map(each => [each.name, each.file.path])'
+    code = 'return [...roskevad.editor.openDocuments.byName.values()].filter(each => each.file).map(each => [each.name, each.file.path])'
     return dict(page.js(code))
 
 
@@ -140,7 +141,7 @@ def test_a_reload_while_the_page_looks():
         page.js('dispatchEvent(new Event("focus"))')
         page.wait(lambda: page.js('return "goOn" in roskevad'), 'the page looks')
         (bench.folder / 'town.tmj').write_bytes(OTHER)
-        page.js('roskevad.documents.outside.reload(roskevad.editor.notes.document)')
+        page.js('roskevad.documents.outside.reload(roskevad.editor.openDocuments.document)')
         page.fill_in('Keep both')
         page.js('roskevad.goOn()')
         page.wait(lambda: not page.js('return roskevad.documents.outside.isLooking'), 'it has looked')

@@ -1,3 +1,4 @@
+# SPDX-License-Identifier: MIT OR Apache-2.0
 """Looks at what the page to draw on shows, by its pixels in Chromium: the example maps as their
 tilesets have them, hidden layers, flips, tiles of other sizes than a cell as Tiled draws them, the
 grid, the selection, objects and their names, and the palette."""

@@ -1,3 +1,4 @@
+# SPDX-License-Identifier: MIT OR Apache-2.0
 """Works with several maps on the page in Chromium, by mouse and keys: what a closed tab gives way to, names of
 tabs, the list of maps to open, and what each map keeps: zoom, place, layer, tool, stamp and panels."""
 import json

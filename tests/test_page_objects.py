@@ -1,3 +1,4 @@
+# SPDX-License-Identifier: MIT OR Apache-2.0
 """Works with objects on the page in Chromium, by mouse and keys: which one a click chooses, the
 list with its search, a new one and its name, handles and arrow keys, copies and what no line can
 copy, and keys that act on what the tool in hand shows as chosen."""
@@ -226,7 +227,7 @@ def test_handles():
         hand.pointer_down(button=0)
         hand.move_to_location(x + 30, y + 9)
         chain.perform()
-        assert page.js('return roskevad.marks.dragged.id') == INN
+        assert page.js('return roskevad.overlay.dragged.id') == INN
         type_keys(page, Keys.ESCAPE)
         chain = ActionChains(page.driver, duration=30)
         chain.w3c_actions.pointer_action.pointer_up(button=0)

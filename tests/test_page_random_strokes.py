@@ -1,3 +1,4 @@
+# SPDX-License-Identifier: MIT OR Apache-2.0
 """Draws 40 strokes by chance on the page in Chromium: each is one step or none, an undo gives back
 the map before it, and the page has the map that the editor has."""
 import random
@@ -49,8 +50,8 @@ def tell(page, line):
 
 # The cells that the page has drawn last, of which it has asked the editor, or drawn them itself.
 SEEN = '''
-const {editor: {map}, view: {seen}} = roskevad;
-return [seen.box, [...seen.cellsOf(map.layers[0].id)]]'''
+const {editor: {map}, view: {cache}} = roskevad;
+return [cache.box, [...cache.cellsOf(map.layers[0].id)]]'''
 
 
 def take_tool(page, numbers):

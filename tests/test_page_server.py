@@ -1,3 +1,4 @@
+# SPDX-License-Identifier: MIT OR Apache-2.0
 """Asks the server of the page, `./tile_page`, over raw sockets for what it must give and what it
 must refuse: addresses, keys, hosts, methods, heads, bodies, files below the root, saves, many and
 slow connections; its ends; the wheel of the package, which serves the page from elsewhere; and
@@ -456,7 +457,7 @@ def test_the_wheel_has_the_page():
     with tempfile.TemporaryDirectory() as top:
         with zipfile.ZipFile(wheel_in(Path(top))) as archive:
             archive.extractall(f'{top}/installed')
-            assert not [name for name in archive.namelist() if '/static/' in name]
+            assert not [name for name in archive.namelist() if name.endswith('.js')]
         words = [sys.executable, '-m', 'roskevad.page']
         program = subprocess.Popen(words, cwd=f'{top}/installed', stdout=subprocess.PIPE, text=True)
         try:

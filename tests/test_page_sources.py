@@ -1,3 +1,4 @@
+# SPDX-License-Identifier: MIT OR Apache-2.0
 """Works on the page where a journal comes from elsewhere: of another folder at the same port of `./tile_page`, of the
 same folder by another start of it, and of another folder of the browser. Names of files say nothing of another source."""
 import json

@@ -1,3 +1,4 @@
+# SPDX-License-Identifier: MIT OR Apache-2.0
 """Measures how long the page takes in Chromium on a map of eight layers of 1,024 by 1,024 cells: from
 the hand, or from the key, to the picture, and how much of that is its work; a stamp of a whole layer takes as few lines as have room for
 it, and is one step. docs/speed.md has what it measures on a machine that does nothing else; here it may take

@@ -1,3 +1,4 @@
+# SPDX-License-Identifier: MIT OR Apache-2.0
 """Opens on the page what strangers made: maps and tilesets with one odd member, images, texts, properties and
 polygons that are more than the page shows, and long sessions, which it plays in parts and stops."""
 import base64
@@ -20,7 +21,7 @@ TENTH = 13_421_772
 
 # Opens a map beside other files, looks at all of it, draws, and tells what is seen, what the page says of it, and what went wrong.
 LOOK = '''
-const [text, files, done] = arguments, {editor, view, marks, bench, tools, tilesets} = roskevad, faults = [];
+const [text, files, done] = arguments, {editor, view, overlay, bench, tools, tilesets} = roskevad, faults = [];
 const onError = event => faults.push(String(event.message ?? event.reason?.stack ?? event.reason));
 for (const name of ["error", "unhandledrejection"]) addEventListener(name, onError);
 const warn = console.warn;
@@ -31,7 +32,7 @@ const sum = canvas => new Uint32Array(canvas.getContext("2d").getImageData(0, 0,
 (async () => {
   editor.place.take([["x.tmj", text], ...Object.entries(files)].map(([path, text]) => ({path, bytes: bytes(text)})));
   const {replies: [reply]} = await editor.openPath("x.tmj");
-  const {active} = editor.notes, seen = [];
+  const {active} = editor.openDocuments, seen = [];
   if (reply.startsWith("ok")) {
     while (editor.underWay || tilesets.isReading) await frame();
     for (const id of ["of-map", "of-layer", "of-object"]) document.getElementById(id).click();
@@ -44,7 +45,7 @@ const sum = canvas => new Uint32Array(canvas.getContext("2d").getImageData(0, 0,
     bench.chooseLayer(1);
     await bench.act(["stamp 1 0 0 1 1", "undo"]);
     await frame();
-    seen.push(sum(view.canvas), sum(marks.canvas));
+    seen.push(sum(view.canvas), sum(overlay.canvas));
   }
   const words = document.getElementById("not-drawn").textContent;
   if (active) editor.doLines([`discard ${active}`]);

@@ -1,3 +1,4 @@
+# SPDX-License-Identifier: MIT OR Apache-2.0
 """Draws on the page in Chromium by mouse and keys: strokes of brush and eraser, each of which is
 one step, fills, selections, stamps that are flipped and turned, and strokes by chance. Each test
 has a server and a copy of the maps of its own."""

@@ -1,3 +1,4 @@
+# SPDX-License-Identifier: MIT OR Apache-2.0
 """Edits layers, groups, objects, properties and the map's size on the page in Chromium, by mouse,
 keys and dialogs: each edit is the line that it must be, and is seen."""
 from lib.maps import layers_in

@@ -1,3 +1,4 @@
+# SPDX-License-Identifier: MIT OR Apache-2.0
 """Works with tilesets on the page in Chromium, by mouse and keys: the palette's zoom and width, the tile
 that is picked, tilesets that are added and removed, tiles in words; and opens hostile files, of which each
 is named, all else is drawn, and the page stays quick."""

@@ -1,3 +1,4 @@
+# SPDX-License-Identifier: MIT OR Apache-2.0
 """Tries what the page shows of a map in Chromium: Tiled's own examples and maps of all
 orientations, layers and tile objects as Tiled draws and clicks them; the wheel, scroll bars, the
 map in small, and screens of other scales."""

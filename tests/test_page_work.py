@@ -1,3 +1,4 @@
+# SPDX-License-Identifier: MIT OR Apache-2.0
 """Works with documents on the page in Chromium: steps, macros, files, refusals, the box of lines,
 sessions that are copied and played, the page loaded anew, and two windows. Most is done on the one
 file, and files and sessions also on what `./tile_page` serves."""
@@ -147,7 +148,7 @@ def test_refusals():
             'const box = document.getElementById("bubble").getBoundingClientRect(); return [box.left, box.top]'
         )
         hand = page.point((3, 20))
-        assert page.js('return roskevad.marks.hand') is None
+        assert page.js('return roskevad.overlay.hand') is None
         assert (
             page.bubble() == f'{things} has objects and no tiles. Choose a tile layer to draw.'
             and abs(place[0] - hand[0]) < 160

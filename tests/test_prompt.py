@@ -1,3 +1,4 @@
+# SPDX-License-Identifier: MIT OR Apache-2.0
 """Tries the prompt of the Python package: command lines, files of any name, the end of the input
 while work is not saved, an output that is closed; and at a terminal Ctrl+C, Ctrl-D and Tab."""
 import json

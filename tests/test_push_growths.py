@@ -1,3 +1,4 @@
+# SPDX-License-Identifier: MIT OR Apache-2.0
 """Refuses the growths of memory in the middle of a push one by one, and counts what lines ask for.
 The growths of a push are told apart by counting those of a line:
 

@@ -1,3 +1,4 @@
+# SPDX-License-Identifier: MIT OR Apache-2.0
 """Tries how calls of the Python package go wrong: refusals that go to another process or are
 copied, forks while a thread is in a call, signal handlers in the midst of a call, threads that take
 turns, and values of other types. A call that could hang is made in a process of its own, with a

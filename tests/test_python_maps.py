@@ -1,3 +1,4 @@
+# SPDX-License-Identifier: MIT OR Apache-2.0
 """Opens, edits and saves maps with fractions, infinite maps and packed ones by the Python package, and
 compares what is saved with the source, number by number. Tiled's own example maps are among them, as
 Tiled exports them in each tile layer format, finite and infinite; Tiled exports what was saved, and

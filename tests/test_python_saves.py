@@ -1,3 +1,4 @@
+# SPDX-License-Identifier: MIT OR Apache-2.0
 """Cuts saves of the Python package short, by an alarm at random points and by an exception in place
 of each of its calls on files. However a save ends, the exception is passed on, the file is the old
 or the new one, the clean mark agrees with it, and nothing is left beside it. Besides: saves that

@@ -1,3 +1,4 @@
+# SPDX-License-Identifier: MIT OR Apache-2.0
 """Runs `map_report --json`, whose line for each file tells what the report for people tells, and
 has the members of docs/map-files.md. The maps are those of test_reports.py; of a map that is
 refused, what is wanted follows from the lines that are wanted there. Then come names and texts of

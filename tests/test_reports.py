@@ -1,3 +1,4 @@
+# SPDX-License-Identifier: MIT OR Apache-2.0
 """Reports good maps and maps with faults by the program `map_report`, and compares each line with
 the one that the rules of docs/map-files.md give. Each map with a fault is a good one with some
 members changed or taken out; a table says which, and what the line must be. A second table has the

@@ -1,4 +1,5 @@
-"""Compares the library in `lib/`, its WebAssembly module included, with the one that
+# SPDX-License-Identifier: MIT OR Apache-2.0
+"""Compares the library in `lib/` and its WebAssembly module in `js/` with those that
 `tools/build_library` builds over what `rt ci` has proved, byte for byte. The bytes of the archive and
 of the shared library depend on the binutils: those in `lib/` are of 2.40, of Debian 12. Besides, it
 sees which glibc the library needs, that it gives out no names but its own, and that the module has
@@ -53,8 +54,8 @@ def test_library_that_was_proved():
 
         check_each(
             [
-                Case(f'lib/{name}', LIB / name, Path(folder) / name)
-                for name in tool('build_library').FILES
+                Case(f'{path.parent.name}/{path.name}', path, Path(folder) / path.name)
+                for path in tool('build_library').FILES
             ],
             fault_of,
         )
@@ -76,7 +77,7 @@ def test_names_that_it_gives_out():
 
 def test_calls_that_the_module_has():
     """Those of the header, with what the host takes memory by, and no more; and it imports nothing."""
-    sections = lower.Lowering((LIB / 'roskevad.wasm').read_bytes())
+    sections = lower.Lowering((TOP / 'js' / 'roskevad.wasm').read_bytes())
     header = (TOP / 'include' / 'roskevad.h').read_text()
     calls = re.findall(r'^(?:size_t|void) (roskevad_\w+)\(', header, re.MULTILINE)
     fault = unlike(sorted([*calls, 'alloc', 'free']), sorted(sections.exports))

@@ -1,3 +1,4 @@
+# SPDX-License-Identifier: MIT OR Apache-2.0
 """Compares the maps that `rt ci` reads with those of the examples: a program that it runs is given
 the files of its own crate alone. Besides, the pictures of the tiles must be those that their script
 draws."""

@@ -1,3 +1,4 @@
+# SPDX-License-Identifier: MIT OR Apache-2.0
 """Compares the page's one file with what `tools/build_page` makes of its modules, byte for byte; and sees
 that the script stops at a module that it cannot put there."""
 import importlib.machinery

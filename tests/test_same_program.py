@@ -1,3 +1,4 @@
+# SPDX-License-Identifier: MIT OR Apache-2.0
 """Compares the programs in `bin/`, which `./tile_editor` and `./map_report` run, with those that
 `rt ci` has proved and built, byte for byte. If a program has changed, look at the change and copy
 it: `cp crates/NAME/out/NAME bin/NAME`."""

@@ -1,3 +1,4 @@
+# SPDX-License-Identifier: MIT OR Apache-2.0
 """Has several programs save one map: two servers, a server beside the program and beside the package.
 From its look at the old file to its end a save has the name locked, so no accepted save goes over one
 that its sender has not seen. Who waits too long is told who saves, or saves all the same."""

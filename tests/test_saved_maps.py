@@ -1,3 +1,4 @@
+# SPDX-License-Identifier: MIT OR Apache-2.0
 """Opens each example map, stamps a cell, turns it back, and saves; then makes the stamp again, and
 saves that. In a second run each object of the map is moved, all moves are turned back, and then
 made again. What `show` gives, and what stands in each file, must be the text that the map has by

@@ -1,3 +1,4 @@
+# SPDX-License-Identifier: MIT OR Apache-2.0
 """Refuses each growth of memory of some sessions in turn: the session that `rt ci` runs, the
 examples, and the sessions that are marked for it. Whichever growth is refused, either the run ends
 with status 1, `tile_editor: no memory` on standard error, nothing on standard output and no file

@@ -1,3 +1,4 @@
+# SPDX-License-Identifier: MIT OR Apache-2.0
 """Runs the program on the session files of `sessions/`: its replies must be those that stand beside
 the lines, and the files that it leaves those that are named. Each session is run a second time with
 its bytes given one at a time, or 997 where it is large, which native/interpose.c does; it also

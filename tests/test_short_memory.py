@@ -1,3 +1,4 @@
+# SPDX-License-Identifier: MIT OR Apache-2.0
 """Sees what the program does where the system gives it no more memory, and that the library gives
 back what it takes: a map that takes more memory than there is is refused, and the program goes on;
 1,000 maps that one editor opens and saves take no more memory than 300."""

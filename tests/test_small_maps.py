@@ -1,3 +1,4 @@
+# SPDX-License-Identifier: MIT OR Apache-2.0
 """Runs the program on 400 small random maps beside the plain model of tests/lib/model.py, which
 keeps whole maps and a set of selected cells. Each map gets 30 selections, fills, stamps, erases and
 resizes, most of them partly outside it. No line tells which cells are selected; so behind each

@@ -1,3 +1,4 @@
+# SPDX-License-Identifier: MIT OR Apache-2.0
 """Refuses each growth of memory of some tests in turn, those of stacks in crates/library_tests,
 which `rt ci` has built. Whichever it is, the test must end well: it looks at what a refused call
 leaves, and ends early where what it makes for itself is refused. native/interpose.c refuses the

@@ -1,3 +1,4 @@
+# SPDX-License-Identifier: MIT OR Apache-2.0
 """Runs the program with `--strict`, and without it, on sessions whose end the rules give. A strict
 run ends at the first refused line: the replies up to and with its own are written, no later line is
 carried out, nothing is saved behind it, and standard error names it. At the end of the input it

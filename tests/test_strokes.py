@@ -1,3 +1,4 @@
+# SPDX-License-Identifier: MIT OR Apache-2.0
 """Makes 3,000 pairs of edits and 415 strokes of stamps and erases by chance, with clean marks,
 undos, limits and macros between them, and compares the replies of the program with those of the
 plain model of tests/lib/model.py. The model keeps whole maps before and after each step, where the

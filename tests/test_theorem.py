@@ -1,3 +1,4 @@
+# SPDX-License-Identifier: MIT OR Apache-2.0
 """Compares docs/theorem.md with what the contract of `run` reaches."""
 import pathlib
 import re

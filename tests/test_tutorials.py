@@ -1,3 +1,4 @@
+# SPDX-License-Identifier: MIT OR Apache-2.0
 """Runs the tutorials of `docs/tutorials` over copies of the example maps: what each command prints,
 and the reply to each line, must be what stands on the page; the lines must be those of the session
 file; and the maps that are saved must be what plain edits of the example maps' trees make of

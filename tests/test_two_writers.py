@@ -1,3 +1,4 @@
+# SPDX-License-Identifier: MIT OR Apache-2.0
 """Has two, four and eight runs save one name at once, also with each call delayed and with some of
 them killed. No save is refused, whoever is answered `saved` had its map whole under the name, and
 whoever reads the file finds a whole map. A killed run leaves at most one file beside it, which the

@@ -1,3 +1,4 @@
+# SPDX-License-Identifier: MIT OR Apache-2.0
 """Compares the version in the file VERSION with every place that names it: what the programs and
 the Python package print, the header, the names of the shared library, the metadata of both
 packages, the page of the library, and the newest heading of CHANGELOG.md, where that is there."""

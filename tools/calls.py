@@ -1,3 +1,4 @@
+# SPDX-License-Identifier: MIT OR Apache-2.0
 """The calls of both packages, for Python and for JavaScript: the one table that says them.
 
 `tools/reference` writes from it the tables of docs/python.md and docs/javascript.md, and the declarations js/document.d.ts.

@@ -1,4 +1,5 @@
 #!/usr/bin/env bash
+# SPDX-License-Identifier: MIT OR Apache-2.0
 # Makes the pictures of maps of the README and of this folder anew; make_page.py makes those of the page. It needs Tiled's tmxrasterizer
 # and ImageMagick:
 #   apt-get install tiled imagemagick

@@ -1,4 +1,5 @@
 #!/usr/bin/env python3
+# SPDX-License-Identifier: MIT OR Apache-2.0
 """Makes the pictures of the page to draw on anew, from what tools/build_page has built. It needs what the tests of the page need, and
 ImageMagick:
 

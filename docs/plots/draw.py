@@ -1,4 +1,5 @@
 #!/usr/bin/env python3
+# SPDX-License-Identifier: MIT OR Apache-2.0
 """Draws each table of this folder as a plot: NAME.csv gives NAME.svg. Both axes go by powers of ten."""
 import csv
 import math

@@ -1,4 +1,5 @@
 #!/usr/bin/env python3
+# SPDX-License-Identifier: MIT OR Apache-2.0
 """Measures how the cost of a line grows, and writes a table for each series beside this file.
 
     docs/plots/measure.py [NAME ..]        all series, or these

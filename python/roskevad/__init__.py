@@ -1,3 +1,4 @@
+# SPDX-License-Identifier: MIT OR Apache-2.0
 """The map editor, called and not spawned.
 
     with Editor() as editor:

@@ -1,3 +1,4 @@
+# SPDX-License-Identifier: MIT OR Apache-2.0
 """A prompt: session lines from a person at a terminal, over a folder of maps.
 
     python3 -m roskevad [--folder DIR] [--limit N]

@@ -1,3 +1,4 @@
+# SPDX-License-Identifier: MIT OR Apache-2.0
 """What the editor's format refuses of a map is set aside before it is read, and put back when it is saved."""
 import math
 import struct

@@ -1,3 +1,4 @@
+# SPDX-License-Identifier: MIT OR Apache-2.0
 """An editor of tile maps, in memory."""
 import contextlib
 import ctypes

@@ -1,3 +1,4 @@
+# SPDX-License-Identifier: MIT OR Apache-2.0
 """What an editor raises."""
 from typing import Iterable, Optional
 

@@ -1,3 +1,4 @@
+# SPDX-License-Identifier: MIT OR Apache-2.0
 """Where the layers of a map stand in its text, so that some members can be written anew and all else stays as it is, digit by
 digit. A text that is no JSON has no layers; the library refuses it."""
 import json

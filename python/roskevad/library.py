@@ -1,3 +1,4 @@
+# SPDX-License-Identifier: MIT OR Apache-2.0
 """Loads the library, and declares its functions."""
 import ctypes
 from pathlib import Path

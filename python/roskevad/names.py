@@ -1,3 +1,4 @@
+# SPDX-License-Identifier: MIT OR Apache-2.0
 """The names of documents and files that a session line can spell."""
 import os
 import re

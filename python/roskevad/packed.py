@@ -1,3 +1,4 @@
+# SPDX-License-Identifier: MIT OR Apache-2.0
 """Maps whose layers are compressed: unpacked before the library reads them, and packed again behind it.
 
     data = packed(put_back(..))          what a file has

@@ -1,3 +1,4 @@
+# SPDX-License-Identifier: MIT OR Apache-2.0
 """The ways in which Tiled packs the cells of a layer: zlib, gzip and Zstandard. Each is unpacked to a number of bytes that is
 known before, and no further, so memory is bounded by it."""
 import importlib

@@ -1,3 +1,4 @@
+# SPDX-License-Identifier: MIT OR Apache-2.0
 """The properties of a map, a layer or an object."""
 import copy
 from typing import TYPE_CHECKING, Any, Callable, Iterator, MutableMapping, Optional

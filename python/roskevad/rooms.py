@@ -1,3 +1,4 @@
+# SPDX-License-Identifier: MIT OR Apache-2.0
 """Where the library puts what it tells."""
 import ctypes
 from typing import Any

@@ -1,3 +1,4 @@
+# SPDX-License-Identifier: MIT OR Apache-2.0
 """The rows of a stamp, and the lines that say them."""
 import operator
 from typing import Any, Iterable, Iterator, NamedTuple

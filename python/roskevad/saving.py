@@ -1,3 +1,4 @@
+# SPDX-License-Identifier: MIT OR Apache-2.0
 """A save of a map into a file, which may be cut short at any point: by Ctrl+C, by any exception, by the end of the process.
 
 A new file is written beside the one that it replaces, under a name that is not there yet, and renamed when it is whole. So the

@@ -1,3 +1,4 @@
+# SPDX-License-Identifier: MIT OR Apache-2.0
 """What was seen of a document's map: its outline, with what looks things up in it."""
 import functools
 from typing import Any, Iterable, Iterator, NamedTuple, Optional

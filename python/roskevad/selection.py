@@ -1,3 +1,4 @@
+# SPDX-License-Identifier: MIT OR Apache-2.0
 """The selection of a document."""
 from bisect import bisect_right
 from typing import Iterator, NamedTuple

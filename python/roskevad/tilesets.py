@@ -1,3 +1,4 @@
+# SPDX-License-Identifier: MIT OR Apache-2.0
 """The tilesets of a document, and the tiles of its cells."""
 from typing import TYPE_CHECKING, Iterator, NamedTuple, Optional, Union
 

@@ -1,3 +1,4 @@
+# SPDX-License-Identifier: MIT OR Apache-2.0
 """The layers of a document, and their objects."""
 import json
 from typing import TYPE_CHECKING, Any, Callable, Iterator, Optional, TypeVar, Union, cast

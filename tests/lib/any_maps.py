@@ -1,3 +1,4 @@
+# SPDX-License-Identifier: MIT OR Apache-2.0
 """Any maps that Tiled saves as JSON, made by chance and by Tiled: with fractions, infinite, packed."""
 import json
 

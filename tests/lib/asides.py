@@ -1,3 +1,4 @@
+# SPDX-License-Identifier: MIT OR Apache-2.0
 """What `--all-maps` makes of a map's tree, plainly: its fractions are set aside, and put back, by the
 rules of docs/map-files.md; an infinite map is made finite, and back, by lib/infinite.py. Trees are
 those of lib/json_texts.py, in which a number that is no whole number of 64 bits is a float; and a run

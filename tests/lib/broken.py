@@ -1,3 +1,4 @@
+# SPDX-License-Identifier: MIT OR Apache-2.0
 """Texts of maps that are changed by chance, for test_broken_maps.py: a byte, a token, a member, an
 entry or a number is put in, taken out, doubled or replaced, or the text ends early."""
 import re

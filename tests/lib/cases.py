@@ -1,3 +1,4 @@
+# SPDX-License-Identifier: MIT OR Apache-2.0
 """How a test writes its cases, looks at each, and tells all that are at fault.
 
 A case has a name, what is given to the program, and what must come of it. A test passes its cases

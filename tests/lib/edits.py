@@ -1,3 +1,4 @@
+# SPDX-License-Identifier: MIT OR Apache-2.0
 """What each edit does to a map, plainly: on the tree of its JSON text and a set of selected cells,
 by the rules of docs/session-lines.md and docs/map-files.md."""
 import json

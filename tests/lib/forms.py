@@ -1,3 +1,4 @@
+# SPDX-License-Identifier: MIT OR Apache-2.0
 """The forms of lines, as the program's help has them."""
 import itertools
 import re

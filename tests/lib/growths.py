@@ -1,3 +1,4 @@
+# SPDX-License-Identifier: MIT OR Apache-2.0
 """Runs the program with its growths of memory counted, or with one of them refused, and says what
 is wrong where one was. native/interpose.c, which stands before the program's C library, counts and
 refuses."""

@@ -1,3 +1,4 @@
+# SPDX-License-Identifier: MIT OR Apache-2.0
 """Infinite maps as finite ones, and back: the rules of the crate infinite_maps, as a plain program
 with one entry for each cell, and infinite maps that are made and edited by chance."""
 import base64

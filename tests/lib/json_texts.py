@@ -1,3 +1,4 @@
+# SPDX-License-Identifier: MIT OR Apache-2.0
 """What Python's json module tells of the text of a map, for test_broken_maps.py: whether it is
 JSON, has a fraction or is no map, as docs/map-files.md says, and what must be written for a map
 that was opened."""

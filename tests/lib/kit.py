@@ -1,3 +1,4 @@
+# SPDX-License-Identifier: MIT OR Apache-2.0
 """What the steps that look at what `rt ci` has built need of the Rattle kit and of the crates."""
 import importlib.machinery
 import importlib.util

@@ -1,3 +1,4 @@
+# SPDX-License-Identifier: MIT OR Apache-2.0
 """Maps as trees of JSON: what stands in them, how they are written, and maps that are made here."""
 import base64
 import json

@@ -1,3 +1,4 @@
+# SPDX-License-Identifier: MIT OR Apache-2.0
 """A plain model of the editor: it keeps lists of whole maps, as texts, and tells the reply to each
 line that can be read.
 

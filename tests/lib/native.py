@@ -1,3 +1,4 @@
+# SPDX-License-Identifier: MIT OR Apache-2.0
 """Builds the C files of tests/native, each once in a run of the tests."""
 import atexit
 import hashlib

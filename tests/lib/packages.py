@@ -1,3 +1,4 @@
+# SPDX-License-Identifier: MIT OR Apache-2.0
 """Finds the programs of Debian's packages that steps need, and installs those packages where they are
 missing and this is root."""
 import importlib.util

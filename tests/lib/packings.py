@@ -1,3 +1,4 @@
+# SPDX-License-Identifier: MIT OR Apache-2.0
 """Maps whose layers are compressed, plainly: they are packed here, and unpacked again to compare them."""
 import base64
 import copy

@@ -1,3 +1,4 @@
+# SPDX-License-Identifier: MIT OR Apache-2.0
 """Reads the pages of the repository: their links, the files that they name, their commands, and
 their transcripts, of which each is run as it stands on the page.
 
@@ -29,7 +30,8 @@ COMMENT = re.compile(r'<!-- transcript\n(.*?)-->', re.DOTALL)
 LINK = re.compile(r'\]\(([^)\s]+)\)')
 # A path of the repository, in text or as code.
 NAMED = re.compile(
-    r'(?<![\w./-])((?:docs|crates|examples|sessions|include|lib|bin|js|python|tests|tools|\.ci)/'
+    r'(?<![\w./-])'
+    r'((?:docs|crates|examples|sessions|include|lib|bin|js|page|python|tests|tools|\.ci)/'
     r'[\w./*-]*[\w/*])'
 )
 # A file of a crate, on that crate's page.

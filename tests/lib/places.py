@@ -1,3 +1,4 @@
+# SPDX-License-Identifier: MIT OR Apache-2.0
 """Where things stand in the repository, and which programs are tried."""
 import os
 import subprocess

@@ -1,3 +1,4 @@
+# SPDX-License-Identifier: MIT OR Apache-2.0
 """A thread that reads a file while others save it."""
 import threading
 

@@ -1,3 +1,4 @@
+# SPDX-License-Identifier: MIT OR Apache-2.0
 """The codes and words of refusals, as docs/refusals.md has them."""
 import re
 

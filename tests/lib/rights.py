@@ -1,3 +1,4 @@
+# SPDX-License-Identifier: MIT OR Apache-2.0
 """Runs a program as a user without rights: permissions stop nothing that runs as root."""
 import os
 import subprocess

@@ -1,3 +1,4 @@
+# SPDX-License-Identifier: MIT OR Apache-2.0
 """Finds the steps of the tests and runs them, side by side where they may.
 
 A step is a file `tests/test_NAME.py`. Each of its functions `test_..`, and each such method of its

@@ -1,3 +1,4 @@
+# SPDX-License-Identifier: MIT OR Apache-2.0
 """Runs of the program: what it hears, what it must answer, and which files it must leave; and those
 that the folders of `sessions/` have, as sessions/README.md describes them."""
 import functools

@@ -1,4 +1,5 @@
 #!/usr/bin/env python3
+# SPDX-License-Identifier: MIT OR Apache-2.0
 """Counts what the theorem stands on: all that the contract of `run` reaches by names.
 
 It reads the definitions in `specs/*.antt`, and in `src/*.rt` the declarations that they name. From

@@ -1,3 +1,4 @@
+# SPDX-License-Identifier: MIT OR Apache-2.0
 """Has Tiled export maps. A step that needs it names its package."""
 import gzip
 import os

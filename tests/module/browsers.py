@@ -1,3 +1,4 @@
+# SPDX-License-Identifier: MIT OR Apache-2.0
 """Browsers without a window. Each opens a page of the server, which calls a function of a script and
 tells the server what came of it. So no browser needs a driver."""
 import json

@@ -1,3 +1,4 @@
+// SPDX-License-Identifier: MIT OR Apache-2.0
 // Tells what the package for JavaScript has, and what its calls throw, for tests/test_calls.py. What is
 // given are the lines of a document, and the expressions of the table, by way of JSON.
 import * as roskevad from "../../js/roskevad.js";

@@ -1,3 +1,4 @@
+// SPDX-License-Identifier: MIT OR Apache-2.0
 // Checks of the package that hold in Node and in browsers alike. Each fails by what it throws.
 import {
   BadModule, Broken, Closed, Editor, Module, NoMemory, Refused, VERSION,

@@ -1,3 +1,4 @@
+// SPDX-License-Identifier: MIT OR Apache-2.0
 // The cases that take the most of the stack: 64 macros in one another, 16 groups in one another, JSON
 // that is 127 deep, and lines of 65,535 bytes.
 const LONGEST_LINE = 65_535;

@@ -1,3 +1,4 @@
+// SPDX-License-Identifier: MIT OR Apache-2.0
 // Checks of documents that hold in Node and in browsers alike. What each call does, test_call_lines.py has.
 import { Closed, Document, Editor, Refused } from "../../js/roskevad.js";
 

@@ -1,3 +1,4 @@
+// SPDX-License-Identifier: MIT OR Apache-2.0
 // Hears runs of sessions on the module, in Node or in a page: the server gives each run, and takes what
 // came of it.
 //

@@ -1,3 +1,4 @@
+# SPDX-License-Identifier: MIT OR Apache-2.0
 """Lines of sessions that are the same each time: of each example map, and by chance."""
 
 # What a line may have in the place of a number, beside small ones.

@@ -1,3 +1,4 @@
+// SPDX-License-Identifier: MIT OR Apache-2.0
 // Loads a module, and gives its memory too, which the package keeps to itself.
 import { Module } from "../../js/roskevad.js";
 

@@ -1,3 +1,4 @@
+// SPDX-License-Identifier: MIT OR Apache-2.0
 // Checks of maps as Tiled saves them, in Node and in browsers alike. checks.mjs has the others.
 import { Closed, Editor, NoMemory, documentName } from "../../js/roskevad.js";
 import { refusedLater, same, thrownLater } from "./wanted.mjs";

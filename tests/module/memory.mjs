@@ -1,3 +1,4 @@
+// SPDX-License-Identifier: MIT OR Apache-2.0
 // Measures the memory that sessions take on the module.
 //
 //   node tests/module/memory.mjs peak SESSION [NAME FILE]..   prints the bytes that a session takes

@@ -1,3 +1,4 @@
+// SPDX-License-Identifier: MIT OR Apache-2.0
 // Makes other modules of the bytes of one: cut short, of another version, with less memory or a smaller
 // stack.
 const [MEMORY, GLOBAL, DATA] = [5, 6, 11];

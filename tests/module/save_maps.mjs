@@ -1,3 +1,4 @@
+// SPDX-License-Identifier: MIT OR Apache-2.0
 // Opens, edits, undoes and saves maps of a folder: NAME is saved as saved_NAME.
 //
 //   node tests/module/save_maps.mjs FOLDER NAME..

@@ -1,3 +1,4 @@
+// SPDX-License-Identifier: MIT OR Apache-2.0
 // Does the calls of tests/test_call_lines.py on documents, and tells how these stand then.
 import { readFileSync } from "node:fs";
 import * as roskevad from "../../js/roskevad.js";

@@ -1,3 +1,4 @@
+# SPDX-License-Identifier: MIT OR Apache-2.0
 """Serves the package for JavaScript and runs of sessions, and takes what came of them. So Node and the
 browsers hear them by the same script, hear.mjs. Its page calls a function of a script."""
 import json

@@ -1,3 +1,4 @@
+// SPDX-License-Identifier: MIT OR Apache-2.0
 // Times a session on the module, by each of the calls that do lines, in Node or in a page.
 //
 //   node tests/module/speed.mjs FILE TURNS

@@ -1,3 +1,4 @@
+// SPDX-License-Identifier: MIT OR Apache-2.0
 // What the declarations must take, and what they must not. It is checked, and never run.
 import {
   BadModule, Broken, Closed, Document, Editor, FORMS, Layer, Module, NoMemory, Refused, Run, Status, Tile,

@@ -1,3 +1,4 @@
+// SPDX-License-Identifier: MIT OR Apache-2.0
 // What is compared with what must come, for checks in Node and in browsers.
 import { Refused } from "../../js/roskevad.js";
 

@@ -1,3 +1,4 @@
+// SPDX-License-Identifier: MIT OR Apache-2.0
 // An editor in a worker, of a browser or of Node.
 import { Editor } from "../../js/roskevad.js";
 

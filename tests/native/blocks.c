@@ -1,3 +1,4 @@
+/* SPDX-License-Identifier: MIT OR Apache-2.0 */
 // Stands between a program that is run with LD_PRELOAD and the C library, and counts the blocks of memory that were taken
 // and not given back.
 //

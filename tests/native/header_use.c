@@ -1,3 +1,4 @@
+/* SPDX-License-Identifier: MIT OR Apache-2.0 */
 /* Uses every name of the header, in C and in C++ alike. It is compiled with warnings, and not run. */
 #include "roskevad.h"
 

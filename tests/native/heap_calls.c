@@ -1,3 +1,4 @@
+/* SPDX-License-Identifier: MIT OR Apache-2.0 */
 /* Tries the module's heap by random calls, on memory of this process in the place of the engine's.
  *
  *     heap_calls SEED CALLS PAGES

@@ -1,3 +1,4 @@
+/* SPDX-License-Identifier: MIT OR Apache-2.0 */
 // Stands between a program that is run with LD_PRELOAD and the C library, and measures the live heap.
 //
 // For each file that is opened it writes a number on standard error: the greatest size of the live heap from that opening to

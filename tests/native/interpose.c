@@ -1,3 +1,4 @@
+/* SPDX-License-Identifier: MIT OR Apache-2.0 */
 // Stands between a program that is run with LD_PRELOAD and the C library.
 //
 // It refuses the growth of memory (`malloc` or `realloc`) whose number, from one, is in REFUSED_GROWTH, and writes on

@@ -1,3 +1,4 @@
+/* SPDX-License-Identifier: MIT OR Apache-2.0 */
 // Stands between a program that is run with LD_PRELOAD and the C library, and stops its saves.
 //
 // It counts the calls on files of the folder `maps/` and on the folder itself, from one, and the writes on standard output.

@@ -1,3 +1,4 @@
+/* SPDX-License-Identifier: MIT OR Apache-2.0 */
 /* Calls the library through its header, and says what is wrong. With `random SEED LINES` the lines are random bytes; with
  * `script` they are fixed, and a call for which there was no memory is made again. */
 #include <malloc.h>

@@ -1,3 +1,4 @@
+/* SPDX-License-Identifier: MIT OR Apache-2.0 */
 /* Measures the library in a session, which finds the files that are named.
  *
  *     library_session time TURNS SESSION      prints the nanoseconds of each turn, each with a new editor

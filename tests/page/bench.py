@@ -1,3 +1,4 @@
+# SPDX-License-Identifier: MIT OR Apache-2.0
 """The page over a copy of the example maps, what is asked of its editor, and the colours that the page
 must show by the images of the tilesets. The state is looked at by lines, and what is seen by its
 pixels."""

@@ -1,3 +1,4 @@
+# SPDX-License-Identifier: MIT OR Apache-2.0
 """Chromium without a window, the page in it, the hand on it, and the pixels that it shows."""
 import atexit
 import base64
@@ -119,7 +120,7 @@ class Session:
     def state(self):
         return self.page.js(
             'const {editor} = roskevad;'
-            'return {...editor.standing(), selection: editor.session.selection()}'
+            'return {...editor.standing(), selection: editor.editor.selection()}'
         )
 
     def map(self):
@@ -127,7 +128,7 @@ class Session:
 
     def shown(self):
         """The bytes of the map, as the line `show` tells them."""
-        return self.page.js('return roskevad.editor.session.step("show").slice(4)').encode()
+        return self.page.js('return roskevad.editor.editor.step("show").slice(4)').encode()
 
     def session(self):
         return self.page.js('return roskevad.editor.copied()').encode()

@@ -1,3 +1,4 @@
+# SPDX-License-Identifier: MIT OR Apache-2.0
 """The server of the page, and requests to it over raw sockets."""
 import contextlib
 import hashlib

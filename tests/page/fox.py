@@ -1,3 +1,4 @@
+# SPDX-License-Identifier: MIT OR Apache-2.0
 """Firefox without a window, by its Marionette port: Debian has no geckodriver."""
 import json
 import os

@@ -1,3 +1,4 @@
+# SPDX-License-Identifier: MIT OR Apache-2.0
 """Browsers that end: each with a profile that outlives it, so that what a page has kept can be looked
 for behind a new start."""
 import os

@@ -1,3 +1,4 @@
+# SPDX-License-Identifier: MIT OR Apache-2.0
 """The page with a folder that the browser gives: one of its own, since its chooser takes no answer from a
 test."""
 import contextlib

@@ -1,3 +1,4 @@
+# SPDX-License-Identifier: MIT OR Apache-2.0
 """Servers on a slow disk, as a busy one or one of the network."""
 import contextlib
 import os

@@ -1,3 +1,4 @@
+# SPDX-License-Identifier: MIT OR Apache-2.0
 """Maps and tilesets of strangers: each has one member of another kind than Tiled's JSON format says, or is more
 than the page shows."""
 import copy

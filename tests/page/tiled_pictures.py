@@ -1,3 +1,4 @@
+# SPDX-License-Identifier: MIT OR Apache-2.0
 """Maps as real Tiled draws them, and the pixels in which the page draws them otherwise. Tiled draws
 without smoothing: each pixel is one of an image."""
 import base64

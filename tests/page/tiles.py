@@ -1,3 +1,4 @@
+# SPDX-License-Identifier: MIT OR Apache-2.0
 """A map with tiles of other sizes than a cell, each in its eight flips and turns, and `tiles.png`,
 which is what Tiled 1.8.2 draws of it. To make the picture anew, where `tmxrasterizer` is installed:
 

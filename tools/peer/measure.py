@@ -1,4 +1,5 @@
 #!/usr/bin/env python3
+# SPDX-License-Identifier: MIT OR Apache-2.0
 """Runs sessions on `bin/tile_editor` and on the peer, compares all replies and all saved maps byte
 for byte, and prints for each session what both take.
 

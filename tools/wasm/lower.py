@@ -1,4 +1,5 @@
 #!/usr/bin/env python3
+# SPDX-License-Identifier: MIT OR Apache-2.0
 """Lowers a WebAssembly module with 64-bit addresses to one with 32-bit addresses, which all browsers
 and Node take.
 

@@ -1,3 +1,4 @@
+# SPDX-License-Identifier: MIT OR Apache-2.0
 """Makes the WebAssembly module of the LLVM module that the kit compiled for x86-64.
 
 1. The kit hands its LLVM module to the `clang` of a toolchain folder. That folder is one of ours here,

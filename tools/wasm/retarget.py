@@ -1,3 +1,4 @@
+# SPDX-License-Identifier: MIT OR Apache-2.0
 """Writes the text of an LLVM module for x86-64 anew, for WebAssembly with 64-bit addresses.
 
 It changes what frames the code: the layout of data, the target, the attributes that name a processor

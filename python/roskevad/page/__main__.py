@@ -1,3 +1,4 @@
+# SPDX-License-Identifier: MIT OR Apache-2.0
 """A page to draw on, over a folder of this machine.
 
     python3 -m roskevad.page [--folder DIR] [--root DIR] [--limit N] [--port N] [--key-file FILE] [FILE ..]

@@ -1,3 +1,4 @@
+# SPDX-License-Identifier: MIT OR Apache-2.0
 """The files that the page works on: maps of a folder, and tilesets and images below a root."""
 import hashlib
 import os

@@ -1,3 +1,4 @@
+# SPDX-License-Identifier: MIT OR Apache-2.0
 """Which server has a folder: a file for each folder, below what this user's programs keep while they run. Its server has it locked for as long
 as it lives, so what a killed one leaves says nothing."""
 import fcntl

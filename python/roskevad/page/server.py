@@ -1,3 +1,4 @@
+# SPDX-License-Identifier: MIT OR Apache-2.0
 """The server of the page: requests of the page, and of nobody else, over HTTP on this machine. There is no editor in it.
 
 It is bound to 127.0.0.1. Its key is new at each start, but for one of a file, and stands in the address that it prints. Each request

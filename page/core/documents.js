@@ -1,0 +1,188 @@
+// SPDX-License-Identifier: MIT OR Apache-2.0
+// The open documents as tabs, and what is done with whole maps: new, open, save, close, resize.
+import { ask, byId, destroying, element } from "../panels/dom.js";
+import { iconButton } from "../panels/icons.js";
+import { KINDS } from "./kinds.js";
+import { FileList } from "../files/file_list.js";
+import { MapProbe } from "../files/map_probe.js";
+import { lastOf } from "../files/names.js";
+import { OutsideChanges } from "../files/outside_changes.js";
+import { IN_XML, isXmlMapName } from "../files/places.js";
+import { saidOf } from "./refusals.js";
+import { NEVER_SAVED } from "../panels/status_bar.js";
+
+// What a document is called for the user: the name of its file, or its own name where it has none.
+const titleOf = ({ name, path }) => (path ? lastOf(path) : name);
+
+// Sizes of a new map, in cells, and of its tiles, in pixels.
+const SIZES = [["Room 20 × 15", 20, 15], ["Screen 40 × 30", 40, 30], ["World 100 × 100", 100, 100]];
+const SIDES = [8, 16, 32, 64];
+
+// What may be answered where a document is closed.
+const SAVE = "Save and close";
+const DISCARD = destroying("Discard");
+const WAIT = "Wait, then close";
+const LEAVE = destroying("Leave it");
+
+export class Documents {
+  constructor(bench) {
+    this.bench = bench;
+    this.editor = bench.editor;
+    byId("file-actions").append(
+      iconButton("new", "New", "New map", () => this.make(), { id: "new" }),
+      iconButton("open", "Open", "Open a map (Ctrl+O)", () => this.open(), { id: "open" }),
+      iconButton("save", "Save", "Save the map into its file (Ctrl+S)", () => this.save(), { id: "save" }),
+      element("span", { id: "save-hint" }),
+      iconButton("saveAs", "Save as", "Save as: the map into another file (Ctrl+Shift+S)", () => this.saveAs(), { id: "save-as" }),
+      iconButton("resize", "Resize", "Resize: another size of the map", () => this.resize(), { id: "resize" }),
+    );
+    this.outside = new OutsideChanges(bench, document => this.saveAs(document), new MapProbe());
+  }
+
+  show() {
+    const { documents, active, isClean, file } = this.editor.state;
+    byId("tabs").replaceChildren(...documents.map(each => this.tab(each)));
+    document.title = active ? `${isClean ? "" : "• "}${titleOf({ name: active, path: file })} – Roskevad` : "Roskevad";
+    byId("empty").hidden = Boolean(active);
+    byId("save").title = `Save the map into ${file ? `its file, ${file}` : "a file"} (Ctrl+S)`;
+    byId("save-hint").textContent = this.editor.place.isDownload ? "is a download" : "";
+    byId("save-hint").title = "The browser does not tell whether a download is kept. So a map stays in the journal of this page until it is closed.";
+    byId("folder").textContent = this.editor.place.title;
+  }
+
+  tab({ name, isActive, isClean, isWriting, path }) {
+    const saved = isWriting ? "is being saved" : path === null ? NEVER_SAVED : isClean ? "saved" : "not saved";
+    const mark = element("span", { className: "mark", textContent: isClean ? "" : "•", title: saved });
+    const close = iconButton("close", `Close ${titleOf({ name, path })}`, `Close ${titleOf({ name, path })}`, event => {
+      event.stopPropagation();
+      this.close(name);
+    }, { className: "close" });
+    const onclick = () => isActive || this.bench.act([`use ${name}`]);
+    const title = `${path ?? "in no file yet"} (in lines: ${name})`;
+    const shown = { className: "tab", title, data: { document: name }, onclick };
+    const tab = element("div", shown, mark, element("span", { textContent: titleOf({ name, path }) }), close);
+    tab.classList.toggle("on", isActive);
+    tab.classList.toggle("unsaved", !isClean);
+    return tab;
+  }
+
+  async make() {
+    await ask("A new map", [
+      { name: "name", label: "Name", value: "map", kind: KINDS.document },
+      { label: "Size", presets: SIZES.map(([text, width, height]) => [text, { width, height }]) },
+      { name: "width", label: "Columns", value: 40, kind: KINDS.cells },
+      { name: "height", label: "Rows", value: 30, kind: KINDS.cells },
+      { label: "Tiles", presets: SIDES.map(side => [`${side} × ${side}`, { side, tall: side }]) },
+      { name: "side", label: "Width of a tile in pixels", value: 16, kind: KINDS.side },
+      { name: "tall", label: "Height of a tile in pixels", value: 16, kind: KINDS.side },
+      { name: "source", label: "Its tileset", value: this.bench.map?.data.tilesets.find(set => set.source)?.source ?? "tiles.tsx", kind: KINDS.text },
+    ], ["OK"], made => this.made(made));
+  }
+
+  // Makes a map for the dialog. It would be saved under its name, which no file may have.
+  async made({ name, width, height, side, tall, source }) {
+    const file = `${name}.tmj`;
+    const names = await this.editor.during(this.editor.place.names().catch(() => []));
+    const isOpen = this.editor.openDocuments.byName.has(name);
+    if (!isOpen && names.some(({ path }) => path === file)) return { words: `The file ${file} is there already. Choose another name.`, field: "name" };
+    return this.bench.attempt([`new ${name} ${width} ${height} ${side} ${tall} ${source}`], { 11: "name" });
+  }
+
+  // ---- opening
+  async open() {
+    const { place } = this.editor;
+    const maps = await place.maps().catch(fault => this.bench.say(fault.message) ?? []);
+    const known = new Map(this.editor.documents().map(each => [each.path, "open"]));
+    const probe = new MapProbe();
+    const inXml = await this.namesInXml();
+    const fields = inXml ? [element("p", { id: "in-xml", textContent: inXml })] : [];
+    const path = await new FileList("Open a map", maps, { known, look: path => probe.look(place, path), none: "There is no map here.", fields }).ask();
+    if (path) await this.openPath(path);
+  }
+
+  // What is said of the maps in XML that the place has; "" where it has none.
+  async namesInXml() {
+    const names = (await this.editor.place.names().catch(() => [])).map(each => each.path).filter(isXmlMapName);
+    const [first, ...others] = names;
+    return first ? `Not listed: ${first}${others.length ? ` and ${others.length} more` : ""}, ${IN_XML}` : "";
+  }
+
+  // Opens a file, or shows the document that has it already.
+  async openPath(path) {
+    const open = this.editor.documents().find(each => each.path === path);
+    if (open) return this.bench.act([`use ${open.name}`]);
+    return this.bench.sayRefusal(await this.editor.openPath(path));
+  }
+
+  // ---- saving
+  save() {
+    const { file, active, isClean } = this.editor.standing();
+    if (!active) return this.bench.act(["save map.tmj"]);
+    if (!file) return this.saveAs();
+    if (!isClean) return this.saveTo(this.editor.openDocuments.document, file);
+    this.bench.say(`${file} is saved already.`);
+    return { isHeard: true };
+  }
+
+  // Saves a document, into its file or into one that is asked for.
+  saveOf(document) {
+    return document.file ? this.saveTo(document, document.file.path) : this.saveAs(document);
+  }
+
+  async saveTo(document, path) {
+    return this.bench.sayRefusal(await this.editor.saveInto(document, path));
+  }
+
+  // Asks for a name and saves a document under it. Where that is refused it asks anew, with why; but not where the user kept a file as it is.
+  async saveAs(document = this.editor.openDocuments.document, typed = null, refusal = null) {
+    if (!document) return this.bench.act(["save map.tmj"]);
+    const field = { name: "file", label: "File", value: typed ?? document.file?.path ?? `${document.name}.tmj`, kind: KINDS.path };
+    const told = await ask("Save the map", [field], ["OK"], undefined, refusal);
+    if (!told) return { isHeard: false };
+    const done = await this.saveTo(document, told.file);
+    return done.isHeard || done.isKept || !done.refusal ? done : this.saveAs(document, told.file, { words: saidOf(done) });
+  }
+
+  // ---- closing
+  // Closes a document; where it is not saved, or is being saved, asks first.
+  async close(name) {
+    const document = this.editor.openDocuments.byName.get(name);
+    const found = this.editor.documents().find(each => each.name === name);
+    if (!document) return null;
+    if (found.isClean) return this.closed(document);
+    const told = await (found.isWriting ? this.askWriting(found) : ask(`${titleOf(found)} has changes that are not saved.`, [], [SAVE, DISCARD]));
+    if (told?.answer === DISCARD.text || told?.answer === LEAVE.text) return this.closed(document, "discard");
+    if (told?.answer === WAIT) return document.written().then(() => this.editor.openDocuments.isOpen(document) && this.close(name));
+    if (told?.answer !== SAVE) return null;
+    const saved = await this.saveOf(document);
+    return saved.isHeard ? this.closed(document) : null;
+  }
+
+  askWriting(found) {
+    return ask(`${titleOf(found)} is being saved. If it is left now, nobody tells whether the file was written.`, [], [WAIT, LEAVE]);
+  }
+
+  // Where it was the active one, its neighbour is active then: the one to the right, or else to the left.
+  async closed(document, word = "close") {
+    const { name } = document;
+    if (!this.editor.openDocuments.isOpen(document)) return null;
+    const documents = this.editor.documents();
+    const at = documents.findIndex(each => each.name === name);
+    const neighbour = documents[at]?.isActive ? documents[at + 1] ?? documents[at - 1] : null;
+    const done = await this.bench.act([`${word} ${name}`, ...(neighbour ? [`use ${neighbour.name}`] : [])]);
+    if (done.isHeard) this.outside.forget(document);
+    return done;
+  }
+
+  async resize() {
+    const map = this.bench.map;
+    if (!map) return;
+    await ask("Another size of the map", [
+      { name: "width", label: "Columns", value: map.width, kind: KINDS.cells },
+      { name: "height", label: "Rows", value: map.height, kind: KINDS.cells },
+      { name: "right", label: "The old map goes to the right by", value: 0, kind: KINDS.coordinate },
+      { name: "down", label: "and down by", value: 0, kind: KINDS.coordinate },
+    ], ["OK"], told => this.bench.attempt([`resize ${told.width} ${told.height} ${told.right} ${told.down}`]));
+  }
+}
+

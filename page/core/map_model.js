@@ -1,0 +1,135 @@
+// SPDX-License-Identifier: MIT OR Apache-2.0
+// The map as the page knows it: its outline, and its cells where they are asked for.
+import { LAYER, MAP, OddMembers, titleOfLayer } from "../files/members.js";
+import { projectionOf } from "../view/projections.js";
+import { bothTints, partsOfColour } from "../view/tints.js";
+
+// How far a layer may be moved aside, in pixels.
+const FARTHEST = 1_000_000;
+
+const within = (number, least, most) => Math.max(least, Math.min(most, number));
+
+// A layer of what the file has: with the group that it stands in, or null, how deep, and whether it is seen.
+function layerOf(told, group, place, siblings, odd) {
+  const data = LAYER.take(told, odd, titleOfLayer(told)) ?? {};
+  const isSeen = (group?.isSeen ?? true) && data.visible !== false;
+  const layer = { data, group, depth: group ? group.depth + 1 : 0, place, siblings, id: data.id, type: data.type, isSeen };
+  layer.offsetX = (group?.offsetX ?? 0) + within(data.offsetx ?? 0, -FARTHEST, FARTHEST);
+  layer.offsetY = (group?.offsetY ?? 0) + within(data.offsety ?? 0, -FARTHEST, FARTHEST);
+  layer.opacity = (group?.opacity ?? 1) * within(data.opacity ?? 1, 0, 1);
+  layer.tint = bothTints(group?.tint ?? null, partsOfColour(data.tintcolor));
+  layer.isTiles = data.type === "tilelayer";
+  return layer;
+}
+
+// All layers in the order in which they are drawn, a group before those in it.
+function flattened(layers, odd) {
+  const [found, left] = [[], []];
+  const put = (all, group) => {
+    for (let place = all.length - 1; place >= 0; place--) left.push([all[place], group, place, all.length]);
+  };
+  put(layers, null);
+  while (left.length) {
+    const layer = layerOf(...left.pop(), odd);
+    found.push(layer);
+    if (layer.type === "group") put(layer.data.layers ?? [], layer);
+  }
+  return found;
+}
+
+export class MapModel {
+  // `told` is the outline, and `cells(layer, x, y, width, height)` gives the cells of a rectangle.
+  constructor(told, cells) {
+    // The members that are of another kind than Tiled writes.
+    this.odd = new OddMembers();
+    const data = this.data = MAP.take(told, this.odd, "the map");
+    this.cells = cells;
+    this.width = data.width;
+    this.height = data.height;
+    this.tileWidth = data.tilewidth;
+    this.tileHeight = data.tileheight;
+    this.layers = flattened(data.layers, this.odd);
+    this.projection = projectionOf(this);
+    this.isHexagonal = data.orientation === "hexagonal";
+    this.runs = [];
+    this.selected = null;
+  }
+
+  layer(id) {
+    return this.layers.find(layer => layer.id === id);
+  }
+
+  object(id) {
+    for (const layer of this.layers) {
+      const object = layer.data.objects?.find(each => each.id === id);
+      if (object) return { object, layer };
+    }
+    return null;
+  }
+
+  // Takes the runs of a selection: [row, first column, number of cells].
+  select(runs) {
+    this.runs = runs;
+    this.selected = runs.length ? new Uint8Array(this.width * this.height) : null;
+    for (const [row, column, count] of runs) this.selected.fill(1, row * this.width + column, row * this.width + column + count);
+  }
+
+  isInside(x, y) {
+    return x >= 0 && y >= 0 && x < this.width && y < this.height;
+  }
+
+  // Whether a stamp or an erase reaches the cell: it is in the map, and in the selection where there is one.
+  isReached(x, y) {
+    return this.isInside(x, y) && (!this.selected || this.selected[y * this.width + x] === 1);
+  }
+
+  // The value of a cell of a tile layer.
+  value(layer, x, y) {
+    return this.cells(layer, x, y, 1, 1)[0];
+  }
+
+  // A rectangle within the map: [x, y, width, height], with no width or no height where it is all outside.
+  cut(x, y, width, height) {
+    const [left, top] = [Math.max(0, x), Math.max(0, y)];
+    return [left, top, Math.max(0, Math.min(this.width, x + width) - left), Math.max(0, Math.min(this.height, y + height) - top)];
+  }
+
+  // The cells that a block changes: their places in the rows of the map, and the values before and behind it. A block is what a line
+  // `stamp` or `erase` says: its values row by row, where 0 leaves the cell; without values the cells are emptied.
+  changes(block) {
+    const found = { places: [], before: [], after: [] };
+    const [left, top, width, height] = this.cut(block.x, block.y, block.width, block.height);
+    if (!this.layer(block.layer)?.isTiles || !width || !height) return found;
+    const cells = this.cells(block.layer, left, top, width, height);
+    for (let at = 0; at < cells.length; at++) {
+      const [x, y] = [left + at % width, top + Math.floor(at / width)];
+      const value = block.values ? block.values[(y - block.y) * block.width + x - block.x] : 0;
+      if ((block.values && value === 0) || cells[at] === value || !this.isReached(x, y)) continue;
+      found.places.push(y * this.width + x);
+      found.before.push(cells[at]);
+      found.after.push(value);
+    }
+    return found;
+  }
+
+  // Why a block changes no cell, whatever they have: it lies outside of the map, or the selection has none of its cells. "" where it may.
+  barOf(block) {
+    const [left, top, width, height] = this.cut(block.x, block.y, block.width, block.height);
+    if (!width || !height) return "outside";
+    if (!this.selected) return "";
+    for (let y = top; y < top + height; y++) {
+      for (let x = left; x < left + width; x++) {
+        const isLeft = block.values && block.values[(y - block.y) * block.width + x - block.x] === 0;
+        if (!isLeft && this.selected[y * this.width + x]) return "";
+      }
+    }
+    return "selection";
+  }
+}
+
+// The line of a block; with a plus it follows the step before it.
+export function lineOf(block, follows) {
+  const plus = follows ? "+" : "";
+  if (!block.values) return `erase${plus} ${block.layer} ${block.x} ${block.y} ${block.width} ${block.height}`;
+  return `stamp${plus} ${block.layer} ${block.x} ${block.y} ${block.width} ${Array.from(block.values).join(",")}`;
+}

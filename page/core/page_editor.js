@@ -1,0 +1,624 @@
+// SPDX-License-Identifier: MIT OR Apache-2.0
+// The editor of this window, with its journal and its files: hears lines, keeps them in the journal, and tells what has changed.
+//
+// Lines are done at once, in the order in which they come. Of `open` and `save` the file is read and written beside them.
+import { Broken, Editor, FORMS, NoMemory, VERSION, documentName } from "../../js/roskevad.js";
+import { FreshEditor } from "./fresh_editor.js";
+import { Journal } from "./journal.js";
+import { cellsIn } from "./log_words.js";
+import { ALL, NOTHING, bothChanges, changesOf, isAboutDocuments, isLook, isTurn, wordOf } from "./line_kinds.js";
+import { MapModel } from "./map_model.js";
+import { hashOf } from "../files/hashes.js";
+import { FileNames, freeName } from "../files/names.js";
+import { OpenDocuments } from "./open_documents.js";
+import { loadModule } from "./own_module.js";
+import { Changed, ChosenFiles } from "../files/places.js";
+import { shortHintOf } from "./refusals.js";
+import { Replay } from "./replay.js";
+import { MOST_AT_ONCE, SAVED, cut, isRefusal, opened, pause, replyOf } from "./replies.js";
+import { sourceOf } from "../files/sources.js";
+
+const OPEN = /^open ([A-Za-z0-9_][A-Za-z0-9_.-]{0,63}) ([A-Za-z0-9_][A-Za-z0-9_.-]{0,99})$/;
+const SAVE = /^save ([A-Za-z0-9_][A-Za-z0-9_.-]{0,99})$/;
+const STATUS = /^ok (\d+)\/(\d+) (clean|dirty) (\d+)$/;
+const UNHEARD = { replies: [], isHeard: false };
+// How many lines that are played the journal may be behind.
+const MOST_BEHIND = 10_000;
+// How long a part of lines takes that are played, and how often it is looked whether something has ended, in milliseconds.
+const SHORT = 40;
+const SOON = 20;
+
+// The end of the lines from a place on that are done at once: before the next one that reads or writes a file.
+function endOfPart(lines, from) {
+  let end = from;
+  while (end < lines.length && end < from + MOST_AT_ONCE && !OPEN.test(lines[end]) && !SAVE.test(lines[end])) end++;
+  return end;
+}
+
+// Why a map cannot be shown, by what was thrown.
+function whyNotShown(fault) {
+  const isMemory = fault instanceof NoMemory || fault instanceof RangeError;
+  return isMemory ? "it takes more memory than there is" : `the page fails at something in it (${fault.message})`;
+}
+
+// A file that the user has kept as it is.
+class NotReplaced extends Error {}
+
+// Events:
+//   map        the active map is another one, or its outline is
+//   cells      cells have changed otherwise than by a stroke of the hand; the detail is the part in which alone, or null
+//   selection  the selection has changed
+//   done       lines were done; the detail is the stroke whose edits they are, or null
+//   lines      the lines that were heard, each with its number, its reply, what is at fault in it, how many cells it names, and its gesture
+//   state      how the documents and the steps stand, once the journal has it
+//   broken     the engine has ended the editor
+//   unopened   a map was not opened, since it cannot be shown; the detail is { path, why }
+//   unshown    the detail is the active document, where its map cannot be shown, and why: { document, why }; null where it is shown
+export class PageEditor extends EventTarget {
+  constructor(module, limit) {
+    super();
+    Object.assign(this, { module, limit, forms: Object.fromEntries(FORMS), version: VERSION, place: new ChosenFiles() });
+    this.editor = new Editor(module, { limit });
+    this.journal = new Journal(VERSION, limit);
+    this.journal.summary = () => this.summary();
+    this.journal.source = () => sourceOf(this.place);
+    this.journal.files = () => [...(this.place.files ?? [])].map(([path, { bytes, time }]) => ({ path, bytes, time }));
+    this.names = new FileNames();
+    this.openDocuments = new OpenDocuments(limit);
+    this.state = { change: 0, documents: [], steps: [], firstStep: 0, index: 0, count: 0, depth: 0, isClean: true, active: null, file: null };
+    this.map = null;
+    // Whether the active document has a map that cannot be shown, and whether no line is taken, since the journal begins anew.
+    Object.assign(this, { isUnshown: false, isAside: false });
+    this.steps = 200;
+    this.heard = 0;
+    this.listed = [];
+    this.changed = NOTHING;
+    // Writes that have not ended, by their paths, and how many calls wait for something.
+    this.writes = new Map();
+    this.underWay = 0;
+    // Asked where a file is another one than that which a save of a document may replace: gives whether it is to be replaced.
+    this.mayReplace = async () => false;
+  }
+
+  tell(name, detail = null) {
+    this.dispatchEvent(new CustomEvent(name, { detail }));
+  }
+
+  get runs() {
+    return this.map?.runs ?? [];
+  }
+
+  // ---- lines
+  // Why no edit is taken now; "" where edits are.
+  get barred() {
+    if (this.isBroken) return "The editor has ended: load the page anew.";
+    if (this.isAside) return "The journal of this window begins anew: a moment.";
+    return this.journal.isFull ? "The journal is full: see the message." : "";
+  }
+
+  isBarred(line) {
+    if (this.isBroken || this.isAside) return true;
+    if (!this.journal.isFull || isLook(line) || isAboutDocuments(line) || ["save", "dirty"].includes(wordOf(line))) return false;
+    return !(isTurn(line) && this.journal.hasReserve);
+  }
+
+  // Does lines at once, up to the first that is refused, or all of them. `stroke` is the stroke whose edits they are: it draws itself.
+  // `gesture` is a word for what the hand did, where the lines do not tell it: `rectangle`, `pattern`, `cut`, `empty`, `paste`.
+  // Gives the replies, how many lines were come to, whether all of these were heard and accepted, and the first refusal with its line. Behind
+  // the time `until`, in milliseconds, no further line is begun.
+  doLines(lines, { isFree = false, stroke = null, gesture = null, until = Infinity } = {}) {
+    const replies = [];
+    let [count, refusal, refused] = [0, null, null];
+    for (const line of lines) {
+      if (this.isBarred(line)) return { ...UNHEARD, replies, count, barred: this.barred };
+      const reply = this.hear(line, stroke !== null, gesture);
+      count++;
+      if (reply !== null) replies.push(reply);
+      if (isRefusal(reply) && refusal === null) [refusal, refused] = [reply, line];
+      if ((refusal && !isFree) || performance.now() > until) break;
+    }
+    this.settle(stroke);
+    return { replies, count, isHeard: refusal === null, refusal, refused };
+  }
+
+  // Does lines one behind the other, and waits for the files that they read and write. With `goOn` each part of them takes a short time; behind
+  // it that is called with the count of the lines that are done, and tells whether the others follow.
+  send(lines, options = {}) {
+    return this.during(this.sendAll(lines, options));
+  }
+
+  // Waits until nothing is read or written any more.
+  async free() {
+    while (this.underWay || this.writes.size) await pause(SOON);
+  }
+
+  // What work gives that is under way until then.
+  async during(work) {
+    this.underWay++;
+    try {
+      return await work;
+    } finally {
+      this.underWay--;
+    }
+  }
+
+  async sendAll(lines, { isFree = false, gesture = null, goOn = null }) {
+    const came = { replies: [], count: 0, isHeard: true, refusal: null };
+    while (came.count < lines.length && (came.isHeard || isFree)) {
+      const end = endOfPart(lines, came.count);
+      const until = goOn ? performance.now() + SHORT : Infinity;
+      const isFile = end === came.count;
+      const done = isFile ? await this.hearFile(lines[end]) : this.doLines(lines.slice(came.count, end), { isFree, gesture, until });
+      came.replies.push(...done.replies);
+      came.count = isFile ? end + 1 : isFree && done.barred ? end : came.count + done.count;
+      came.isHeard &&= done.isHeard;
+      for (const word of ["refusal", "refused", "barred", "why"]) came[word] ??= done[word];
+      if (came.count >= lines.length || (goOn && came.isHeard && !goOn(came.count))) break;
+      // The journal writes all at once that it has not written, so that stays small.
+      if (goOn && this.journal.added - this.journal.written > MOST_BEHIND) await this.journal.kept();
+      await pause();
+    }
+    return came;
+  }
+
+  // Does one line, and gives its reply.
+  hear(line, isDrawn, gesture) {
+    let reply;
+    let changes;
+    try {
+      changes = changesOf(this.editor, line, this.openDocuments.paintedNow);
+      reply = this.isHeld(line) ? "no 13 unsaved changes" : replyOf(this.editor, line);
+    } catch (fault) {
+      this.break(fault);
+      return "no 90 no memory";
+    }
+    this.list(line, reply, gesture);
+    if (reply !== null && !isRefusal(reply) && !isLook(line)) this.take(line, reply, isDrawn ? NOTHING : changes, { gesture });
+    return reply;
+  }
+
+  // Takes an accepted line that does not only look. `file` is what an `open` has read, and `instead` the document whose place it takes.
+  take(line, reply, changes, { file = null, gesture = null, instead = null } = {}) {
+    const entry = { line, reply, ...(file && { file }), ...(gesture && { gesture }), ...(instead && { instead }) };
+    this.openDocuments.note(entry);
+    this.journal.add(entry);
+    this.changed = bothChanges(this.changed, changes);
+  }
+
+  // Whether a line would close a document whose save has not ended.
+  isHeld(line) {
+    return wordOf(line) === "close" && this.isWriting(line.split(" ")[1]);
+  }
+
+  isWriting(name) {
+    return this.openDocuments.byName.get(name)?.isWriting ?? false;
+  }
+
+  // The engine has broken the editor off: what was accepted is in the journal.
+  break(fault) {
+    this.isBroken = true;
+    console.warn(fault);
+    this.tell("broken", fault instanceof Broken ? fault.message : String(fault));
+  }
+
+  list(line, reply, gesture = null) {
+    this.listed.push([++this.heard, cut(line), reply === null ? null : cut(reply), shortHintOf(reply, line), cellsIn(line), gesture]);
+  }
+
+  // Takes what the lines have changed.
+  settle(stroke = null) {
+    const { outline, cells, selection, part } = this.changed;
+    const { isUnshown } = this;
+    this.changed = NOTHING;
+    if (outline) this.takeMap();
+    else if (selection) this.takeSelection();
+    if (this.listed.length) this.tell("lines", this.listed.splice(0));
+    this.tell("done", stroke);
+    const isOther = outline || this.isUnshown !== isUnshown;
+    if (isOther) this.tell("map");
+    else if (cells) this.tell("cells", part);
+    if (selection && !isOther) this.tell("selection");
+    this.tellSoon();
+  }
+
+  // Takes the map of the active document. One that cannot be shown stays open, and nothing of it is lost.
+  takeMap() {
+    const was = this.isUnshown;
+    Object.assign(this, { map: null, isUnshown: false });
+    try {
+      if (this.openDocuments.active !== null) this.map = this.modelNow();
+    } catch (fault) {
+      this.unshow(fault);
+    }
+    if (was && !this.isUnshown) this.tell("unshown");
+  }
+
+  takeSelection() {
+    try {
+      this.map?.select(this.editor.selection());
+    } catch (fault) {
+      this.unshow(fault);
+    }
+  }
+
+  unshow(fault) {
+    console.warn(fault);
+    Object.assign(this, { map: null, isUnshown: true });
+    this.tell("unshown", { document: this.openDocuments.document, why: whyNotShown(fault) });
+  }
+
+  // A model of the map that is active in the editor. Throws where it cannot be shown.
+  modelNow() {
+    const map = new MapModel(this.editor.outline(), (...words) => this.editor.cells(...words));
+    map.select(this.editor.selection());
+    return map;
+  }
+
+  // ---- files
+  async hearFile(line) {
+    await this.ready();
+    const [, name, source] = OPEN.exec(line) ?? [];
+    return name ? this.open(name, source) : this.save(SAVE.exec(line)[1]);
+  }
+
+  // Resolves when the journal is not beginning anew.
+  async ready() {
+    while (this.isAside) await pause();
+  }
+
+  // A line that has failed before the editor has heard it.
+  failed(line, reply, why) {
+    this.list(line, reply);
+    this.settle();
+    return { replies: [reply], isHeard: false, refusal: reply, refused: line, why };
+  }
+
+  // Opens what a file has.
+  async open(name, word) {
+    const line = `open ${name} ${word}`;
+    const path = this.names.pathOf(word);
+    let found;
+    try {
+      found = await this.place.read(path);
+    } catch (fault) {
+      return this.failed(line, "no 51 store failed", `${path}: ${fault.message}`);
+    }
+    if (!found) return this.failed(line, "no 50 no such file", path);
+    return this.openFound(name, word, found);
+  }
+
+  // Opens the bytes that a file had. `instead` names the document whose place and file the new one takes. A map that cannot be shown is
+  // closed again, and the journal never has it.
+  async openFound(name, word, { bytes, mark }, instead = null) {
+    const line = `open ${name} ${word}`;
+    const path = this.names.pathOf(word);
+    await this.ready();
+    let told;
+    try {
+      told = await opened(this.editor, name, bytes);
+    } catch (fault) {
+      this.break(fault);
+      return { ...UNHEARD, barred: this.barred };
+    }
+    const [reply, why] = told;
+    const unshown = isRefusal(reply) ? "" : this.whyUnshown();
+    if (unshown) return this.notOpened(line, name, path, unshown);
+    this.list(line, reply);
+    if (!isRefusal(reply)) this.take(line, reply, ALL, { file: { path, bytes, ...mark }, instead });
+    this.settle();
+    return { replies: [reply], isHeard: !isRefusal(reply), refusal: isRefusal(reply) ? reply : null, why };
+  }
+
+  // Why the map that is active in the editor cannot be shown; "" where it can.
+  whyUnshown() {
+    try {
+      this.modelNow();
+      return "";
+    } catch (fault) {
+      console.warn(fault);
+      return whyNotShown(fault);
+    }
+  }
+
+  notOpened(line, name, path, why) {
+    replyOf(this.editor, `discard ${name}`);
+    replyOf(this.editor, `use ${this.openDocuments.active ?? "-"}`);
+    this.tell("unopened", { path, why });
+    return this.failed(line, "no 51 store failed", `${path} cannot be shown: ${why}.`);
+  }
+
+  // Opens bytes of a document's file in the place of that document, which is still open then, without its file.
+  reopen({ name, file }, found) {
+    return this.during(this.openFound(this.freeNameFor(file.path), file.word, found, name));
+  }
+
+  freeNameFor(path) {
+    return freeName(documentName(path), made => this.openDocuments.byName.has(made));
+  }
+
+  // Opens a file of any name, as a document of a name made from it.
+  openPath(path) {
+    return this.during(this.wordOf(path).then(word => this.send([`open ${this.freeNameFor(path)} ${word}`])));
+  }
+
+  // The words of the files that may be maps.
+  async fileWords() {
+    const maps = await this.place.maps().catch(() => []);
+    return maps.map(each => this.names.wordOf(each.path, name => maps.some(other => other.path === name)));
+  }
+
+  // The word for a file, whose path no line may spell.
+  async wordOf(path) {
+    const known = this.openDocuments.withFile(path);
+    if (known) return known.file.word;
+    const maps = await this.during(this.place.maps().catch(() => []));
+    return this.names.wordOf(path, name => maps.some(each => each.path === name));
+  }
+
+  // Saves a document into a file: the one that was asked for, whichever is active by now.
+  saveInto(document, path) {
+    return this.during(this.wordOf(path).then(async word => {
+      await this.ready();
+      const { active } = this.openDocuments;
+      if (this.isBroken) return { ...UNHEARD, barred: this.barred };
+      if (!this.openDocuments.isOpen(document)) return UNHEARD;
+      if (document.name === active) return this.save(word);
+      this.doLines([`use ${document.name}`]);
+      const saved = this.save(word);
+      this.doLines([`use ${active ?? "-"}`]);
+      return saved;
+    }));
+  }
+
+  // Writes the active map into a file. The clean mark is set first, so that no later edit goes into the step that is written; where the
+  // file cannot be written it is taken away.
+  async save(word) {
+    const [line, path, { document }] = [`save ${word}`, this.names.pathOf(word), this.openDocuments];
+    const { depth } = this.stand();
+    if (document === null || depth) return this.failed(line, document === null ? "no 10 no active document" : "no 20 macro open");
+    const saved = this.editor.saveMap();
+    this.take(line, SAVED, NOTHING);
+    // Saves of one file come one behind the other.
+    const turn = Promise.all([saved, this.writes.get(path)]).then(([bytes]) => this.write(document, path, word, bytes), fault => fault);
+    const ended = turn.catch(fault => fault);
+    this.writes.set(path, ended);
+    document.saves.add(ended);
+    this.tellSoon();
+    const came = await ended;
+    document.saves.delete(ended);
+    if (this.writes.get(path) === ended) this.writes.delete(path);
+    return this.endSave(line, document, path, came);
+  }
+
+  // Ends a save: with how many bytes were written, or with a fault.
+  endSave(line, document, path, came) {
+    const isWritten = typeof came === "number";
+    const reply = isWritten ? `saved ${line.slice("save ".length)} ${came}` : "no 51 store failed";
+    this.list(line, reply);
+    if (!isWritten && this.openDocuments.isOpen(document)) {
+      document.unwritten(line);
+      this.unsave(document);
+    }
+    this.settle();
+    const told = { replies: [reply], isHeard: isWritten, refusal: isWritten ? null : reply, isKept: came instanceof NotReplaced };
+    return { ...told, why: isWritten ? null : `${path}: ${came.message}` };
+  }
+
+  // Writes bytes, and gives how many they are. The journal has their hash before the file does, so that they are known where the page ends
+  // before it hears that they have arrived.
+  async write(document, path, word, bytes) {
+    this.sends(document, { path, word, hash: await hashOf(bytes), size: bytes.length });
+    await this.journal.kept();
+    this.arrives(document, { path, word, mark: await this.written(document, path, bytes) });
+    return bytes.length;
+  }
+
+  sends(document, sent) {
+    document.send(sent);
+    if (this.openDocuments.isOpen(document)) this.journal.add({ sent: { document: document.name, life: document.life, ...sent } });
+  }
+
+  arrives(document, file) {
+    document.arrive(file);
+    if (this.openDocuments.isOpen(document)) this.journal.add({ written: { document: document.name, life: document.life, ...file } });
+  }
+
+  // The mark of a file that is written. It replaces what the document was read from or written to last, and another file where the user
+  // says so.
+  async written(document, path, bytes) {
+    for (let mark = document.own(path)?.mark ?? null; ;) {
+      try {
+        return await this.place.write(path, bytes, mark);
+      } catch (fault) {
+        if (!(fault instanceof Changed)) throw fault;
+      }
+      const found = await this.place.read(path);
+      const isKnown = found !== null && document.knows(path, found.mark.hash);
+      if (!isKnown && !(await this.mayReplace(document, path))) throw new NotReplaced("it was not replaced");
+      mark = found?.mark ?? null;
+    }
+  }
+
+  // Takes the clean mark of a document away.
+  unsave(document) {
+    if (!this.openDocuments.isOpen(document)) return;
+    const [name, back] = [document.name, this.openDocuments.active];
+    this.doLines(name === back ? ["dirty"] : [`use ${name}`, "dirty", `use ${back ?? "-"}`]);
+  }
+
+  // Whether the file of a document has other bytes than the document knows.
+  async isChanged(document) {
+    const { path, mark } = document.file;
+    const now = mark && (await this.place.look(path));
+    if (!now || (now.size === mark.size && now.time === mark.time)) return false;
+    const found = await this.place.read(path).catch(() => null);
+    if (!found || !document.knows(path, found.mark.hash)) return true;
+    document.file.mark = found.mark;
+    return false;
+  }
+
+  // ---- what is told
+  // Tells how all stands once the journal has what was done.
+  tellSoon() {
+    this.isTold = false;
+    this.telling ??= this.tellAll();
+  }
+
+  async tellAll() {
+    while (!this.isTold && !this.isBroken) {
+      this.isTold = true;
+      const standing = this.standingNow();
+      if (!standing) break;
+      await this.journal.kept();
+      Object.assign(this.state, standing, { change: this.state.change + 1 });
+      this.tell("state");
+    }
+    this.telling = null;
+    // What is closed is kept no more.
+    if (!this.openDocuments.byName.size && this.journal.row?.count) this.journal.restart([]);
+  }
+
+  // Whether nothing is written, or about to be told.
+  get isQuiet() {
+    return !this.telling && !this.underWay && !this.writes.size;
+  }
+
+  // The same, or null where the engine has ended the editor.
+  standingNow() {
+    try {
+      return this.standing();
+    } catch (fault) {
+      this.break(fault);
+      return null;
+    }
+  }
+
+  // How the active document and its steps stand now.
+  standing() {
+    const stands = this.stand();
+    const first = Math.max(0, stands.index - this.steps);
+    const last = Math.min(stands.count, stands.index + this.steps);
+    const steps = Array.from({ length: Math.max(0, last - first) }, (_, at) => this.step(first + at));
+    const { active, file } = this.openDocuments;
+    const isWriting = this.isWriting(active);
+    return { ...stands, documents: this.documents(), active, file: file?.path ?? null, cleanIndex: this.editor.cleanIndex(), firstStep: first, steps,
+      isWriting, isClean: stands.isClean && !isWriting };
+  }
+
+  stand() {
+    const [, index, count, mark, depth] = STATUS.exec(replyOf(this.editor, "status")) ?? [null, 0, 0, "clean", 0];
+    return { index: Number(index), count: Number(count), isClean: mark === "clean", depth: Number(depth) };
+  }
+
+  step(at) {
+    const subject = this.openDocuments.document?.subjects.of(at) ?? null;
+    return { text: replyOf(this.editor, `text ${at}`).slice("text ".length), isMacro: this.editor.isMacro(at) !== false, subject };
+  }
+
+  // The open documents in the order of the tabs. No line tells how one stands that is not active, so each is made the active one for a
+  // moment.
+  documents() {
+    const { active, order: names } = this.openDocuments;
+    const all = names.map(name => {
+      if (name !== active || names.length > 1) this.editor.step(`use ${name}`);
+      const { index, count, isClean, depth } = this.stand();
+      const path = this.openDocuments.fileOf(name)?.path ?? null;
+      const isWriting = this.isWriting(name);
+      return { name, isActive: name === active, isClean: isClean && !isWriting, isWriting, index, count, depth, path };
+    });
+    if (names.length > 1 || active === null) this.editor.step(`use ${active ?? "-"}`);
+    return all;
+  }
+
+  // What the journal tells of the documents, for who finds it later.
+  summary() {
+    if (this.isBroken) return this.journal.row.documents;
+    const linesOf = name => this.openDocuments.byName.get(name)?.lines.length ?? 0;
+    return this.documents().map(({ name, path, count, isClean }) => ({ name, path, steps: count, isClean, lines: linesOf(name) }));
+  }
+
+  // The session of the active document.
+  copied() {
+    return this.openDocuments.session(this.names);
+  }
+
+  // ---- the journal
+  // Does the lines of a journal anew, beside this editor. Gives a Replay. Throws Damaged, OfDocument where it is not lenient.
+  async replay(row, entries, { onLines, isLenient, without } = {}) {
+    const made = new Replay(await loadModule(), row.limit, { isLenient, without });
+    await made.take(entries, onLines);
+    return made;
+  }
+
+  // Puts the editor of a replay in the place of this one, and gives the saves of which the journal does not say that they have arrived.
+  takeUp({ editor, openDocuments, names, listed, limit, module, pendingSaves }) {
+    this.takeOver(editor, openDocuments, limit);
+    Object.assign(this, { names, module, listed, heard: listed.length, changed: ALL });
+    return pendingSaves;
+  }
+
+  takeOver(editor, openDocuments, limit) {
+    this.editor.close();
+    this.journal.limit = limit;
+    Object.assign(this, { editor, openDocuments, limit });
+  }
+
+  // Looks whether the saves have arrived of which the journal does not say so, and gives the documents of those that have not: they are not
+  // saved.
+  async lostSaves(pending) {
+    const lost = [];
+    for (const { document, row, sent } of pending) {
+      const found = sent ? await this.place.read(sent.path).catch(() => null) : null;
+      if (found && found.mark.hash === sent.hash) {
+        this.arrives(document, { path: sent.path, word: sent.word, mark: found.mark });
+        row[2] = `saved ${sent.word} ${sent.size}`;
+      } else lost.push(document);
+    }
+    return lost;
+  }
+
+  // From now on no document has a file: those that they had are elsewhere.
+  part() {
+    this.openDocuments.part();
+    this.journal.add({ isParted: true });
+    this.tellSoon();
+  }
+
+  // Begins the journal anew from the maps as they are: their steps end, and open macros. What is not saved stays so. No save is under way.
+  async beginAnew() {
+    this.isAside = true;
+    const made = new FreshEditor(this.module, this.limit);
+    try {
+      for (const each of this.mapsNow()) await made.open(each, await each.bytes);
+      made.say(`use ${this.openDocuments.active ?? "-"}`);
+      this.takeOver(made.editor, made.openDocuments, this.limit);
+    } catch (fault) {
+      made.editor.close();
+      throw fault;
+    } finally {
+      this.isAside = false;
+    }
+    await this.journal.restart(made.entries);
+    this.changed = ALL;
+    this.settle();
+  }
+
+  // The documents with their files, and with promises of the bytes of their maps.
+  mapsNow() {
+    const maps = this.documents().map(({ name, isClean, depth }) => {
+      this.editor.step(`use ${name}`);
+      for (let level = 0; level < depth; level++) this.editor.step("end");
+      const bytes = this.editor.saveMap();
+      // That marks the map as saved.
+      if (!isClean) this.editor.step("dirty");
+      return { name, isClean, file: this.openDocuments.fileOf(name), bytes };
+    });
+    this.editor.step(`use ${this.openDocuments.active ?? "-"}`);
+    return maps;
+  }
+
+  // Whether nothing was done yet: no document is open, or those that are have no steps.
+  get isUntouched() {
+    return this.documents().every(each => each.isClean && each.count === 0);
+  }
+}

@@ -1,0 +1,225 @@
+// SPDX-License-Identifier: MIT OR Apache-2.0
+// Puts the page together: the editor, the drawing of its map, the tools, and the panels.
+import { Bars } from "./panels/bars.js";
+import { Bench } from "./core/bench.js";
+import { Documents } from "./core/documents.js";
+import { byId } from "./panels/dom.js";
+import { PageEditor } from "./core/page_editor.js";
+import { bindFieldUndo } from "./panels/field_undo.js";
+import { recordSum } from "./core/journal.js";
+import { Example, isExample } from "./panels/example.js";
+import { JournalNotices } from "./panels/journal_notices.js";
+import { LayerPanel } from "./panels/layer_panel.js";
+import { Layouts } from "./view/layouts.js";
+import { LinePanel } from "./panels/line_panel.js";
+import { Look } from "./view/look.js";
+import { MapKeys, TileKeys } from "./tools/map_keys.js";
+import { MapView } from "./view/map_view.js";
+import { Overlay } from "./view/overlay.js";
+import { MiniMap } from "./view/mini_map.js";
+import { undrawnFeatures } from "./view/undrawn_features.js";
+import { endNotice, notice } from "./panels/notice_bars.js";
+import { ObjectList } from "./panels/object_list.js";
+import { loadModule } from "./core/own_module.js";
+import { Palette } from "./panels/palette.js";
+import { EDGE_KEYS, Panels } from "./panels/panels.js";
+import { PlacePanel } from "./panels/place_panel.js";
+import { ServedFiles } from "./files/places.js";
+import { Player } from "./core/player.js";
+import { PropertyPanel } from "./panels/property_panel.js";
+import { Readers } from "./panels/readers.js";
+import { Recovery } from "./core/recovery.js";
+import { bindLists, groupsOfLists } from "./panels/list_navigation.js";
+import { ScrollBars } from "./view/scroll_bars.js";
+import { StartPage } from "./panels/start_page.js";
+import { StatusBar } from "./panels/status_bar.js";
+import { StepPanel } from "./panels/step_panel.js";
+import { TilesetPanel } from "./panels/tileset_panel.js";
+import { Tilesets } from "./view/tilesets.js";
+import { Toolbar } from "./panels/toolbar.js";
+import { Tools } from "./tools/tools.js";
+
+// How many milliseconds a drawing is waited for.
+const LONGEST_DRAWING = 2000;
+
+// What the page needs of the browser.
+const NEEDED = {
+  "an address that is safe: of a disk, by https, or of this machine": () => isSecureContext,
+  WebAssembly: () => globalThis.WebAssembly?.Module,
+  "locks (Web Locks)": () => navigator.locks,
+};
+
+// The parts of the page, and what each shows when something has changed.
+class Page {
+  constructor(editor) {
+    this.editor = editor;
+    this.panels = new Panels(() => this.bench.tell("layout"));
+    this.tilesets = new Tilesets(editor);
+    this.view = new MapView(byId("view"), editor, this.tilesets);
+    this.overlay = new Overlay(this.view, editor, this.tilesets);
+    this.scrollBars = new ScrollBars(this.view);
+    this.miniMap = new MiniMap(this.view, editor);
+    const bench = this.bench = new Bench(editor, this.view, this.overlay, this.tilesets);
+    this.bars = new Bars(this);
+    this.tools = new Tools(bench);
+    this.documents = new Documents(bench);
+    this.toolbar = new Toolbar(bench, this.tools, this.documents, this.miniMap);
+    this.look = new Look(() => this.view.takeLook());
+    this.startPage = new StartPage(bench, this.documents);
+    this.miniMap.isBusy = () => bench.isHeld;
+    this.palette = new Palette(bench, this.tilesets);
+    this.tilesetPanel = new TilesetPanel(bench, this.tilesets, this.palette);
+    this.status = new StatusBar(bench, this.tilesets);
+    this.layers = new LayerPanel(bench);
+    this.properties = new PropertyPanel(bench);
+    this.objects = new ObjectList(bench, this.tools);
+    this.steps = new StepPanel(bench);
+    this.panel = new PlacePanel(bench, this.documents, this.tilesets);
+    this.recovery = new Recovery(bench, this.panel);
+    this.recovery.shown = () => this.drawn();
+    this.journalNotices = new JournalNotices(bench, this.documents);
+    this.lines = new LinePanel(bench, { layer: id => this.steps.nameOf("layer", id), object: id => this.steps.nameOf("object", id) });
+    this.player = new Player(bench);
+    this.layouts = new Layouts(this);
+    this.example = new Example(this);
+    this.readers = new Readers(bench, this.layers);
+    this.lists = bindLists(bench, this.documents, this.layers);
+    this.mapKeys = new MapKeys(this.tools, words => this.readers.say(words));
+    this.tileKeys = new TileKeys(this.palette);
+    this.toolbar.keys.places = [...groupsOfLists(this.lists), this.mapKeys.group, this.tileKeys.group, EDGE_KEYS];
+    this.shownDocument = null;
+    this.showing = Promise.resolve();
+    this.listen();
+    bindFieldUndo(bench);
+    this.tools.choose("brush");
+  }
+
+  listen() {
+    const { bench, editor, overlay, panel, view } = this;
+    panel.onTilesets = () => this.showTilesets().catch(fault => console.warn(fault));
+    editor.addEventListener("map", () => (this.showing = this.showMap()));
+    editor.addEventListener("cells", ({ detail }) => view.refresh(detail));
+    editor.addEventListener("selection", () => overlay.redraw());
+    editor.addEventListener("state", () => this.showState());
+    bench.addEventListener("free", () => this.showState());
+    bench.addEventListener("chosen", () => this.showChosen());
+    this.tilesets.onLooks = () => {
+      view.redraw();
+      this.miniMap.change();
+    };
+    view.images.onImage = () => {
+      view.redraw();
+      this.showNotDrawn();
+    };
+    view.onMove = () => {
+      const percents = view.scale * 100;
+      byId("scale").textContent = `${percents < 10 ? Math.round(percents * 10) / 10 : Math.round(percents)} %`;
+      overlay.redraw();
+      this.scrollBars.show();
+      this.miniMap.show();
+      this.layouts.keep();
+    };
+  }
+
+  // Another map: its tilesets may be others. Where its document is another one it is shown as it was left, and whole at first.
+  async showMap() {
+    const { active } = this.editor.openDocuments;
+    const isOther = active !== this.shownDocument;
+    this.shownDocument = active;
+    if (isOther) this.bench.tell("document");
+    const kept = isOther ? this.layouts.enter(active) : null;
+    const { isOther: isOtherStamp, why } = this.bench.carried.follow();
+    this.bench.settle();
+    if (isOther) this.view.images.forget();
+    // Where the map of a document cannot be shown, no hand is on it.
+    this.view.box.inert = active !== null && !this.editor.map;
+    if (isOther && !kept) this.view.fit();
+    this.view.takeMap();
+    this.showNotDrawn();
+    this.overlay.redraw();
+    await this.editor.during(this.showTilesets());
+    if (this.shownDocument !== active) return;
+    const whyKept = kept ? this.layouts.enterTiles(kept) : "";
+    if (isOtherStamp && !kept?.stamp) this.bench.tell("stamp");
+    const words = kept?.stamp ? whyKept : why;
+    // What is said of the lines that have led here comes first.
+    if (words) await this.editor.during(new Promise(done => setTimeout(() => done(this.bench.say(words)))));
+  }
+
+  // Resolves when the map that was taken last is drawn, with its tilesets. A window that is not seen draws nothing.
+  async drawn() {
+    await this.showing;
+    const frame = new Promise(done => requestAnimationFrame(() => requestAnimationFrame(done)));
+    await Promise.race([frame, new Promise(done => setTimeout(done, LONGEST_DRAWING))]);
+  }
+
+  async showTilesets() {
+    const { bench, tilesets } = this;
+    if (!(await tilesets.take(this.editor.map))) return;
+    this.tilesetPanel.show();
+    this.view.images.forget();
+    this.view.redraw();
+    this.miniMap.change();
+    this.showNotDrawn();
+    this.panel.showMissing();
+  }
+
+  showNotDrawn() {
+    this.status.showNotDrawn(undrawnFeatures(this.editor.map, this.tilesets, this.view.images));
+  }
+
+  showState() {
+    if (this.bench.isHeld) return;
+    this.documents.show();
+    this.steps.show();
+    this.toolbar.show();
+    this.status.showState(this.editor.state);
+    this.showChosen();
+  }
+
+  showChosen() {
+    this.layers.show();
+    this.properties.show();
+  }
+}
+
+// What the server tells, where the page came from `tile_page`; null where it is gone already.
+async function servedBy(key) {
+  const place = new ServedFiles(key);
+  place.addEventListener("gone", ({ detail }) => {
+    const words = `${detail} Saving has to wait; all else goes on. If it starts at the same port with another key, open its new address in this tab.`;
+    notice("server", words, [["Try again", () => place.told().then(() => true, () => false)]]);
+  });
+  place.addEventListener("back", () => endNotice("server"));
+  return { place, told: await place.told().catch(() => ({ files: [], limit: 0 })) };
+}
+
+// Opens the files that the server was started with. One that fails keeps no other one away.
+async function openAll(page, paths) {
+  for (const path of paths) await page.documents.openPath(path).catch(fault => page.bench.say(`${path}: ${fault.message}.`));
+}
+
+async function start() {
+  const missing = Object.keys(NEEDED).filter(name => !NEEDED[name]());
+  if (missing.length) return notice("needed", `This page cannot work here. It needs ${missing.join(", ")}.`);
+  const key = isExample() ? null : new URLSearchParams(location.search).get("key");
+  const [module, served] = await Promise.all([loadModule(), key === null ? null : servedBy(key)]);
+  const editor = new PageEditor(module, served?.told.limit ?? 0);
+  if (served) editor.place = served.place;
+  const page = new Page(editor);
+  await editor.journal.start();
+  page.panel.start();
+  page.toolbar.show();
+  const isRestored = await page.recovery.start();
+  if (!isRestored && served) await openAll(page, served.told.files);
+  if (!isRestored && isExample()) await page.example.open();
+  editor.tellSoon();
+  await editor.telling;
+  // For the console, and for scripts that try the page.
+  page.sumOf = recordSum;
+  globalThis.roskevad = page;
+  document.body.dataset.isReady = "yes";
+  return page;
+}
+
+await start();

@@ -1,0 +1,133 @@
+// SPDX-License-Identifier: MIT OR Apache-2.0
+// The layers as a tree: the one that is drawn last stands on top, and a group above the layers in it.
+import { ask, button, byId, element } from "./dom.js";
+import { iconButton, showIcon } from "./icons.js";
+import { KINDS } from "../core/kinds.js";
+import { isLocked } from "../tools/barred_layers.js";
+import { LayerDrag } from "./layer_drag.js";
+import { putRows } from "./list_rows.js";
+
+const LAYER_KINDS = { tilelayer: "tiles", objectgroup: "objects", imagelayer: "image", group: "group" };
+
+export class LayerPanel {
+  constructor(bench) {
+    this.bench = bench;
+    this.list = byId("layers");
+    // The rows by the ids of their layers, and the ids of the groups whose layers are not listed.
+    this.rows = new Map();
+    this.folded = new Set();
+    this.list.onclick = event => this.click(event);
+    this.list.ondblclick = event => this.rowOf(event) && !event.target.closest("button") && this.rename();
+    this.drag = new LayerDrag(this);
+    byId("layer-actions").append(
+      iconButton("tileLayer", "Add a tile layer", "Add a tile layer, on top of all", () => this.add("tile"), { id: "add-tile-layer" }),
+      iconButton("objectLayer", "Add an object layer", "Add an object layer, on top of all", () => this.add("object"), { id: "add-object-layer" }),
+      iconButton("up", "Up", "Up: draw this layer later", () => this.move(1), { id: "layer-up" }),
+      iconButton("down", "Down", "Down: draw this layer earlier", () => this.move(-1), { id: "layer-down" }),
+      iconButton("rename", "Rename this layer", "Rename this layer: a double click", () => this.rename(), { id: "rename-layer" }),
+      iconButton("remove", "Remove this layer", "Remove this layer, with all that is in it", () => this.remove(), { id: "remove-layer" }),
+    );
+  }
+
+  // ---- what is shown
+  // Rows stay where they are: a double click is two clicks at one row.
+  show() {
+    const layers = this.bench.map?.layers ?? [];
+    if (this.shown !== this.bench.layerId) this.unfoldChosen();
+    this.listed = this.inOrder(layers, null);
+    putRows(this.list, this.listed.map(layer => this.row(layer)));
+    for (const id of this.rows.keys()) if (!layers.some(layer => layer.id === id)) this.rows.delete(id);
+    // Once all that stands around the list has its size.
+    if (this.shown !== this.bench.layerId) requestAnimationFrame(() => this.list.querySelector(".now")?.scrollIntoView({ block: "nearest" }));
+    this.shown = this.bench.layerId;
+  }
+
+  // The layers of one group as they are listed, with those in them.
+  inOrder(layers, group) {
+    const inside = layers.filter(layer => layer.group === group).reverse();
+    return inside.flatMap(layer => [layer, ...(layer.type === "group" && !this.folded.has(layer.id) ? this.inOrder(layers, layer) : [])]);
+  }
+
+  unfoldChosen() {
+    for (let group = this.bench.layer?.group; group; group = group.group) this.folded.delete(group.id);
+  }
+
+  row(layer) {
+    if (!this.rows.has(layer.id)) this.rows.set(layer.id, this.newRow(layer.id));
+    const row = this.rows.get(layer.id);
+    const [fold, eye, lock, name, kind] = row.children;
+    const [isShown, isFolded] = [layer.data.visible !== false, this.folded.has(layer.id)];
+    fold.textContent = layer.type !== "group" ? "" : isFolded ? "▸" : "▾";
+    fold.title = layer.type !== "group" ? "" : isFolded ? "Show the layers in it" : "Fold this group";
+    showIcon(eye, isShown ? "seen" : "hidden");
+    eye.title = isShown ? "Hide this layer" : "Show this layer";
+    eye.setAttribute("aria-label", `${isShown ? "Hide" : "Show"} ${layer.data.name}`);
+    lock.hidden = !isLocked(layer);
+    name.textContent = layer.data.name || "(no name)";
+    name.title = layer.data.name;
+    kind.textContent = LAYER_KINDS[layer.type] ?? layer.type;
+    row.style.paddingLeft = `${2 + layer.depth * 14}px`;
+    row.classList.toggle("now", layer.id === this.bench.layerId);
+    row.classList.toggle("hidden", !layer.isSeen);
+    return row;
+  }
+
+  newRow(id) {
+    return element("li", { data: { layer: id } },
+      button("", "", null, { className: "fold" }),
+      button("", "", null, { className: "eye" }),
+      element("span", { className: "lock", textContent: "locked", title: "Locked in Tiled; no line unlocks it" }),
+      element("span", { className: "name" }),
+      element("span", { className: "kind" }));
+  }
+
+  // ---- the hand
+  // The row of an event.
+  rowOf(event) {
+    return event.target.closest("#layers li");
+  }
+
+  click(event) {
+    const row = this.rowOf(event);
+    const layer = row && this.bench.map?.layer(Number(row.dataset.layer));
+    if (!layer) return;
+    if (event.target.className === "eye") this.bench.act([`layer show ${layer.id} ${layer.data.visible !== false ? "no" : "yes"}`]);
+    else if (event.target.className === "fold" && layer.type === "group") this.fold(layer.id);
+    else this.bench.chooseLayer(layer.id);
+  }
+
+  fold(id) {
+    if (!this.folded.delete(id)) this.folded.add(id);
+    this.show();
+    this.bench.tell("layout");
+  }
+
+  async add(kind) {
+    const field = { name: "name", label: "Name", value: kind === "tile" ? "Tiles" : "Objects", kind: KINDS.text };
+    const title = `A new ${kind} layer, on top of all`;
+    const told = await ask(title, [field], ["OK"], ({ name }) => this.bench.attempt([`layer add ${kind} ${name}`]));
+    if (!told) return;
+    this.bench.chooseLayer(this.bench.map.data.nextlayerid - 1);
+    this.bench.say(`${told.name} is on top of all layers. 'Down' or a drag moves it.`);
+  }
+
+  async rename() {
+    const layer = this.bench.layer;
+    if (!layer) return;
+    const field = { name: "name", label: "Name", value: layer.data.name, kind: KINDS.text };
+    await ask("Rename a layer", [field], ["OK"], ({ name }) => this.bench.attempt([`layer rename ${layer.id} ${name}`]));
+  }
+
+  remove() {
+    if (this.bench.layer) this.bench.act([`layer remove ${this.bench.layerId}`]);
+  }
+
+  // Among the layers of its group: behind the last or before the first the editor refuses a place.
+  move(by) {
+    const layer = this.bench.layer;
+    if (!layer) return;
+    const place = layer.place + by;
+    if (place < 0) this.bench.say("This layer is drawn first already.");
+    else this.bench.act([`layer move ${layer.id} ${place}`]);
+  }
+}

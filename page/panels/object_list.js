@@ -1,0 +1,137 @@
+// SPDX-License-Identifier: MIT OR Apache-2.0
+// The objects of the map in a list, by their layers, with a search. It stands in the place of the tiles while a tool for objects is in hand.
+import { byId, element } from "./dom.js";
+import { boxOf } from "../view/object_shapes.js";
+import { NO_NAME } from "../core/unsupported_edits.js";
+
+// How many rows the list has at most: others are found by the search.
+const MOST_ROWS = 1000;
+// Which side is shown with a tool; with any other one the side stays.
+const SIDES = { objects: "objects", insert: "objects", brush: "tiles", eraser: "tiles", fill: "tiles", rectangle: "tiles" };
+
+const countOf = number => number.toLocaleString("en-US");
+
+// The place of an object's middle.
+function middleOf(object) {
+  const [left, top, right, bottom] = boxOf(object);
+  return { x: (object.x ?? 0) + (left + right) / 2, y: (object.y ?? 0) + (top + bottom) / 2 };
+}
+
+export class ObjectList {
+  constructor(bench, tools) {
+    Object.assign(this, { bench, tools, said: "" });
+    this.search = element("input", { type: "search", id: "object-search", placeholder: "name, class or id", autocomplete: "off" });
+    this.list = element("ul", { id: "objects" });
+    byId("left").append(element("div", { id: "object-list" }, this.search, this.list));
+    byId("show-tiles").onclick = () => this.turnTo("tiles");
+    byId("show-objects").onclick = () => this.turnTo("objects");
+    this.search.oninput = () => this.show();
+    this.search.onkeydown = event => this.key(event);
+    this.list.onclick = event => this.click(event);
+    this.list.ondblclick = event => event.target.closest("[data-object]") && bench.say(NO_NAME);
+    bench.addEventListener("chosen", () => this.show());
+    bench.addEventListener("object chosen", () => this.list.querySelector(".now")?.scrollIntoView({ block: "nearest" }));
+    bench.addEventListener("tool", () => this.turnTo(SIDES[tools.name]));
+    bench.addEventListener("inserted", () => tools.choose("objects"));
+    this.turnTo("tiles");
+  }
+
+  turnTo(side = this.side) {
+    this.side = side;
+    byId("left").dataset.side = side;
+    for (const each of ["tiles", "objects"]) byId(`show-${each}`).classList.toggle("on", each === side);
+    this.show();
+  }
+
+  // The layers with objects that the search finds, the one drawn last first: [layer, objects].
+  found() {
+    const words = this.search.value.toLowerCase().split(" ").filter(word => word);
+    const fits = object => {
+      const text = `${object.name} ${object.type || object.class || ""} ${object.id}`.toLowerCase();
+      return words.every(word => text.includes(word));
+    };
+    const layers = (this.bench.map?.layers ?? []).filter(layer => layer.type === "objectgroup").reverse();
+    const fitting = (objects = []) => (words.length ? objects.filter(fits) : objects);
+    return layers.map(layer => [layer, fitting(layer.data.objects)]).filter(([, objects]) => objects.length || !words.length);
+  }
+
+  show() {
+    if (this.side !== "objects") return;
+    const found = this.found();
+    const left = found.reduce((sum, [, objects]) => sum + 1 + objects.length, 0) - MOST_ROWS;
+    const rows = this.rowsOf(found);
+    const said = JSON.stringify([left, rows]);
+    if (said !== this.said) this.list.replaceChildren(...this.made(rows, left));
+    this.said = said;
+    for (const row of this.list.children) row.classList.toggle("now", Number(row.dataset.object) === this.bench.objectId);
+  }
+
+  // As many rows as the list has: the layers with their objects.
+  rowsOf(found) {
+    const rows = [];
+    for (const [layer, objects] of found) {
+      if (rows.length >= MOST_ROWS) break;
+      rows.push(this.headOf(layer, objects));
+      for (const object of objects.slice(0, MOST_ROWS - rows.length)) rows.push(this.told(object, layer));
+    }
+    return rows;
+  }
+
+  // What a row tells.
+  headOf(layer, objects) {
+    const name = `${layer.group ? `${layer.group.data.name} / ` : ""}${layer.data.name || "(no name)"}`;
+    return { layer: layer.id, name, kind: `${countOf(objects.length)} of ${countOf((layer.data.objects ?? []).length)}`, isHidden: !layer.isSeen };
+  }
+
+  told(object, layer) {
+    const isHidden = !layer.isSeen || object.visible === false;
+    return { object: object.id, name: object.name || "(no name)", kind: `${object.type || object.class || ""} ${object.id}`.trim(), isHidden };
+  }
+
+  // `left` is how many rows there are besides.
+  made(rows, left) {
+    const shown = rows.map(row => this.row(row));
+    if (left > 0) shown.push(element("li", { className: "more", textContent: `and ${countOf(left)} more: search for them` }));
+    const none = this.search.value ? "No object is found." : "The map has no object layer.";
+    if (!rows.length) shown.push(element("li", { className: "more", textContent: none }));
+    return shown;
+  }
+
+  row({ object, layer, name, kind, isHidden }) {
+    const data = object === undefined ? { layer } : { object };
+    const title = isHidden ? `${name}: hidden` : name;
+    const parts = [element("span", { className: "name", textContent: name }), element("span", { className: "kind", textContent: kind })];
+    const row = element("li", { data, title }, ...parts);
+    row.classList.toggle("head", object === undefined);
+    row.classList.toggle("hidden", isHidden);
+    return row;
+  }
+
+  click(event) {
+    const row = event.target.closest("li");
+    if (row?.dataset.layer) this.bench.chooseLayer(Number(row.dataset.layer));
+    if (row?.dataset.object) this.choose(Number(row.dataset.object));
+  }
+
+  // Chooses an object, with the tool that shows it, and moves the view to it where it is not seen.
+  choose(id) {
+    const { bench, tools } = this;
+    if (tools.name !== "objects") tools.choose("objects");
+    bench.chooseObject(id);
+    const { view } = bench;
+    const { object, layer } = bench.chosenObject;
+    const [x, y] = bench.overlay.screenPlace(middleOf(bench.overlay.shapeOf(object)), layer);
+    if (x > 0 && y > 0 && x < view.canvas.width && y < view.canvas.height) return;
+    view.pan(Math.round(view.canvas.width / 2 - x), Math.round(view.canvas.height / 2 - y));
+  }
+
+  key(event) {
+    const first = this.list.querySelector("[data-object]");
+    if (event.key === "Enter" && first) this.choose(Number(first.dataset.object));
+    else if (event.key === "Escape" && this.search.value === "") this.search.blur();
+    else if (event.key === "Escape") this.search.value = "";
+    else return;
+    event.preventDefault();
+    this.show();
+  }
+}

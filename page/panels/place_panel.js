@@ -1,0 +1,161 @@
+// SPDX-License-Identifier: MIT OR Apache-2.0
+// Where the files come from: a folder of this machine, files that are chosen or dropped, or the folder that a server gives.
+import { byId, element } from "./dom.js";
+import { iconButton } from "./icons.js";
+import { endNotice, notice } from "./notice_bars.js";
+import { ChosenFiles, FolderFiles, IN_XML, chosen, isMapName, isTilesetName, isXmlMapName } from "../files/places.js";
+import { isSameSource, sourceOf, wordsOf } from "../files/sources.js";
+
+// What notices are about; how many files one names.
+const OTHERS = "other files";
+const SOURCE = "source";
+const PERMISSION = "permission";
+const MOST_NAMED = 3;
+const IMAGE = /\.(png|jpe?g|gif|webp|bmp|svg|avif)$/i;
+
+export class PlacePanel {
+  constructor(bench, documents, tilesets) {
+    Object.assign(this, { bench, documents, tilesets, editor: bench.editor });
+    // Called where the tilesets may be others.
+    this.onTilesets = () => {};
+  }
+
+  // Shows the buttons that choose files, where no server gives them.
+  start() {
+    if (this.editor.place.kind === "served") return;
+    const input = element("input", { type: "file", multiple: true, hidden: true, id: "files", onchange: async () => {
+      await this.takeChosen([...input.files]);
+      input.value = "";
+    } });
+    const title = "Open files: choose maps, tilesets and images; or drop them here. A save is a download then";
+    const more = [iconButton("files", "Open files", title, () => input.click(), { id: "open-files" }), input];
+    if (globalThis.showDirectoryPicker) {
+      const said = "Open folder: choose that of the maps and of their tilesets; a save goes there";
+      more.unshift(iconButton("folder", "Open folder", said, () => this.chooseFolder(), { id: "open-folder" }));
+    }
+    byId("file-actions").append(...more);
+    addEventListener("dragover", event => event.preventDefault());
+    addEventListener("drop", event => this.drop(event));
+  }
+
+  async chooseFolder() {
+    let folder;
+    try {
+      folder = await globalThis.showDirectoryPicker({ mode: "readwrite" });
+    } catch (fault) {
+      if (fault.name !== "AbortError") this.bench.say(fault.message);
+      return;
+    }
+    await this.takeFolder(folder);
+  }
+
+  async takeFolder(folder) {
+    const [before, place] = [sourceOf(this.editor.place), new FolderFiles(folder)];
+    const isOther = before.kind === place.kind && !(await isSameSource(before, place));
+    this.take(place);
+    if (isOther && [...this.editor.openDocuments.byName.values()].some(document => document.file)) this.part(before);
+    this.editor.journal.keepSource();
+    if (!this.editor.openDocuments.byName.size) await this.documents.open();
+  }
+
+  // The documents are of files of another source: here they have none.
+  part(source) {
+    this.editor.part();
+    notice(SOURCE, `These documents are of ${wordsOf(source)}. They have no files here: a save asks where.`, [["OK", () => {}]], "mild");
+  }
+
+  // Files of the user's choice: those that are maps are opened.
+  takeChosen(files) {
+    return this.editor.during(this.takeAll(files));
+  }
+
+  async takeAll(files) {
+    let taken;
+    try {
+      taken = await chosen(files);
+    } catch (fault) {
+      this.bench.say(`Not read: ${fault.message}`);
+      return;
+    }
+    const place = this.editor.place.kind === "chosen" ? this.editor.place : new ChosenFiles();
+    place.take(taken);
+    this.take(place);
+    this.editor.journal.keepSource(taken);
+    for (const { path, bytes } of taken) if (isMap(path, bytes)) await this.documents.openPath(path);
+    this.sayOthers(taken);
+  }
+
+  // Says which of the files are passed over, and what to do.
+  sayOthers(taken) {
+    const words = wordsOfOthers(taken);
+    if (words) notice(OTHERS, words, [["OK", () => {}]], "mild");
+    else endNotice(OTHERS);
+  }
+
+  take(place) {
+    this.editor.place = place;
+    if (place.kind === "folder") this.sayAsking(place);
+    this.tilesets.forget();
+    endNotice("tilesets");
+    this.onTilesets();
+    this.editor.tellSoon();
+  }
+
+  // Says for as long as the browser asks for a folder that saves wait for the answer.
+  sayAsking(place) {
+    const words = `The browser asks whether this page may write into the folder ${place.title}. What is saved waits for your answer; the maps can be worked on.`;
+    place.addEventListener("asks", () => notice(PERMISSION, words));
+    place.addEventListener("answered", () => endNotice(PERMISSION));
+  }
+
+  async drop(event) {
+    event.preventDefault();
+    // Where something is under way that no other line may come into.
+    if (document.querySelector("dialog[data-busy]")) return;
+    const items = [...event.dataTransfer.items].filter(item => item.kind === "file");
+    const files = [...event.dataTransfer.files];
+    const handles = await Promise.all(items.map(item => item.getAsFileSystemHandle?.() ?? null));
+    const folder = handles.find(handle => handle?.kind === "directory");
+    if (folder) await this.takeFolder(folder);
+    else if (files.length) await this.takeChosen(files);
+  }
+
+  // Says which files of tilesets cannot be had, and what to do.
+  showMissing() {
+    const { missing } = this.tilesets;
+    if (!missing.length) return endNotice("tilesets");
+    const [first, ...others] = missing;
+    const more = others.length ? ` and ${others.length} more` : "";
+    const words = `Not found: ${first}${more}. ${this.editor.place.advice(first)} Its tiles are drawn as numbers.`;
+    return notice("tilesets", words, [["OK", () => {}]], "mild");
+  }
+}
+
+const textOf = bytes => new TextDecoder().decode(bytes);
+
+// Whether a chosen file is opened: a map, and no tileset in JSON.
+function isMap(path, bytes) {
+  return isMapName(path) && (!/\.json$/i.test(path) || textOf(bytes).includes('"layers"'));
+}
+
+// Whether a chosen file is for a map: a tileset, an image, or whatever a browser shows as one.
+function isForMaps({ path, bytes, file }) {
+  if (/\.json$/i.test(path)) return textOf(bytes).includes('"tilewidth"');
+  return isTilesetName(path) || IMAGE.test(path) || (file?.type ?? "").startsWith("image/");
+}
+
+// What is said of chosen files that are neither maps nor for maps; "" where there is none.
+function wordsOfOthers(taken) {
+  const others = taken.filter(each => !isMap(each.path, each.bytes) && !isForMaps(each)).map(each => each.path);
+  const [inXml, unknown] = [others.filter(isXmlMapName), others.filter(path => !isXmlMapName(path))];
+  const told = [];
+  if (inXml.length) told.push(`${listOf(inXml)}: ${IN_XML}`);
+  if (unknown.length) told.push(`Passed over: ${listOf(unknown)}. The page opens maps that are saved as JSON (.tmj or .json), with their tilesets and images.`);
+  return told.join(" ");
+}
+
+// The first of some names, and how many more there are.
+function listOf(names) {
+  const more = names.length - MOST_NAMED;
+  return `${names.slice(0, MOST_NAMED).join(", ")}${more > 0 ? ` and ${more} more` : ""}`;
+}

@@ -1,0 +1,243 @@
+// SPDX-License-Identifier: MIT OR Apache-2.0
+// The properties of the map, of a layer or of an object, in a table; and what else a line can set of an object.
+import { button, byId, element, mark } from "./dom.js";
+import { fieldFor, numberField } from "./fields.js";
+import { KINDS, TYPES } from "../core/kinds.js";
+import { cutText } from "../files/members.js";
+import { folderOf } from "../files/names.js";
+import { saidOf } from "../core/refusals.js";
+import { NO_NAME, whyNotSet } from "../core/unsupported_edits.js";
+
+const OWNERS = ["map", "layer", "object"];
+// What a field has where a new property is made, and nothing was typed.
+const FIRST = { int: "0", bool: "false", object: "0" };
+// The type of a new property, unless another one is chosen.
+const USUAL = "string";
+// How many letters of a value are shown.
+const MOST_SHOWN = 1024;
+const CUT = `Only its first ${MOST_SHOWN.toLocaleString("en-US")} letters are shown. To change it, remove it and set it anew.`;
+const isChoice = type => type === "bool" || type === "object";
+const PARTS = [["x", KINDS.coordinate, "x"], ["y", KINDS.coordinate, "y"], ["width", KINDS.size, "w"], ["height", KINDS.size, "h"]];
+
+export class PropertyPanel {
+  constructor(bench) {
+    this.bench = bench;
+    this.kind = "map";
+    this.rows = new Map();
+    for (const kind of OWNERS) byId(`of-${kind}`).onclick = () => this.choose(kind);
+    this.body = element("tbody");
+    this.around = {
+      map: () => bench.map,
+      files: () => ({ place: bench.editor.place, folder: folderOf(bench.editor.openDocuments.file?.path ?? "") }),
+    };
+    this.last = this.newRow();
+    const columns = Array.from({ length: 3 }, () => element("col"));
+    byId("properties").querySelector("table").append(element("colgroup", {}, ...columns), this.body);
+    byId("properties").append(this.last);
+    // The panel follows what is chosen.
+    bench.addEventListener("layer chosen", () => this.choose("layer"));
+    bench.addEventListener("object chosen", () => this.choose(bench.objectId !== null ? "object" : this.kind === "object" ? "layer" : this.kind));
+  }
+
+  choose(kind) {
+    this.kind = kind;
+    this.shownDocument = this.bench.editor.openDocuments.active;
+    this.show();
+  }
+
+  // The owner as a line spells it, its data and its title; null where none is chosen.
+  owner() {
+    const { map, layer, objectId } = this.bench;
+    if (!map) return null;
+    if (this.kind === "map") return { word: "map", data: map.data, title: "The map" };
+    if (this.kind === "layer") return layer && { word: `layer:${layer.id}`, data: layer.data, title: `Layer ${layer.data.name}` };
+    const found = objectId === null ? null : map.object(objectId);
+    return found && { word: `object:${objectId}`, data: found.object, title: `Object ${found.object.name || objectId}` };
+  }
+
+  show() {
+    const { active } = this.bench.editor.openDocuments;
+    if (active !== this.shownDocument) this.kind = "map";
+    this.shownDocument = active;
+    const owner = this.owner();
+    for (const kind of OWNERS) byId(`of-${kind}`).classList.toggle("on", kind === this.kind);
+    const none = this.kind === "object" ? "No object is chosen: click at one with the tool Objects." : "Nothing is open.";
+    byId("owner").textContent = owner?.title ?? none;
+    byId("owner").title = owner && this.kind === "object" ? NO_NAME : "";
+    this.last.hidden = !owner;
+    if (owner?.word !== this.shownOwner) this.unmark();
+    this.shownOwner = owner?.word;
+    this.putRows(owner ? [...this.factRows(owner), ...(owner.data.properties ?? []).map(property => this.row(owner, property))] : []);
+  }
+
+  // Puts rows into the table. One that stands there already stays as it is, with what is typed in it.
+  putRows(rows) {
+    this.rows = new Map(rows.map(row => [row.key, row]));
+    const wanted = rows.map(row => row.element);
+    for (const old of [...this.body.children]) if (!wanted.includes(old)) old.remove();
+    wanted.forEach((row, at) => this.body.children[at] === row || this.body.insertBefore(row, this.body.children[at] ?? null));
+  }
+
+  // A row that is there with this key, or a new one. `values` go into its fields.
+  kept(key, values, make) {
+    const row = this.rows.get(key) ?? make();
+    row.fields.forEach((field, at) => field.update(values[at]));
+    return { ...row, key };
+  }
+
+  // ---- what is no property
+  // The size of the map; the class, the place and the size of an object.
+  factRows(owner) {
+    const { data } = owner;
+    if (this.kind === "map") return [this.fact("size", `${data.width} × ${data.height}`, "")];
+    if (this.kind !== "object") return [];
+    const type = data.type || data.class;
+    const known = type ? [this.fact("class", type, "No line sets a class.")] : [];
+    return [...known, this.partRow(owner, PARTS.slice(0, 2), "place"), this.partRow(owner, PARTS.slice(2), "size")];
+  }
+
+  fact(name, text, why) {
+    const cell = element("td", { colSpan: 2 }, element("span", { textContent: text }), element("small", { className: "barred", textContent: why }));
+    return this.kept(` ${name} ${text}`, [], () => ({ element: rowOf(name, "", why, cell), fields: [] }));
+  }
+
+  // Two numbers of an object, beside one another.
+  partRow({ word, data }, parts, name) {
+    const values = parts.map(([part]) => String(data[part] ?? 0));
+    return this.kept(` ${word} ${name}`, values, () => {
+      const fields = parts.map(([part, kind], at) => numberField(kind, values[at], text => this.setPart(part, text)));
+      fields.forEach((field, at) => Object.assign(field.input.dataset, { key: ` ${parts[at][0]}`, owner: word }));
+      const boxes = fields.flatMap((field, at) => [element("span", { className: "part", textContent: parts[at][2] }), field.box]);
+      return { element: rowOf(name, "", "in pixels", element("td", { className: "parts", colSpan: 2 }, ...boxes)), fields };
+    });
+  }
+
+  // A line takes whole numbers. A fraction comes back where its whole part is left as it is.
+  setPart(part, text) {
+    const { word, data } = this.owner();
+    const id = word.split(":")[1];
+    const of = name => (name === part ? text : Math.floor(data[name] ?? 0));
+    const isPlace = part === "x" || part === "y";
+    return this.send(isPlace ? `object move ${id} ${of("x")} ${of("y")}` : `object resize ${id} ${of("width")} ${of("height")}`);
+  }
+
+  // Does a line for a field: gives null, or why it was refused.
+  async send(line) {
+    return (await this.bench.attempt([line]))?.words ?? null;
+  }
+
+  // ---- properties
+  row(owner, property) {
+    const { name, type = "string", value } = property;
+    const whole = textOf(value);
+    const text = cutText(whole, MOST_SHOWN);
+    const why = text === whole ? whyNotSet(property) : CUT;
+    const key = `${owner.word} ${type} ${why} ${why && text} ${name}`;
+    return this.kept(key, [text], () => (why ? this.barredRow(owner, name, type, text, why) : this.setRow(owner, name, type, text)));
+  }
+
+  setRow({ word }, name, type, text) {
+    const field = fieldFor(type, text, value => this.send(`prop set ${word} ${name} ${type} ${value}`), this.around);
+    Object.assign(field.input.dataset, { key: name, owner: word });
+    return { element: this.propertyRow(word, name, type, field.box), fields: [field] };
+  }
+
+  // A property that no line sets: it is shown, with why.
+  barredRow({ word }, name, type, text, why) {
+    const rows = Math.min(8, text.split("\n").length);
+    const input = element("textarea", { disabled: true, value: text, title: why, rows, data: { key: name, owner: word } });
+    const box = element("div", { className: "value" }, input, element("small", { className: "barred", textContent: why }));
+    return { element: this.propertyRow(word, name, type, box), fields: [] };
+  }
+
+  propertyRow(word, name, type, box) {
+    const isSpelled = KINDS.key.fault(name) === "";
+    const title = isSpelled ? "Remove this property" : "No line can say this name";
+    // The second press of a double click at '+' comes to where this button is then.
+    const remove = button("×", title, event => event.detail < 2 && this.bench.act([`prop remove ${word} ${name}`]), { disabled: !isSpelled });
+    const row = rowOf(name, type, `${name}: ${type}`, element("td", {}, box), element("td", {}, remove));
+    row.dataset.property = name;
+    return row;
+  }
+
+  // ---- a new property
+  // It stands below the table, which scrolls: its name, its value and its type, in the order of Tab.
+  newRow() {
+    const name = element("input", { placeholder: "name", id: "new-name", autocomplete: "off", oninput: () => mark(name, "") });
+    const types = Object.keys(TYPES).map(each => element("option", { textContent: each }));
+    const type = element("select", { id: "new-type", title: "The type of the new property", onchange: () => this.newField(this.typed()) }, ...types);
+    type.ariaLabel = "type";
+    const box = element("div", { className: "new-value" });
+    Object.assign(this, { name, type, box });
+    const add = button("+", "Set this property", () => this.add(), { id: "add-property" });
+    for (const field of [name, type]) field.onkeydown = event => this.newKey(event);
+    this.newField();
+    return element("div", { className: "new" }, element("div", {}, name), box, type, add);
+  }
+
+  // What was typed as the value; a choice is nothing typed.
+  typed() {
+    return isChoice(this.fieldType) ? "" : this.field.input.value;
+  }
+
+  // The field for a value of the type that is chosen, with what was typed for another one.
+  newField(typed = "") {
+    const type = this.fieldType = this.type.value;
+    this.field = fieldFor(type, isChoice(type) ? FIRST[type] : "", () => null, this.around);
+    const { input } = this.field;
+    Object.assign(input, { id: "new-value", placeholder: FIRST[type] ?? "value", onkeydown: event => this.newKey(event), onchange: null });
+    if (!isChoice(type)) input.value = typed;
+    this.box.replaceChildren(this.field.box);
+  }
+
+  newKey(event) {
+    if (event.key === "Enter") {
+      event.preventDefault();
+      this.add();
+    } else if (event.key === "Escape") {
+      this.unmark();
+      event.target.blur();
+    }
+  }
+
+  unmark() {
+    for (const input of [this.name, this.field.input]) mark(input, "");
+  }
+
+  async add() {
+    const { name, type, field } = this;
+    const kind = TYPES[type.value];
+    const value = field.chosen?.() ?? kind.spelled(field.input.value || (FIRST[type.value] ?? ""));
+    const faults = [[name, KINDS.key.fault(name.value)], [field.input, kind.fault(value)]];
+    for (const [input, fault] of faults) mark(input, fault);
+    const wrong = faults.find(([, fault]) => fault);
+    if (wrong) return wrong[0].focus();
+    const done = await this.bench.editor.send([`prop set ${this.owner().word} ${name.value} ${type.value} ${value}`]);
+    if (!done.isHeard) return mark(name, saidOf(done));
+    this.bench.bubble.hide();
+    name.value = "";
+    // The keys stay in the row, for the next property.
+    if ([field.input, type].includes(document.activeElement)) name.focus();
+    type.value = USUAL;
+    return this.newField();
+  }
+}
+
+// A value as it is seen: of a class its members, one below the other. Of one that is too long there is a part, longer than what is shown.
+function textOf(value) {
+  const left = [["", value]];
+  let text = "";
+  while (left.length && text.length <= MOST_SHOWN) {
+    const [title, each] = left.pop();
+    if (typeof each === "object" && each !== null) {
+      const names = Object.keys(each).slice(0, MOST_SHOWN);
+      for (let at = names.length - 1; at >= 0; at--) left.push([`${at === 0 ? title : ""}${names[at]}: `, each[names[at]]]);
+    } else text += `${text && "\n"}${title}${String(each).slice(0, MOST_SHOWN + 1).replace(/\r\n?/g, "\n")}`;
+  }
+  return text;
+}
+
+function rowOf(name, type, title, ...cells) {
+  const kind = type ? element("span", { className: "kind", textContent: ` ${type}` }) : null;
+  return element("tr", {}, element("td", { title }, element("span", { textContent: name }), kind), ...cells);
+}

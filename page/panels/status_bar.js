@@ -1,0 +1,38 @@
+// SPDX-License-Identifier: MIT OR Apache-2.0
+// The bar below the map: how the steps stand, and what is under the hand.
+import { byId } from "./dom.js";
+import { wordsOf } from "../core/tile_words.js";
+
+// What is said of a map that has no file.
+export const NEVER_SAVED = "not saved yet";
+
+export class StatusBar {
+  constructor(bench, tilesets) {
+    Object.assign(this, { bench, tilesets });
+    bench.addEventListener("hand", () => this.showHand());
+  }
+
+  showState({ active, file, index, count, isClean, isWriting, depth }) {
+    const saved = isWriting ? "is being saved" : file === null ? NEVER_SAVED : isClean ? "saved" : "not saved";
+    byId("standing").textContent = active ? `${index}/${count} ${saved}${depth ? `, ${depth} open` : ""}` : "";
+  }
+
+  // What of the map is not drawn, or otherwise than in Tiled.
+  showNotDrawn(words) {
+    byId("not-drawn").textContent = words.length ? `Not drawn: ${words.join(", ")}` : "";
+    byId("not-drawn").title = byId("not-drawn").textContent;
+  }
+
+  // The cell, the pixel of the map, the layer and its tile.
+  showHand() {
+    const { layer, map, place } = this.bench;
+    byId("place").textContent = place && map ? this.words(map, layer, place).join(" · ") : "";
+  }
+
+  words(map, layer, { cell, pixelX, pixelY }) {
+    const words = [cell.join(", "), `${Math.floor(pixelX)}, ${Math.floor(pixelY)} px`];
+    if (layer) words.push(layer.data.name || "(no name)");
+    if (layer?.isTiles && map.isInside(...cell)) words.push(wordsOf(map.value(layer.id, ...cell), this.tilesets));
+    return words;
+  }
+}

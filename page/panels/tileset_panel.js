@@ -1,0 +1,84 @@
+// SPDX-License-Identifier: MIT OR Apache-2.0
+// The tilesets of the map: which one the palette shows, at what scale; one of the folder is added, or one is removed.
+import { byId, element } from "./dom.js";
+import { iconButton } from "./icons.js";
+import { FileList } from "../files/file_list.js";
+import { folderOf, pathFrom } from "../files/names.js";
+import { endNotice, notice } from "./notice_bars.js";
+import { checked, readTileset } from "../files/tileset_files.js";
+
+const ABOUT = "wrong tilesets";
+// How many wrong tilesets are named, and how long a name is then.
+const MOST_SAID = 3;
+const LONGEST_NAME = 60;
+
+export class TilesetPanel {
+  constructor(bench, tilesets, palette) {
+    Object.assign(this, { bench, tilesets, palette, editor: bench.editor });
+    byId("tileset-actions").append(
+      iconButton("minus", "Smaller tiles", "Smaller tiles: Ctrl and the wheel", () => palette.zoom(-1), { id: "palette-smaller" }),
+      iconButton("plus", "Larger tiles", "Larger tiles: Ctrl and the wheel", () => palette.zoom(1), { id: "palette-larger" }),
+      iconButton("files", "Add a tileset", "Add a tileset of the folder to the map", () => this.add(), { id: "add-tileset" }),
+      iconButton("remove", "Remove this tileset", "Remove this tileset from the map, where nothing uses it", () => this.remove(), { id: "remove-tileset" }),
+    );
+    byId("tilesets").onchange = event => {
+      palette.choose(Number(event.target.value));
+      event.target.blur();
+    };
+  }
+
+  // Shows the tilesets of another map.
+  show() {
+    const sets = this.tilesets.all;
+    const nameOf = set => `${set.name}${set.image ? "" : " (no image)"}`;
+    byId("tilesets").replaceChildren(...sets.map(set => element("option", { value: set.first, textContent: nameOf(set), title: set.source ?? "in the map" })));
+    if (sets.length && !sets.some(set => set.first === this.palette.first)) this.palette.first = sets[0].first;
+    byId("tilesets").value = String(this.palette.first);
+    this.palette.show();
+    this.showWrong();
+  }
+
+  // Says what is wrong with tilesets; all others are drawn.
+  showWrong() {
+    const { wrong } = this.tilesets;
+    if (!wrong.length) return endNotice(ABOUT);
+    const said = wrong.slice(0, MOST_SAID).map(({ name, why }) => `${name.slice(0, LONGEST_NAME)}: ${why}.`).join(" ");
+    const words = wrong.length > MOST_SAID ? `${said} And ${wrong.length - MOST_SAID} more.` : said;
+    return notice(ABOUT, `Wrong with a tileset: ${words} Tiles that its image does not hold are drawn as numbers.`, [["OK", () => {}]], "mild");
+  }
+
+  // ---- adding and removing
+  async add() {
+    const { map } = this.bench;
+    if (!map) return this.bench.say("Open a map first.");
+    const { place } = this.editor;
+    const files = await place.tilesets().catch(fault => this.bench.say(fault.message) ?? []);
+    const folder = folderOf(this.editor.openDocuments.file?.path ?? "");
+    const has = new Set(map.data.tilesets.map(set => set.source));
+    const known = new Map(files.filter(each => has.has(pathFrom(folder, each.path))).map(each => [each.path, "in the map already"]));
+    const first = element("input", { name: "first", type: "number", min: 1, value: this.bench.carried.numbers.nextFirst() });
+    const unknown = this.tilesets.all.filter(set => set.span === null).length;
+    const doubt = unknown ? ` Of ${unknown} of them it is not known how many tiles they have.` : "";
+    const label = element("label", {}, element("span", { textContent: `Its first id, behind the tiles of the others.${doubt}` }), first);
+    const none = "There is no tileset here: a .tsx or .tsj file, in the folder or among the chosen files.";
+    const path = await new FileList("Add a tileset", files, { known, look: path => this.look(path), none, fields: [label] }).ask();
+    if (!path) return null;
+    const done = await this.bench.act([`tileset add ${first.value} ${pathFrom(folder, path)}`]);
+    if (done.isHeard) this.palette.choose(Number(first.value));
+    return done;
+  }
+
+  // Words for a file: how many tiles it has.
+  async look(path) {
+    const bytes = await this.editor.place.bytes(path);
+    if (!bytes) return { words: "no such file", isRefused: true };
+    const { tilecount, tilewidth, tileheight, image } = checked(readTileset(path, bytes));
+    return { words: `${tilecount ?? "?"} tiles of ${tilewidth ?? "?"} × ${tileheight ?? "?"}${image ? "" : ", not of one image"}`, isRefused: false };
+  }
+
+  remove() {
+    const { tileset } = this.palette;
+    if (!this.bench.map || !tileset) return this.bench.say("The map has no tileset.");
+    return this.bench.act([`tileset remove ${tileset.first}`]);
+  }
+}

@@ -1,0 +1,117 @@
+// SPDX-License-Identifier: MIT OR Apache-2.0
+// The row of tools, and what its buttons do.
+import { Clips, KeptStamps } from "../tools/clips.js";
+import { byId, element, onEnter } from "./dom.js";
+import { iconButton, showIcon } from "./icons.js";
+import { Keys } from "../tools/keys.js";
+
+const TOOLS = [
+  ["brush", "Brush", "B", "Draw with the stamp; the right button takes tiles from the map; Shift draws a line from the last cell"],
+  ["eraser", "Eraser", "E", "Empty cells; Shift draws a line from the last cell"],
+  ["fill", "Fill", "F", "Fill joined cells that are alike with the stamp"],
+  ["rectangle", "Rectangle", "P", "Fill a rectangle with the stamp"],
+  ["select", "Select", "R", "Select cells; Shift adds, Ctrl subtracts, both intersect"],
+  ["objects", "Objects", "S", "Choose an object, and drag it; Ctrl keeps to the grid"],
+  ["insert", "Insert", "I", "Drag over cells for a new object"],
+];
+const LARGEST_BRUSH = 9;
+
+export class Toolbar {
+  constructor(bench, tools, documents, miniMap) {
+    Object.assign(this, { bench, tools, documents, miniMap, editor: bench.editor });
+    const buttonOf = ([name, text, key, title]) => iconButton(name, text, `${text} (${key}): ${title}`, () => tools.choose(name), { id: `tool-${name}` });
+    byId("tools").append(...TOOLS.map(buttonOf));
+    byId("turns").append(
+      iconButton("undo", "Undo", "Undo (Ctrl+Z)", event => this.turn("undo", event), { id: "undo" }),
+      iconButton("redo", "Redo", "Redo (Ctrl+Shift+Z, Ctrl+Y)", event => this.turn("redo", event), { id: "redo" }),
+    );
+    byId("looks").append(
+      iconButton("smaller", "Smaller", "Smaller (Ctrl+-, or the wheel with Ctrl)", () => bench.view.zoom(-1), { id: "zoom-out" }),
+      element("span", { id: "scale", title: "The scale of the map" }),
+      iconButton("larger", "Larger", "Larger (Ctrl++, or the wheel with Ctrl)", () => bench.view.zoom(1), { id: "zoom-in" }),
+      iconButton("fit", "Fit", "Fit: the whole map (Ctrl+/)", () => bench.view.fit(), { id: "fit" }),
+      iconButton("grid", "Grid", "Grid: hides or shows it (Ctrl+G)", () => this.turnGrid(), { id: "grid", className: "on" }),
+      iconButton("names", "Names", "Names of objects: hides or shows them (N)", () => this.turnNames(), { id: "turn-names", className: "on" }),
+      iconButton("miniMap", "Mini-map", "Mini-map: hides or shows the whole map in small (M)", () => this.turnMiniMap(), { id: "turn-mini-map", className: "on" }),
+    );
+    byId("page-actions").append(iconButton("keys", "Keys", "Keys: lists them (F1)", () => this.keys.list(), { id: "list-keys" }));
+    const clips = new Clips(bench, tools);
+    showIcon(byId("take"), "take");
+    byId("take").onclick = () => bench.clipboard.during(() => clips.copyCells());
+    byId("macro").onclick = () => this.turnMacro();
+    byId("macro-name").onkeydown = onEnter(() => this.turnMacro());
+    const sizes = Array.from({ length: LARGEST_BRUSH }, (_, at) => element("option", { value: at + 1, textContent: `${at + 1} × ${at + 1}` }));
+    byId("brush-size").append(...sizes);
+    byId("brush-size").onchange = event => {
+      this.setBrush(Number(event.target.value));
+      event.target.blur();
+    };
+    bench.addEventListener("tool", () => this.show());
+    this.keys = new Keys({ bench, tools, toolbar: this, documents, view: bench.view, clips, stamps: new KeptStamps(bench, tools) });
+  }
+
+  show() {
+    const { state } = this.editor;
+    for (const [name] of TOOLS) byId(`tool-${name}`).classList.toggle("on", name === this.tools.name);
+    byId("undo").disabled = state.index === 0 || state.depth > 0;
+    byId("redo").disabled = state.index === state.count || state.depth > 0;
+    const why = state.depth > 0 ? "End the macro first: what is in it is one step. " : "";
+    byId("undo").title = `${why}Undo (Ctrl+Z)`;
+    byId("redo").title = `${why}Redo (Ctrl+Shift+Z, Ctrl+Y)`;
+    this.showMacro(state.depth);
+    byId("turn-names").classList.toggle("on", this.bench.overlay.hasNames);
+    byId("grid").classList.toggle("on", this.bench.overlay.hasGrid);
+    byId("brush-size").value = String(this.bench.brushSize);
+  }
+
+  // A macro that is open is told in letters.
+  showMacro(depth) {
+    const macro = byId("macro");
+    if (depth === 0) showIcon(macro, "macro");
+    else macro.textContent = `End macro${depth > 1 ? ` (${depth})` : ""}`;
+    if (depth > 0) delete macro.dataset.icon;
+    macro.setAttribute("aria-label", macro.textContent || "Begin macro");
+    macro.title = `${depth === 0 ? "Begin a macro" : "End the macro"}: what stands between begin and end is one step`;
+    macro.classList.toggle("on", depth > 0);
+    byId("macro-name").hidden = depth > 0;
+  }
+
+  setBrush(size) {
+    this.bench.brushSize = Math.max(1, Math.min(LARGEST_BRUSH, size));
+    byId("brush-size").value = String(this.bench.brushSize);
+  }
+
+  // Does an undo or a redo, and has the browser measure how long it takes until it is seen.
+  async turn(line, event) {
+    const done = await this.bench.act([line]);
+    if (done.isHeard) this.bench.view.measure(line, event.timeStamp);
+  }
+
+  turnGrid() {
+    this.bench.overlay.hasGrid = !this.bench.overlay.hasGrid;
+    this.bench.overlay.redraw();
+    this.show();
+  }
+
+  turnNames() {
+    this.bench.overlay.hasNames = !this.bench.overlay.hasNames;
+    this.bench.overlay.redraw();
+    this.show();
+  }
+
+  turnMiniMap() {
+    this.miniMap.turn();
+    byId("turn-mini-map").classList.toggle("on", this.miniMap.isWanted);
+  }
+
+  turnMacro() {
+    const name = byId("macro-name");
+    this.bench.act([this.editor.stand().depth ? "end" : `begin ${name.value}`]);
+    name.blur();
+  }
+
+  flip(change) {
+    this.bench.takeStamp(change(this.bench.stamp));
+    this.tools.showHand(this.bench.place);
+  }
+}

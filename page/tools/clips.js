@@ -1,0 +1,98 @@
+// SPDX-License-Identifier: MIT OR Apache-2.0
+// What is done by keys with selected cells, with the chosen object, and with what was copied; and the stamps that are kept on digits.
+
+export class Clips {
+  constructor(bench, tools) {
+    Object.assign(this, { bench, tools, clipboard: bench.clipboard });
+  }
+
+  // ---- keys: each is about objects where the tool in hand says so, and else about cells
+  copy() {
+    this.clipboard.during(() => this.tools.now.copy?.() === true || this.copyCells());
+  }
+
+  cut() {
+    this.clipboard.during(() => this.tools.now.cut?.() === true || this.cutCells());
+  }
+
+  remove() {
+    return this.tools.now.remove?.() === true || this.removeCells();
+  }
+
+  duplicate() {
+    return this.tools.now.duplicate?.() === true || this.bench.say("Choose an object first, with the tool Objects.");
+  }
+
+  // What was copied says what is pasted, whatever tool is in hand.
+  paste() {
+    const { bench, clipboard, tools } = this;
+    if (!bench.map) return bench.say("Open a map first.");
+    if (clipboard.tiles) return bench.carried.bring(clipboard.tiles, "pasted", stamp => this.takeForPaste(stamp));
+    if (!clipboard.object) return bench.say("Nothing is copied. Ctrl+C copies the selected cells, or with the tool Objects the chosen object.");
+    if (tools.name !== "objects") tools.choose("objects");
+    return tools.now.paste();
+  }
+
+  // ---- cells
+  // Takes the selected cells as the stamp, and tells whether there are any.
+  take() {
+    const { bench } = this;
+    const stamp = bench.selectedStamp();
+    if (!stamp) return false;
+    bench.takeStamp(stamp);
+    this.clipboard.keepTiles(bench.hand);
+    return true;
+  }
+
+  copyCells() {
+    if (this.take()) this.tools.choose("brush");
+  }
+
+  // Where the layer is barred, the cells are copied all the same.
+  cutCells() {
+    const { bench } = this;
+    if (!this.take() || bench.barredLayer()) return;
+    const [x, y, width, height] = bench.selectedBox;
+    bench.act([`erase ${bench.layerId} ${x} ${y} ${width} ${height}`], { gesture: "cut" });
+  }
+
+  // Puts what was copied into the hand. Else the selection would bar it.
+  takeForPaste(stamp) {
+    const { bench } = this;
+    bench.takeStamp(stamp);
+    if (bench.map.selected) bench.act(["select none"], { gesture: "paste" });
+    this.tools.choose("brush");
+  }
+
+  // Empties the cells that are selected.
+  removeCells() {
+    const { bench } = this;
+    if (!bench.map?.selected || bench.barredLayer()) return;
+    bench.act([`erase ${bench.layerId} 0 0 ${bench.map.width} ${bench.map.height}`], { gesture: "empty" });
+  }
+}
+
+export class KeptStamps {
+  constructor(bench, tools) {
+    Object.assign(this, { bench, tools, all: new Map() });
+  }
+
+  keep(digit) {
+    const { bench } = this;
+    if (!bench.fillValue) return bench.say("No tile is in the hand, so no stamp is kept.");
+    const { width, height } = bench.stamp;
+    this.all.set(digit, bench.hand);
+    return bench.say(`The stamp of ${width} × ${height} is kept: Shift+${digit} takes it.`);
+  }
+
+  take(digit) {
+    const { bench } = this;
+    const copy = this.all.get(digit);
+    if (!copy) return bench.say(`No stamp is kept on ${digit}: Ctrl+${digit} keeps the one in hand.`);
+    if (!bench.map) return bench.say("Open a map first.");
+    return bench.carried.bring(copy, "taken", stamp => {
+      bench.takeStamp(stamp);
+      this.tools.choose("brush");
+    });
+  }
+}

@@ -1,0 +1,144 @@
+// SPDX-License-Identifier: MIT OR Apache-2.0
+// The table of keys: Tiled's, where Tiled has one. The page's keys are bound from it, and it can be listed.
+import { isTyping } from "../panels/dom.js";
+import { ARROWS, ARROW_KEYS, callsOf, keyOf, showKeys, wordOf } from "./key_tables.js";
+import { flippedToSide, flippedUpDown, turnedLeft, turnedRight } from "./stamps.js";
+
+const DIGITS = [1, 2, 3, 4, 5, 6, 7, 8, 9];
+const all = prefix => DIGITS.map(digit => `${prefix}${digit}`);
+// How far an arrow key moves the view where the tool has no use for it: in pixels of the page.
+const STEP = 80;
+
+// The rows of the table: [keys, what they do, a call with the digit or the direction of the key and its event].
+function toolRows({ tools }) {
+  const tool = (key, name, text) => [[key], text, () => tools.choose(name)];
+  return [
+    tool("b", "brush", "Brush: draws the stamp; Shift draws a line from the last cell"),
+    tool("e", "eraser", "Eraser: empties cells"),
+    tool("f", "fill", "Fill: fills joined cells with the stamp"),
+    tool("p", "rectangle", "Rectangle: fills a rectangle with the stamp"),
+    tool("r", "select", "Select cells; Shift adds, Ctrl subtracts, both intersect"),
+    tool("s", "objects", "Objects: chooses an object, and drags it"),
+    tool("i", "insert", "Insert: makes an object over the cells of a drag"),
+    [["escape"], "Ends a stroke or a drag, and then drops what is chosen or selected", () => tools.escape()],
+  ];
+}
+
+function stampRows({ toolbar, stamps }) {
+  return [
+    [["x"], "Flips the stamp to the side", () => toolbar.flip(flippedToSide)],
+    [["y"], "Flips the stamp upside down", () => toolbar.flip(flippedUpDown)],
+    [["z"], "Turns the stamp right", () => toolbar.flip(turnedRight)],
+    [["Shift+z"], "Turns the stamp left", () => toolbar.flip(turnedLeft)],
+    [all(""), "Sets the side of brush and eraser", digit => toolbar.setBrush(digit)],
+    [all("Ctrl+"), "Keeps the stamp on a digit", digit => stamps.keep(digit)],
+    [all("Shift+"), "Takes the stamp that is kept on a digit", digit => stamps.take(digit)],
+  ];
+}
+
+function editRows({ toolbar, clips, bench }) {
+  const redo = event => toolbar.turn("redo", event);
+  return [
+    [["Ctrl+z"], "Undoes a step", (_, event) => toolbar.turn("undo", event)],
+    [["Ctrl+Shift+z", "Ctrl+y"], "Redoes a step", (_, event) => redo(event)],
+    [["Ctrl+c"], "Copies the selected cells, and takes them as the stamp; or the chosen object", () => clips.copy()],
+    [["Ctrl+x"], "Cuts the selected cells, or the chosen object", () => clips.cut()],
+    [["Ctrl+v"], "Takes copied cells as the stamp, and drops the selection; or pastes a copied object", () => clips.paste()],
+    [["Ctrl+d"], "Makes a copy of the chosen object", () => clips.duplicate()],
+    [["delete", "backspace"], "Removes the chosen object, or empties the selected cells", () => clips.remove()],
+    [["Ctrl+a"], "Selects all cells", () => bench.map && bench.act([`select replace 0 0 ${bench.map.width} ${bench.map.height}`])],
+    [["Ctrl+Shift+a"], "Selects nothing", () => bench.act(["select none"])],
+  ];
+}
+
+function viewRows({ toolbar, tools, view }) {
+  const move = ([x, y], { shiftKey }) => tools.now.nudge?.(x, y, shiftKey) === true || view.pan(-x * STEP * view.ratio, -y * STEP * view.ratio);
+  return [
+    [["+", "Ctrl++", "Ctrl+="], "Larger", () => view.zoom(1)],
+    [["-", "Ctrl+-"], "Smaller", () => view.zoom(-1)],
+    [["Ctrl+0"], "As large as the tiles' images are", () => view.zoomTo(1)],
+    [["Ctrl+/"], "The whole map", () => view.fit()],
+    [["Ctrl+g"], "Hides or shows the grid", () => toolbar.turnGrid()],
+    [["n"], "Hides or shows the names of objects", () => toolbar.turnNames()],
+    [["m"], "Hides or shows the whole map in small", () => toolbar.turnMiniMap()],
+    [ARROW_KEYS.flatMap(key => [key, `Shift+${key}`]), "Moves the chosen object or the view", move],
+    [["space"], "With a drag, moves the map", () => (tools.isSpace = true)],
+  ];
+}
+
+// Those that go in fields, too.
+function mapRows({ documents }) {
+  return [
+    [["Ctrl+s"], "Saves the map", () => documents.save()],
+    [["Ctrl+Shift+s"], "Saves the map into another file", () => documents.saveAs()],
+    [["Ctrl+o"], "Opens a map", () => documents.open()],
+  ];
+}
+
+function pageRows({ toolbar }) {
+  return [[["f1", "?"], "Lists the keys", () => toolbar.keys.list()]];
+}
+
+// The table, by what its rows are about.
+const GROUPS = [["Tools", toolRows], ["The stamp", stampRows], ["Cells, objects and steps", editRows], ["The view", viewRows], ["Maps", mapRows], ["The page", pageRows]];
+
+export class Keys {
+  // `parts` has the bench, the tools, the toolbar, the documents, the view, and the clips and kept stamps of cells.
+  constructor(parts) {
+    Object.assign(this, { tools: parts.tools });
+    this.groups = GROUPS.map(([title, rowsOf]) => ({ title, rows: rowsOf(parts) }));
+    this.calls = callsOf(this.rows);
+    // What keys do where something has the focus: groups of rows, as those of the page.
+    this.places = [];
+    this.inFields = new Set(["f1", ...mapRows(parts).flatMap(([keys]) => keys)]);
+    document.addEventListener("keydown", event => this.press(event));
+    document.addEventListener("keyup", event => {
+      if (event.code === "Space") this.tools.isSpace = false;
+    });
+  }
+
+  press(event) {
+    const word = wordOf(event);
+    if (document.querySelector("dialog[open]")) {
+      // The browser's own Save never opens.
+      if (this.inFields.has(word)) event.preventDefault();
+      return;
+    }
+    if (isTyping()) {
+      if (this.inFields.has(word)) this.leaveField(event, word);
+      return;
+    }
+    if (event.altKey || !this.calls.has(word) || this.isText(word) || (word === "space" && this.isForButton())) return;
+    this.run(event, word);
+  }
+
+  get rows() {
+    return this.groups.flatMap(group => group.rows);
+  }
+
+  list() {
+    return showKeys([...this.groups, ...this.places]);
+  }
+
+  // A field takes what was typed before the map is saved.
+  leaveField(event, word) {
+    document.activeElement.blur();
+    this.run(event, word);
+  }
+
+  // Over the map the space bar is for the hand; elsewhere it may press a button.
+  isForButton() {
+    return document.activeElement instanceof HTMLButtonElement && !this.tools.bench.place;
+  }
+
+  // Whether the key is for text that is marked on the page.
+  isText(word) {
+    return word === "Ctrl+c" && String(getSelection()) !== "";
+  }
+
+  run(event, word) {
+    event.preventDefault();
+    const key = keyOf(word);
+    this.calls.get(word)(ARROWS[key] ?? Number(key), event);
+  }
+}

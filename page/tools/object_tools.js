@@ -1,0 +1,192 @@
+// SPDX-License-Identifier: MIT OR Apache-2.0
+// The tools of the hand for objects: one that chooses, drags and resizes them, and one that adds them.
+import { ask } from "../panels/dom.js";
+import { KINDS } from "../core/kinds.js";
+import { ObjectCopies, layerForObjects, nameOf } from "./object_copies.js";
+import { handleAt, resized } from "../view/object_shapes.js";
+
+// How far the hand moves before a press is a drag, in pixels of the screen.
+const SHORTEST_DRAG = 3;
+
+// Chooses an object, and drags it or one of its handles: the page draws it on its way, and its lines are sent at the end.
+export class ObjectTool {
+  constructor(bench) {
+    this.bench = bench;
+    this.drag = null;
+    this.copies = new ObjectCopies(bench);
+    // A run of arrow keys is one step, up to the next line that is not of it.
+    this.run = null;
+    bench.editor.addEventListener("done", () => this.isNudging || (this.run = null));
+    bench.addEventListener("tool", () => bench.overlay.redraw());
+  }
+
+  // ---- the hand
+  // Shows by the pointer what a press would do.
+  hover(place) {
+    const { view, overlay } = this.bench;
+    if (!this.drag) view.box.dataset.over = this.handleAt(place) ?? (overlay.objectAt(place.pixelX, place.pixelY, this.bench.layerId) ? "object" : "");
+    return null;
+  }
+
+  // The handle of the chosen object at a place, or null.
+  handleAt(place) {
+    const { bench } = this;
+    const chosen = bench.chosenObject;
+    if (!chosen || !bench.overlay.isShown(chosen)) return null;
+    const { overlay, view } = bench;
+    const at = overlay.ownPlace(chosen.object, chosen.layer, place.pixelX, place.pixelY);
+    return handleAt(overlay.shapeOf(chosen.object), at, view.scale / view.ratio);
+  }
+
+  down(place) {
+    const { bench } = this;
+    const handle = this.handleAt(place);
+    const found = handle ? bench.chosenObject : bench.overlay.objectAt(place.pixelX, place.pixelY, bench.layerId);
+    if (!handle) bench.chooseObject(found?.object.id ?? null);
+    if (!found && !bench.map.layers.some(layer => layer.data.objects?.length)) bench.say("This map has no objects. The tool Insert (I) makes one.");
+    this.drag = found && { ...found, handle, from: place, isMoved: false };
+  }
+
+  move(place, event) {
+    const { drag } = this;
+    if (!drag) return;
+    if (!drag.isMoved && Math.hypot(place.x - drag.from.x, place.y - drag.from.y) < SHORTEST_DRAG * this.bench.view.ratio) return;
+    if (!drag.isMoved && this.bench.barsObjects(drag.layer, drag.handle ? "resized" : "moved")) return this.cancel();
+    drag.isMoved = true;
+    this.bench.overlay.dragged = { id: drag.object.id, ...this.goal(place, event) };
+    this.bench.overlay.redraw();
+  }
+
+  async up(place, event) {
+    const { drag, bench } = this;
+    this.drag = null;
+    if (drag?.isMoved) await this.send(drag.object, this.goal(place, event, drag));
+    bench.overlay.dragged = null;
+    bench.overlay.redraw();
+  }
+
+  // Ends a drag, which then does nothing.
+  cancel() {
+    this.drag = null;
+    this.bench.overlay.dragged = null;
+    this.bench.overlay.redraw();
+  }
+
+  // Where the object goes, or how large it is: with Ctrl on the grid.
+  goal(place, event, drag = this.drag) {
+    const { map } = this.bench;
+    const { object, layer, handle, from } = drag;
+    const isOnGrid = event.ctrlKey || event.metaKey;
+    const snapTo = side => at => (isOnGrid ? Math.round(at / side) * side : Math.round(at));
+    const snaps = map.projection.side.map(snapTo);
+    if (handle) {
+      const [[toX, toY], [fromX, fromY]] = [place, from].map(at => this.bench.overlay.ownPlace(object, layer, at.pixelX, at.pixelY));
+      return resized(object, handle, [toX - fromX, toY - fromY], snaps);
+    }
+    // Where the hand has not moved it one way, it keeps the whole part that it has there, and so its fraction.
+    const moved = (at, by, snap) => (by === 0 && !isOnGrid ? Math.floor(at) : snap(at + by));
+    return { x: moved(object.x ?? 0, place.pixelX - from.pixelX, snaps[0]), y: moved(object.y ?? 0, place.pixelY - from.pixelY, snaps[1]) };
+  }
+
+  // Moves and resizes an object as one step.
+  send(object, { x, y, width, height }) {
+    const whole = name => Math.floor(object[name] ?? 0);
+    const isMoved = x !== whole("x") || y !== whole("y");
+    const isResized = width !== undefined && (width !== whole("width") || height !== whole("height"));
+    const lines = [
+      ...(isResized ? [`object resize ${object.id} ${width} ${height}`] : []),
+      ...(isMoved ? [`object move ${object.id} ${x} ${y}`] : []),
+    ];
+    return lines.length === 2 ? this.bench.doAsOne("Resize Object || resize object", lines) : this.bench.act(lines);
+  }
+
+  // ---- keys: each gives true where it is about objects
+  // Moves the chosen object by a pixel, or with Shift by a cell.
+  nudge(toX, toY, isFar) {
+    const { bench } = this;
+    const chosen = bench.chosenObject;
+    if (!chosen) return false;
+    if (this.isBarred(chosen, "moved")) return true;
+    const { object } = chosen;
+    const [wide, high] = isFar ? bench.map.projection.side : [1, 1];
+    const [byX, byY] = [toX * wide, toY * high];
+    // From a fraction it goes on to whole pixels.
+    const moved = (at, by) => (by < 0 ? Math.ceil(at) : Math.floor(at)) + by;
+    const [x, y] = [moved(object.x ?? 0, byX), moved(object.y ?? 0, byY)];
+    const follows = this.run?.id === object.id;
+    if (!follows) this.run = { id: object.id, x: object.x ?? 0, y: object.y ?? 0 };
+    const run = this.run;
+    this.isNudging = true;
+    const done = bench.sayRefusal(bench.editor.doLines([`object move${follows ? "+" : ""} ${object.id} ${x} ${y}`]));
+    this.isNudging = false;
+    // Back where the run began its step is gone, and a line that follows would join the step before it.
+    if (!done.isHeard || (x === run.x && y === run.y)) this.run = null;
+    return true;
+  }
+
+  // Whether an object takes no edit by a key, since it is not seen or its layer is locked; it is said.
+  isBarred({ object, layer }, done) {
+    if (this.bench.barsObjects(layer, done)) return true;
+    if (object.visible !== false) return false;
+    this.bench.say(`${nameOf(object)} is hidden. It was not ${done}.`);
+    return true;
+  }
+
+  // Calls with the chosen object, where there is one that is not barred.
+  onChosen(done, call) {
+    const chosen = this.bench.chosenObject;
+    if (!chosen) this.bench.say("Choose an object first: click at one.");
+    else if (!this.isBarred(chosen, done)) call(chosen.object, chosen.layer);
+    return true;
+  }
+
+  // Where no object is chosen and cells of the layer in hand are selected, copies, cuts and removals are about these.
+  get isAboutCells() {
+    const { chosenObject, layer, map } = this.bench;
+    return !chosenObject && Boolean(map?.selected && layer?.isTiles);
+  }
+
+  remove() {
+    return !this.isAboutCells && this.onChosen("removed", object => this.bench.act([`object remove ${object.id}`]));
+  }
+
+  copy() {
+    return !this.isAboutCells && this.onChosen("copied", (object, layer) => this.copies.keep(object, layer));
+  }
+
+  cut() {
+    return !this.isAboutCells && this.onChosen("cut", (object, layer) => this.copies.whole(object, "cut", () => {
+      this.copies.take(object, layer);
+      this.bench.act([`object remove ${object.id}`]);
+    }));
+  }
+
+  paste() {
+    return this.copies.paste();
+  }
+
+  duplicate() {
+    return this.onChosen("copied", (object, layer) => this.copies.duplicate(object, layer));
+  }
+
+  // Chooses no object any more.
+  drop() {
+    if (this.bench.objectId === null) return false;
+    this.bench.chooseObject(null);
+    return true;
+  }
+}
+
+// Adds an object over a rectangle of cells, under a name that is asked for, and chooses it.
+export async function insertObject(bench, [x, y, width, height]) {
+  const { map } = bench;
+  const layer = layerForObjects(bench);
+  if (!layer || bench.barsObjects(layer, "added")) return null;
+  const [left, top, ...size] = map.projection.objectBox([x, y, x + width, y + height]);
+  const box = [...bench.overlay.inLayer(layer, left, top).map(Math.round), ...size];
+  const field = { name: "name", label: "Name", value: "object", kind: KINDS.text };
+  const told = await ask("A new object", [field], ["OK"], ({ name }) => bench.attempt([`object add ${layer.id} ${box.join(" ")} ${name}`]));
+  if (!told) return null;
+  bench.chooseObject(bench.map.data.nextobjectid - 1);
+  return bench.tell("inserted");
+}

@@ -1,0 +1,109 @@
+// SPDX-License-Identifier: MIT OR Apache-2.0
+// A stroke of the brush or of the eraser: one step, however many lines it takes.
+import { lineOf } from "../core/map_model.js";
+
+// The longest text of the values of a line, which has at most 65,535 bytes.
+const LONGEST = 65_000;
+// From which values on a value has one more digit.
+const TENS = [10, 100, 1000, 10_000, 100_000, 1_000_000, 10_000_000, 100_000_000, 1_000_000_000];
+
+// The length of a value and its comma.
+function lengthOf(value) {
+  let digits = 0;
+  while (digits < TENS.length && value >= TENS[digits]) digits++;
+  return digits + 2;
+}
+
+function rowLength({ values, width }, row) {
+  let length = 0;
+  for (let at = row * width; at < (row + 1) * width; at++) length += lengthOf(values[at]);
+  return length;
+}
+
+// A block in parts, each of as many of its rows as a line has room for: each line that follows costs as much as what is there before it. (No
+// map is wider than a row of a line may be.)
+export function partsOf(block) {
+  if (!block.values) return [block];
+  const starts = [0];
+  let length = 0;
+  for (let row = 0; row < block.height; row++) {
+    const more = rowLength(block, row);
+    if (length && length + more > LONGEST) {
+      starts.push(row);
+      length = 0;
+    }
+    length += more;
+  }
+  if (starts.length === 1) return [block];
+  return starts.map((row, at) => {
+    const height = (starts[at + 1] ?? block.height) - row;
+    return { ...block, y: block.y + row, height, values: block.values.slice(row * block.width, (row + height) * block.width) };
+  });
+}
+
+// The cells from one to another one, both with them: each joined to the one before it.
+export function cellsOnLine([fromX, fromY], [x, y]) {
+  const count = Math.max(Math.abs(x - fromX), Math.abs(y - fromY), 1);
+  const cells = [];
+  for (let at = 0; at <= count; at++) cells.push([Math.round(fromX + (x - fromX) * at / count), Math.round(fromY + (y - fromY) * at / count)]);
+  return cells;
+}
+
+export class Stroke {
+  // `blockAt(x, y)` is the block that the hand leaves at a cell. `hear(line)` does a line, and tells whether it was accepted. The stroke
+  // begins with a line from a cell `from`, where there is one.
+  constructor(map, blockAt, hear, from = null) {
+    Object.assign(this, { blockAt, hear, from, last: null, isOver: false });
+    this.begin(map);
+  }
+
+  // The stroke goes on over this map, and has made no step on it.
+  begin(map) {
+    this.map = map;
+    // What each cell had that was changed, and which those are.
+    this.first = new Uint32Array(map ? map.width * map.height : 0);
+    this.isChanged = new Uint8Array(this.first.length);
+    this.unlike = 0;
+  }
+
+  // The cells from the last one to this one, so that a fast hand leaves no gaps.
+  cellsTo(x, y) {
+    if (this.last) return cellsOnLine(this.last, [x, y]).slice(1);
+    return this.from ? cellsOnLine(this.from, [x, y]) : [[x, y]];
+  }
+
+  // Draws the way to a cell, and gives the blocks that have changed something, each with the cells that it has changed.
+  moveTo(x, y) {
+    const edits = this.cellsTo(x, y).flatMap(([column, row]) => this.put(this.blockAt(column, row)));
+    this.last = [x, y];
+    return edits;
+  }
+
+  // Draws a block of any size.
+  put(block) {
+    return partsOf(block).map(part => this.edit(part)).filter(edit => edit);
+  }
+
+  // A line follows only where this stroke has a step: behind a block that changed a cell. Where later blocks have given back all
+  // that it changed, that step is gone, and a line that follows would join the stroke before it.
+  edit(block) {
+    const changed = this.isOver ? null : this.map.changes(block);
+    if (!changed?.places.length) return null;
+    if (!this.hear(lineOf(block, this.unlike > 0))) {
+      this.isOver = true;
+      return null;
+    }
+    this.keep(changed);
+    return { block, changed };
+  }
+
+  keep({ places, before, after }) {
+    for (let at = 0; at < places.length; at++) {
+      const place = places[at];
+      if (!this.isChanged[place]) this.first[place] = before[at];
+      this.isChanged[place] = 1;
+      const original = this.first[place];
+      this.unlike += (after[at] !== original) - (before[at] !== original);
+    }
+  }
+}

@@ -1,0 +1,197 @@
+// SPDX-License-Identifier: MIT OR Apache-2.0
+// Draws over the cells of a map: the grid, the selection, and what the hand is about to do.
+
+// Below these widths of a cell there is no grid, and the selection has no outline.
+const SMALLEST_GRID = 6;
+const SMALLEST_OUTLINE = 4;
+// How many cells that are no rectangles are outlined one by one.
+const MOST_SHAPES = 20_000;
+
+export class CellOverlay {
+  // `pen` draws below the objects, and `handPen` over all.
+  constructor(view, pen, handPen) {
+    Object.assign(this, { view, pen, handPen });
+  }
+
+  get isPlain() {
+    return this.view.map.projection.isPlain;
+  }
+
+  // The cells that are seen: [x0, y0, x1, y1].
+  seen() {
+    const { map, canvas } = this.view;
+    const [x0, y0, x1, y1] = map.projection.cellsIn(this.view.boxOnMap([0, 0, canvas.width, canvas.height]));
+    return [Math.max(0, x0), Math.max(0, y0), Math.min(map.width, x1), Math.min(map.height, y1)];
+  }
+
+  isSeenFrom(least) {
+    return this.view.map.tileWidth * this.view.scale >= least;
+  }
+
+  // The upper left corner of a cell of an orthogonal map.
+  corner(x, y) {
+    const { map } = this.view;
+    return [this.view.screenX(x * map.tileWidth), this.view.screenY(y * map.tileHeight)];
+  }
+
+  // Calls with each cell that is seen, where they are few.
+  eachSeen(call) {
+    const { map, canvas } = this.view;
+    const [x0, y0, x1, y1] = this.seen();
+    const box = this.view.boxOnMap([0, 0, canvas.width, canvas.height]);
+    const isMany = (canvas.width / map.tileWidth / this.view.scale) * (canvas.height / map.tileHeight / this.view.scale) > MOST_SHAPES;
+    if (!isMany) map.projection.walk([x0, y0, x1, y1], box, call);
+  }
+
+  line(x0, y0, x1, y1) {
+    this.pen.moveTo(x0 + 0.5, y0 + 0.5);
+    this.pen.lineTo(x1 + 0.5, y1 + 0.5);
+  }
+
+  // Adds the shape of a cell to the path of a pen.
+  addShape(pen, x, y) {
+    this.view.shapeOf(x, y).forEach(([left, top], at) => (at ? pen.lineTo(left + 0.5, top + 0.5) : pen.moveTo(left + 0.5, top + 0.5)));
+    pen.closePath();
+  }
+
+  // ---- the grid
+  drawGrid() {
+    const { pen, view } = this;
+    pen.strokeStyle = "#0003";
+    pen.lineWidth = 1;
+    pen.beginPath();
+    if (this.isSeenFrom(SMALLEST_GRID)) {
+      if (this.isPlain) this.addLines();
+      else this.eachSeen((x, y) => this.addShape(pen, x, y));
+    }
+    pen.stroke();
+    this.drawEdge(view.map);
+  }
+
+  addLines() {
+    const [x0, y0, x1, y1] = this.seen();
+    const [[left, top], [right, bottom]] = [this.corner(x0, y0), this.corner(x1, y1)];
+    for (let x = x0; x <= x1; x++) this.line(this.corner(x, 0)[0], top, this.corner(x, 0)[0], bottom);
+    for (let y = y0; y <= y1; y++) this.line(left, this.corner(0, y)[1], right, this.corner(0, y)[1]);
+  }
+
+  // The edge of the whole map.
+  drawEdge({ projection, width, height }) {
+    const { pen, view } = this;
+    pen.strokeStyle = "#000a";
+    pen.beginPath();
+    if (projection.isIsometric) {
+      const corners = [[0, 0], [width, 0], [width, height], [0, height]].map(([x, y]) => projection.point(x, y));
+      for (const [left, top] of corners) pen.lineTo(view.screenX(left), view.screenY(top));
+      pen.closePath();
+    } else {
+      const [left, top] = [view.screenX(0), view.screenY(0)];
+      pen.rect(left - 0.5, top - 0.5, view.screenX(projection.width) - left + 1, view.screenY(projection.height) - top + 1);
+    }
+    pen.stroke();
+  }
+
+  // ---- the selection
+  drawSelection() {
+    const { pen, view } = this;
+    if (!view.map.selected) return;
+    pen.fillStyle = "#4aa3ff55";
+    pen.strokeStyle = "#8cc8ff";
+    pen.lineWidth = 1;
+    if (this.isPlain) this.drawRuns();
+    else this.drawShapes();
+  }
+
+  drawRuns() {
+    const [x0, y0, x1, y1] = this.seen();
+    for (const [row, column, count] of this.view.map.runs) {
+      if (row < y0 || row >= y1) continue;
+      const [[left, top], [right, bottom]] = [this.corner(column, row), this.corner(column + count, row + 1)];
+      this.pen.fillRect(left, top, right - left, bottom - top);
+    }
+    if (this.isSeenFrom(SMALLEST_OUTLINE)) this.outline(x0, y0, x1, y1);
+  }
+
+  isOut(x, y) {
+    const { map } = this.view;
+    return !map.isInside(x, y) || !map.selected[y * map.width + x];
+  }
+
+  outline(x0, y0, x1, y1) {
+    this.pen.beginPath();
+    for (let y = y0; y < y1; y++) {
+      for (let x = x0; x < x1; x++) if (!this.isOut(x, y)) this.addEdges(x, y);
+    }
+    this.pen.stroke();
+  }
+
+  addEdges(x, y) {
+    const [[left, top], [right, bottom]] = [this.corner(x, y), this.corner(x + 1, y + 1)];
+    if (this.isOut(x - 1, y)) this.line(left, top, left, bottom);
+    if (this.isOut(x + 1, y)) this.line(right, top, right, bottom);
+    if (this.isOut(x, y - 1)) this.line(left, top, right, top);
+    if (this.isOut(x, y + 1)) this.line(left, bottom, right, bottom);
+  }
+
+  drawShapes() {
+    const { pen } = this;
+    pen.beginPath();
+    this.eachSeen((x, y) => this.isOut(x, y) || this.addShape(pen, x, y));
+    pen.fill();
+    if (this.isSeenFrom(SMALLEST_OUTLINE)) pen.stroke();
+  }
+
+  // ---- the hand
+  // Shows what the hand is about to do: { cells: [x, y, width, height], values, line, colour, layer }.
+  drawHand(hand) {
+    const { handPen: pen, view } = this;
+    pen.clearRect(0, 0, view.canvas.width, view.canvas.height);
+    if (!view.map || !hand) return;
+    const { cells, values, line, colour, layer } = hand;
+    pen.save();
+    pen.translate(Math.round((layer?.offsetX ?? 0) * view.scale), Math.round((layer?.offsetY ?? 0) * view.scale));
+    pen.globalAlpha = 0.75;
+    pen.imageSmoothingEnabled = view.scale < 1;
+    if (values) this.drawValues(cells, values);
+    pen.globalAlpha = 1;
+    pen.strokeStyle = colour;
+    pen.lineWidth = 2;
+    pen.beginPath();
+    if (this.isPlain) this.addRectangle(cells);
+    else this.addCells(cells);
+    if (line) for (const [x, y] of line) this.addPoint(x, y, line[0][0] === x && line[0][1] === y);
+    pen.stroke();
+    pen.restore();
+  }
+
+  drawValues([x, y, width], values) {
+    const { map, painter } = this.view;
+    for (let at = 0; at < values.length; at++) {
+      const [column, row] = [x + at % width, y + Math.floor(at / width)];
+      if (values[at] && map.isReached(column, row)) painter.paintCell(NOWHERE, values[at], column, row, null, this.handPen);
+    }
+  }
+
+  addRectangle([x, y, width, height]) {
+    const [[left, top], [right, bottom]] = [this.corner(x, y), this.corner(x + width, y + height)];
+    this.handPen.rect(left, top, right - left, bottom - top);
+  }
+
+  addCells([x, y, width, height]) {
+    const count = Math.min(width * height, MOST_SHAPES);
+    for (let at = 0; at < count; at++) this.addShape(this.handPen, x + at % width, y + Math.floor(at / width));
+  }
+
+  // The line that Shift would draw.
+  addPoint(x, y, isFirst) {
+    const { view } = this;
+    const { projection } = view.map;
+    const [left, top] = projection.corner(x, y);
+    const place = [view.screenX(left + projection.tileWidth / 2), view.screenY(top + projection.tileHeight / 2)];
+    if (isFirst) this.handPen.moveTo(...place);
+    else this.handPen.lineTo(...place);
+  }
+}
+
+// The pen of the hand is moved to where the layer lies.
+const NOWHERE = { offsetX: 0, offsetY: 0 };
