@@ -14,3 +14,5 @@ pub mod Widened
 pub mod LayerLaw
 pub mod Keeps
 pub mod TreeLaw
+pub mod Refusals
+pub mod FiniteWalk

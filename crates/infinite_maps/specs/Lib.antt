@@ -9,3 +9,7 @@ pub mod Layers
 pub mod Infinite
 pub mod Laws
 pub mod Sound
+pub mod Overlaps
+pub mod Survey
+pub mod Pasted
+pub mod Finite

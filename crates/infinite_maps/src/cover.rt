@@ -69,6 +69,23 @@ pub fn are_apart(
     Ok(true)
 }
 
+/// The first rectangle that overlaps one before it, or does not lie within so many cells; their number, where there is none.
+pub fn first_overlap(
+    alloc: Global,
+    columns: u16,
+    size: usize,
+    rectangles: &[Rectangle],
+) -> Result<usize, AllocError> {
+    let mut cover = vec![in alloc; false; size]?;
+    for (k, rectangle) in rectangles.iter().enumerate() {
+        if !is_uncovered(columns, &cover, *rectangle) {
+            return Ok(k);
+        }
+        add(&mut cover, columns, *rectangle);
+    }
+    Ok(rectangles.len())
+}
+
 /// Whether the cell at a place is covered; one past the end is.
 pub fn is_covered(cover: &[bool], at: usize) -> bool
     ensures { result ≡ slice_index_or cover.now at true }

@@ -10,13 +10,14 @@ use std::alloc::{AllocError, AllocFailed};
 pub enum Fault {
     /// Out of memory.
     Memory,
-    /// A chunk has no place or size, or other members, or not a cell for each of its places.
+    /// A chunk has no place or size, or lies past 2^31 cells, or, in a layer whose data are not compressed, has not a whole number
+    /// for each of its cells; or the chunks of a layer are no list.
     BadChunk,
-    /// Two chunks of a layer overlap.
+    /// Two chunks of a layer whose data are not compressed share a cell.
     Overlap,
-    /// The layers of the finite map would have too many cells in all.
+    /// The finite map is within the limits, but its layers would have more than 16,777,216 cells in all.
     TooLarge,
-    /// The finite map would not come back as the map that it was made from.
+    /// The finite map would not come back as the map that it was made from, or that nests deeper than 127.
     Unlike,
 }
 

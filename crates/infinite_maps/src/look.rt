@@ -1,9 +1,9 @@
 // Which chunks can be read.
-ghost use Rattle.std.specs.Prelude.{◌≡◌, ◌*◌, codes, option_map, IfOk};
-ghost use Rattle.serde_json.specs.Find.{get, get_member};
+ghost use Rattle.std.specs.Prelude.{◌≡◌, false, codes, option_map, None, IfOk, IfSome};
+ghost use Rattle.serde_json.specs.Find.{get};
 ghost use Rattle.serde_json.specs.View.{view as data_of, items_view, members_view};
-ghost use Rattle.infinite_maps.specs.Notes.{natural};
-ghost use Rattle.infinite_maps.specs.Sound.{is_near, is_place, is_some_length, is_length, is_placed, are_numbers, is_of_kind, are_so_many, is_filled, is_sound, are_sound, is_named, is_base64, has_sound_chunks, has_bad_chunk, items_have_bad_chunk, members_have_bad_chunk};
+ghost use Rattle.infinite_maps.specs.Pasted.{chunk_cells};
+ghost use Rattle.infinite_maps.specs.Sound.{is_near, is_place, is_some_length, is_length, is_placed, are_numbers, is_of_kind, are_so_many, is_filled, area_of, is_base64, is_compressed};
 
 use crate::cells::cells_of;
 use crate::notes::natural;
@@ -47,7 +47,8 @@ fn is_length(value: Option<&Value>) -> bool
     }
 }
 
-fn is_placed(chunk: &Value) -> bool
+/// Whether a chunk has a place and a size.
+pub fn is_placed(chunk: &Value) -> bool
     ensures { result ≡ is_placed (data_of chunk.now) }
 {
     let stands = is_place(chunk.get("x")) && is_place(chunk.get("y"));
@@ -87,50 +88,35 @@ fn are_so_many(count: u128, cells: &Option<Vec<u64>>) -> bool
     }
 }
 
-fn is_filled(
-    alloc: Global,
-    text: bool,
-    count: u128,
-    value: Option<&Value>,
-) -> Result<bool, AllocError>
-    ensures { IfOk result (λ filled. filled
-        ≡ is_filled text count (option_map (λ value. data_of value.now) value.entry)) }
-{
-    match value {
-        Some(value) => {
-            let cells = cells_of(alloc, value)?;
-            Ok(is_of_kind(text, value) && are_so_many(count, &cells))
-        }
-        None => Ok(false),
-    }
-}
-
 #[tactic(auto, using(crate::proofs::Sizes::long_areas))]
-fn area(chunk: &Value) -> u128
-    ensures { result ≡ natural (get (codes "width") (data_of chunk.now)) * natural (get (codes "height") (data_of chunk.now)) }
+fn area_of(chunk: &Value) -> u128
+    ensures { result ≡ area_of (data_of chunk.now) }
 {
     natural(chunk.get("width")) as u128 * natural(chunk.get("height")) as u128
 }
 
-fn is_sound(alloc: Global, text: bool, chunk: &Value) -> Result<bool, AllocError>
-    ensures { IfOk result (λ sound. sound ≡ is_sound text (data_of chunk.now)) }
+/// The cells of a chunk, if there is one for each of its places.
+pub fn sound_cells(alloc: Global, text: bool, chunk: &Value) -> Result<Option<Vec<u64>>, AllocError>
+    ensures cells { IfOk result (λ cells. IfSome cells (λ cells. cells.items ≡ chunk_cells (data_of chunk.now))) }
+    ensures none { IfOk result (λ cells. cells ≡ None → is_filled text (area_of (data_of chunk.now)) (get (codes "data") (data_of chunk.now)) ≡ false) }
 {
-    let filled = is_filled(alloc, text, area(chunk), chunk.get("data"))?;
-    Ok(is_placed(chunk) && filled)
-}
-
-fn are_sound(alloc: Global, text: bool, chunks: &Vec<Value>) -> Result<bool, AllocError>
-    ensures { IfOk result (λ sound. sound ≡ are_sound text (items_view chunks.now.items)) }
-{
-    for chunk in chunks {
-        if !is_sound(alloc, text, chunk)? {
-            return Ok(false);
-        }
+    match chunk.get("data") {
+        Some(value) => if is_of_kind(text, value) {
+            let cells = cells_of(alloc, value)?;
+            if are_so_many(area_of(chunk), &cells) {
+                Ok(cells)
+            } else {
+                Ok(None)
+            }
+        } else {
+            Ok(None)
+        },
+        None => Ok(None),
     }
-    Ok(true)
 }
 
-fn is_base64(members: &Map<String, Value>) -> bool
+/// Whether chunks in base64 are those of a layer.
+pub fn is_base64(members: &Map<String, Value>) -> bool
     ensures { result ≡ is_base64 (members_view members.now.entries) }
 {
     match found(members, "encoding") {
@@ -142,55 +128,15 @@ fn is_base64(members: &Map<String, Value>) -> bool
     }
 }
 
-fn has_sound_chunks(alloc: Global, text: bool, chunks: Option<&Value>) -> Result<bool, AllocError>
-    ensures { IfOk result (λ sound. sound
-        ≡ has_sound_chunks text (option_map (λ value. data_of value.now) chunks.entry)) }
+/// Whether the data of a layer are compressed.
+pub fn is_compressed(members: &Map<String, Value>) -> bool
+    ensures { result ≡ is_compressed (members_view members.now.entries) }
 {
-    match chunks {
-        Some(chunks) => match chunks.as_array() {
-            Some(chunks) => are_sound(alloc, text, chunks),
-            None => Ok(false),
+    match found(members, "compression") {
+        Some(compression) => match compression.as_str() {
+            Some(text) => text != "",
+            None => true,
         },
-        None => Ok(true),
+        None => false,
     }
-}
-
-/// Whether a layer, or one in the layers of it, has a chunk that is not sound.
-#[cycle(looks)]
-pub fn has_bad_chunk(alloc: Global, value: &Value) -> Result<bool, AllocError>
-    ensures { IfOk result (λ bad. bad ≡ has_bad_chunk (data_of value.now)) }
-{
-    match value {
-        Value::Array(items) => items_have_bad_chunk(alloc, items),
-        Value::Object(members) => {
-            let sound = has_sound_chunks(alloc, is_base64(members), found(members, "chunks"))?;
-            let below = members_have_bad_chunk(alloc, members)?;
-            Ok(!sound || below)
-        }
-        Value::Null | Value::Bool(_) | Value::Number(_) | Value::String(_) => Ok(false),
-    }
-}
-
-#[cycle(looks)]
-fn items_have_bad_chunk(alloc: Global, items: &Vec<Value>) -> Result<bool, AllocError>
-    ensures { IfOk result (λ bad. bad ≡ items_have_bad_chunk (items_view items.now.items)) }
-{
-    for item in items {
-        if has_bad_chunk(alloc, item)? {
-            return Ok(true);
-        }
-    }
-    Ok(false)
-}
-
-#[cycle(looks)]
-fn members_have_bad_chunk(alloc: Global, members: &Map<String, Value>) -> Result<bool, AllocError>
-    ensures { IfOk result (λ bad. bad ≡ members_have_bad_chunk (members_view members.now.entries)) }
-{
-    for (key, member) in members.iter() {
-        if key.as_str() == "layers" && has_bad_chunk(alloc, member)? {
-            return Ok(true);
-        }
-    }
-    Ok(false)
 }

@@ -1,6 +1,7 @@
 // What of a map's tree a value is.
 ghost use Rattle.std.specs.Prelude.{◌≡◌};
 ghost use Rattle.infinite_maps.specs.Infinite.{part_of_object, part_of_layer, below};
+ghost use Rattle.infinite_maps.specs.Finite.{is_layers};
 
 #[derive(Clone, Copy)]
 pub enum Part {
@@ -51,7 +52,9 @@ impl Part {
         }
     }
 
-    pub fn is_layers(self) -> bool {
+    pub fn is_layers(self) -> bool
+        ensures { result ≡ is_layers self }
+    {
         match self {
             Part::Layers => true,
             Part::Objects | Part::Across | Part::Down | Part::Rest => false,

@@ -1,6 +1,7 @@
 // Where a finite map lies on the plane of the infinite one.
 ghost use Rattle.std.specs.Prelude.{◌≡◌, ◌+◌, ◌*◌, ◌/◌, ◌<◌, ◌^◌, ◌-◌, max, map, IfOk, slice_index};
 ghost use Rattle.infinite_maps.specs.Wide.{size, whole_side, has_room, wide_by, wide, before_x, before_y, cell_on, cell_behind, widened};
+ghost use Rattle.infinite_maps.specs.Finite.{turned};
 
 use crate::cells::cell_at;
 use std::alloc::{AllocError, Global};
@@ -136,7 +137,9 @@ impl Plane {
     }
 
     /// The same, but objects are moved the other way.
-    pub fn turned(self) -> Plane {
+    pub fn turned(self) -> Plane
+        ensures { result ≡ turned self }
+    {
         Plane {
             moved_x: 0i64.wrapping_sub(self.moved_x),
             moved_y: 0i64.wrapping_sub(self.moved_y),
