@@ -159,6 +159,10 @@ SOUND = [
     ),
     ('a fraction as the tile size', plane(spread(chunk(9, 9, 1, 1)), things(2, DOOR), tilewidth=0.5)),
     ('groups', plane(group(5, group(6, spread(chunk(-2, 0, 2, 2)), things(2, DOOR))))),
+    (
+        'chunks that touch and share no cell',
+        plane(spread(chunk(0, 0, 2, 2), chunk(2, 0, 2, 2), chunk(0, 2, 2, 2), chunk(2, 2, 2, 2))),
+    ),
     ('staggered', plane(spread(chunk(-3, -3, 1, 1)), things(2, DOOR), orientation='staggered')),
     ('an object far away', plane(spread(chunk(-16, 0, 1, 1)), things(2, thing(1, x=1e300, y=-(2**63))))),
     ('above the limits', plane(spread(chunk(0, 0, 1, 1), chunk(5000, 5000, 1, 1)))),

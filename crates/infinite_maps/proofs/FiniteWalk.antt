@@ -1,5 +1,6 @@
 -- The walk that makes a tree finite, member by member; and what a refusal says.
-use Rattle.std.proofs.Common.{◌≡◌, ℕ, ◌<◌, ◌≤◌, inl, inr, List, [], ◌∷◌, ◌++◌, map, Bool, true, false, true≢false, Ordering, Less, Greater, nat_cmp, string_bytes, refl, sym, ap, ◌∙◌, arith}
+use Rattle.std.proofs.Common.{◌≡◌, ℕ, inl, inr, List, [], ◌∷◌, ◌++◌, map, Bool, true, false, true≢false, Less, Greater, nat_cmp, string_bytes, refl, sym, ap}
+use Rattle.std.proofs.Common.{◌∙◌, arith}
 use Rattle.std.specs.Prelude.{◌&&◌, ◌||◌, codes, nat_le, ℤ, pos, Option, Some, None, Result, Ok, Err, IfErr, option_and_then, if◌then◌else◌}
 use Rattle.std.specs.List.Sorted.{IsStrictlySortedBy}
 use Rattle.std.specs.List.{AllByRecursion}
@@ -14,7 +15,6 @@ use Rattle.std.proofs.lemmas.Bool.Decides.{nat_tests}
 use Rattle.serde_json.specs.Data.{Data, null, boolean, number, string, array, object, Items, no_items, item, Members, no_members, member, put, depth}
 use Rattle.serde_json.specs.Find.{as_bool, as_object}
 use Rattle.serde_json.specs.View.{view, items_of, members_view}
-use Rattle.serde_json.specs.Written.{has_float}
 use Rattle.serde_json.proofs.Views.{Entry, get_member-put}
 use Rattle.infinite_maps.specs.declared.plane.Plane.{Plane}
 use Rattle.infinite_maps.specs.declared.part.Part.{Part}
@@ -22,24 +22,28 @@ use Rattle.infinite_maps.specs.declared.part.Part.TheVariants.{Layers}
 use Rattle.infinite_maps.specs.declared.survey.Extent.{Extent}
 use Rattle.infinite_maps.specs.declared.fault.Fault.{Fault}
 use Rattle.infinite_maps.specs.declared.fault.Fault.TheVariants.{Memory, BadChunk, Overlap, TooLarge, Unlike}
-use Rattle.infinite_maps.specs.Infinite.{below, is_true, is_infinite, infinite_of}
+use Rattle.infinite_maps.specs.Infinite.{is_true, is_infinite, infinite_of}
 use Rattle.infinite_maps.specs.Sound.{some_layer, items_some_layer, members_some_layer}
 use Rattle.infinite_maps.specs.Notes.{mark}
 use Rattle.infinite_maps.specs.Survey.{survey_of, box_in, plane_of}
-use Rattle.infinite_maps.specs.Finite.{finite, items_finite, members_finite, is_kept, with_member, is_layers, is_memory, is_at_fault, is_blamed, members_blamed, with_note, with_whole, map_note, corner_of, own_finite, map_on, finite_of, LeadsBack, IsUnlike, IsNotMade}
+use Rattle.infinite_maps.specs.Finite.{finite, items_finite, members_finite, is_kept, with_member, is_layers, is_memory, is_at_fault, is_blamed}
+use Rattle.infinite_maps.specs.Finite.{members_blamed, with_note, with_whole, map_note, corner_of, own_finite, map_on, finite_of, LeadsBack, IsUnlike}
+use Rattle.infinite_maps.specs.Finite.{IsNotMade}
 use Rattle.infinite_maps.proofs.Places.{answered}
 
 pub items_finite-items_of : (p : Plane) (part : Part) (ds : List Data) → items_of (map (finite p part) ds) ≡ items_finite p part (items_of ds)
 items_finite-items_of p part [] = refl
 items_finite-items_of p part (d ∷ ds) = ap (item (finite p part d)) (items_finite-items_of p part ds)
 
-below_middle : (first : Entry) (es : List Entry) (e : Entry) (more : List Entry) → AllByRecursion (λ y. string_cmp first.0 y ≡ Less) (keys_of (es ++ e ∷ more)) → string_cmp first.0 e.0 ≡ Less
+below_middle : (first : Entry) (es : List Entry) (e : Entry) (more : List Entry)
+    → AllByRecursion (λ y. string_cmp first.0 y ≡ Less) (keys_of (es ++ e ∷ more)) → string_cmp first.0 e.0 ≡ Less
 below_middle first [] e more h = h.0
 below_middle first (x ∷ es) e more h = below_middle first es e more h.1
 
 -- a member that may be left out, behind one that may be
 behind : (b first : Bool) (k l : List ℕ) (d e : Data) (rest longer : Members) → slice_cmp nat_cmp k l ≡ Greater → (if b then put k d rest else rest) ≡ longer
-    → (if b then put k d (if first then member l e rest else rest) else (if first then member l e rest else rest)) ≡ (if first then member l e longer else longer)
+    → (if b then put k d (if first then member l e rest else rest) else (if first then member l e rest else rest))
+    ≡ (if first then member l e longer else longer)
 behind true true k l d e rest longer above is = rw above (ap (member l e) is)
 behind true false k l d e rest longer above is = is
 behind false true k l d e rest longer above is = ap (member l e) is
@@ -53,7 +57,8 @@ finite_last p part [] e more h = refl
 finite_last p part (first ∷ done) e more h =
     let above : slice_cmp nat_cmp (string_bytes e.0) (string_bytes first.0) ≡ Greater =
     nat_list_cmp_total.antisymm (string_bytes e.0) (string_bytes first.0) ∙ ap ordering_reverse (below_middle first done e more h.0) in
-    behind (is_kept part (string_bytes e.0)) (is_kept part (string_bytes first.0)) (string_bytes e.0) (string_bytes first.0) _ _ _ _ above (finite_last p part done e more h.1)
+    behind (is_kept part (string_bytes e.0)) (is_kept part (string_bytes first.0)) (string_bytes e.0) (string_bytes first.0) _ _ _ _
+    above (finite_last p part done e more h.1)
 
 more_blame : (m l g s : Bool) → (m || (l && s)) ≡ true → (m || (l && (g || s))) ≡ true
 more_blame true l g s e = refl
@@ -61,8 +66,11 @@ more_blame false true true s e = refl
 more_blame false true false s e = e
 more_blame false false g s e = e
 
-pub members_blamed_more : (f : Fault) (part : Part) (k : List ℕ) (d : Data) (ms : Members) → members_blamed f part ms ≡ true → members_blamed f part (member k d ms) ≡ true
-members_blamed_more f part k d ms e = more_blame (is_memory f) (is_layers part) (bytes_eq k (codes "layers") && some_layer (is_at_fault f) d) (members_some_layer (is_at_fault f) ms) e
+pub members_blamed_more : (f : Fault) (part : Part) (k : List ℕ) (d : Data) (ms : Members) → members_blamed f part ms ≡ true
+    → members_blamed f part (member k d ms) ≡ true
+members_blamed_more f part k d ms e =
+    more_blame (is_memory f) (is_layers part) (bytes_eq k (codes "layers") && some_layer (is_at_fault f) d)
+    (members_some_layer (is_at_fault f) ms) e
 
 -- a test that holds of no layer
 neither : (a b : Bool) → a ≡ false → b ≡ false → (a || b) ≡ false

@@ -1,5 +1,5 @@
 -- A layer whose chunks are pasted into one array of cells.
-use Rattle.std.specs.Prelude.{ℕ, zero, suc, ◌+◌, min, List, [], ◌∷◌, map, codes, ℤ, Bool, unsigned_abs, replicate, slice_index, slice_set, Option, Some, None}
+use Rattle.std.specs.Prelude.{ℕ, zero, suc, ◌+◌, min, List, [], ◌∷◌, map, codes, ℤ, unsigned_abs, replicate, slice_index, slice_set, Option, Some, None}
 use Rattle.std.specs.Prelude.{option_and_then, unwrap_or, if◌then◌else◌}
 use Rattle.std.specs.Int.{w64, int_wrapping_sub}
 use Rattle.serde_json.specs.Data.{Data, array, object, Items, no_items, item, Members, no_members, put}

@@ -1,5 +1,6 @@
 -- Where the chunks of a map lie, and where its finite map does.
-use Rattle.std.specs.Prelude.{ℕ, ◌+◌, ◌-◌, ◌*◌, ◌/◌, ◌%◌, ◌==◌, ◌^◌, min, max, List, codes, ℤ, pos, int_lt, unsigned_abs, Bool, true, false, not, ◌&&◌, nat_lt, nat_le}
+use Rattle.std.specs.Prelude.{ℕ, ◌+◌, ◌-◌, ◌*◌, ◌/◌, ◌%◌, ◌==◌, ◌^◌, min, max, List, codes, ℤ, pos, int_lt, unsigned_abs, Bool, true, false, not, ◌&&◌}
+use Rattle.std.specs.Prelude.{nat_lt, nat_le}
 use Rattle.std.specs.Prelude.{Option, Some, None, option_and_then, if◌then◌else◌}
 use Rattle.std.specs.Int.{w64, int_wrapping_sub, int_wrapping_mul, int_min, int_max}
 use Rattle.std.specs.Str.{bytes_eq}

@@ -1,11 +1,14 @@
 -- The facts about an answer, from what was seen of its tree.
 use Rattle.std.proofs.Common.{◌≡◌, inr, ℕ, ◌≤◌, ◌<◌, nat_le, leb-false, List, Bool, true, false, not, ◌||◌, true≢false, Option, Some, None, is_some, Vec}
-use Rattle.std.proofs.Common.{Global, Err, refl, sym, ap, ◌∙◌, arith}
+use Rattle.std.proofs.Common.{Global, Err, refl, sym, ap, subst, ◌∙◌, arith}
 use Rattle.std.proofs.lemmas.Bool.{or_right, leb-true}
 use Rattle.std.specs.Prelude.{unwrap_or}
 use Rattle.serde_json.specs.Data.{Data, depth}
 use Rattle.serde_json.specs.Read.{max_depth}
 use Rattle.infinite_maps.specs.Infinite.{is_infinite}
+use Rattle.infinite_maps.specs.Overlaps.{has_overlap}
+use Rattle.infinite_maps.specs.Sound.{has_bad_chunk}
+use Rattle.infinite_maps.specs.Survey.{is_too_large}
 use Rattle.tiled_maps.specs.declared.fault.Fault.{Fault}
 use Rattle.tiled_maps.specs.declared.fault.Fault.TheVariants.{Memory, NotJson, NameTaken, TooManyFractions, TooDeep, BadChunk, Overlap, TooLarge, Unlike}
 use Rattle.tiled_maps.specs.declared.place.Place.TheVariants.{Map}
@@ -13,8 +16,8 @@ use Rattle.tiled_maps.specs.Members.{has_name}
 use Rattle.tiled_maps.specs.Fractions.{has_fraction, fractions_in, most_fractions, HasFewFractions}
 use Rattle.tiled_maps.specs.Aside.{reserved_name, set_aside_of}
 use Rattle.tiled_maps.specs.Back.{back}
-use Rattle.tiled_maps.specs.Trees.{put_back_of, IsFiniteOf, MakesFinite}
-use Rattle.tiled_maps.specs.Texts.{IsTreeOf, IsSetAside, IsPutBack, IsInfinite, SetsAside, text_or}
+use Rattle.tiled_maps.specs.Trees.{put_back_of, HasNoFinite, IsFiniteOf, MakesFinite}
+use Rattle.tiled_maps.specs.Texts.{IsTreeOf, IsSetAside, IsPutBack, IsNotFinite, SetsAside, text_or}
 use Rattle.tiled_maps.proofs.Meeting.{is_infinite-set_aside_of, put_back_of-plain, put_back_of-spread, put_back_of-free}
 use Rattle.tiled_maps.proofs.Whole.{has_fraction-aside, HasFewFractions-none, aside-unchanged, back-unchanged, depth-back}
 use Rattle.tiled_maps.proofs.ReadTrees.{IsReadTree-read}
@@ -79,9 +82,9 @@ SetsAside-finite bytes text d t tree free few infinite finite text_tree =
     }
 
 -- ---- faults
-infinite_fault : (bytes : List ℕ) (d a : Data) → IsTreeOf bytes d → HasFewFractions d → a ≡ set_aside_of d → is_infinite a ≡ true
-    → IsInfinite bytes
-infinite_fault bytes d a tree few is h = (d, tree, few, sym (is_infinite-set_aside_of d) ∙ ap is_infinite (sym is) ∙ h)
+infinite_fault : (bytes : List ℕ) (d a : Data) (IsSo : Data → Type 0) → IsTreeOf bytes d → HasFewFractions d → a ≡ set_aside_of d
+    → (is_infinite a ≡ true) × IsSo a → IsNotFinite bytes IsSo
+infinite_fault bytes d a IsSo tree few is h = (d, tree, few, sym (is_infinite-set_aside_of d) ∙ ap is_infinite (sym is) ∙ h.0, subst IsSo is h.1)
 
 pub finite_fault : (bytes : List ℕ) (d a : Data) (fault : Fault) → IsTreeOf bytes d → HasFewFractions d → a ≡ set_aside_of d
     → MakesFinite a (Err fault) → SetsAside bytes (Err fault)
@@ -90,10 +93,10 @@ finite_fault bytes d a NotJson tree few is h = absurd h
 finite_fault bytes d a NameTaken tree few is h = absurd h
 finite_fault bytes d a TooManyFractions tree few is h = absurd h
 finite_fault bytes d a TooDeep tree few is h = (d, tree, few, inr (h.1.0, h.1.1 ∙ ap (λ t. Some t) is, h.1.2))
-finite_fault bytes d a BadChunk tree few is h = infinite_fault bytes d a tree few is h
-finite_fault bytes d a Overlap tree few is h = infinite_fault bytes d a tree few is h
-finite_fault bytes d a TooLarge tree few is h = infinite_fault bytes d a tree few is h
-finite_fault bytes d a Unlike tree few is h = infinite_fault bytes d a tree few is h
+finite_fault bytes d a BadChunk tree few is h = infinite_fault bytes d a (λ t. has_bad_chunk t ≡ true) tree few is h
+finite_fault bytes d a Overlap tree few is h = infinite_fault bytes d a (λ t. has_overlap t ≡ true) tree few is h
+finite_fault bytes d a TooLarge tree few is h = infinite_fault bytes d a (λ t. is_too_large t ≡ true) tree few is h
+finite_fault bytes d a Unlike tree few is h = infinite_fault bytes d a HasNoFinite tree few is h
 
 -- ---- put back
 -- a tree without the reserved name

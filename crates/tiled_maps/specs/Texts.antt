@@ -6,13 +6,16 @@ use Rattle.serde_json.specs.Read.{read, max_depth}
 use Rattle.serde_json.specs.View.{view}
 use Rattle.serde_json.specs.declared.value.Value.{Value}
 use Rattle.infinite_maps.specs.Infinite.{is_infinite, infinite_of}
+use Rattle.infinite_maps.specs.Overlaps.{has_overlap}
+use Rattle.infinite_maps.specs.Sound.{has_bad_chunk}
+use Rattle.infinite_maps.specs.Survey.{is_too_large}
 use Rattle.tiled_maps.specs.declared.fault.Fault.{Fault}
 use Rattle.tiled_maps.specs.declared.fault.Fault.TheVariants.{Memory, NotJson, NameTaken, TooManyFractions, TooDeep, BadChunk, Overlap, TooLarge, Unlike}
 use Rattle.tiled_maps.specs.declared.place.Place.TheVariants.{Map}
 use Rattle.tiled_maps.specs.Members.{has_name}
 use Rattle.tiled_maps.specs.Fractions.{has_fraction, fractions_in, most_fractions, HasFewFractions}
-use Rattle.tiled_maps.specs.Aside.{reserved_name}
-use Rattle.tiled_maps.specs.Trees.{IsAside, put_back_of, IsTooDeep}
+use Rattle.tiled_maps.specs.Aside.{reserved_name, set_aside_of}
+use Rattle.tiled_maps.specs.Trees.{HasNoFinite, IsAside, put_back_of, IsTooDeep}
 
 -- the bytes are UTF-8, and a JSON text of this tree
 abbrev pub IsTreeOf : List ℕ → Data → Type 0
@@ -37,9 +40,9 @@ pub record IsSetAside (bytes : List ℕ) (text : Option (Vec ℕ Global)) (d t :
   pub finite : is_infinite t ≡ false
   pub some : is_some text ≡ (has_fraction Map d || is_infinite d)
 
--- the bytes have the tree of an infinite map with few fractions, which is not made finite
-abbrev pub IsInfinite : List ℕ → Type 0
-IsInfinite bytes = (d : Data) × IsTreeOf bytes d × HasFewFractions d × (is_infinite d ≡ true)
+-- the bytes have the tree of an infinite map with few fractions, which is not made finite for what is so of it with these set aside
+abbrev pub IsNotFinite : List ℕ → (Data → Type 0) → Type 0
+IsNotFinite bytes IsSo = (d : Data) × IsTreeOf bytes d × HasFewFractions d × (is_infinite d ≡ true) × IsSo (set_aside_of d)
 
 -- what `set_aside` answers
 abbrev pub SetsAside : List ℕ → Result (Option (Vec ℕ Global)) Fault → Type 0
@@ -49,10 +52,10 @@ SetsAside bytes (Err NotJson) = IsUtf8 bytes → read bytes ≡ None
 SetsAside bytes (Err NameTaken) = (d : Data) × IsTreeOf bytes d × (has_name reserved_name d ≡ true)
 SetsAside bytes (Err TooManyFractions) = (d : Data) × IsTreeOf bytes d × (has_name reserved_name d ≡ false) × (most_fractions < fractions_in Map d)
 SetsAside bytes (Err TooDeep) = (d : Data) × IsTreeOf bytes d × HasFewFractions d × IsTooDeep d
-SetsAside bytes (Err BadChunk) = IsInfinite bytes
-SetsAside bytes (Err Overlap) = IsInfinite bytes
-SetsAside bytes (Err TooLarge) = IsInfinite bytes
-SetsAside bytes (Err Unlike) = IsInfinite bytes
+SetsAside bytes (Err BadChunk) = IsNotFinite bytes (λ a. has_bad_chunk a ≡ true)
+SetsAside bytes (Err Overlap) = IsNotFinite bytes (λ a. has_overlap a ≡ true)
+SetsAside bytes (Err TooLarge) = IsNotFinite bytes (λ a. is_too_large a ≡ true)
+SetsAside bytes (Err Unlike) = IsNotFinite bytes HasNoFinite
 
 -- The bytes have the tree d. The text has the tree in which what was set aside is put back. There is a text of its own only if a
 -- member of d has the reserved name.

@@ -4,7 +4,11 @@ use Rattle.serde_json.specs.Data.{Data, depth}
 use Rattle.serde_json.specs.Read.{max_depth}
 use Rattle.serde_json.specs.View.{view}
 use Rattle.serde_json.specs.declared.value.Value.{Value}
+use Rattle.infinite_maps.specs.Finite.{IsUnlike, finite_of}
 use Rattle.infinite_maps.specs.Infinite.{is_infinite, infinite_of}
+use Rattle.infinite_maps.specs.Overlaps.{has_overlap}
+use Rattle.infinite_maps.specs.Sound.{has_bad_chunk}
+use Rattle.infinite_maps.specs.Survey.{is_too_large}
 use Rattle.infinite_maps.specs.declared.fault.Fault.{Fault as InfiniteFault}
 use Rattle.infinite_maps.specs.declared.fault.Fault.TheVariants as infinite
 use Rattle.tiled_maps.specs.declared.fault.Fault.{Fault}
@@ -38,6 +42,10 @@ put_back_of d = back (spread_of d)
 abbrev pub IsTooDeep : Data → Type 0
 IsTooDeep d = (max_depth < depth (set_aside_of d)) ⊎ ((t : Data) × (infinite_of t ≡ Some (set_aside_of d)) × (max_depth < depth t))
 
+-- the finite map of an infinite one does not lead back to it, or has a fraction
+abbrev pub HasNoFinite : Data → Type 0
+HasNoFinite a = IsUnlike a ⊎ (has_fraction Map (finite_of a) ≡ true)
+
 -- ---- within both
 abbrev pub MakesWhole : Data → Result Value Fault → Type 0
 MakesWhole d (Ok whole) = (view whole ≡ set_aside_of d) × (depth d ≤ max_depth → depth (view whole) ≤ max_depth)
@@ -67,7 +75,7 @@ MakesFinite a (Err NotJson) = ⊥
 MakesFinite a (Err NameTaken) = ⊥
 MakesFinite a (Err TooManyFractions) = ⊥
 MakesFinite a (Err TooDeep) = (is_infinite a ≡ true) × ((t : Data) × (infinite_of t ≡ Some a) × (max_depth < depth t))
-MakesFinite a (Err BadChunk) = is_infinite a ≡ true
-MakesFinite a (Err Overlap) = is_infinite a ≡ true
-MakesFinite a (Err TooLarge) = is_infinite a ≡ true
-MakesFinite a (Err Unlike) = is_infinite a ≡ true
+MakesFinite a (Err BadChunk) = (is_infinite a ≡ true) × (has_bad_chunk a ≡ true)
+MakesFinite a (Err Overlap) = (is_infinite a ≡ true) × (has_overlap a ≡ true)
+MakesFinite a (Err TooLarge) = (is_infinite a ≡ true) × (is_too_large a ≡ true)
+MakesFinite a (Err Unlike) = (is_infinite a ≡ true) × HasNoFinite a

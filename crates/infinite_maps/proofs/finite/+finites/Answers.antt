@@ -1,13 +1,11 @@
-use Rattle.std.proofs.Common.{◌≡◌, List, [], ◌∷◌, ◌++◌, Bool, true, map, get_or, sym, ap, ◌∙◌, subst, append_assoc, string_bytes, arith}
+use Rattle.std.proofs.Common.{◌≡◌, [], ◌∷◌, ◌++◌, map, sym, ap, ◌∙◌, subst, append_assoc, string_bytes, arith}
 use Rattle.std.specs.List.Sorted.{IsStrictlySortedBy}
 use Rattle.std.specs.Map.{keys_of}
 use Rattle.std.specs.String.{string_cmp}
 use Rattle.serde_json.specs.Data.{Members}
 use Rattle.serde_json.specs.View.{view, members_view, items_of}
-use Rattle.serde_json.specs.declared.value.Value.{Value}
 use Rattle.serde_json.proofs.Views.{Entry}
-use Rattle.infinite_maps.specs.declared.fault.Fault.{Fault}
-use Rattle.infinite_maps.specs.Finite.{finite, items_finite, members_finite, with_member, members_blamed}
+use Rattle.infinite_maps.specs.Finite.{finite, items_finite, with_member, members_blamed}
 use Rattle.infinite_maps.proofs.Walks.{map_whole}
 use Rattle.infinite_maps.proofs.FiniteWalk.{items_finite-items_of, finite_last, members_blamed_more}
 use Rattle.infinite_maps.proofs.finite.+finites.Goals as goal
@@ -32,5 +30,6 @@ finite_members-loop-key-preserved t c =
       done ++ e ∷ [],
       all ∙ sym (append_assoc done (e ∷ []) left),
       c.in_ok-put_member.ensures.member ∙ ap (λ (ms : Members). with_member p part (string_bytes e.0) (view e.1) ms) l.invariant.2 ∙ last,
-      λ f h. l.invariant.3 f (ap (λ es. members_blamed f part (members_view es)) steps ∙ members_blamed_more f part (string_bytes e.0) (view e.1) (members_view left) h),
+      λ f h. l.invariant.3 f (ap (λ es. members_blamed f part (members_view es)) steps
+          ∙ members_blamed_more f part (string_bytes e.0) (view e.1) (members_view left) h),
     )

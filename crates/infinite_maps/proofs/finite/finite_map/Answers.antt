@@ -10,4 +10,5 @@ pub returns-else-saturating_mul-gt-MAX_LAYER_CELLS-clause-faults : goal.returns-
 returns-else-saturating_mul-gt-MAX_LAYER_CELLS-clause-faults c =
     let ms = members_view c.args.members.now.entries in
     let d = view c.args.value.now in
-    on_fault c.finite_on.result (λ f. is_blamed f Layers (object ms) ≡ true) (λ f. IsNotMade f d) (λ f e. blamed_object f d ms c.requires e) c.finite_on.ensures.faults
+    on_fault c.finite_on.result (λ f. is_blamed f Layers (object ms) ≡ true) (λ f. IsNotMade f d)
+    (λ f e. blamed_object f d ms c.requires e) c.finite_on.ensures.faults
