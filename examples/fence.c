@@ -42,10 +42,10 @@ static void write_file(const char *path, const char *bytes, size_t size)
 }
 
 /* Steps a line, shows its reply, and ends where it is refused. */
-static void step(roskevad_slot *slot, const char *line)
+static void step(roskevad_editor *editor, const char *line)
 {
     char reply[256];
-    size_t size = roskevad_editor_step(slot, line, strlen(line), reply, sizeof reply);
+    size_t size = roskevad_editor_step(editor, line, strlen(line), reply, sizeof reply);
     if (size == ROSKEVAD_NONE || size == ROSKEVAD_IS_CLOSED || size > sizeof reply)
         stop("a reply of another form");
     printf("%s => %.*s\n", line, (int)size, reply);
@@ -54,15 +54,15 @@ static void step(roskevad_slot *slot, const char *line)
 }
 
 /* Writes a file of the session into a file of the folder. */
-static void save(roskevad_slot *slot, const char *name, const char *path)
+static void save(roskevad_editor *editor, const char *name, const char *path)
 {
-    size_t size = roskevad_editor_file(slot, name, strlen(name), NULL, 0);
+    size_t size = roskevad_editor_file(editor, name, strlen(name), NULL, 0);
     if (size == ROSKEVAD_NONE)
         stop("nothing was saved");
     char *bytes = malloc(size + 1);
     if (!bytes)
         stop("no memory");
-    roskevad_editor_file(slot, name, strlen(name), bytes, size);
+    roskevad_editor_file(editor, name, strlen(name), bytes, size);
     write_file(path, bytes, size);
     free(bytes);
 }
@@ -71,23 +71,23 @@ int main(int count, char **words)
 {
     if (count != 3)
         stop("fence MAP FENCED_MAP");
-    roskevad_slot slot = ROSKEVAD_CLOSED;
-    if (roskevad_editor_open(&slot, 0) != ROSKEVAD_DONE)
+    roskevad_editor editor = ROSKEVAD_CLOSED;
+    if (roskevad_editor_open(&editor, 0) != ROSKEVAD_DONE)
         stop("no memory");
     size_t size;
     char *bytes = read_file(words[1], &size);
-    if (roskevad_editor_put_file(&slot, "map.tmj", 7, bytes, size) != ROSKEVAD_DONE)
+    if (roskevad_editor_put_file(&editor, "map.tmj", 7, bytes, size) != ROSKEVAD_DONE)
         stop("no memory");
     free(bytes);
-    step(&slot, "open map map.tmj");
-    step(&slot, "begin Fence");
-    step(&slot, "stamp 1 0 0 4 7,7,7,7");
-    step(&slot, "stamp 1 0 2 4 7,7,7,7");
-    step(&slot, "end");
-    step(&slot, "undo");
-    step(&slot, "redo");
-    step(&slot, "save map.tmj");
-    save(&slot, "map.tmj", words[2]);
-    roskevad_editor_close(&slot);
+    step(&editor, "open map map.tmj");
+    step(&editor, "begin Fence");
+    step(&editor, "stamp 1 0 0 4 7,7,7,7");
+    step(&editor, "stamp 1 0 2 4 7,7,7,7");
+    step(&editor, "end");
+    step(&editor, "undo");
+    step(&editor, "redo");
+    step(&editor, "save map.tmj");
+    save(&editor, "map.tmj", words[2]);
+    roskevad_editor_close(&editor);
     return 0;
 }

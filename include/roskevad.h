@@ -1,4 +1,4 @@
-/* The map editor as a library: a session in memory, which does the lines that docs/session-lines.md lists.
+/* The map editor as a library: an editor in memory, which does the lines that docs/session-lines.md lists.
  *
  * SPDX-License-Identifier: MIT OR Apache-2.0
  * Copyright (c) 2026 the Roskevad authors
@@ -7,13 +7,13 @@
  * have none: a null pointer is fine with them where the length is 0.
  *
  * What rests on the caller, and what nothing checks:
- *   - A slot is all zero before its first `roskevad_open` (ROSKEVAD_CLOSED, or static storage), and after that only as a call
+ *   - An editor is all zero before its first `roskevad_open` (ROSKEVAD_CLOSED, or static storage), and after that only as a call
  *     left it. It is never copied: the address that it was opened at is the one that it is used and closed at.
- *   - One call at a time for a slot. Several threads may use it in turn, if each call begins after the end of the one before, as
- *     under a lock. Two slots may be used at the same time. Both are tested, and not proved.
+ *   - One call at a time for an editor. Several threads may use it in turn, if each call begins after the end of the one before, as
+ *     under a lock. Two editors may be used at the same time. Both are tested, and not proved.
  *   - No call from a signal handler, nor from the forked child of a process that has threads.
  *   - Each pointer is to as many bytes as its length says. What a call writes to overlaps nothing else that it is given.
- *   - No null pointer for a slot or a run; none at all for the functions `roskevad_*`, also at length 0.
+ *   - No null pointer for an editor or a run; none at all for the functions `roskevad_*`, also at length 0.
  *   - malloc, realloc and free are those of one allocator, which aligns to 16 bytes, and the stack has 256 KB left.
  *
  * Bytes come out to a buffer of the caller's: they stand at its front where all of them fit, and else the buffer is as it
@@ -51,7 +51,7 @@ extern "C" {
 /* What is answered in place of a length, a number or a place. */
 #define ROSKEVAD_DONE ROSKEVAD_CAST(size_t, 0)       /* it is done, or it is there */
 #define ROSKEVAD_NONE (SIZE_MAX)                     /* there is none: no reply to a quiet line, no such file or place */
-#define ROSKEVAD_IS_CLOSED (SIZE_MAX - 1)            /* the slot is closed */
+#define ROSKEVAD_IS_CLOSED (SIZE_MAX - 1)            /* the editor is closed */
 #define ROSKEVAD_NO_MEMORY (SIZE_MAX - 2)            /* no memory is left for it, and all is as it was */
 #define ROSKEVAD_TOO_GREAT (SIZE_MAX - 3)            /* the undo limit is above the greatest */
 #define ROSKEVAD_BAD_NAME (SIZE_MAX - 4)             /* no line can spell that name of a file */
@@ -66,11 +66,11 @@ extern "C" {
 #define ROSKEVAD_UNLIKE (SIZE_MAX - 11)              /* made finite, the map would not come back as it was */
 #define ROSKEVAD_TOO_MANY_FRACTIONS (SIZE_MAX - 12)  /* the map has more than 200,000 fractions */
 
-/* What a session is kept in. Its fields are the library's. */
-typedef struct roskevad_slot {
+/* What an editor is kept in. Its fields are the library's. */
+typedef struct roskevad_editor {
     void *at;
     bool is_open;
-} roskevad_slot;
+} roskevad_editor;
 
 #define ROSKEVAD_CLOSED { ROSKEVAD_NULL, false }
 
@@ -82,33 +82,33 @@ typedef struct roskevad_run {
 } roskevad_run;
 
 /* What came of many lines. */
-typedef struct roskevad_heard {
+typedef struct roskevad_lines_done {
     size_t bytes;      /* how many bytes of the input the lines are that are done, with their newlines */
     size_t replies;    /* how many bytes of replies stand in the buffer */
     size_t is_refused; /* 1 where the last of these lines was refused, and else 0 */
     size_t has_room;   /* 1 where the reply to the last one stands in the buffer or it is quiet, and else 0 */
-} roskevad_heard;
+} roskevad_lines_done;
 
 /* ---- the library's own names; their pointers are never null */
-size_t roskevad_open(roskevad_slot *slot, size_t limit);
-size_t roskevad_step(roskevad_slot *slot, const uint8_t *line, size_t line_length, uint8_t *reply, size_t room);
-size_t roskevad_reply(roskevad_slot *slot, uint8_t *reply, size_t room);
-size_t roskevad_run_lines(roskevad_slot *slot, const uint8_t *bytes, size_t length, size_t stop, uint8_t *replies, size_t room, roskevad_heard *heard);
-size_t roskevad_put_file(roskevad_slot *slot, const uint8_t *name, size_t name_length, const uint8_t *bytes, size_t length);
-size_t roskevad_file(roskevad_slot *slot, const uint8_t *name, size_t name_length, uint8_t *bytes, size_t room);
-size_t roskevad_remove_file(roskevad_slot *slot, const uint8_t *name, size_t name_length);
-size_t roskevad_file_count(roskevad_slot *slot);
-size_t roskevad_file_name(roskevad_slot *slot, size_t at, uint8_t *name, size_t room);
-size_t roskevad_selection_count(roskevad_slot *slot);
-size_t roskevad_selection_run(roskevad_slot *slot, size_t at, roskevad_run *run);
-size_t roskevad_clean_index(roskevad_slot *slot);
-size_t roskevad_is_macro(roskevad_slot *slot, size_t at);
-size_t roskevad_action_text(roskevad_slot *slot, size_t at, uint8_t *text, size_t room);
-size_t roskevad_next_layer_id(roskevad_slot *slot);
-size_t roskevad_next_object_id(roskevad_slot *slot);
-size_t roskevad_cells(roskevad_slot *slot, uint32_t layer, size_t x, size_t y, size_t width, size_t height, uint32_t *cells, size_t room);
-size_t roskevad_outline(roskevad_slot *slot, uint8_t *text, size_t room);
-void roskevad_close(roskevad_slot *slot);
+size_t roskevad_open(roskevad_editor *editor, size_t limit);
+size_t roskevad_step(roskevad_editor *editor, const uint8_t *line, size_t line_length, uint8_t *reply, size_t room);
+size_t roskevad_reply(roskevad_editor *editor, uint8_t *reply, size_t room);
+size_t roskevad_run_lines(roskevad_editor *editor, const uint8_t *bytes, size_t length, size_t stop, uint8_t *replies, size_t room, roskevad_lines_done *done);
+size_t roskevad_put_file(roskevad_editor *editor, const uint8_t *name, size_t name_length, const uint8_t *bytes, size_t length);
+size_t roskevad_file(roskevad_editor *editor, const uint8_t *name, size_t name_length, uint8_t *bytes, size_t room);
+size_t roskevad_remove_file(roskevad_editor *editor, const uint8_t *name, size_t name_length);
+size_t roskevad_file_count(roskevad_editor *editor);
+size_t roskevad_file_name(roskevad_editor *editor, size_t at, uint8_t *name, size_t room);
+size_t roskevad_selection_count(roskevad_editor *editor);
+size_t roskevad_selection_run(roskevad_editor *editor, size_t at, roskevad_run *run);
+size_t roskevad_clean_index(roskevad_editor *editor);
+size_t roskevad_is_macro(roskevad_editor *editor, size_t at);
+size_t roskevad_action_text(roskevad_editor *editor, size_t at, uint8_t *text, size_t room);
+size_t roskevad_next_layer_id(roskevad_editor *editor);
+size_t roskevad_next_object_id(roskevad_editor *editor);
+size_t roskevad_cells(roskevad_editor *editor, uint32_t layer, size_t x, size_t y, size_t width, size_t height, uint32_t *cells, size_t room);
+size_t roskevad_outline(roskevad_editor *editor, uint8_t *text, size_t room);
+void roskevad_close(roskevad_editor *editor);
 size_t roskevad_set_aside(const uint8_t *bytes, size_t length, uint8_t *text, size_t room);
 size_t roskevad_put_back(const uint8_t *bytes, size_t length, uint8_t *text, size_t room);
 size_t roskevad_version(uint8_t *version, size_t room);
@@ -128,25 +128,25 @@ static inline uint8_t *roskevad_room_at(void *room)
     return room ? ROSKEVAD_CAST(uint8_t *, room) : &nothing;
 }
 
-/* Opens a slot, closing it first where it is open. The limit is the undo limit of each document when it is made, where 0
- * stands for none. ROSKEVAD_DONE, ROSKEVAD_NO_MEMORY or ROSKEVAD_TOO_GREAT; the slot is closed after the last two. */
-static inline size_t roskevad_editor_open(roskevad_slot *slot, size_t limit)
+/* Opens an editor, closing it first where it is open. The limit is the undo limit of each document when it is made, where 0
+ * stands for none. ROSKEVAD_DONE, ROSKEVAD_NO_MEMORY or ROSKEVAD_TOO_GREAT; the editor is closed after the last two. */
+static inline size_t roskevad_editor_open(roskevad_editor *editor, size_t limit)
 {
-    return roskevad_open(slot, limit);
+    return roskevad_open(editor, limit);
 }
 
 /* Does what a line asks for. A byte 10 ends no line here: it is a byte like any other, and no command has one. So a line with a
  * newline at its end is refused as 3 or 4, and one that begins with `#` is quiet. The reply's size, ROSKEVAD_NONE where the line
  * is quiet, or ROSKEVAD_IS_CLOSED. */
-static inline size_t roskevad_editor_step(roskevad_slot *slot, const char *line, size_t line_length, char *reply, size_t room)
+static inline size_t roskevad_editor_step(roskevad_editor *editor, const char *line, size_t line_length, char *reply, size_t room)
 {
-    return roskevad_step(slot, roskevad_bytes_at(line), line_length, roskevad_room_at(reply), room);
+    return roskevad_step(editor, roskevad_bytes_at(line), line_length, roskevad_room_at(reply), room);
 }
 
 /* The reply to the last line again. Its size, ROSKEVAD_NONE where there is none, or ROSKEVAD_IS_CLOSED. */
-static inline size_t roskevad_editor_reply(roskevad_slot *slot, char *reply, size_t room)
+static inline size_t roskevad_editor_reply(roskevad_editor *editor, char *reply, size_t room)
 {
-    return roskevad_reply(slot, roskevad_room_at(reply), room);
+    return roskevad_reply(editor, roskevad_room_at(reply), room);
 }
 
 /* Does the lines of some bytes, one after another, as `roskevad_editor_step` does each. The bytes are cut at newlines; a last
@@ -154,114 +154,114 @@ static inline size_t roskevad_editor_reply(roskevad_slot *slot, char *reply, siz
  * newline. It ends at the end of the bytes; behind the first line that is refused, where `stop` is not 0; and behind a line
  * whose reply has no room in what is left of the buffer: that line is done, and `roskevad_editor_reply` gives its reply.
  * How many lines are done, or ROSKEVAD_IS_CLOSED, and then all is as it was. */
-static inline size_t roskevad_editor_run_lines(roskevad_slot *slot, const char *bytes, size_t length, size_t stop, char *replies, size_t room,
-                                               roskevad_heard *heard)
+static inline size_t roskevad_editor_run_lines(roskevad_editor *editor, const char *bytes, size_t length, size_t stop, char *replies, size_t room,
+                                               roskevad_lines_done *done)
 {
-    return roskevad_run_lines(slot, roskevad_bytes_at(bytes), length, stop, roskevad_room_at(replies), room, heard);
+    return roskevad_run_lines(editor, roskevad_bytes_at(bytes), length, stop, roskevad_room_at(replies), room, done);
 }
 
 /* Puts bytes under a name, in place of those that are there. ROSKEVAD_DONE, ROSKEVAD_NO_MEMORY, ROSKEVAD_BAD_NAME or
  * ROSKEVAD_IS_CLOSED. */
-static inline size_t roskevad_editor_put_file(roskevad_slot *slot, const char *name, size_t name_length, const void *bytes, size_t length)
+static inline size_t roskevad_editor_put_file(roskevad_editor *editor, const char *name, size_t name_length, const void *bytes, size_t length)
 {
-    return roskevad_put_file(slot, roskevad_bytes_at(name), name_length, roskevad_bytes_at(bytes), length);
+    return roskevad_put_file(editor, roskevad_bytes_at(name), name_length, roskevad_bytes_at(bytes), length);
 }
 
 /* The bytes under a name. How many there are, ROSKEVAD_NONE where there is no such file, or ROSKEVAD_IS_CLOSED. */
-static inline size_t roskevad_editor_file(roskevad_slot *slot, const char *name, size_t name_length, void *bytes, size_t room)
+static inline size_t roskevad_editor_file(roskevad_editor *editor, const char *name, size_t name_length, void *bytes, size_t room)
 {
-    return roskevad_file(slot, roskevad_bytes_at(name), name_length, roskevad_room_at(bytes), room);
+    return roskevad_file(editor, roskevad_bytes_at(name), name_length, roskevad_room_at(bytes), room);
 }
 
 /* Takes a file out. ROSKEVAD_DONE, ROSKEVAD_NONE where there is no such file, or ROSKEVAD_IS_CLOSED. */
-static inline size_t roskevad_editor_remove_file(roskevad_slot *slot, const char *name, size_t name_length)
+static inline size_t roskevad_editor_remove_file(roskevad_editor *editor, const char *name, size_t name_length)
 {
-    return roskevad_remove_file(slot, roskevad_bytes_at(name), name_length);
+    return roskevad_remove_file(editor, roskevad_bytes_at(name), name_length);
 }
 
 /* How many files there are, or ROSKEVAD_IS_CLOSED. */
-static inline size_t roskevad_editor_file_count(roskevad_slot *slot)
+static inline size_t roskevad_editor_file_count(roskevad_editor *editor)
 {
-    return roskevad_file_count(slot);
+    return roskevad_file_count(editor);
 }
 
 /* The name of the file at a place in the order of names, from 0. Its size, ROSKEVAD_NONE or ROSKEVAD_IS_CLOSED. */
-static inline size_t roskevad_editor_file_name(roskevad_slot *slot, size_t at, char *name, size_t room)
+static inline size_t roskevad_editor_file_name(roskevad_editor *editor, size_t at, char *name, size_t room)
 {
-    return roskevad_file_name(slot, at, roskevad_room_at(name), room);
+    return roskevad_file_name(editor, at, roskevad_room_at(name), room);
 }
 
 /* How many runs the selection of the active document has, 0 where none is active, or ROSKEVAD_IS_CLOSED. */
-static inline size_t roskevad_editor_selection_count(roskevad_slot *slot)
+static inline size_t roskevad_editor_selection_count(roskevad_editor *editor)
 {
-    return roskevad_selection_count(slot);
+    return roskevad_selection_count(editor);
 }
 
 /* The run at a place of that selection, in row order, from 0. ROSKEVAD_DONE, ROSKEVAD_NONE or ROSKEVAD_IS_CLOSED. */
-static inline size_t roskevad_editor_selection_run(roskevad_slot *slot, size_t at, roskevad_run *run)
+static inline size_t roskevad_editor_selection_run(roskevad_editor *editor, size_t at, roskevad_run *run)
 {
-    return roskevad_selection_run(slot, at, run);
+    return roskevad_selection_run(editor, at, run);
 }
 
 /* The index at which the active document counts as clean, ROSKEVAD_NONE or ROSKEVAD_IS_CLOSED. */
-static inline size_t roskevad_editor_clean_index(roskevad_slot *slot)
+static inline size_t roskevad_editor_clean_index(roskevad_editor *editor)
 {
-    return roskevad_clean_index(slot);
+    return roskevad_clean_index(editor);
 }
 
 /* Whether the step at this place of the active document, from 0, is a macro: 1, 0, ROSKEVAD_NONE or ROSKEVAD_IS_CLOSED. */
-static inline size_t roskevad_editor_is_macro(roskevad_slot *slot, size_t at)
+static inline size_t roskevad_editor_is_macro(roskevad_editor *editor, size_t at)
 {
-    return roskevad_is_macro(slot, at);
+    return roskevad_is_macro(editor, at);
 }
 
 /* The action text of the step at this place of the active document, from 0, as `undotext` and `redotext` tell it; an open macro
  * stands last. Its size, ROSKEVAD_NONE or ROSKEVAD_IS_CLOSED. */
-static inline size_t roskevad_editor_action_text(roskevad_slot *slot, size_t at, char *text, size_t room)
+static inline size_t roskevad_editor_action_text(roskevad_editor *editor, size_t at, char *text, size_t room)
 {
-    return roskevad_action_text(slot, at, roskevad_room_at(text), room);
+    return roskevad_action_text(editor, at, roskevad_room_at(text), room);
 }
 
 /* The id that the next layer of the active document gets, ROSKEVAD_NONE where none is active, or ROSKEVAD_IS_CLOSED. */
-static inline size_t roskevad_editor_next_layer_id(roskevad_slot *slot)
+static inline size_t roskevad_editor_next_layer_id(roskevad_editor *editor)
 {
-    return roskevad_next_layer_id(slot);
+    return roskevad_next_layer_id(editor);
 }
 
 /* The id that the next object of the active document gets, ROSKEVAD_NONE where none is active, or ROSKEVAD_IS_CLOSED. */
-static inline size_t roskevad_editor_next_object_id(roskevad_slot *slot)
+static inline size_t roskevad_editor_next_object_id(roskevad_editor *editor)
 {
-    return roskevad_next_object_id(slot);
+    return roskevad_next_object_id(editor);
 }
 
 /* The cells of a rectangle of the tile layer with this id of the active document, row by row; `room` counts cells. How many they
  * are; ROSKEVAD_NONE where none is active, it has no tile layer with that id, or the rectangle leaves the map; or
  * ROSKEVAD_IS_CLOSED. */
-static inline size_t roskevad_editor_cells(roskevad_slot *slot, uint32_t layer, size_t x, size_t y, size_t width, size_t height,
+static inline size_t roskevad_editor_cells(roskevad_editor *editor, uint32_t layer, size_t x, size_t y, size_t width, size_t height,
                                            uint32_t *cells, size_t room)
 {
     static uint32_t nothing;
-    return roskevad_cells(slot, layer, x, y, width, height, cells ? cells : &nothing, room);
+    return roskevad_cells(editor, layer, x, y, width, height, cells ? cells : &nothing, room);
 }
 
 /* The outline of the active document's map: the text of `show` behind `map `, without the member `data` of tile layers. Its size,
  * ROSKEVAD_NONE where none is active, ROSKEVAD_NO_MEMORY or ROSKEVAD_IS_CLOSED. */
-static inline size_t roskevad_editor_outline(roskevad_slot *slot, char *text, size_t room)
+static inline size_t roskevad_editor_outline(roskevad_editor *editor, char *text, size_t room)
 {
-    return roskevad_outline(slot, roskevad_room_at(text), room);
+    return roskevad_outline(editor, roskevad_room_at(text), room);
 }
 
-/* Closes a slot, and gives back its memory. A closed one stays closed. */
-static inline void roskevad_editor_close(roskevad_slot *slot)
+/* Closes an editor, and gives back its memory. A closed one stays closed. */
+static inline void roskevad_editor_close(roskevad_editor *editor)
 {
-    roskevad_close(slot);
+    roskevad_close(editor);
 }
 
 /* The text of a map with what the editor's format refuses set aside: fractions, and that it is infinite. Put that text under a
  * name, and `open` reads it; docs/map-files.md says what becomes of a map. The text's size; ROSKEVAD_NONE where there is nothing to
  * set aside, so that the bytes themselves can be read; ROSKEVAD_NO_MEMORY; or ROSKEVAD_NOT_JSON and what follows it above.
  *
- * No slot keeps the text, so a call with a larger buffer makes it anew. Twice the length and 65,536 bytes are room enough for most
+ * No editor keeps the text, so a call with a larger buffer makes it anew. Twice the length and 65,536 bytes are room enough for most
  * maps; one of many fractions, or an infinite one whose chunks lie far apart, may need more. */
 static inline size_t roskevad_editor_set_aside(const void *bytes, size_t length, void *text, size_t room)
 {

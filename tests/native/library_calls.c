@@ -34,108 +34,108 @@ static uint32_t random_number(void)
     return (uint32_t)(state >> 32);
 }
 
-/* What a closed slot answers. */
-static void check_closed(roskevad_slot *slot)
+/* What a closed editor answers. */
+static void check_closed(roskevad_editor *editor)
 {
     char room[4] = "abc";
     roskevad_run run = {1, 2, 3};
-    roskevad_heard heard = {1, 2, 3, 4};
+    roskevad_lines_done done = {1, 2, 3, 4};
     uint32_t cells[2] = {7, 8};
-    WANT(roskevad_editor_step(slot, "undo", 4, room, 4) == ROSKEVAD_IS_CLOSED);
-    WANT(roskevad_editor_reply(slot, room, 4) == ROSKEVAD_IS_CLOSED);
-    WANT(roskevad_editor_put_file(slot, "a", 1, NULL, 0) == ROSKEVAD_IS_CLOSED);
-    WANT(roskevad_editor_file(slot, "a", 1, room, 4) == ROSKEVAD_IS_CLOSED);
-    WANT(roskevad_editor_remove_file(slot, "a", 1) == ROSKEVAD_IS_CLOSED);
-    WANT(roskevad_editor_file_count(slot) == ROSKEVAD_IS_CLOSED);
-    WANT(roskevad_editor_file_name(slot, 0, room, 4) == ROSKEVAD_IS_CLOSED);
-    WANT(roskevad_editor_selection_count(slot) == ROSKEVAD_IS_CLOSED);
-    WANT(roskevad_editor_selection_run(slot, 0, &run) == ROSKEVAD_IS_CLOSED && run.row == 1 && run.count == 3);
-    WANT(roskevad_editor_clean_index(slot) == ROSKEVAD_IS_CLOSED);
-    WANT(roskevad_editor_is_macro(slot, 0) == ROSKEVAD_IS_CLOSED);
-    WANT(roskevad_editor_run_lines(slot, "undo\n", 5, 1, room, 4, &heard) == ROSKEVAD_IS_CLOSED);
-    WANT(heard.bytes == 1 && heard.replies == 2 && heard.is_refused == 3 && heard.has_room == 4);
-    WANT(roskevad_editor_action_text(slot, 0, room, 4) == ROSKEVAD_IS_CLOSED);
-    WANT(roskevad_editor_next_layer_id(slot) == ROSKEVAD_IS_CLOSED && roskevad_editor_next_object_id(slot) == ROSKEVAD_IS_CLOSED);
-    WANT(roskevad_editor_cells(slot, 1, 0, 0, 1, 1, cells, 2) == ROSKEVAD_IS_CLOSED && cells[0] == 7 && cells[1] == 8);
-    WANT(roskevad_editor_outline(slot, room, 4) == ROSKEVAD_IS_CLOSED);
+    WANT(roskevad_editor_step(editor, "undo", 4, room, 4) == ROSKEVAD_IS_CLOSED);
+    WANT(roskevad_editor_reply(editor, room, 4) == ROSKEVAD_IS_CLOSED);
+    WANT(roskevad_editor_put_file(editor, "a", 1, NULL, 0) == ROSKEVAD_IS_CLOSED);
+    WANT(roskevad_editor_file(editor, "a", 1, room, 4) == ROSKEVAD_IS_CLOSED);
+    WANT(roskevad_editor_remove_file(editor, "a", 1) == ROSKEVAD_IS_CLOSED);
+    WANT(roskevad_editor_file_count(editor) == ROSKEVAD_IS_CLOSED);
+    WANT(roskevad_editor_file_name(editor, 0, room, 4) == ROSKEVAD_IS_CLOSED);
+    WANT(roskevad_editor_selection_count(editor) == ROSKEVAD_IS_CLOSED);
+    WANT(roskevad_editor_selection_run(editor, 0, &run) == ROSKEVAD_IS_CLOSED && run.row == 1 && run.count == 3);
+    WANT(roskevad_editor_clean_index(editor) == ROSKEVAD_IS_CLOSED);
+    WANT(roskevad_editor_is_macro(editor, 0) == ROSKEVAD_IS_CLOSED);
+    WANT(roskevad_editor_run_lines(editor, "undo\n", 5, 1, room, 4, &done) == ROSKEVAD_IS_CLOSED);
+    WANT(done.bytes == 1 && done.replies == 2 && done.is_refused == 3 && done.has_room == 4);
+    WANT(roskevad_editor_action_text(editor, 0, room, 4) == ROSKEVAD_IS_CLOSED);
+    WANT(roskevad_editor_next_layer_id(editor) == ROSKEVAD_IS_CLOSED && roskevad_editor_next_object_id(editor) == ROSKEVAD_IS_CLOSED);
+    WANT(roskevad_editor_cells(editor, 1, 0, 0, 1, 1, cells, 2) == ROSKEVAD_IS_CLOSED && cells[0] == 7 && cells[1] == 8);
+    WANT(roskevad_editor_outline(editor, room, 4) == ROSKEVAD_IS_CLOSED);
     WANT(memcmp(room, "abc", 4) == 0);
-    roskevad_editor_close(slot);
+    roskevad_editor_close(editor);
 }
 
 /* What an open one answers where there is nothing yet, and at each edge of a buffer. */
-static void check_edges(roskevad_slot *slot)
+static void check_edges(roskevad_editor *editor)
 {
     char room[64];
     memset(room, 'x', sizeof room);
-    WANT(roskevad_editor_open(slot, ROSKEVAD_GREATEST_LIMIT + 1) == ROSKEVAD_TOO_GREAT);
-    check_closed(slot);
-    WANT(roskevad_editor_open(slot, ROSKEVAD_GREATEST_LIMIT) == ROSKEVAD_DONE);
-    WANT(roskevad_editor_open(slot, 0) == ROSKEVAD_DONE);
-    WANT(roskevad_editor_reply(slot, NULL, 0) == ROSKEVAD_NONE);
-    WANT(roskevad_editor_step(slot, NULL, 0, NULL, 0) == ROSKEVAD_NONE);
-    WANT(roskevad_editor_step(slot, "status", 6, room, 12) == 13 && room[0] == 'x');
-    WANT(roskevad_editor_reply(slot, room, 13) == 13 && memcmp(room, "ok none cleanx", 14) == 0);
-    WANT(roskevad_editor_put_file(slot, "", 0, "a", 1) == ROSKEVAD_BAD_NAME);
-    WANT(roskevad_editor_put_file(slot, ".a", 2, "a", 1) == ROSKEVAD_BAD_NAME);
-    WANT(roskevad_editor_put_file(slot, "a/b", 3, "a", 1) == ROSKEVAD_BAD_NAME);
-    WANT(roskevad_editor_put_file(slot, "empty", 5, NULL, 0) == ROSKEVAD_DONE);
-    WANT(roskevad_editor_file(slot, "empty", 5, NULL, 0) == 0);
-    WANT(roskevad_editor_file(slot, "none", 4, NULL, 0) == ROSKEVAD_NONE);
-    WANT(roskevad_editor_file_count(slot) == 1);
-    WANT(roskevad_editor_file_name(slot, 0, room, 5) == 5 && memcmp(room, "empty", 5) == 0);
-    WANT(roskevad_editor_file_name(slot, 1, room, 5) == ROSKEVAD_NONE);
-    WANT(roskevad_editor_remove_file(slot, "empty", 5) == ROSKEVAD_DONE);
-    WANT(roskevad_editor_remove_file(slot, "empty", 5) == ROSKEVAD_NONE);
-    roskevad_heard heard = {1, 2, 3, 4};
-    WANT(roskevad_editor_run_lines(slot, NULL, 0, 1, NULL, 0, &heard) == 0);
-    WANT(heard.bytes == 0 && heard.replies == 0 && heard.is_refused == 0 && heard.has_room == 1);
-    WANT(roskevad_editor_action_text(slot, 0, NULL, 0) == ROSKEVAD_NONE);
-    WANT(roskevad_editor_next_layer_id(slot) == ROSKEVAD_NONE && roskevad_editor_next_object_id(slot) == ROSKEVAD_NONE);
-    WANT(roskevad_editor_cells(slot, 1, 0, 0, 0, 0, NULL, 0) == ROSKEVAD_NONE);
-    WANT(roskevad_editor_outline(slot, NULL, 0) == ROSKEVAD_NONE);
+    WANT(roskevad_editor_open(editor, ROSKEVAD_GREATEST_LIMIT + 1) == ROSKEVAD_TOO_GREAT);
+    check_closed(editor);
+    WANT(roskevad_editor_open(editor, ROSKEVAD_GREATEST_LIMIT) == ROSKEVAD_DONE);
+    WANT(roskevad_editor_open(editor, 0) == ROSKEVAD_DONE);
+    WANT(roskevad_editor_reply(editor, NULL, 0) == ROSKEVAD_NONE);
+    WANT(roskevad_editor_step(editor, NULL, 0, NULL, 0) == ROSKEVAD_NONE);
+    WANT(roskevad_editor_step(editor, "status", 6, room, 12) == 13 && room[0] == 'x');
+    WANT(roskevad_editor_reply(editor, room, 13) == 13 && memcmp(room, "ok none cleanx", 14) == 0);
+    WANT(roskevad_editor_put_file(editor, "", 0, "a", 1) == ROSKEVAD_BAD_NAME);
+    WANT(roskevad_editor_put_file(editor, ".a", 2, "a", 1) == ROSKEVAD_BAD_NAME);
+    WANT(roskevad_editor_put_file(editor, "a/b", 3, "a", 1) == ROSKEVAD_BAD_NAME);
+    WANT(roskevad_editor_put_file(editor, "empty", 5, NULL, 0) == ROSKEVAD_DONE);
+    WANT(roskevad_editor_file(editor, "empty", 5, NULL, 0) == 0);
+    WANT(roskevad_editor_file(editor, "none", 4, NULL, 0) == ROSKEVAD_NONE);
+    WANT(roskevad_editor_file_count(editor) == 1);
+    WANT(roskevad_editor_file_name(editor, 0, room, 5) == 5 && memcmp(room, "empty", 5) == 0);
+    WANT(roskevad_editor_file_name(editor, 1, room, 5) == ROSKEVAD_NONE);
+    WANT(roskevad_editor_remove_file(editor, "empty", 5) == ROSKEVAD_DONE);
+    WANT(roskevad_editor_remove_file(editor, "empty", 5) == ROSKEVAD_NONE);
+    roskevad_lines_done done = {1, 2, 3, 4};
+    WANT(roskevad_editor_run_lines(editor, NULL, 0, 1, NULL, 0, &done) == 0);
+    WANT(done.bytes == 0 && done.replies == 0 && done.is_refused == 0 && done.has_room == 1);
+    WANT(roskevad_editor_action_text(editor, 0, NULL, 0) == ROSKEVAD_NONE);
+    WANT(roskevad_editor_next_layer_id(editor) == ROSKEVAD_NONE && roskevad_editor_next_object_id(editor) == ROSKEVAD_NONE);
+    WANT(roskevad_editor_cells(editor, 1, 0, 0, 0, 0, NULL, 0) == ROSKEVAD_NONE);
+    WANT(roskevad_editor_outline(editor, NULL, 0) == ROSKEVAD_NONE);
     WANT(roskevad_editor_version(room, sizeof room) == strlen(ROSKEVAD_VERSION));
     WANT(memcmp(room, ROSKEVAD_VERSION, strlen(ROSKEVAD_VERSION)) == 0);
 }
 
 /* What lines do not tell. */
-static void check_told(roskevad_slot *slot)
+static void check_told(roskevad_editor *editor)
 {
     static const char *const lines[] = {"new a 4 3 16 16 a.tsj", "begin M", "stamp 1 0 0 1 5", "end", "stamp 1 1 0 1 5", "clean",
                                         "select replace 1 1 2 1"};
     char room[64];
     roskevad_run run;
     for (size_t at = 0; at < sizeof lines / sizeof *lines; at++)
-        WANT(roskevad_editor_step(slot, lines[at], strlen(lines[at]), room, sizeof room) > 2 && memcmp(room, "ok", 2) == 0);
-    WANT(roskevad_editor_clean_index(slot) == 2);
-    WANT(roskevad_editor_is_macro(slot, 0) == 1 && roskevad_editor_is_macro(slot, 1) == 0);
-    WANT(roskevad_editor_is_macro(slot, 2) == 0 || roskevad_editor_is_macro(slot, 2) == ROSKEVAD_NONE);
-    WANT(roskevad_editor_is_macro(slot, 9) == ROSKEVAD_NONE);
-    WANT(roskevad_editor_selection_count(slot) == 1);
-    WANT(roskevad_editor_selection_run(slot, 0, &run) == ROSKEVAD_DONE && run.row == 1 && run.column == 1 && run.count == 2);
-    WANT(roskevad_editor_selection_run(slot, 1, &run) == ROSKEVAD_NONE);
+        WANT(roskevad_editor_step(editor, lines[at], strlen(lines[at]), room, sizeof room) > 2 && memcmp(room, "ok", 2) == 0);
+    WANT(roskevad_editor_clean_index(editor) == 2);
+    WANT(roskevad_editor_is_macro(editor, 0) == 1 && roskevad_editor_is_macro(editor, 1) == 0);
+    WANT(roskevad_editor_is_macro(editor, 2) == 0 || roskevad_editor_is_macro(editor, 2) == ROSKEVAD_NONE);
+    WANT(roskevad_editor_is_macro(editor, 9) == ROSKEVAD_NONE);
+    WANT(roskevad_editor_selection_count(editor) == 1);
+    WANT(roskevad_editor_selection_run(editor, 0, &run) == ROSKEVAD_DONE && run.row == 1 && run.column == 1 && run.count == 2);
+    WANT(roskevad_editor_selection_run(editor, 1, &run) == ROSKEVAD_NONE);
 }
 
 /* Cells of a map of 4 by 3, which has the value 5 in its first two. */
-static void check_cells(roskevad_slot *slot)
+static void check_cells(roskevad_editor *editor)
 {
     uint32_t cells[13];
     memset(cells, 0xff, sizeof cells);
-    WANT(roskevad_editor_cells(slot, 1, 0, 0, 4, 3, cells, 11) == 12 && cells[0] == UINT32_MAX && cells[10] == UINT32_MAX);
-    WANT(roskevad_editor_cells(slot, 1, 0, 0, 4, 3, cells, 12) == 12 && cells[12] == UINT32_MAX);
+    WANT(roskevad_editor_cells(editor, 1, 0, 0, 4, 3, cells, 11) == 12 && cells[0] == UINT32_MAX && cells[10] == UINT32_MAX);
+    WANT(roskevad_editor_cells(editor, 1, 0, 0, 4, 3, cells, 12) == 12 && cells[12] == UINT32_MAX);
     WANT(cells[0] == 5 && cells[1] == 5 && cells[2] == 0 && cells[11] == 0);
-    WANT(roskevad_editor_cells(slot, 1, 1, 0, 1, 2, cells + 3, 10) == 2 && cells[3] == 5 && cells[4] == 0 && cells[2] == 0);
-    WANT(roskevad_editor_cells(slot, 1, 4, 3, 0, 0, NULL, 0) == 0 && roskevad_editor_cells(slot, 1, 0, 3, 4, 0, cells, 13) == 0);
-    WANT(roskevad_editor_cells(slot, 1, 5, 0, 0, 0, cells, 13) == ROSKEVAD_NONE);
-    WANT(roskevad_editor_cells(slot, 1, 0, 4, 0, 0, cells, 13) == ROSKEVAD_NONE);
-    WANT(roskevad_editor_cells(slot, 1, 0, 0, 5, 1, cells, 13) == ROSKEVAD_NONE);
-    WANT(roskevad_editor_cells(slot, 1, 0, 0, 1, 4, cells, 13) == ROSKEVAD_NONE);
-    WANT(roskevad_editor_cells(slot, 1, SIZE_MAX, 0, 2, 1, cells, 13) == ROSKEVAD_NONE);
-    WANT(roskevad_editor_cells(slot, 1, 0, 1, 1, SIZE_MAX, cells, 13) == ROSKEVAD_NONE);
-    WANT(roskevad_editor_cells(slot, 2, 0, 0, 1, 1, cells, 13) == ROSKEVAD_NONE);
+    WANT(roskevad_editor_cells(editor, 1, 1, 0, 1, 2, cells + 3, 10) == 2 && cells[3] == 5 && cells[4] == 0 && cells[2] == 0);
+    WANT(roskevad_editor_cells(editor, 1, 4, 3, 0, 0, NULL, 0) == 0 && roskevad_editor_cells(editor, 1, 0, 3, 4, 0, cells, 13) == 0);
+    WANT(roskevad_editor_cells(editor, 1, 5, 0, 0, 0, cells, 13) == ROSKEVAD_NONE);
+    WANT(roskevad_editor_cells(editor, 1, 0, 4, 0, 0, cells, 13) == ROSKEVAD_NONE);
+    WANT(roskevad_editor_cells(editor, 1, 0, 0, 5, 1, cells, 13) == ROSKEVAD_NONE);
+    WANT(roskevad_editor_cells(editor, 1, 0, 0, 1, 4, cells, 13) == ROSKEVAD_NONE);
+    WANT(roskevad_editor_cells(editor, 1, SIZE_MAX, 0, 2, 1, cells, 13) == ROSKEVAD_NONE);
+    WANT(roskevad_editor_cells(editor, 1, 0, 1, 1, SIZE_MAX, cells, 13) == ROSKEVAD_NONE);
+    WANT(roskevad_editor_cells(editor, 2, 0, 0, 1, 1, cells, 13) == ROSKEVAD_NONE);
 }
 
 /* The outline, the next ids and action texts of that map, whose first step is the macro M. */
-static void check_names(roskevad_slot *slot)
+static void check_names(roskevad_editor *editor)
 {
     static const char OUTLINE[] = "{\"height\":3,\"infinite\":false,\"layers\":[{\"height\":3,\"id\":1,\"name\":\"Tile Layer 1\",\"opacity\":1,"
         "\"type\":\"tilelayer\",\"visible\":true,\"width\":4,\"x\":0,\"y\":0}],\"nextlayerid\":2,\"nextobjectid\":1,"
@@ -143,17 +143,17 @@ static void check_names(roskevad_slot *slot)
         "\"tilewidth\":16,\"type\":\"map\",\"version\":\"1.10\",\"width\":4}";
     char room[512];
     memset(room, 'x', sizeof room);
-    WANT(roskevad_editor_outline(slot, room, sizeof OUTLINE - 2) == sizeof OUTLINE - 1 && room[0] == 'x');
-    WANT(roskevad_editor_outline(slot, room, sizeof room) == sizeof OUTLINE - 1);
+    WANT(roskevad_editor_outline(editor, room, sizeof OUTLINE - 2) == sizeof OUTLINE - 1 && room[0] == 'x');
+    WANT(roskevad_editor_outline(editor, room, sizeof room) == sizeof OUTLINE - 1);
     WANT(memcmp(room, OUTLINE, sizeof OUTLINE - 1) == 0 && room[sizeof OUTLINE - 1] == 'x');
-    WANT(roskevad_editor_next_layer_id(slot) == 2 && roskevad_editor_next_object_id(slot) == 1);
-    WANT(roskevad_editor_action_text(slot, 0, room, 1) == 1 && room[0] == 'M');
-    WANT(roskevad_editor_action_text(slot, 1, room, 4) == 11 && room[0] == 'M');
-    WANT(roskevad_editor_action_text(slot, 1, room, 11) == 11 && memcmp(room, "stamp tiles", 11) == 0);
-    WANT(roskevad_editor_action_text(slot, SIZE_MAX, room, 64) == ROSKEVAD_NONE);
+    WANT(roskevad_editor_next_layer_id(editor) == 2 && roskevad_editor_next_object_id(editor) == 1);
+    WANT(roskevad_editor_action_text(editor, 0, room, 1) == 1 && room[0] == 'M');
+    WANT(roskevad_editor_action_text(editor, 1, room, 4) == 11 && room[0] == 'M');
+    WANT(roskevad_editor_action_text(editor, 1, room, 11) == 11 && memcmp(room, "stamp tiles", 11) == 0);
+    WANT(roskevad_editor_action_text(editor, SIZE_MAX, room, 64) == ROSKEVAD_NONE);
 }
 
-/* What is made of a text by a call without a slot, with a buffer that is one byte too short and with one that is not. */
+/* What is made of a text by a call without a editor, with a buffer that is one byte too short and with one that is not. */
 static void check_made(size_t (*make)(const void *, size_t, void *, size_t), const char *given, const char *wanted)
 {
     char room[128];
@@ -205,69 +205,69 @@ static void check_asides(void)
     check_unmade(roskevad_editor_set_aside, strcat(large, "]}"), ROSKEVAD_TOO_LARGE);
 }
 
-/* Lines of which one is refused, on a slot with no document. */
-static void check_lines(roskevad_slot *slot)
+/* Lines of which one is refused, on a editor with no document. */
+static void check_lines(roskevad_editor *editor)
 {
     static const char LINES[] = "status\n# quiet\nbad\n\nstatus";
     static const char REPLIES[] = "ok none clean\nno 3 unknown command\nok none clean\n";
     char room[64];
-    roskevad_heard heard;
+    roskevad_lines_done done;
     memset(room, 'x', sizeof room);
-    WANT(roskevad_editor_run_lines(slot, LINES, sizeof LINES - 1, 0, room, sizeof room, &heard) == 5);
-    WANT(heard.bytes == sizeof LINES - 1 && heard.replies == sizeof REPLIES - 1 && heard.is_refused == 0 && heard.has_room == 1);
+    WANT(roskevad_editor_run_lines(editor, LINES, sizeof LINES - 1, 0, room, sizeof room, &done) == 5);
+    WANT(done.bytes == sizeof LINES - 1 && done.replies == sizeof REPLIES - 1 && done.is_refused == 0 && done.has_room == 1);
     WANT(memcmp(room, REPLIES, sizeof REPLIES - 1) == 0 && room[sizeof REPLIES - 1] == 'x');
     memset(room, 'x', sizeof room);
-    WANT(roskevad_editor_run_lines(slot, LINES, sizeof LINES - 1, 1, room, sizeof room, &heard) == 3);
-    WANT(heard.bytes == 19 && heard.replies == 35 && heard.is_refused == 1 && heard.has_room == 1);
+    WANT(roskevad_editor_run_lines(editor, LINES, sizeof LINES - 1, 1, room, sizeof room, &done) == 3);
+    WANT(done.bytes == 19 && done.replies == 35 && done.is_refused == 1 && done.has_room == 1);
     WANT(memcmp(room, REPLIES, 35) == 0 && room[35] == 'x');
     memset(room, 'x', sizeof room);
-    WANT(roskevad_editor_run_lines(slot, LINES, sizeof LINES - 1, 2, room, 34, &heard) == 3);
-    WANT(heard.bytes == 19 && heard.replies == 14 && heard.is_refused == 1 && heard.has_room == 0 && room[14] == 'x');
-    WANT(roskevad_editor_reply(slot, room, sizeof room) == 20 && memcmp(room, "no 3 unknown command", 20) == 0);
-    WANT(roskevad_editor_run_lines(slot, LINES, 7, 0, room, 13, &heard) == 1 && heard.bytes == 7 && heard.replies == 0 && heard.has_room == 0);
-    WANT(roskevad_editor_run_lines(slot, LINES, 7, 0, room, 14, &heard) == 1 && heard.bytes == 7 && heard.replies == 14 && heard.has_room == 1);
-    WANT(roskevad_editor_run_lines(slot, LINES, 6, 0, room, 14, &heard) == 1 && heard.bytes == 6 && heard.replies == 14);
-    WANT(roskevad_editor_run_lines(slot, "\n\n#", 3, 1, NULL, 0, &heard) == 3 && heard.bytes == 3 && heard.has_room == 1);
+    WANT(roskevad_editor_run_lines(editor, LINES, sizeof LINES - 1, 2, room, 34, &done) == 3);
+    WANT(done.bytes == 19 && done.replies == 14 && done.is_refused == 1 && done.has_room == 0 && room[14] == 'x');
+    WANT(roskevad_editor_reply(editor, room, sizeof room) == 20 && memcmp(room, "no 3 unknown command", 20) == 0);
+    WANT(roskevad_editor_run_lines(editor, LINES, 7, 0, room, 13, &done) == 1 && done.bytes == 7 && done.replies == 0 && done.has_room == 0);
+    WANT(roskevad_editor_run_lines(editor, LINES, 7, 0, room, 14, &done) == 1 && done.bytes == 7 && done.replies == 14 && done.has_room == 1);
+    WANT(roskevad_editor_run_lines(editor, LINES, 6, 0, room, 14, &done) == 1 && done.bytes == 6 && done.replies == 14);
+    WANT(roskevad_editor_run_lines(editor, "\n\n#", 3, 1, NULL, 0, &done) == 3 && done.bytes == 3 && done.has_room == 1);
     static char lines[65537];
     memset(lines, ' ', sizeof lines);
     lines[65536] = '\n';
-    WANT(roskevad_editor_run_lines(slot, lines, sizeof lines, 1, room, sizeof room, &heard) == 1 && heard.bytes == sizeof lines);
-    WANT(heard.is_refused == 1 && memcmp(room, "no 1 line too long\n", 19) == 0);
-    WANT(roskevad_editor_run_lines(slot, lines + 1, sizeof lines - 1, 1, room, sizeof room, &heard) == 1 && heard.is_refused == 0 && heard.replies == 0);
+    WANT(roskevad_editor_run_lines(editor, lines, sizeof lines, 1, room, sizeof room, &done) == 1 && done.bytes == sizeof lines);
+    WANT(done.is_refused == 1 && memcmp(room, "no 1 line too long\n", 19) == 0);
+    WANT(roskevad_editor_run_lines(editor, lines + 1, sizeof lines - 1, 1, room, sizeof room, &done) == 1 && done.is_refused == 0 && done.replies == 0);
 }
 
 static void run_random(size_t lines)
 {
-    roskevad_slot slot = ROSKEVAD_CLOSED;
-    check_closed(&slot);
-    check_edges(&slot);
+    roskevad_editor editor = ROSKEVAD_CLOSED;
+    check_closed(&editor);
+    check_edges(&editor);
     check_asides();
-    check_lines(&slot);
-    check_told(&slot);
-    check_cells(&slot);
-    check_names(&slot);
+    check_lines(&editor);
+    check_told(&editor);
+    check_cells(&editor);
+    check_names(&editor);
     for (size_t at = 0; at < lines; at++) {
         size_t size = at % 100 == 0 ? random_number() % 70000 : random_number() % 300;
         size_t room = random_number() % 80;
         char *line = size ? malloc(size) : NULL, *reply = room ? malloc(room) : NULL;
         for (size_t i = 0; i < size; i++)
             line[i] = (char)random_number();
-        size_t answer = roskevad_editor_step(&slot, line, size, reply, room);
+        size_t answer = roskevad_editor_step(&editor, line, size, reply, room);
         WANT(answer == ROSKEVAD_NONE || (answer >= 5 && answer < 64));
         WANT(answer == ROSKEVAD_NONE || answer > room || memcmp(reply, "no ", 3) == 0);
         free(line);
         free(reply);
     }
-    roskevad_editor_close(&slot);
-    check_closed(&slot);
+    roskevad_editor_close(&editor);
+    check_closed(&editor);
 }
 
 /* Steps a line until there is memory for it. */
-static void step_at_last(roskevad_slot *slot, const char *line)
+static void step_at_last(roskevad_editor *editor, const char *line)
 {
     char reply[4096];
     for (int tries = 0; tries < 3; tries++) {
-        size_t size = roskevad_editor_step(slot, line, strlen(line), reply, sizeof reply);
+        size_t size = roskevad_editor_step(editor, line, strlen(line), reply, sizeof reply);
         WANT(size >= 2 && size < sizeof reply);
         if (memcmp(reply, "no 90", 5) != 0 || tries == 2) {
             WANT(fwrite(reply, 1, size, stdout) == size);
@@ -278,36 +278,36 @@ static void step_at_last(roskevad_slot *slot, const char *line)
 }
 
 /* Steps many lines in calls, and the rest again from a line on for which there was no memory. */
-static void run_at_last(roskevad_slot *slot, const char *lines)
+static void run_at_last(roskevad_editor *editor, const char *lines)
 {
     char replies[4096];
-    roskevad_heard heard;
+    roskevad_lines_done done;
     for (int tries = 0; *lines && tries < 3; tries++) {
         size_t size = strlen(lines);
-        WANT(roskevad_editor_run_lines(slot, lines, size, 1, replies, sizeof replies, &heard) <= size && heard.has_room);
-        WANT(heard.bytes == size || heard.is_refused);
-        lines += heard.bytes;
-        if (heard.is_refused) {
+        WANT(roskevad_editor_run_lines(editor, lines, size, 1, replies, sizeof replies, &done) <= size && done.has_room);
+        WANT(done.bytes == size || done.is_refused);
+        lines += done.bytes;
+        if (done.is_refused) {
             static const char REFUSED[] = "no 90 no memory\n";
-            heard.replies -= sizeof REFUSED - 1;
-            WANT(memcmp(replies + heard.replies, REFUSED, sizeof REFUSED - 1) == 0);
+            done.replies -= sizeof REFUSED - 1;
+            WANT(memcmp(replies + done.replies, REFUSED, sizeof REFUSED - 1) == 0);
             do
                 lines--;
             while (lines[-1] != '\n');
         }
-        WANT(fwrite(replies, 1, heard.replies, stdout) == heard.replies);
+        WANT(fwrite(replies, 1, done.replies, stdout) == done.replies);
     }
     WANT(!*lines);
 }
 
 /* The outline of the active document's map, asked for again where there was no memory for it. */
-static void show_outline(roskevad_slot *slot)
+static void show_outline(roskevad_editor *editor)
 {
     char text[4096] = "x";
-    size_t size = roskevad_editor_outline(slot, text, sizeof text);
+    size_t size = roskevad_editor_outline(editor, text, sizeof text);
     if (size == ROSKEVAD_NO_MEMORY) {
         WANT(text[0] == 'x');
-        size = roskevad_editor_outline(slot, text, sizeof text);
+        size = roskevad_editor_outline(editor, text, sizeof text);
     }
     WANT(size < sizeof text && fwrite(text, 1, size, stdout) == size);
 }
@@ -345,29 +345,29 @@ static void take_a_block(void)
 static void run_script(void)
 {
     setvbuf(stdout, NULL, _IONBF, 0);
-    roskevad_slot slot = ROSKEVAD_CLOSED;
+    roskevad_editor editor = ROSKEVAD_CLOSED;
     take_a_block();
     size_t before = mallinfo2().uordblks;
-    size_t answer = roskevad_editor_open(&slot, 0);
+    size_t answer = roskevad_editor_open(&editor, 0);
     if (answer == ROSKEVAD_NO_MEMORY) {
-        check_closed(&slot);
-        answer = roskevad_editor_open(&slot, 0);
+        check_closed(&editor);
+        answer = roskevad_editor_open(&editor, 0);
     }
     WANT(answer == ROSKEVAD_DONE);
-    answer = roskevad_editor_put_file(&slot, "m.tmj", 5, MAP, sizeof MAP - 1);
+    answer = roskevad_editor_put_file(&editor, "m.tmj", 5, MAP, sizeof MAP - 1);
     if (answer == ROSKEVAD_NO_MEMORY) {
-        WANT(roskevad_editor_file_count(&slot) == 0);
-        answer = roskevad_editor_put_file(&slot, "m.tmj", 5, MAP, sizeof MAP - 1);
+        WANT(roskevad_editor_file_count(&editor) == 0);
+        answer = roskevad_editor_put_file(&editor, "m.tmj", 5, MAP, sizeof MAP - 1);
     }
     WANT(answer == ROSKEVAD_DONE);
     for (size_t at = 0; at < sizeof SCRIPT / sizeof *SCRIPT; at++)
-        step_at_last(&slot, SCRIPT[at]);
-    show_outline(&slot);
-    run_at_last(&slot, MANY_LINES + 1);
+        step_at_last(&editor, SCRIPT[at]);
+    show_outline(&editor);
+    run_at_last(&editor, MANY_LINES + 1);
     char bytes[4096];
-    size_t size = roskevad_editor_file(&slot, "town.tmj", 8, bytes, sizeof bytes);
+    size_t size = roskevad_editor_file(&editor, "town.tmj", 8, bytes, sizeof bytes);
     WANT(size < sizeof bytes && fwrite(bytes, 1, size, stdout) == size);
-    roskevad_editor_close(&slot);
+    roskevad_editor_close(&editor);
     turn_aside();
     WANT(mallinfo2().uordblks == before);
 }

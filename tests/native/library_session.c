@@ -35,22 +35,22 @@ static text read_file(const char *path)
     return found;
 }
 
-static void open_editor(roskevad_slot *slot)
+static void open_editor(roskevad_editor *editor)
 {
-    if (roskevad_editor_open(slot, 0) != ROSKEVAD_DONE)
+    if (roskevad_editor_open(editor, 0) != ROSKEVAD_DONE)
         exit(3);
 }
 
 /* Gets the last reply once more, to a buffer of its size. */
-static void get_long_reply(roskevad_slot *slot, size_t size)
+static void get_long_reply(roskevad_editor *editor, size_t size)
 {
     char *reply = malloc(size);
-    if (!reply || roskevad_editor_reply(slot, reply, size) != size)
+    if (!reply || roskevad_editor_reply(editor, reply, size) != size)
         exit(3);
     free(reply);
 }
 
-static void do_lines(roskevad_slot *slot, text session)
+static void do_lines(roskevad_editor *editor, text session)
 {
     static char reply[ROOM];
     const char *line = session.bytes, *end = session.bytes + session.size;
@@ -58,11 +58,11 @@ static void do_lines(roskevad_slot *slot, text session)
         const char *newline = memchr(line, '\n', (size_t)(end - line));
         if (!newline)
             newline = end;
-        size_t answer = roskevad_editor_step(slot, line, (size_t)(newline - line), reply, ROOM);
+        size_t answer = roskevad_editor_step(editor, line, (size_t)(newline - line), reply, ROOM);
         if (answer == ROSKEVAD_IS_CLOSED)
             exit(3);
         if (answer > ROOM && answer != ROSKEVAD_NONE)
-            get_long_reply(slot, answer);
+            get_long_reply(editor, answer);
         line = newline + 1;
     }
 }
@@ -77,12 +77,12 @@ static double now(void)
 static void tell_times(int turns, text session)
 {
     for (int turn = 0; turn < turns; turn++) {
-        roskevad_slot slot = ROSKEVAD_CLOSED;
-        open_editor(&slot);
+        roskevad_editor editor = ROSKEVAD_CLOSED;
+        open_editor(&editor);
         double begin = now();
-        do_lines(&slot, session);
+        do_lines(&editor, session);
         printf("%.0f\n", now() - begin);
-        roskevad_editor_close(&slot);
+        roskevad_editor_close(&editor);
     }
 }
 
@@ -125,19 +125,19 @@ void __wrap_free(void *block)
 
 static void tell_peak(text session, int files_count, char **files)
 {
-    roskevad_slot slot = ROSKEVAD_CLOSED;
+    roskevad_editor editor = ROSKEVAD_CLOSED;
     long before = live;
-    open_editor(&slot);
+    open_editor(&editor);
     for (int at = 0; at + 1 < files_count; at += 2) {
         text file = read_file(files[at + 1]);
-        if (roskevad_editor_put_file(&slot, files[at], strlen(files[at]), file.bytes, file.size) != ROSKEVAD_DONE)
+        if (roskevad_editor_put_file(&editor, files[at], strlen(files[at]), file.bytes, file.size) != ROSKEVAD_DONE)
             exit(3);
         free(file.bytes);
     }
     peak = live;
-    do_lines(&slot, session);
+    do_lines(&editor, session);
     printf("%ld\n", peak - before);
-    roskevad_editor_close(&slot);
+    roskevad_editor_close(&editor);
 }
 
 int main(int words_count, char **words)

@@ -185,27 +185,6 @@ impl<T: Drop> Chain<T> {
         seek(&mut self.before, &mut self.after, at);
     }
 
-    /// Goes on from here to the first item that passes a test, or stays where none does. No item changes.
-    pub fn go_on_to<F: FnMut(&T) -> bool>(&mut self, test: F)
-        requires { (state : F) (item : _) → F.pre state item }
-        ensures { self.new ≡ self.old }
-    {
-        let here = self.before.len();
-        if let Some(passed) = self.after.iter().position(test) {
-            self.go_to(here + passed);
-        }
-    }
-
-    /// Goes back from here to the nearest item that passes a test, or stays where none does. No item changes.
-    pub fn go_back_to<F: FnMut(&T) -> bool>(&mut self, test: F)
-        requires { (state : F) (item : _) → F.pre state item }
-        ensures { self.new ≡ self.old }
-    {
-        if let Some(at) = self.before.iter().rposition(test) {
-            self.go_to(at);
-        }
-    }
-
     /// The item at a place below the length, to be changed where it stands.
     pub fn get_mut(&mut self, at: usize) -> &mut T
         requires { at < length self.old }

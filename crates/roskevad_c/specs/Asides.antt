@@ -4,7 +4,7 @@ use Rattle.std.specs.Global.{Global}
 use Rattle.tiled_maps.specs.declared.fault.Fault.{Fault}
 use Rattle.tiled_maps.specs.declared.fault.Fault.TheVariants.{Memory, NotJson, NameTaken, TooManyFractions, TooDeep, BadChunk, Overlap, TooLarge, Unlike}
 use Rattle.tiled_maps.specs.Texts.{SetsAside, PutsBack}
-use Rattle.roskevad_session.specs.Buffers.{written}
+use Rattle.memory_editor.specs.Buffers.{written}
 use Rattle.roskevad_c.specs.declared.answers.TheConstants.{NONE, NO_MEMORY, NOT_JSON, NAME_TAKEN, TOO_DEEP, BAD_CHUNK, OVERLAP, TOO_LARGE, UNLIKE}
 use Rattle.roskevad_c.specs.declared.answers.TheConstants.{TOO_MANY_FRACTIONS}
 

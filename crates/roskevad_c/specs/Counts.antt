@@ -1,12 +1,12 @@
 -- What is told of many lines.
 use Rattle.std.specs.Prelude.{if◌then◌else◌}
-use Rattle.roskevad_session.specs.declared.heard.Heard.{Heard}
-use Rattle.roskevad_c.specs.declared.heard.HeardCounts.{HeardCounts}
+use Rattle.memory_editor.specs.declared.lines_done.LinesDone.{LinesDone}
+use Rattle.roskevad_c.specs.declared.done_counts.DoneCounts.{DoneCounts}
 
-abbrev pub counts_of : Heard → HeardCounts
-counts_of heard = record {
-  bytes = heard.bytes;
-  replies = heard.replies;
-  is_refused = if heard.is_refused then 1 else 0;
-  has_room = if heard.has_room then 1 else 0;
+abbrev pub counts_of : LinesDone → DoneCounts
+counts_of done = record {
+  bytes = done.bytes;
+  replies = done.replies;
+  is_refused = if done.is_refused then 1 else 0;
+  has_room = if done.has_room then 1 else 0;
 }

@@ -1,4 +1,4 @@
--- What a `Held` owns: the same as a `Box<Session>`, or nothing.
+-- What a `Held` owns: the same as a `Box<MemoryEditor>`, or nothing.
 use Rattle.std.specs.Prelude.{Option, None, Some}
 use Rattle.std.specs.Coded.{coded_option}
 use base.Fml.{Fml, ftrue}
@@ -7,7 +7,7 @@ use denote.RawPtr.{Ptr}
 use Rattle.std.specs.Box.Ownership.{box_owns}
 use Rattle.std.specs.Global.{Global}
 use Rattle.std_heap.specs.contracts.GlobalAllocator.TheImpl.{ghosts}
-use Rattle.roskevad_session.specs.contracts.memory_session.Session.{the_row}
+use Rattle.memory_editor.specs.contracts.memory_editor.MemoryEditor.{the_row}
 
 abbrev pub held_owns : Global → Ptr → Option the_row.Denot → Fml
 held_owns alloc at None = ftrue

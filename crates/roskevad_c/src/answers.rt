@@ -6,7 +6,7 @@ pub const DONE: usize = 0;
 /// There is none: no reply to a quiet line, no such file, no such number, no clean position.
 pub const NONE: usize = usize::MAX;
 
-/// The slot is closed.
+/// The editor is closed.
 pub const CLOSED: usize = usize::MAX - 1;
 
 /// No memory is left for it, and all is as it was.

@@ -2,13 +2,13 @@
 ghost use Rattle.std.specs.Prelude.{◌≡◌, ◌≤◌, ◌++◌, length};
 ghost use Rattle.std.specs.Option.{option_copied, option_map};
 ghost use Rattle.session.specs.Replies.{reply_text};
-ghost use Rattle.roskevad_session.specs.Buffers.{filled, written};
-ghost use Rattle.roskevad_session.specs.Parts.{active_map};
+ghost use Rattle.memory_editor.specs.Buffers.{filled, written};
+ghost use Rattle.memory_editor.specs.Parts.{active_map};
 ghost use Rattle.roskevad_c.specs.Answers.{size_of, GivesOutline};
 
 use crate::answers::{NO_MEMORY, NONE};
 use arrayvec::ArrayString;
-use roskevad_session::Session;
+use memory_editor::MemoryEditor;
 use session::Reply;
 
 // Copies two texts, one behind the other, where the buffer has room for both, and gives their size.
@@ -61,10 +61,10 @@ pub fn copy_reply(reply: Option<&Reply>, buffer: &mut [u8]) -> usize
 
 /// Copies the outline of the active document's map where the buffer has room for all of it, and gives its size, `NONE` where no
 /// document is active, or `NO_MEMORY`.
-pub fn copy_outline(session: &Session, buffer: &mut [u8]) -> usize
-    ensures { GivesOutline (active_map session.now.machine) result buffer.old buffer.new }
+pub fn copy_outline(boxed: &MemoryEditor, buffer: &mut [u8]) -> usize
+    ensures { GivesOutline (active_map boxed.now.machine) result buffer.old buffer.new }
 {
-    match session.outline() {
+    match boxed.outline() {
         Ok(Some(outline)) => copy_text(outline.as_slice(), buffer),
         Ok(None) => NONE,
         Err(_) => NO_MEMORY,

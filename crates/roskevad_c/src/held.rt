@@ -1,30 +1,30 @@
-// A box of a session or none, whose type names no other type, so that C can hold it.
+// A box of an editor or none, whose type names no other type, so that C can hold it.
 ghost use Rattle.std.specs.Prelude.{◌≡◌, Option, None, Some, IsSome};
-ghost use Rattle.roskevad_session.specs.Parts.{SessionParts};
+ghost use Rattle.memory_editor.specs.Parts.{MemoryEditorParts};
 ghost use Rattle.roskevad_c.specs.Held.{held_coded, held_owns};
 
 use crate::parts::Parts;
-use roskevad_session::Session;
+use memory_editor::MemoryEditor;
 use std::alloc::Global;
 use std::marker::Model;
 
-/// A box of a session, or none. Nothing but `into_box` drops the session.
+/// A box of an editor, or none. Nothing but `into_box` drops the editor.
 #[repr(C)]
 #[derive(Drop)]
 pub struct Held {
     at: *mut u8,
     alloc: Global,
-    pub ghost held_session: { Option SessionParts } by { held_coded },
+    pub ghost held_editor: { Option MemoryEditorParts } by { held_coded },
 }
 
 impl Model for Held {
-    ghost also_owns = { λ s. held_owns s.alloc s.at s.held_session };
+    ghost also_owns = { λ s. held_owns s.alloc s.at s.held_editor };
 }
 
 impl Held {
-    /// No session.
+    /// No editor.
     pub fn closed(alloc: Global) -> Held
-        ensures { result.held_session ≡ None }
+        ensures { result.held_editor ≡ None }
     {
         Held {
             at: std::ptr::null_mut(),
@@ -32,23 +32,23 @@ impl Held {
         }
     }
 
-    /// That session.
-    pub fn of_box(session: Box<Session>) -> Held
-        ensures { result.held_session ≡ Some session.value }
+    /// That editor.
+    pub fn of_box(boxed: Box<MemoryEditor>) -> Held
+        ensures { result.held_editor ≡ Some boxed.value }
     {
-        Held::of_parts(Parts::of(session))
+        Held::of_parts(Parts::of(boxed))
     }
 
-    /// The session, where there is one.
-    pub fn into_box(self) -> Box<Session>
-        requires { IsSome self.held_session }
-        ensures { self.held_session ≡ Some result.value }
+    /// The editor, where there is one.
+    pub fn into_box(self) -> Box<MemoryEditor>
+        requires { IsSome self.held_editor }
+        ensures { self.held_editor ≡ Some result.value }
     {
         self.into_parts().into_box()
     }
 
-    fn of_parts(parts: Parts<Session, Global>) -> Held
-        ensures { result.held_session ≡ Some parts.value }
+    fn of_parts(parts: Parts<MemoryEditor, Global>) -> Held
+        ensures { result.held_editor ≡ Some parts.value }
     {
         let Parts { ptr, alloc } = parts;
         Held {
@@ -57,13 +57,13 @@ impl Held {
         }
     }
 
-    fn into_parts(self) -> Parts<Session, Global>
-        requires { IsSome self.held_session }
-        ensures { self.held_session ≡ Some result.value }
+    fn into_parts(self) -> Parts<MemoryEditor, Global>
+        requires { IsSome self.held_editor }
+        ensures { self.held_editor ≡ Some result.value }
     {
         let Held { at, alloc } = self;
         Parts {
-            ptr: at as *mut Session,
+            ptr: at as *mut MemoryEditor,
             alloc,
         }
     }

@@ -1,6 +1,6 @@
-//! The editor for C: a session in memory behind a slot.
+//! The editor for C: an editor in memory, behind a type that C can hold.
 //!
-//! Each call but the last three takes a slot, which C keeps and never looks into. A call that gives bytes copies them to the
+//! Each call but the last three takes an editor, which C keeps and never looks into. A call that gives bytes copies them to the
 //! front of a buffer where the buffer has room for all of them, and else leaves the buffer as it was; it answers how many
 //! there are. What stands in place of a length or a number is one of the constants at the end of the numbers.
 #![tactic(auto)]
@@ -8,51 +8,51 @@
 mod answers;
 mod asides;
 mod copies;
-mod heard;
+mod done_counts;
 mod held;
 mod names;
 mod parts;
 mod runs;
-mod slot;
+mod c_editor;
 
 ghost use Rattle.std.specs.Prelude.{◌≡◌, nat_le, None, Some, codes, length, slice_get, if◌then◌else◌};
 ghost use Rattle.std.specs.FinMap.{keys, len};
 ghost use Rattle.std.specs.Option.{option_map};
 ghost use Rattle.undo_stack.specs.declared.limits.TheConstants.{MAX_LIMIT};
 ghost use Rattle.document_lines.specs.Machine.{active_of};
-ghost use Rattle.roskevad_session.specs.Buffers.{filled};
-ghost use Rattle.roskevad_session.specs.Parts.{active_map, clean_index_of, has_step};
+ghost use Rattle.memory_editor.specs.Buffers.{filled};
+ghost use Rattle.memory_editor.specs.Parts.{active_map, clean_index_of, has_step};
 ghost use Rattle.roskevad_c.specs.Asides.{TellsAside, TellsBack};
-ghost use Rattle.roskevad_c.specs.Answers.{action_at, cells_at, file_in, is_there, last_reply, macro_number_at, size_of, told_bytes, told_number, told_size, with_file, without, HearsLines, Opens, Puts, Steps, TellsCount, TellsOfStep, TellsOutline, TellsRun};
+ghost use Rattle.roskevad_c.specs.Answers.{action_at, cells_at, file_in, is_there, last_reply, macro_number_at, size_of, told_bytes, told_number, told_size, with_file, without, RunsManyLines, Opens, Puts, Steps, TellsCount, TellsOfStep, TellsOutline, TellsRun};
 
 use crate::answers::{BAD_NAME, CLOSED, DONE, NO_MEMORY, NONE, TOO_GREAT};
 use crate::asides::copy_made;
 use crate::copies::{copy_bytes, copy_outline, copy_reply};
-use crate::heard::HeardCounts;
+use crate::done_counts::DoneCounts;
 use crate::names::spelled;
 use crate::runs::SelectionRun;
-use crate::slot::Slot;
-use roskevad_session::{Rectangle, Session};
+use crate::c_editor::CEditor;
+use memory_editor::{Rectangle, MemoryEditor};
 use std::alloc::Global;
 use tiled_maps::{put_back, set_aside};
 
 // The greatest undo limit.
 const GREATEST_LIMIT: usize = 1_000_000;
 
-/// Opens a slot: a session with no documents and no files. An open one is closed first. The limit is the undo limit of each
+/// Opens an editor with no documents and no files. An open one is closed first. The limit is the undo limit of each
 /// document when it is made, at most 1,000,000, where 0 stands for none. Answers `DONE`, `NO_MEMORY` or `TOO_GREAT`; after
-/// the last two the slot is closed.
+/// the last two the editor is closed.
 #[unsafe(no_mangle)]
-pub extern "C" fn roskevad_open(alloc: Global, slot: &mut Slot, limit: usize) -> usize
-    ensures { Opens limit result slot.new.held.held_session }
+pub extern "C" fn roskevad_open(alloc: Global, editor: &mut CEditor, limit: usize) -> usize
+    ensures { Opens limit result editor.new.held.held_editor }
 {
-    let _ = slot.take(alloc);
+    let _ = editor.take(alloc);
     if limit > GREATEST_LIMIT {
         return TOO_GREAT;
     }
-    match Box::new(alloc, Session::new(alloc, limit)) {
-        Ok(session) => {
-            *slot = Slot::of_box(session);
+    match Box::new(alloc, MemoryEditor::new(alloc, limit)) {
+        Ok(boxed) => {
+            *editor = CEditor::of_box(boxed);
             DONE
         }
         Err(_) => NO_MEMORY,
@@ -64,35 +64,35 @@ pub extern "C" fn roskevad_open(alloc: Global, slot: &mut Slot, limit: usize) ->
 #[unsafe(no_mangle)]
 pub extern "C" fn roskevad_step(
     alloc: Global,
-    slot: &mut Slot,
+    editor: &mut CEditor,
     line: &[u8],
     reply: &mut [u8],
 ) -> usize
-    ensures step { Steps line.now slot.old.held.held_session slot.new.held.held_session }
-    ensures size { result ≡ told_size (option_map last_reply slot.new.held.held_session) }
-    ensures copied { reply.new ≡ told_bytes (option_map last_reply slot.new.held.held_session) reply.old }
+    ensures step { Steps line.now editor.old.held.held_editor editor.new.held.held_editor }
+    ensures size { result ≡ told_size (option_map last_reply editor.new.held.held_editor) }
+    ensures copied { reply.new ≡ told_bytes (option_map last_reply editor.new.held.held_editor) reply.old }
 {
-    let Some(mut session) = slot.take(alloc) else {
+    let Some(mut boxed) = editor.take(alloc) else {
         return CLOSED;
     };
-    session.step(line);
-    let size = copy_reply(session.reply(), reply);
-    *slot = Slot::of_box(session);
+    boxed.step(line);
+    let size = copy_reply(boxed.reply(), reply);
+    *editor = CEditor::of_box(boxed);
     size
 }
 
 /// Copies the reply to the last line again. Answers its size, `NONE` where there is none, or `CLOSED`.
 #[unsafe(no_mangle)]
-pub extern "C" fn roskevad_reply(alloc: Global, slot: &mut Slot, reply: &mut [u8]) -> usize
-    ensures unchanged { slot.new.held.held_session ≡ slot.old.held.held_session }
-    ensures size { result ≡ told_size (option_map last_reply slot.old.held.held_session) }
-    ensures copied { reply.new ≡ told_bytes (option_map last_reply slot.old.held.held_session) reply.old }
+pub extern "C" fn roskevad_reply(alloc: Global, editor: &mut CEditor, reply: &mut [u8]) -> usize
+    ensures unchanged { editor.new.held.held_editor ≡ editor.old.held.held_editor }
+    ensures size { result ≡ told_size (option_map last_reply editor.old.held.held_editor) }
+    ensures copied { reply.new ≡ told_bytes (option_map last_reply editor.old.held.held_editor) reply.old }
 {
-    let Some(session) = slot.take(alloc) else {
+    let Some(boxed) = editor.take(alloc) else {
         return CLOSED;
     };
-    let size = copy_reply(session.reply(), reply);
-    *slot = Slot::of_box(session);
+    let size = copy_reply(boxed.reply(), reply);
+    *editor = CEditor::of_box(boxed);
     size
 }
 
@@ -105,20 +105,20 @@ pub extern "C" fn roskevad_reply(alloc: Global, slot: &mut Slot, reply: &mut [u8
 #[unsafe(no_mangle)]
 pub extern "C" fn roskevad_run_lines(
     alloc: Global,
-    slot: &mut Slot,
+    editor: &mut CEditor,
     bytes: &[u8],
     stop: usize,
     replies: &mut [u8],
-    heard: &mut HeardCounts,
+    done: &mut DoneCounts,
 ) -> usize
-    ensures { HearsLines stop bytes.now slot.old.held.held_session result slot.new.held.held_session replies.old replies.new heard.old heard.new }
+    ensures { RunsManyLines stop bytes.now editor.old.held.held_editor result editor.new.held.held_editor replies.old replies.new done.old done.new }
 {
-    let Some(mut session) = slot.take(alloc) else {
+    let Some(mut boxed) = editor.take(alloc) else {
         return CLOSED;
     };
-    let run = session.run_lines(bytes, stop != 0, replies);
-    *slot = Slot::of_box(session);
-    *heard = HeardCounts::of(run);
+    let run = boxed.run_lines(bytes, stop != 0, replies);
+    *editor = CEditor::of_box(boxed);
+    *done = DoneCounts::of(run);
     run.lines
 }
 
@@ -127,23 +127,23 @@ pub extern "C" fn roskevad_run_lines(
 #[unsafe(no_mangle)]
 pub extern "C" fn roskevad_put_file(
     alloc: Global,
-    slot: &mut Slot,
+    editor: &mut CEditor,
     name: &[u8],
     bytes: &[u8],
 ) -> usize
-    ensures { Puts name.now bytes.now slot.old.held.held_session result slot.new.held.held_session }
+    ensures { Puts name.now bytes.now editor.old.held.held_editor result editor.new.held.held_editor }
 {
-    let Some(mut session) = slot.take(alloc) else {
+    let Some(mut boxed) = editor.take(alloc) else {
         return CLOSED;
     };
     let answer = match spelled(name) {
-        Some(name) => match session.put_file(name, bytes) {
+        Some(name) => match boxed.put_file(name, bytes) {
             Ok(()) => DONE,
             Err(_) => NO_MEMORY,
         },
         None => BAD_NAME,
     };
-    *slot = Slot::of_box(session);
+    *editor = CEditor::of_box(boxed);
     answer
 }
 
@@ -151,37 +151,37 @@ pub extern "C" fn roskevad_put_file(
 #[unsafe(no_mangle)]
 pub extern "C" fn roskevad_file(
     alloc: Global,
-    slot: &mut Slot,
+    editor: &mut CEditor,
     name: &[u8],
     bytes: &mut [u8],
 ) -> usize
-    ensures unchanged { slot.new.held.held_session ≡ slot.old.held.held_session }
-    ensures size { result ≡ told_size (option_map (file_in name.now) slot.old.held.held_session) }
-    ensures copied { bytes.new ≡ told_bytes (option_map (file_in name.now) slot.old.held.held_session) bytes.old }
+    ensures unchanged { editor.new.held.held_editor ≡ editor.old.held.held_editor }
+    ensures size { result ≡ told_size (option_map (file_in name.now) editor.old.held.held_editor) }
+    ensures copied { bytes.new ≡ told_bytes (option_map (file_in name.now) editor.old.held.held_editor) bytes.old }
 {
-    let Some(session) = slot.take(alloc) else {
+    let Some(boxed) = editor.take(alloc) else {
         return CLOSED;
     };
     let size = match spelled(name) {
-        Some(name) => copy_bytes(session.file(name), bytes),
+        Some(name) => copy_bytes(boxed.file(name), bytes),
         None => NONE,
     };
-    *slot = Slot::of_box(session);
+    *editor = CEditor::of_box(boxed);
     size
 }
 
 /// Takes a file out. Answers `DONE`, `NONE` where there is no file of that name, or `CLOSED`.
 #[unsafe(no_mangle)]
-pub extern "C" fn roskevad_remove_file(alloc: Global, slot: &mut Slot, name: &[u8]) -> usize
-    ensures found { result ≡ told_number (option_map (is_there name.now) slot.old.held.held_session) }
-    ensures removed { slot.new.held.held_session ≡ option_map (without name.now) slot.old.held.held_session }
+pub extern "C" fn roskevad_remove_file(alloc: Global, editor: &mut CEditor, name: &[u8]) -> usize
+    ensures found { result ≡ told_number (option_map (is_there name.now) editor.old.held.held_editor) }
+    ensures removed { editor.new.held.held_editor ≡ option_map (without name.now) editor.old.held.held_editor }
 {
-    let Some(mut session) = slot.take(alloc) else {
+    let Some(mut boxed) = editor.take(alloc) else {
         return CLOSED;
     };
     let answer = match spelled(name) {
         Some(name) => {
-            if session.remove_file(name) {
+            if boxed.remove_file(name) {
                 DONE
             } else {
                 NONE
@@ -189,21 +189,21 @@ pub extern "C" fn roskevad_remove_file(alloc: Global, slot: &mut Slot, name: &[u
         }
         None => NONE,
     };
-    *slot = Slot::of_box(session);
+    *editor = CEditor::of_box(boxed);
     answer
 }
 
 /// How many files there are, or `CLOSED`.
 #[unsafe(no_mangle)]
-pub extern "C" fn roskevad_file_count(alloc: Global, slot: &mut Slot) -> usize
-    ensures unchanged { slot.new.held.held_session ≡ slot.old.held.held_session }
-    ensures told { result ≡ told_number (option_map (λ s. Some (len s.files)) slot.old.held.held_session) }
+pub extern "C" fn roskevad_file_count(alloc: Global, editor: &mut CEditor) -> usize
+    ensures unchanged { editor.new.held.held_editor ≡ editor.old.held.held_editor }
+    ensures told { result ≡ told_number (option_map (λ s. Some (len s.files)) editor.old.held.held_editor) }
 {
-    let Some(session) = slot.take(alloc) else {
+    let Some(boxed) = editor.take(alloc) else {
         return CLOSED;
     };
-    let count = session.file_count();
-    *slot = Slot::of_box(session);
+    let count = boxed.file_count();
+    *editor = CEditor::of_box(boxed);
     count
 }
 
@@ -212,36 +212,36 @@ pub extern "C" fn roskevad_file_count(alloc: Global, slot: &mut Slot) -> usize
 #[unsafe(no_mangle)]
 pub extern "C" fn roskevad_file_name(
     alloc: Global,
-    slot: &mut Slot,
+    editor: &mut CEditor,
     at: usize,
     name: &mut [u8],
 ) -> usize
-    ensures unchanged { slot.new.held.held_session ≡ slot.old.held.held_session }
-    ensures size { result ≡ told_size (option_map (λ s. slice_get (keys s.files) at) slot.old.held.held_session) }
-    ensures copied { name.new ≡ told_bytes (option_map (λ s. slice_get (keys s.files) at) slot.old.held.held_session) name.old }
+    ensures unchanged { editor.new.held.held_editor ≡ editor.old.held.held_editor }
+    ensures size { result ≡ told_size (option_map (λ s. slice_get (keys s.files) at) editor.old.held.held_editor) }
+    ensures copied { name.new ≡ told_bytes (option_map (λ s. slice_get (keys s.files) at) editor.old.held.held_editor) name.old }
 {
-    let Some(session) = slot.take(alloc) else {
+    let Some(boxed) = editor.take(alloc) else {
         return CLOSED;
     };
-    let size = match session.file_name(at) {
+    let size = match boxed.file_name(at) {
         Some(found) => copy_bytes(Some(found.as_bytes()), name),
         None => NONE,
     };
-    *slot = Slot::of_box(session);
+    *editor = CEditor::of_box(boxed);
     size
 }
 
 /// How many runs the selection of the active document has, 0 where no document is active, or `CLOSED`.
 #[unsafe(no_mangle)]
-pub extern "C" fn roskevad_selection_count(alloc: Global, slot: &mut Slot) -> usize
-    ensures unchanged { slot.new.held.held_session ≡ slot.old.held.held_session }
-    ensures told { TellsCount slot.old.held.held_session result }
+pub extern "C" fn roskevad_selection_count(alloc: Global, editor: &mut CEditor) -> usize
+    ensures unchanged { editor.new.held.held_editor ≡ editor.old.held.held_editor }
+    ensures told { TellsCount editor.old.held.held_editor result }
 {
-    let Some(session) = slot.take(alloc) else {
+    let Some(boxed) = editor.take(alloc) else {
         return CLOSED;
     };
-    let count = session.selection_count();
-    *slot = Slot::of_box(session);
+    let count = boxed.selection_count();
+    *editor = CEditor::of_box(boxed);
     count
 }
 
@@ -250,17 +250,17 @@ pub extern "C" fn roskevad_selection_count(alloc: Global, slot: &mut Slot) -> us
 #[unsafe(no_mangle)]
 pub extern "C" fn roskevad_selection_run(
     alloc: Global,
-    slot: &mut Slot,
+    editor: &mut CEditor,
     at: usize,
     run: &mut SelectionRun,
 ) -> usize
-    ensures unchanged { slot.new.held.held_session ≡ slot.old.held.held_session }
-    ensures told { TellsRun slot.old.held.held_session at result run.old run.new }
+    ensures unchanged { editor.new.held.held_editor ≡ editor.old.held.held_editor }
+    ensures told { TellsRun editor.old.held.held_editor at result run.old run.new }
 {
-    let Some(session) = slot.take(alloc) else {
+    let Some(boxed) = editor.take(alloc) else {
         return CLOSED;
     };
-    let answer = match session.selection_run(at) {
+    let answer = match boxed.selection_run(at) {
         Some(found) => {
             *run = SelectionRun {
                 row: found.y,
@@ -271,42 +271,42 @@ pub extern "C" fn roskevad_selection_run(
         }
         None => NONE,
     };
-    *slot = Slot::of_box(session);
+    *editor = CEditor::of_box(boxed);
     answer
 }
 
 /// The index at which the active document counts as clean, `NONE` where that was lost or no document is active, or
 /// `CLOSED`.
 #[unsafe(no_mangle)]
-pub extern "C" fn roskevad_clean_index(alloc: Global, slot: &mut Slot) -> usize
-    ensures unchanged { slot.new.held.held_session ≡ slot.old.held.held_session }
-    ensures told { result ≡ told_number (option_map (λ s. clean_index_of (active_of s.machine)) slot.old.held.held_session) }
+pub extern "C" fn roskevad_clean_index(alloc: Global, editor: &mut CEditor) -> usize
+    ensures unchanged { editor.new.held.held_editor ≡ editor.old.held.held_editor }
+    ensures told { result ≡ told_number (option_map (λ s. clean_index_of (active_of s.machine)) editor.old.held.held_editor) }
 {
-    let Some(session) = slot.take(alloc) else {
+    let Some(boxed) = editor.take(alloc) else {
         return CLOSED;
     };
-    let answer = session.clean_index().unwrap_or(NONE);
-    *slot = Slot::of_box(session);
+    let answer = boxed.clean_index().unwrap_or(NONE);
+    *editor = CEditor::of_box(boxed);
     answer
 }
 
 /// Whether the step with this number of the active document is a macro: 1 or 0, `NONE` past the last one or where no document
 /// is active, or `CLOSED`. The first step is at 0.
 #[unsafe(no_mangle)]
-pub extern "C" fn roskevad_is_macro(alloc: Global, slot: &mut Slot, at: usize) -> usize
-    ensures unchanged { slot.new.held.held_session ≡ slot.old.held.held_session }
-    ensures there { TellsOfStep (option_map (λ s. has_step (active_of s.machine) at) slot.old.held.held_session) result }
-    ensures told { result ≡ told_number (option_map (macro_number_at at) slot.old.held.held_session) }
+pub extern "C" fn roskevad_is_macro(alloc: Global, editor: &mut CEditor, at: usize) -> usize
+    ensures unchanged { editor.new.held.held_editor ≡ editor.old.held.held_editor }
+    ensures there { TellsOfStep (option_map (λ s. has_step (active_of s.machine) at) editor.old.held.held_editor) result }
+    ensures told { result ≡ told_number (option_map (macro_number_at at) editor.old.held.held_editor) }
 {
-    let Some(session) = slot.take(alloc) else {
+    let Some(boxed) = editor.take(alloc) else {
         return CLOSED;
     };
-    let answer = match session.is_macro(at) {
+    let answer = match boxed.is_macro(at) {
         Some(true) => 1,
         Some(false) => 0,
         None => NONE,
     };
-    *slot = Slot::of_box(session);
+    *editor = CEditor::of_box(boxed);
     answer
 }
 
@@ -315,56 +315,56 @@ pub extern "C" fn roskevad_is_macro(alloc: Global, slot: &mut Slot, at: usize) -
 #[unsafe(no_mangle)]
 pub extern "C" fn roskevad_action_text(
     alloc: Global,
-    slot: &mut Slot,
+    editor: &mut CEditor,
     at: usize,
     text: &mut [u8],
 ) -> usize
-    ensures unchanged { slot.new.held.held_session ≡ slot.old.held.held_session }
-    ensures size { result ≡ told_size (option_map (action_at at) slot.old.held.held_session) }
-    ensures copied { text.new ≡ told_bytes (option_map (action_at at) slot.old.held.held_session) text.old }
+    ensures unchanged { editor.new.held.held_editor ≡ editor.old.held.held_editor }
+    ensures size { result ≡ told_size (option_map (action_at at) editor.old.held.held_editor) }
+    ensures copied { text.new ≡ told_bytes (option_map (action_at at) editor.old.held.held_editor) text.old }
 {
-    let Some(session) = slot.take(alloc) else {
+    let Some(boxed) = editor.take(alloc) else {
         return CLOSED;
     };
-    let size = match session.action_text(at) {
+    let size = match boxed.action_text(at) {
         Some(found) => copy_bytes(Some(found.as_bytes()), text),
         None => NONE,
     };
-    *slot = Slot::of_box(session);
+    *editor = CEditor::of_box(boxed);
     size
 }
 
 /// The id that the next layer of the active document gets, `NONE` where no document is active, or `CLOSED`.
 #[unsafe(no_mangle)]
-pub extern "C" fn roskevad_next_layer_id(alloc: Global, slot: &mut Slot) -> usize
-    ensures unchanged { slot.new.held.held_session ≡ slot.old.held.held_session }
-    ensures told { result ≡ told_number (option_map (λ s. option_map (λ m. m.next_layer_id) (active_map s.machine)) slot.old.held.held_session) }
+pub extern "C" fn roskevad_next_layer_id(alloc: Global, editor: &mut CEditor) -> usize
+    ensures unchanged { editor.new.held.held_editor ≡ editor.old.held.held_editor }
+    ensures told { result ≡ told_number (option_map (λ s. option_map (λ m. m.next_layer_id) (active_map s.machine)) editor.old.held.held_editor) }
 {
-    let Some(session) = slot.take(alloc) else {
+    let Some(boxed) = editor.take(alloc) else {
         return CLOSED;
     };
-    let answer = match session.next_layer_id() {
+    let answer = match boxed.next_layer_id() {
         Some(id) => id as usize,
         None => NONE,
     };
-    *slot = Slot::of_box(session);
+    *editor = CEditor::of_box(boxed);
     answer
 }
 
 /// The id that the next object of the active document gets, `NONE` where no document is active, or `CLOSED`.
 #[unsafe(no_mangle)]
-pub extern "C" fn roskevad_next_object_id(alloc: Global, slot: &mut Slot) -> usize
-    ensures unchanged { slot.new.held.held_session ≡ slot.old.held.held_session }
-    ensures told { result ≡ told_number (option_map (λ s. option_map (λ m. m.next_object_id) (active_map s.machine)) slot.old.held.held_session) }
+pub extern "C" fn roskevad_next_object_id(alloc: Global, editor: &mut CEditor) -> usize
+    ensures unchanged { editor.new.held.held_editor ≡ editor.old.held.held_editor }
+    ensures told { result ≡ told_number (option_map (λ s. option_map (λ m. m.next_object_id) (active_map s.machine)) editor.old.held.held_editor) }
 {
-    let Some(session) = slot.take(alloc) else {
+    let Some(boxed) = editor.take(alloc) else {
         return CLOSED;
     };
-    let answer = match session.next_object_id() {
+    let answer = match boxed.next_object_id() {
         Some(id) => id as usize,
         None => NONE,
     };
-    *slot = Slot::of_box(session);
+    *editor = CEditor::of_box(boxed);
     answer
 }
 
@@ -374,7 +374,7 @@ pub extern "C" fn roskevad_next_object_id(alloc: Global, slot: &mut Slot) -> usi
 #[unsafe(no_mangle)]
 pub extern "C" fn roskevad_cells(
     alloc: Global,
-    slot: &mut Slot,
+    editor: &mut CEditor,
     layer: u32,
     x: usize,
     y: usize,
@@ -382,11 +382,11 @@ pub extern "C" fn roskevad_cells(
     height: usize,
     cells: &mut [u32],
 ) -> usize
-    ensures unchanged { slot.new.held.held_session ≡ slot.old.held.held_session }
-    ensures count { result ≡ told_size (option_map (cells_at layer x y width height) slot.old.held.held_session) }
-    ensures copied { cells.new ≡ told_bytes (option_map (cells_at layer x y width height) slot.old.held.held_session) cells.old }
+    ensures unchanged { editor.new.held.held_editor ≡ editor.old.held.held_editor }
+    ensures count { result ≡ told_size (option_map (cells_at layer x y width height) editor.old.held.held_editor) }
+    ensures copied { cells.new ≡ told_bytes (option_map (cells_at layer x y width height) editor.old.held.held_editor) cells.old }
 {
-    let Some(session) = slot.take(alloc) else {
+    let Some(boxed) = editor.take(alloc) else {
         return CLOSED;
     };
     let rectangle = Rectangle {
@@ -395,32 +395,32 @@ pub extern "C" fn roskevad_cells(
         width,
         height,
     };
-    let count = session.copy_cells(layer, rectangle, cells).unwrap_or(NONE);
-    *slot = Slot::of_box(session);
+    let count = boxed.copy_cells(layer, rectangle, cells).unwrap_or(NONE);
+    *editor = CEditor::of_box(boxed);
     count
 }
 
 /// Copies the outline of the active document's map: its text without the member `data` of tile layers. No cell is looked at.
 /// Answers its size, `NONE` where no document is active, `NO_MEMORY` or `CLOSED`.
 #[unsafe(no_mangle)]
-pub extern "C" fn roskevad_outline(alloc: Global, slot: &mut Slot, text: &mut [u8]) -> usize
-    ensures unchanged { slot.new.held.held_session ≡ slot.old.held.held_session }
-    ensures told { TellsOutline slot.old.held.held_session result text.old text.new }
+pub extern "C" fn roskevad_outline(alloc: Global, editor: &mut CEditor, text: &mut [u8]) -> usize
+    ensures unchanged { editor.new.held.held_editor ≡ editor.old.held.held_editor }
+    ensures told { TellsOutline editor.old.held.held_editor result text.old text.new }
 {
-    let Some(session) = slot.take(alloc) else {
+    let Some(boxed) = editor.take(alloc) else {
         return CLOSED;
     };
-    let size = copy_outline(&session, text);
-    *slot = Slot::of_box(session);
+    let size = copy_outline(&boxed, text);
+    *editor = CEditor::of_box(boxed);
     size
 }
 
-/// Closes a slot, and gives back its memory. A closed one stays closed.
+/// Closes an editor, and gives back its memory. A closed one stays closed.
 #[unsafe(no_mangle)]
-pub extern "C" fn roskevad_close(alloc: Global, slot: &mut Slot)
-    ensures { slot.new.held.held_session ≡ None }
+pub extern "C" fn roskevad_close(alloc: Global, editor: &mut CEditor)
+    ensures { editor.new.held.held_editor ≡ None }
 {
-    let _ = slot.take(alloc);
+    let _ = editor.take(alloc);
 }
 
 /// Copies the text of a map with what the editor's format refuses set aside, as `tiled_maps::set_aside` makes it. Answers its size,

@@ -9,7 +9,7 @@ use Rattle.undo_stack.specs.Moving.{Answer, Leads, StepsBack, StepsOn, GoesTo, M
 use Rattle.undo_stack.specs.Pushing.{cut, cut_in, last_step, led_to, limited_to, next_of, sequence_in, target, vanishing_of, with_added, with_innermost}
 use Rattle.undo_stack.specs.Pushing.{with_target_at, without_last, without_target, IsPushed}
 use Rattle.undo_stack.specs.Turning.{AreBound}
-use Rattle.undo_stack.proofs.Steadiness.{AreBound-append, AreBound-drop, AreBound-take}
+use Rattle.undo_stack.proofs.Steadiness.{AreBound-append, AreBound-drop, AreBound-led_to, AreBound-take, AreBound-without_last}
 
 -- no inner step of these levels is that of a free command
 abbrev pub HoldBound : List Open → Type 0
@@ -21,16 +21,6 @@ pub record IsTame (h : History) : Type 0 where
   pub levels : HoldBound h.levels
 
 -- ---- lists of steps
-without_last-bound : (ss : List Step) → AreBound ss → AreBound (without_last ss)
-without_last-bound [] h = tt
-without_last-bound (s ∷ []) h = tt
-without_last-bound (s ∷ t ∷ ss) h = (h.0, without_last-bound (t ∷ ss) h.1)
-
-led_to-bound : (d : DocumentParts) (ss : List Step) → AreBound ss → AreBound (led_to d ss)
-led_to-bound d [] h = tt
-led_to-bound d (s ∷ []) h = h
-led_to-bound d (s ∷ t ∷ ss) h = (h.0, led_to-bound d (t ∷ ss) h.1)
-
 last_step-bound : (ss : List Step) → AreBound ss → is_free (vanishing_of (last_step ss)) ≡ false
 last_step-bound [] h = refl
 last_step-bound (s ∷ []) h = h.0
@@ -77,12 +67,12 @@ pub target-bound : (h : History) → IsTame h → is_free (vanishing_of (target 
 target-bound h tame = last_step-bound (sequence_in h.levels h) (sequence_in-bound h.levels h tame.levels tame)
 
 without_target-tame : (ls : List Open) (h : History) → HoldBound ls → IsTame h → IsTame (without_target ls h)
-without_target-tame [] h bound tame = record { steps = without_last-bound h.steps tame.steps; levels = tame.levels }
-without_target-tame (l ∷ ls) h bound tame = record { steps = tame.steps; levels = with_innermost-bound without_last without_last-bound (l ∷ ls) bound }
+without_target-tame [] h bound tame = record { steps = AreBound-without_last h.steps tame.steps; levels = tame.levels }
+without_target-tame (l ∷ ls) h bound tame = record { steps = tame.steps; levels = with_innermost-bound without_last AreBound-without_last (l ∷ ls) bound }
 
 with_target_at-tame : (d : DocumentParts) (ls : List Open) (h : History) → HoldBound ls → IsTame h → IsTame (with_target_at d ls h)
-with_target_at-tame d [] h bound tame = record { steps = led_to-bound d h.steps tame.steps; levels = tame.levels }
-with_target_at-tame d (l ∷ ls) h bound tame = record { steps = tame.steps; levels = with_innermost-bound (led_to d) (led_to-bound d) (l ∷ ls) bound }
+with_target_at-tame d [] h bound tame = record { steps = AreBound-led_to d h.steps tame.steps; levels = tame.levels }
+with_target_at-tame d (l ∷ ls) h bound tame = record { steps = tame.steps; levels = with_innermost-bound (led_to d) (AreBound-led_to d) (l ∷ ls) bound }
 
 with_added-tame : (s : Step) (ls : List Open) (h : History) → is_free s.names.vanishing ≡ false → HoldBound ls → IsTame h → IsTame (with_added s ls h)
 with_added-tame s [] h free bound tame =

@@ -1,16 +1,16 @@
 use crate::runs::{MAP, ONE, SEVERAL};
 use arrayvec::ArrayString;
 use region::Run;
-use roskevad_session::Session;
+use memory_editor::MemoryEditor;
 use std::alloc::{AllocError, Global};
 use std::test::Fail;
 
-// No test owns a session, and what owns one does nothing else: an assertion or an early end beside it makes a long proof.
+// No test owns a editor, and what owns one does nothing else: an assertion or an early end beside it makes a long proof.
 
 /// Steps a line, and gives the text of its reply, and none where it is quiet.
-fn told(alloc: Global, session: &mut Session, line: &str) -> Result<String, AllocError> {
-    session.step(line.as_bytes());
-    let Some(reply) = session.reply() else {
+fn told(alloc: Global, editor: &mut MemoryEditor, line: &str) -> Result<String, AllocError> {
+    editor.step(line.as_bytes());
+    let Some(reply) = editor.reply() else {
         return Ok(String::new(alloc));
     };
     let mut head = ArrayString::<512>::new();
@@ -20,25 +20,25 @@ fn told(alloc: Global, session: &mut Session, line: &str) -> Result<String, Allo
     format!(in alloc; "{head}{body}")
 }
 
-/// The first pair `line => reply`, or line alone where it gets no reply, to which a session answers otherwise.
+/// The first pair `line => reply`, or line alone where it gets no reply, to which an editor answers otherwise.
 fn first_fault<'a>(
     alloc: Global,
-    session: &mut Session,
+    editor: &mut MemoryEditor,
     pairs: &'a str,
 ) -> Result<Option<&'a str>, AllocError> {
     for pair in pairs.lines() {
         let (line, reply) = pair.split_once(" => ").unwrap_or((pair, ""));
-        if told(alloc, session, line)?.as_str() != reply {
+        if told(alloc, editor, line)?.as_str() != reply {
             return Ok(Some(pair));
         }
     }
     Ok(None)
 }
 
-/// The same of a new session.
+/// The same of a new editor.
 fn first_fault_of_a_new<'a>(alloc: Global, pairs: &'a str) -> Result<Option<&'a str>, AllocError> {
-    let mut session = Session::new(alloc, 0);
-    first_fault(alloc, &mut session, pairs)
+    let mut editor = MemoryEditor::new(alloc, 0);
+    first_fault(alloc, &mut editor, pairs)
 }
 
 #[test]
@@ -54,38 +54,38 @@ const SAVED: &str = "open m m.tmj => ok 0/0 clean 0\nsave n.tmj => saved n.tmj 3
 /// How many files there are, and how long the empty and the saved one are.
 type Files = (usize, Option<usize>, Option<usize>);
 
-fn files_of(session: &Session) -> Files {
-    let empty = session.file("empty").map(|bytes| bytes.len());
-    let saved = session.file("n.tmj").map(|bytes| bytes.len());
-    (session.file_count(), empty, saved)
+fn files_of(editor: &MemoryEditor) -> Files {
+    let empty = editor.file("empty").map(|bytes| bytes.len());
+    let saved = editor.file("n.tmj").map(|bytes| bytes.len());
+    (editor.file_count(), empty, saved)
 }
 
 /// Whether the first file is the empty one, the third the saved one, and there is no fourth.
-fn are_named(session: &Session) -> [bool; 3] {
+fn are_named(editor: &MemoryEditor) -> [bool; 3] {
     [
-        session.file_name(0) == Some("empty"),
-        session.file_name(2) == Some("n.tmj"),
-        session.file_name(3).is_none(),
+        editor.file_name(0) == Some("empty"),
+        editor.file_name(2) == Some("n.tmj"),
+        editor.file_name(3).is_none(),
     ]
 }
 
-/// The first pair to which a session that saves beside two files answers otherwise; its files and their names; whether the
+/// The first pair to which an editor that saves beside two files answers otherwise; its files and their names; whether the
 /// saved one was taken out, and was once more; and its files behind that.
 type TakenOut = (Option<&'static str>, Files, [bool; 3], [bool; 2], Files);
 
-fn save_and_take_out(alloc: Global, session: &mut Session) -> Result<TakenOut, AllocError> {
-    session.put_file("m.tmj", MAP.as_bytes())?;
-    session.put_file("empty", b"")?;
-    let fault = first_fault(alloc, session, SAVED)?;
-    let before = files_of(session);
-    let names = are_named(session);
-    let taken = [session.remove_file("n.tmj"), session.remove_file("n.tmj")];
-    Ok((fault, before, names, taken, files_of(session)))
+fn save_and_take_out(alloc: Global, editor: &mut MemoryEditor) -> Result<TakenOut, AllocError> {
+    editor.put_file("m.tmj", MAP.as_bytes())?;
+    editor.put_file("empty", b"")?;
+    let fault = first_fault(alloc, editor, SAVED)?;
+    let before = files_of(editor);
+    let names = are_named(editor);
+    let taken = [editor.remove_file("n.tmj"), editor.remove_file("n.tmj")];
+    Ok((fault, before, names, taken, files_of(editor)))
 }
 
 fn saved_and_taken_out(alloc: Global) -> Result<TakenOut, AllocError> {
-    let mut session = Session::new(alloc, 0);
-    save_and_take_out(alloc, &mut session)
+    let mut editor = MemoryEditor::new(alloc, 0);
+    save_and_take_out(alloc, &mut editor)
 }
 
 #[test]
@@ -110,28 +110,28 @@ begin Gate => ok 2/3 dirty 1";
 /// The clean index, and which of the first four steps are macros.
 type Marks = (Option<usize>, [Option<bool>; 4]);
 
-fn marks_of(session: &Session) -> Marks {
+fn marks_of(editor: &MemoryEditor) -> Marks {
     let kinds = [
-        session.is_macro(0),
-        session.is_macro(1),
-        session.is_macro(2),
-        session.is_macro(3),
+        editor.is_macro(0),
+        editor.is_macro(1),
+        editor.is_macro(2),
+        editor.is_macro(3),
     ];
-    (session.clean_index(), kinds)
+    (editor.clean_index(), kinds)
 }
 
-/// The first pair to which a session answers otherwise, and its marks before and behind the pairs.
+/// The first pair to which an editor answers otherwise, and its marks before and behind the pairs.
 type Marked = (Option<&'static str>, Marks, Marks);
 
-fn mark(alloc: Global, session: &mut Session) -> Result<Marked, AllocError> {
-    let before = marks_of(session);
-    let fault = first_fault(alloc, session, MARKED)?;
-    Ok((fault, before, marks_of(session)))
+fn mark(alloc: Global, editor: &mut MemoryEditor) -> Result<Marked, AllocError> {
+    let before = marks_of(editor);
+    let fault = first_fault(alloc, editor, MARKED)?;
+    Ok((fault, before, marks_of(editor)))
 }
 
 fn marked(alloc: Global) -> Result<Marked, AllocError> {
-    let mut session = Session::new(alloc, 0);
-    mark(alloc, &mut session)
+    let mut editor = MemoryEditor::new(alloc, 0);
+    mark(alloc, &mut editor)
 }
 
 #[test]
@@ -151,28 +151,28 @@ select add 0 2 1 1 => ok 2/2 dirty 0";
 /// How many runs the selection has, and the first four.
 type Runs = (usize, [Option<Run>; 4]);
 
-fn runs_of(session: &Session) -> Runs {
+fn runs_of(editor: &MemoryEditor) -> Runs {
     let runs = [
-        session.selection_run(0),
-        session.selection_run(1),
-        session.selection_run(2),
-        session.selection_run(3),
+        editor.selection_run(0),
+        editor.selection_run(1),
+        editor.selection_run(2),
+        editor.selection_run(3),
     ];
-    (session.selection_count(), runs)
+    (editor.selection_count(), runs)
 }
 
-/// The first pair to which a session answers otherwise, and the runs of its selection before and behind the pairs.
+/// The first pair to which an editor answers otherwise, and the runs of its selection before and behind the pairs.
 type Selected = (Option<&'static str>, Runs, Runs);
 
-fn select(alloc: Global, session: &mut Session) -> Result<Selected, AllocError> {
-    let before = runs_of(session);
-    let fault = first_fault(alloc, session, SELECTED)?;
-    Ok((fault, before, runs_of(session)))
+fn select(alloc: Global, editor: &mut MemoryEditor) -> Result<Selected, AllocError> {
+    let before = runs_of(editor);
+    let fault = first_fault(alloc, editor, SELECTED)?;
+    Ok((fault, before, runs_of(editor)))
 }
 
 fn selected(alloc: Global) -> Result<Selected, AllocError> {
-    let mut session = Session::new(alloc, 0);
-    select(alloc, &mut session)
+    let mut editor = MemoryEditor::new(alloc, 0);
+    select(alloc, &mut editor)
 }
 
 fn run(y: u32, x: u32, len: u32) -> Option<Run> {

@@ -28,12 +28,12 @@ pub AreBound-append : (ss ts : List Step) → AreBound ss → AreBound ts → Ar
 AreBound-append [] ts h k = k
 AreBound-append (s ∷ ss) ts h k = (h.0, AreBound-append ss ts h.1 k)
 
-AreBound-without_last : (ss : List Step) → AreBound ss → AreBound (without_last ss)
+pub AreBound-without_last : (ss : List Step) → AreBound ss → AreBound (without_last ss)
 AreBound-without_last [] h = tt
 AreBound-without_last (s ∷ []) h = tt
 AreBound-without_last (s ∷ t ∷ ss) h = (h.0, AreBound-without_last (t ∷ ss) h.1)
 
-AreBound-led_to : (d : DocumentParts) (ss : List Step) → AreBound ss → AreBound (led_to d ss)
+pub AreBound-led_to : (d : DocumentParts) (ss : List Step) → AreBound ss → AreBound (led_to d ss)
 AreBound-led_to d [] h = tt
 AreBound-led_to d (s ∷ []) h = h
 AreBound-led_to d (s ∷ t ∷ ss) h = (h.0, AreBound-led_to d (t ∷ ss) h.1)

@@ -2,7 +2,7 @@
 use mathlib.Core.Path.{refl, sym, subst}
 use Rattle.std.specs.Prelude.{◌≡◌, Option, None, Some, IsSome}
 use Rattle.roskevad_c.specs.contracts.held.Held as Seal
-use Rattle.roskevad_session.specs.contracts.memory_session.Session as Session
+use Rattle.memory_editor.specs.contracts.memory_editor.MemoryEditor as MemoryEditor
 use mathlib.Core.List.{List, [], ◌∷◌, ◌++◌}
 use seplogic.Ra.Ura.{Ura}
 use mir.Val.{Val}
@@ -50,13 +50,13 @@ module _ {M : Type 1} {𝓤 : Ura M} (𝓛 : Logic 𝓤) (at_mem : Memory → SP
       let Post = (walk_of 𝓛 F.ended stayed (F.clauses 𝓛 at_mem run)).post z in
       let To = type_at (F.signature).result tt in
       let d = z.0.3.0 in
-      qed 𝓛 ((‵ ftrue ⊛ ‵ (fsep (Seal.the_row.own_val d z.0.4.0) ftrue)) ∷ raw (fact 𝓤 (IsSome d.held_session)) ∷ []) ∵ move ! (1 ∷ []) $ heard !
-      (IsSome d.held_session) (λ is.
-      let some = some_is d.held_session is in
+      qed 𝓛 ((‵ ftrue ⊛ ‵ (fsep (Seal.the_row.own_val d z.0.4.0) ftrue)) ∷ raw (fact 𝓤 (IsSome d.held_editor)) ∷ []) ∵ move ! (1 ∷ []) $ heard !
+      (IsSome d.held_editor) (λ is.
+      let some = some_is d.held_editor is in
       let v : D E = record { ptr = d.at; alloc = d.alloc; value = some.0 } in
       let made : To.Denot = record { ptr = v.ptr; alloc = v.alloc; value = v.value } in
       split ! $ drop ! $ fsplit ! $
-      rewrite ! 0 (λ (k : Option (Session.the_row.Denot)). ‵ (Seal.the_row.own_val (record { at = d.at; alloc = d.alloc; held_session = k }) z.0.4.0)) some.1
+      rewrite ! 0 (λ (k : Option (MemoryEditor.the_row.Denot)). ‵ (Seal.the_row.own_val (record { at = d.at; alloc = d.alloc; held_editor = k }) z.0.4.0)) some.1
       refl $
       use1 𝓛 (‵ ((B E).own_val v z.0.4.0)) (id⊢ 𝓤 _) $
       box_out E ! v z.0.4.0 (λ b o hv e ws fa. box_in E ! v b o v.value e refl $ use1 𝓛 (‵ (To.own_val made (word E hv b o ∷ []))) (id⊢ 𝓤 _) $ move !

@@ -1,0 +1,6 @@
+mod Counting
+mod Cutting
+mod ManyLinesDone
+mod Numbered
+mod Pieces
+mod Rows

@@ -1,0 +1,5 @@
+pub mod Buffers
+pub mod Counts
+pub mod ManyLines
+pub mod Parts
+pub mod Rectangles

@@ -1,0 +1,11 @@
+//! An editor in memory: an editor of maps, the files that its lines open and save, and the reply to the last line.
+#![tactic(auto)]
+
+mod lines_done;
+mod many_lines;
+mod memory_editor;
+mod rectangle;
+
+pub use lines_done::LinesDone;
+pub use memory_editor::MemoryEditor;
+pub use rectangle::Rectangle;

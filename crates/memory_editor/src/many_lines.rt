@@ -1,0 +1,126 @@
+// Many lines in one call.
+ghost use Rattle.std.specs.Prelude.{◌≡◌, ◌<◌, ◌≤◌, ◌++◌, ◌∷◌, [], true, false, IsTrue, drop, length};
+ghost use Rattle.std.specs.Option.{option_copied};
+ghost use Rattle.lines.specs.Lines.{lines_of};
+ghost use Rattle.memory_editor.specs.Buffers.{size_within, written};
+ghost use Rattle.memory_editor.specs.ManyLines.{Ends, RunsLines, is_refusal, reply_bytes};
+ghost use Rattle.memory_editor.specs.Parts.{StepsTo};
+
+use crate::lines_done::LinesDone;
+use crate::memory_editor::MemoryEditor;
+use arrayvec::ArrayString;
+use memchr::memchr;
+use session::Reply;
+
+// The first line of some bytes, without its newline, and how many bytes it takes with it.
+fn first_line(bytes: &[u8]) -> (&[u8], usize)
+    requires { 0 < length bytes.now }
+    ensures cut { lines_of bytes.now ≡ result.0.now ∷ lines_of (drop result.1 bytes.now) }
+    ensures some { 0 < result.1 }
+    ensures within { result.1 ≤ length bytes.now }
+{
+    match memchr(b'\n', bytes) {
+        Some(at) => (&bytes[..at], at + 1),
+        None => (bytes, bytes.len()),
+    }
+}
+
+// Puts a head, a body and a newline at the front of a buffer, where it has room for them, and gives their size.
+fn put_pieces(head: &[u8], body: &[u8], buffer: &mut [u8]) -> Option<usize>
+    requires { length head.now ≤ 512 }
+    ensures size { result ≡ size_within (head.now ++ body.now ++ 10 ∷ []) buffer.old }
+    ensures put { buffer.new ≡ written (head.now ++ body.now ++ 10 ∷ []) buffer.old }
+{
+    let size = head.len() + body.len() + 1;
+    if size > buffer.len() {
+        return None;
+    }
+    let (prefix, rest) = buffer.split_at_mut(head.len());
+    prefix.copy_from_slice(head);
+    let (middle, rest) = rest.split_at_mut(body.len());
+    middle.copy_from_slice(body);
+    let (last, _) = rest.split_at_mut(1);
+    last.copy_from_slice(b"\n");
+    Some(size)
+}
+
+// Puts a reply and a newline at the front of a buffer, where it has room for them, and gives their size; nothing for a quiet line.
+// What the head held is dropped.
+fn put_reply(reply: Option<&Reply>, head: &mut ArrayString<512>, buffer: &mut [u8]) -> Option<usize>
+    ensures size { result ≡ size_within (reply_bytes (option_copied reply.entry)) buffer.old }
+    ensures put { buffer.new ≡ written (reply_bytes (option_copied reply.entry)) buffer.old }
+{
+    let Some(reply) = reply else {
+        return Some(0);
+    };
+    head.clear();
+    reply.write_into(head);
+    put_pieces(head.as_str().as_bytes(), reply.body(), buffer)
+}
+
+// Whether no further line is to be done.
+fn ends(bytes: &[u8], stops: bool, done: LinesDone) -> bool
+    requires { done.bytes ≤ length bytes.now }
+    ensures ended { IsTrue result → Ends stops bytes.now done }
+    ensures left { result ≡ false → done.bytes < length bytes.now }
+    ensures room { result ≡ false → done.has_room ≡ true }
+    ensures accepted { result ≡ false → IsTrue stops → done.is_refused ≡ false }
+{
+    if done.bytes == bytes.len() {
+        return true;
+    }
+    if !done.has_room {
+        return true;
+    }
+    if stops {
+        return done.is_refused;
+    }
+    false
+}
+
+impl MemoryEditor {
+    // Whether the reply to the last line is a refusal.
+    fn is_refused(&self) -> bool
+        ensures { result ≡ is_refusal self.now.reply }
+    {
+        match self.reply() {
+            Some(reply) => reply.refusal().is_some(),
+            None => false,
+        }
+    }
+
+    // Does a line, and puts the reply to it and a newline at the front of a buffer, where it has room for them. Gives their size.
+    fn run_line(
+        &mut self,
+        line: &[u8],
+        head: &mut ArrayString<512>,
+        replies: &mut [u8],
+    ) -> Option<usize>
+        ensures step { StepsTo line.now self.old self.new }
+        ensures size { result ≡ size_within (reply_bytes self.new.reply) replies.old }
+        ensures put { replies.new ≡ written (reply_bytes self.new.reply) replies.old }
+    {
+        self.step(line);
+        put_reply(self.reply(), head, replies)
+    }
+
+    /// Does the lines of some bytes, one after another, as `step` does each, and puts the replies to those that are not quiet into
+    /// a buffer, each with a newline. The bytes are cut at newlines; a last line without one counts where it has a byte.
+    ///
+    /// It ends at the end of the bytes; behind the first line that is refused, where that stops; and behind a line whose reply has
+    /// no room in what is left of the buffer. That line is done, and `reply` has its reply.
+    pub fn run_lines(&mut self, bytes: &[u8], stops: bool, replies: &mut [u8]) -> LinesDone
+        ensures { RunsLines stops bytes.now replies.old self.old result self.new replies.new }
+    {
+        let mut head = ArrayString::<512>::new();
+        let mut done = LinesDone::none();
+        'lines: loop {
+            if ends(bytes, stops, done) {
+                return done;
+            }
+            let (line, taken) = first_line(&bytes[done.bytes..]);
+            let put = self.run_line(line, &mut head, &mut replies[done.replies..]);
+            done = done.with_line(taken, self.is_refused(), put);
+        }
+    }
+}

@@ -1,6 +1,0 @@
-mod Counting
-mod Cutting
-mod Hearings
-mod Numbered
-mod Pieces
-mod Rows
