@@ -85,7 +85,7 @@ pub trait Fractions {
     /// Takes the fraction at a place in the tree of a map.
     fn take(&mut self, root: &Value, owner: Owner<'_>, place: &Place);
 
-    /// Hears that there was no memory for a place.
+    /// Is told that there was no memory for a place.
     fn lose_place(&mut self);
 }
 

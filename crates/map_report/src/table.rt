@@ -53,7 +53,7 @@ fn write_asked_of<W: Write>(
 }
 
 // Does what a line asks for.
-fn hear<R: Files + AllocGlobal, W: Write>(
+fn answer<R: Files + AllocGlobal, W: Write>(
     rt: &R,
     texts: &mut Texts,
     line: &str,
@@ -69,7 +69,7 @@ fn hear<R: Files + AllocGlobal, W: Write>(
 }
 
 // Repeats a line, with what it asks for.
-fn write_heard<R: Files + AllocGlobal, W: Write>(
+fn write_answered<R: Files + AllocGlobal, W: Write>(
     rt: &R,
     texts: &mut Texts,
     line: &str,
@@ -77,7 +77,7 @@ fn write_heard<R: Files + AllocGlobal, W: Write>(
 ) -> io::Result<()> {
     let mut out = Output::new(output);
     out.text(line);
-    hear(rt, texts, line, &mut out);
+    answer(rt, texts, line, &mut out);
     out.text("\n");
     out.end()
 }
@@ -92,7 +92,7 @@ pub fn write_table<R: Files + AllocGlobal, I: Read + Drop, W: Write>(
     let input = io::read_to_string(alloc, input)?;
     let mut texts = Texts::new(alloc);
     for line in input.lines() {
-        write_heard(rt, &mut texts, line, output)?;
+        write_answered(rt, &mut texts, line, output)?;
     }
     Ok(())
 }

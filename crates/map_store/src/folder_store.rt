@@ -169,6 +169,7 @@ where
         requires { 0 < length folder.now }
         ensures stored { ⟦<FolderStore<'a, R> as MapStore>⟧.stored result ≡ record { files = empty; failures = 0; honest = false } }
         ensures asked { ⟦<FolderStore<'a, R> as MapStore>⟧.asked result ≡ [] }
+        ensures calls { ⟦<FolderStore<'a, R> as MapStore>⟧.calls result ≡ [] }
     {
         FolderStore {
             rt,
@@ -185,6 +186,7 @@ where
     pub fn telling(mut self, program: &'a str) -> FolderStore<'a, R>
         ensures stored { ⟦<FolderStore<'a, R> as MapStore>⟧.stored result ≡ ⟦<FolderStore<'a, R> as MapStore>⟧.stored self.entry }
         ensures asked { ⟦<FolderStore<'a, R> as MapStore>⟧.asked result ≡ ⟦<FolderStore<'a, R> as MapStore>⟧.asked self.entry }
+        ensures calls { ⟦<FolderStore<'a, R> as MapStore>⟧.calls result ≡ ⟦<FolderStore<'a, R> as MapStore>⟧.calls self.entry }
     {
         self.program = Some(program);
         self
@@ -258,6 +260,8 @@ where
 
     ghost asked = { λ s. s.log.asked };
 
+    ghost calls = { λ s. ⟦<SystemFolder<'a, R> as SaveFolder>⟧.log s.saves };
+
     ghost keeps = { λ s name bytes. IsKept (path_to s.folder.now name) bytes (⟦<SystemFolder<'a, R> as SaveFolder>⟧.log s.saves)
         × IsPut (path_to s.folder.now name) bytes (⟦<SystemFolder<'a, R> as SaveFolder>⟧.log s.saves) };
 
@@ -282,6 +286,11 @@ where
             ≤ (⟦<FolderStore<'a, R> as MapStore>⟧.stored self.new).failures }
         ensures asked { ⟦<FolderStore<'a, R> as MapStore>⟧.asked self.new
             ≡ loading name.now ∷ ⟦<FolderStore<'a, R> as MapStore>⟧.asked self.old }
+        ensures calls { ⟦<FolderStore<'a, R> as MapStore>⟧.calls self.new ≡ ⟦<FolderStore<'a, R> as MapStore>⟧.calls self.old }
+
+        // What is kept stays so.
+        ensures kept { (other bytes : List ℕ) → ⟦<FolderStore<'a, R> as MapStore>⟧.keeps self.old other bytes
+            → ⟦<FolderStore<'a, R> as MapStore>⟧.keeps self.new other bytes }
     {
         self.log.note(&StoreCall::Load(name));
         let Ok(path) = self.path_of(alloc, name) else {

@@ -81,6 +81,8 @@ impl MapStore for FuseStore {
 
     ghost asked = { λ s. s.asked };
 
+    ghost calls = { λ s. [] };
+
     ghost keeps = { λ s name bytes. get s.files name ≡ Some bytes };
 
     ghost loses_nothing = { λ old new name bytes. IsOldOrNew name bytes old.files new.files };

@@ -1,4 +1,5 @@
 ghost use Rattle.std.specs.Prelude.{◌≡◌, ◌≤◌, ◌∷◌, ℕ, List, IsErrOf, IsTrue, OnOk};
+ghost use Rattle.atomic_save.specs.Crash.{Call};
 ghost use Rattle.map_store.specs.Asking.{Asked, loading, storing};
 ghost use Rattle.map_store.specs.Files.{StoreParts, HasFailed};
 
@@ -18,7 +19,10 @@ pub trait MapStore {
     /// What it was asked so far, the newest first.
     ghost asked: { Self → List Asked };
 
-    /// Whether these bytes are kept under this name, wherever the machine stops from now on.
+    /// The calls that its saves have made of a folder of the system, the newest first. Files in memory need none.
+    ghost calls: { Self → List Call };
+
+    /// Whether these bytes are kept under this name, wherever the machine stops until the next call.
     ghost keeps: { Self → List ℕ → List ℕ → Type 0 };
 
     /// Whether no file was lost from the first of these states to the second, wherever the machine stopped between them: under this
@@ -34,7 +38,8 @@ pub trait MapStore {
         ensures loads { IsTrue (stored self.old).honest → Loads name.now (stored self.old).files result (stored self.new).files }
         ensures device { IsErrOf result StoreFault.Device → HasFailed (stored self.old) (stored self.new) }
         ensures count { (stored self.old).failures ≤ (stored self.new).failures }
-        ensures asked { asked self.new ≡ loading name.now ∷ asked self.old };
+        ensures asked { asked self.new ≡ loading name.now ∷ asked self.old }
+        ensures calls { calls self.new ≡ calls self.old };
 
     /// Puts bytes under a name, in place of those that are there. No other file changes.
     ///

@@ -75,6 +75,8 @@ impl MapStore for MemoryStore {
 
     ghost asked = { λ s. s.log.asked };
 
+    ghost calls = { λ s. [] };
+
     ghost keeps = { λ s name bytes. get (files_of s.files) name ≡ Some bytes };
 
     ghost loses_nothing = { λ old new name bytes. IsOldOrNew name bytes (files_of old.files) (files_of new.files) };

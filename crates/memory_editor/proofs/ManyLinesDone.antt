@@ -25,7 +25,8 @@ SoFar stops bytes buffer start done now after =
     ((done ≡ no_lines_done) × (now ≡ start) × (after ≡ buffer)) ⊎ RunsLinesUpTo stops bytes buffer start done now after
 
 -- lines were done, all their replies stand in the buffer, and a further line may follow
-pub record GoesOn (stops : Bool) (bytes buffer : List ℕ) (start : MemoryEditorParts) (done : LinesDone) (now : MemoryEditorParts) (after : List ℕ) : Type 0 where
+pub record GoesOn (stops : Bool) (bytes buffer : List ℕ) (start : MemoryEditorParts) (done : LinesDone) (now : MemoryEditorParts) (after : List ℕ)
+    : Type 0 where
   pub lines : List (List ℕ)
   pub replies : List Reply
   pub cut : lines_of bytes ≡ lines ++ lines_of (drop done.bytes bytes)
@@ -37,7 +38,8 @@ pub record GoesOn (stops : Bool) (bytes buffer : List ℕ) (start : MemoryEditor
   pub written : after ≡ output replies ++ drop (length (output replies)) buffer
 
 -- ---- a run and a step more
-run_more : (lines : List (List ℕ)) (line : List ℕ) (from now mid : MemoryEditorParts) (replies : List Reply) → LeadsTo from lines replies now → StepsTo line now mid
+run_more : (lines : List (List ℕ)) (line : List ℕ) (from now mid : MemoryEditorParts) (replies : List Reply) → LeadsTo from lines replies now
+    → StepsTo line now mid
     → LeadsTo from (lines ++ line ∷ []) (replies ++ option_to_list mid.reply) mid
 run_more [] line from now mid replies r s =
     let P : MemoryEditorParts → Type 0 = λ m. StepsTo line m mid in

@@ -32,7 +32,8 @@ LeadsTo old (line ∷ lines) replies new = (mid : MemoryEditorParts) × (rest : 
 
 -- Lines at the front of the bytes were done, this one last, and the rest of the bytes is as `done` says. Each is done, and the
 -- replies are those of the machine.
-pub record RunsLinesUpTo (stops : Bool) (bytes buffer : List ℕ) (start : MemoryEditorParts) (done : LinesDone) (now : MemoryEditorParts) (after : List ℕ) : Type 0 where
+pub record RunsLinesUpTo (stops : Bool) (bytes buffer : List ℕ) (start : MemoryEditorParts) (done : LinesDone) (now : MemoryEditorParts) (after : List ℕ)
+    : Type 0 where
   pub before : List (List ℕ)
   pub line : List ℕ
   pub replies : List Reply
@@ -54,7 +55,8 @@ abbrev pub Ends : Bool → List ℕ → LinesDone → Type 0
 Ends stops bytes done = (done.bytes ≡ length bytes) ⊎ ((IsTrue stops × IsTrue done.is_refused) ⊎ (done.has_room ≡ false))
 
 -- lines of the bytes were done, of which there are none where there is no byte
-pub record RunsLines (stops : Bool) (bytes buffer : List ℕ) (start : MemoryEditorParts) (done : LinesDone) (now : MemoryEditorParts) (after : List ℕ) : Type 0 where
+pub record RunsLines (stops : Bool) (bytes buffer : List ℕ) (start : MemoryEditorParts) (done : LinesDone) (now : MemoryEditorParts) (after : List ℕ)
+    : Type 0 where
   pub none : bytes ≡ [] → (done ≡ no_lines_done) × (now ≡ start) × (after ≡ buffer)
   pub some : 0 < length bytes → RunsLinesUpTo stops bytes buffer start done now after
   pub ended : Ends stops bytes done

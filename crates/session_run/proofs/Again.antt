@@ -1,4 +1,4 @@
--- An accepted line that is heard again.
+-- An accepted line that is replayed.
 use Rattle.std.proofs.Common.{◌≡◌, ℕ, List, length, IsTrue, Option, Some, None, Result, Ok, Err, refl, sym, ap, subst, ◌∙◌, inl, inr, arith}
 use Rattle.std.proofs.Common.{rules}
 use Rattle.std.specs.Prelude.{⊤, codes}
@@ -23,7 +23,7 @@ use Rattle.document_lines.specs.Answers.{state_reply}
 use Rattle.document_lines.specs.Machine.{Machine, Workspace, active_of, with_active, workspace}
 use Rattle.document_lines.specs.Rules.{Allows, Edits, MachineStep, MachineStepIn, MachineStepOf, OnActive, OnDocuments, OnFiles, Rule, rule_of}
 use Rattle.session_run.specs.Runs.{IsAccepted}
-use Rattle.session_run.specs.Journals.{Entry, IsHeardAs, IsNotedAs, having}
+use Rattle.session_run.specs.Journals.{Entry, IsReplayedAs, IsNotedAs, having}
 
 refused : {A : Type 0} (reply : Reply) (refusal : Refusal) → IsAccepted reply → Some reply ≡ Some (replies.Refused refusal) → A
 refused reply refusal accepted is =
@@ -31,10 +31,10 @@ refused reply refusal accepted is =
     let none = subst IsAccepted same accepted in
     absurd cc
 
--- the entry is heard again, and leads to the machine
-abbrev pub CanBeHeard : Machine → Reply → Machine → Entry → Type 0
-CanBeHeard old reply new entry = (heard : Reply) × (after : StoreParts)
-    × MachineStepIn entry.line (workspace old (having entry.files)) (Some heard) (workspace new after) × IsHeardAs reply heard × IsAccepted heard
+-- the entry is replayed, and leads to the machine
+abbrev pub CanBeReplayed : Machine → Reply → Machine → Entry → Type 0
+CanBeReplayed old reply new entry = (replayed : Reply) × (after : StoreParts)
+    × MachineStepIn entry.line (workspace old (having entry.files)) (Some replayed) (workspace new after) × IsReplayedAs reply replayed × IsAccepted replayed
 
 -- ---- a line that calls no store
 abbrev CallsNoStore : Rule → Type 0
@@ -48,9 +48,9 @@ over_other-files (OnDocuments act) old new reply stored alone a = (a.0, refl)
 over_other-files (OnActive act) old new reply stored alone a = (a.0, refl)
 over_other-files (Edits names edit) old new reply stored alone a = (a.0, refl)
 
-heard-same : (reply : Reply) → IsHeardAs reply reply
-heard-same (replies.Saved file size) = tt
-heard-same reply = refl
+replayed-same : (reply : Reply) → IsReplayedAs reply reply
+replayed-same (replies.Saved file size) = tt
+replayed-same reply = refl
 
 -- ---- a file that was opened
 -- what is read of bytes is read of them wherever they are found
@@ -94,39 +94,39 @@ saved-clean file (Ok done) before after h n reply accepted is (inl (inr a)) = re
 saved-clean file (Ok done) before after h n reply accepted is (inr a) = refused reply _ accepted a.2.0
 saved-clean file (Err fault) before after h n reply accepted is a = refused reply _ accepted a.0.0
 
-heard-any : (reply heard : Reply) (file : List ℕ) (size : ℕ) → reply ≡ replies.Saved file size → IsHeardAs reply heard
-heard-any reply heard file size is = rw is tt
+replayed-any : (reply replayed : Reply) (file : List ℕ) (size : ℕ) → reply ≡ replies.Saved file size → IsReplayedAs reply replayed
+replayed-any reply replayed file size is = rw is tt
 
 saved-again : (file : List ℕ) (active : Option History) (before after stored : StoreParts) (old new : Machine) (reply : Reply) → IsAccepted reply
     → IfActive (OutsideMacros (OrStoreFails (SameOthers file) (OrNoMemoryForFile (Saves file)))) active before after old (Some reply) new
-    → (heard : Reply) × WithActive (Calls MarksClean) active old (Some heard) new × IsHeardAs reply heard × IsAccepted heard
+    → (replayed : Reply) × WithActive (Calls MarksClean) active old (Some replayed) new × IsReplayedAs reply replayed × IsAccepted replayed
 saved-again file None before after stored old new reply accepted a = refused reply _ accepted a.0.0
 saved-again file (Some h) before after stored old new reply accepted a =
     let cleaned = saved-clean file (clean_answer h) before after h a.0 reply accepted refl a.1 in
     let size = cleaned.1.0 in
     let said = cleaned.1.1 in
     let left : new ≡ with_active a.0 old = subst (λ r. new ≡ moved_to (Some r) a.0 old) said a.2 in
-    (state_reply a.0, (a.0, (Ok tt, cleaned.0, refl), left), heard-any reply (state_reply a.0) file size said, refl)
+    (state_reply a.0, (a.0, (Ok tt, cleaned.0, refl), left), replayed-any reply (state_reply a.0) file size said, refl)
 
 -- ---- lines
--- one that is heard as it was
+-- one that is replayed as it was
 same-again : (line : List ℕ) (read : Line) (old new : Workspace) (reply : Reply) → line_of line ≡ Ok read → IsAccepted reply → CallsNoStore (rule_of read)
-    → MachineStep read old (Some reply) new → (entry : Entry) → entry.line ≡ line → CanBeHeard old.machine reply new.machine entry
+    → MachineStep read old (Some reply) new → (entry : Entry) → entry.line ≡ line → CanBeReplayed old.machine reply new.machine entry
 same-again line read old new reply is accepted alone a entry same =
     let stored = having entry.files in
     let step = over_other-files (rule_of read) old new (Some reply) stored alone a in
     let Step : Result Line LineFault → Type 0 = λ r. MachineStepOf r (workspace old.machine stored) (Some reply) (workspace new.machine stored) in
-    (reply, stored, subst Step (sym (ap line_of same ∙ is)) step, heard-same reply, accepted)
+    (reply, stored, subst Step (sym (ap line_of same ∙ is)) step, replayed-same reply, accepted)
 
--- whatever it is: some entry is noted of it and can be heard, and over an honest store each that is noted
+-- whatever it is: some entry is noted of it and can be replayed, and over an honest store each that is noted
 pub record IsHeardAgain (read : Result Line LineFault) (line : List ℕ) (old new : Workspace) (reply : Reply) : Type 0 where
-  pub noted : (entry : Entry) × IsNotedAs read line old.stored entry × CanBeHeard old.machine reply new.machine entry
-  pub each : IsTrue old.stored.honest → (entry : Entry) → IsNotedAs read line old.stored entry → CanBeHeard old.machine reply new.machine entry
+  pub noted : (entry : Entry) × IsNotedAs read line old.stored entry × CanBeReplayed old.machine reply new.machine entry
+  pub each : IsTrue old.stored.honest → (entry : Entry) → IsNotedAs read line old.stored entry → CanBeReplayed old.machine reply new.machine entry
 
 -- an `open`
-opened-heard : (name file line : List ℕ) (old new : Workspace) (reply : Reply) → line_of line ≡ Ok (Open name file) → IsAccepted reply
+opened-replayed : (name file line : List ℕ) (old new : Workspace) (reply : Reply) → line_of line ≡ Ok (Open name file) → IsAccepted reply
     → MachineStep (Open name file) old (Some reply) new → IsHeardAgain (Ok (Open name file)) line old new reply
-opened-heard name file line old new reply is accepted a = record {
+opened-replayed name file line old new reply is accepted a = record {
   noted = (entry, (refl, λ honest. at ∙ sym (opened.1 honest)), each entry refl at);
   each = λ honest entry noted. each entry noted.0 (noted.1 honest ∙ opened.1 honest);
 }
@@ -142,16 +142,16 @@ opened-heard name file line old new reply is accepted a = record {
     at : get entry.files file ≡ Some opened.0
     at = stored_kept old.stored.files entry.files file opened.0 refl
 
-    each : (e : Entry) → e.line ≡ line → get e.files file ≡ Some opened.0 → CanBeHeard old.machine reply new.machine e
+    each : (e : Entry) → e.line ≡ line → get e.files file ≡ Some opened.0 → CanBeReplayed old.machine reply new.machine e
     each e same found =
         let stored = having e.files in
         let Step : Result Line LineFault → Type 0 = λ r. MachineStepOf r (workspace old.machine stored) (Some reply) (workspace new.machine stored) in
-        (reply, stored, subst Step (sym (ap line_of same ∙ is)) (opened.2 e.files found), heard-same reply, accepted)
+        (reply, stored, subst Step (sym (ap line_of same ∙ is)) (opened.2 e.files found), replayed-same reply, accepted)
 
 -- a `save`
-saved-heard : (file line : List ℕ) (old new : Workspace) (reply : Reply) → IsAccepted reply → MachineStep (Save file) old (Some reply) new
+saved-replayed : (file line : List ℕ) (old new : Workspace) (reply : Reply) → IsAccepted reply → MachineStep (Save file) old (Some reply) new
     → IsHeardAgain (Ok (Save file)) line old new reply
-saved-heard file line old new reply accepted a = record {
+saved-replayed file line old new reply accepted a = record {
   noted = (entry, refl, each entry refl);
   each = λ honest entry noted. each entry noted;
 }
@@ -159,7 +159,7 @@ saved-heard file line old new reply accepted a = record {
     entry : Entry
     entry = record { line = codes "clean"; files = old.stored.files }
 
-    each : (e : Entry) → e.line ≡ codes "clean" → CanBeHeard old.machine reply new.machine e
+    each : (e : Entry) → e.line ≡ codes "clean" → CanBeReplayed old.machine reply new.machine e
     each e same =
         let stored = having e.files in
         let again = saved-again file (active_of old.machine) old.stored new.stored stored old.machine new.machine reply accepted a in
@@ -167,11 +167,11 @@ saved-heard file line old new reply accepted a = record {
         (again.0, stored, subst Step (sym (ap line_of same ∙ clean-read)) (again.1, refl), again.2, again.3)
 
 -- any other line
-other-heard : (read : Line) (line : List ℕ) (old new : Workspace) (reply : Reply) → line_of line ≡ Ok read → IsAccepted reply → CallsNoStore (rule_of read)
+other-replayed : (read : Line) (line : List ℕ) (old new : Workspace) (reply : Reply) → line_of line ≡ Ok read → IsAccepted reply → CallsNoStore (rule_of read)
     → ((entry : Entry) → IsNotedAs (Ok read) line old.stored entry → entry.line ≡ line)
     → ((entry : Entry) → entry.line ≡ line → IsNotedAs (Ok read) line old.stored entry)
     → MachineStep read old (Some reply) new → IsHeardAgain (Ok read) line old new reply
-other-heard read line old new reply is accepted alone said noted a = record {
+other-replayed read line old new reply is accepted alone said noted a = record {
   noted = (entry, noted entry refl, same-again line read old new reply is accepted alone a entry refl);
   each = λ honest e so. same-again line read old new reply is accepted alone a e (said e so);
 }
@@ -179,13 +179,13 @@ other-heard read line old new reply is accepted alone said noted a = record {
     entry : Entry
     entry = record { line = line; files = old.stored.files }
 
-read-heard : (read : Result Line LineFault) (line : List ℕ) (old new : Workspace) (reply : Reply) → line_of line ≡ read → IsAccepted reply
+read-replayed : (read : Result Line LineFault) (line : List ℕ) (old new : Workspace) (reply : Reply) → line_of line ≡ read → IsAccepted reply
     → MachineStepOf read old (Some reply) new → IsHeardAgain read line old new reply
-read-heard (Ok (Open name file)) line old new reply is accepted a = opened-heard name file line old new reply is accepted a
-read-heard (Ok (Save file)) line old new reply is accepted a = saved-heard file line old new reply accepted a
-read-heard (Ok read) line old new reply is accepted a = other-heard read line old new reply is accepted tt (λ e so. so) (λ e so. so) a
-read-heard (Err fault) line old new reply is accepted a = refused reply _ accepted a.0
+read-replayed (Ok (Open name file)) line old new reply is accepted a = opened-replayed name file line old new reply is accepted a
+read-replayed (Ok (Save file)) line old new reply is accepted a = saved-replayed file line old new reply accepted a
+read-replayed (Ok read) line old new reply is accepted a = other-replayed read line old new reply is accepted tt (λ e so. so) (λ e so. so) a
+read-replayed (Err fault) line old new reply is accepted a = refused reply _ accepted a.0
 
-pub line-heard : (line : List ℕ) (old new : Workspace) (reply : Reply) → IsAccepted reply → MachineStepIn line old (Some reply) new
+pub line-replayed : (line : List ℕ) (old new : Workspace) (reply : Reply) → IsAccepted reply → MachineStepIn line old (Some reply) new
     → IsHeardAgain (line_of line) line old new reply
-line-heard line old new reply accepted a = read-heard (line_of line) line old new reply refl accepted a
+line-replayed line old new reply accepted a = read-replayed (line_of line) line old new reply refl accepted a

@@ -1,4 +1,4 @@
-//! The run of a session: lines are read to the end of the input, and each but the quiet ones gets its reply.
+//! The loop over the lines of a session: they are read to the end of the input, and each but the quiet ones gets its reply.
 #![tactic(auto)]
 
 mod frequent;

@@ -1,7 +1,7 @@
 use crate::runs::{MAP, ONE, SEVERAL};
 use arrayvec::ArrayString;
-use region::Run;
 use memory_editor::MemoryEditor;
+use region::Run;
 use std::alloc::{AllocError, Global};
 use std::test::Fail;
 

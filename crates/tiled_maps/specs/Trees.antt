@@ -40,7 +40,7 @@ put_back_of d = back (spread_of d)
 
 -- with its fractions set aside, or made finite, the tree nests too deep for a text
 abbrev pub IsTooDeep : Data → Type 0
-IsTooDeep d = (max_depth < depth (set_aside_of d)) ⊎ ((t : Data) × (infinite_of t ≡ Some (set_aside_of d)) × (max_depth < depth t))
+IsTooDeep d = (max_depth < depth (set_aside_of d)) ⊎ ((is_infinite (set_aside_of d) ≡ true) × (max_depth < depth (finite_of (set_aside_of d))))
 
 -- the finite map of an infinite one does not lead back to it, or has a fraction
 abbrev pub HasNoFinite : Data → Type 0
@@ -74,7 +74,7 @@ MakesFinite a (Err Memory) = Unit {0}
 MakesFinite a (Err NotJson) = ⊥
 MakesFinite a (Err NameTaken) = ⊥
 MakesFinite a (Err TooManyFractions) = ⊥
-MakesFinite a (Err TooDeep) = (is_infinite a ≡ true) × ((t : Data) × (infinite_of t ≡ Some a) × (max_depth < depth t))
+MakesFinite a (Err TooDeep) = (is_infinite a ≡ true) × (max_depth < depth (finite_of a))
 MakesFinite a (Err BadChunk) = (is_infinite a ≡ true) × (has_bad_chunk a ≡ true)
 MakesFinite a (Err Overlap) = (is_infinite a ≡ true) × (has_overlap a ≡ true)
 MakesFinite a (Err TooLarge) = (is_infinite a ≡ true) × (is_too_large a ≡ true)

@@ -124,6 +124,7 @@ impl<S: MapStore, T: FaultReport> TiledStore<S, T> {
         ensures failures { self.new.failures ≡ self.old.failures }
         ensures asked { self.new.log ≡ self.old.log }
         ensures below { S.asked self.new.store ≡ loading name.now ∷ S.asked self.old.store }
+        ensures calls { S.calls self.new.store ≡ S.calls self.old.store }
     {
         let bytes = self.store.load(alloc, name)?;
         match self.set_aside_of(alloc, name, bytes.as_slice())? {
@@ -192,6 +193,8 @@ impl<S: MapStore, T: FaultReport> MapStore for TiledStore<S, T> {
 
     ghost asked = { λ s. s.log.asked };
 
+    ghost calls = { λ s. S.calls s.store };
+
     ghost keeps = { λ s name bytes. (file : List ℕ) × PutsBy s.sets_aside s.has_set_aside bytes file × S.keeps s.store name file };
 
     ghost loses_nothing = { λ old new name bytes. (new.store ≡ old.store)
@@ -211,6 +214,7 @@ impl<S: MapStore, T: FaultReport> MapStore for TiledStore<S, T> {
             → HasFailed (⟦<TiledStore<S, T> as MapStore>⟧.stored self.old) (⟦<TiledStore<S, T> as MapStore>⟧.stored self.new) }
         ensures count { (⟦<TiledStore<S, T> as MapStore>⟧.stored self.old).failures ≤ (⟦<TiledStore<S, T> as MapStore>⟧.stored self.new).failures }
         ensures asked { self.new.log.asked ≡ loading name.now ∷ self.old.log.asked }
+        ensures calls { S.calls self.new.store ≡ S.calls self.old.store }
     {
         self.log.note(&StoreCall::Load(name));
         match self.loaded(alloc, name) {

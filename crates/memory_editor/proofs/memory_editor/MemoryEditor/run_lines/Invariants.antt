@@ -4,11 +4,11 @@ use Rattle.memory_editor.proofs.memory_editor.MemoryEditor.run_lines.Given as go
 
 abbrev pub invariant-lines : goal.invariant-lines
 invariant-lines l = record {
-  so_far : SoFar l.stops l.bytes l.fn.replies l.fn.self l.heard l.self l.replies;
-  within : l.heard.bytes ≤ length l.bytes;
-  counted : l.heard.lines ≤ l.heard.bytes;
-  room : l.heard.replies ≤ length l.replies;
+  so_far : SoFar l.stops l.bytes l.fn.replies l.fn.self l.done l.self l.replies;
+  within : l.done.bytes ≤ length l.bytes;
+  counted : l.done.lines ≤ l.done.bytes;
+  room : l.done.replies ≤ length l.replies;
 }
 
 abbrev pub decreases-lines : goal.decreases-lines
-decreases-lines l = length l.bytes - l.heard.bytes
+decreases-lines l = length l.bytes - l.done.bytes

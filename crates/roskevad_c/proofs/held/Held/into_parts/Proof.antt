@@ -56,7 +56,7 @@ module _ {M : Type 1} {𝓤 : Ura M} (𝓛 : Logic 𝓤) (at_mem : Memory → SP
       let v : D E = record { ptr = d.at; alloc = d.alloc; value = some.0 } in
       let made : To.Denot = record { ptr = v.ptr; alloc = v.alloc; value = v.value } in
       split ! $ drop ! $ fsplit ! $
-      rewrite ! 0 (λ (k : Option (MemoryEditor.the_row.Denot)). ‵ (Seal.the_row.own_val (record { at = d.at; alloc = d.alloc; held_editor = k }) z.0.4.0)) some.1
+      rewrite ! 0 (λ (k : Option MemoryEditor.the_row.Denot). ‵ (Seal.the_row.own_val (record { at = d.at; alloc = d.alloc; held_editor = k }) z.0.4.0)) some.1
       refl $
       use1 𝓛 (‵ ((B E).own_val v z.0.4.0)) (id⊢ 𝓤 _) $
       box_out E ! v z.0.4.0 (λ b o hv e ws fa. box_in E ! v b o v.value e refl $ use1 𝓛 (‵ (To.own_val made (word E hv b o ∷ []))) (id⊢ 𝓤 _) $ move !
