@@ -40,7 +40,7 @@ IsBeside front path = (rest : List ℕ) × (path ≡ front ++ rest)
 abbrev pub IsMade : List ℕ → List Call → Type 0
 IsMade path calls = (earlier : List Call) × (calls ≡ made path true ∷ earlier)
 
--- A save ends with an error only where a call that it needs was refused in it, as to make the new file under each of a thousand names, or where a path found no memory.
+-- A save ends with an error only where a call that it needs was refused in it, or a path found no memory. A name that is taken refuses a call, too.
 abbrev pub IsReason : SaveError → List Call → List Call → Type 0
 IsReason (Refused error) old new = refusals old < refusals new
 IsReason (Memory error) old new = Unit {0}
