@@ -5,7 +5,7 @@ use region::Run;
 use std::alloc::{AllocError, Global};
 use std::test::Fail;
 
-// No test owns a editor, and what owns one does nothing else: an assertion or an early end beside it makes a long proof.
+// No test owns an editor, and what owns one does nothing else: an assertion or an early end beside it makes a long proof.
 
 /// Steps a line, and gives the text of its reply, and none where it is quiet.
 fn told(alloc: Global, editor: &mut MemoryEditor, line: &str) -> Result<String, AllocError> {

@@ -1,4 +1,4 @@
-//! Tests of the run of a editor, with readers, writers and stores that fail, and of sessions in memory. They stand here, and
+//! Tests of the run of a session, with readers, writers and stores that fail, and of sessions in memory. They stand here, and
 //! not beside the code, since a crate that has tests is proved once more for them.
 #![tactic(auto)]
 

@@ -143,14 +143,14 @@ fn push_line(text: &mut String, line: &str) -> Result<(), AllocError> {
 /// A session and its replies.
 #[derive(Drop)]
 struct Script {
-    editor: String,
+    session: String,
     replies: String,
 }
 
 /// The script whose pairs are `line => reply`, or a line alone where it gets no reply.
 fn read_script(alloc: Global, pairs: &str) -> Result<Script, Fail> {
     let mut script = Script {
-        editor: String::new(alloc),
+        session: String::new(alloc),
         replies: String::new(alloc),
     };
     for pair in pairs.lines() {
@@ -164,7 +164,7 @@ fn read_script(alloc: Global, pairs: &str) -> Result<Script, Fail> {
 }
 
 /// How many lines of a session end within its first bytes.
-fn whole_lines(editor: &[u8], count: usize) -> usize {
+fn whole_lines(session: &[u8], count: usize) -> usize {
     session
         .iter()
         .take(count)
@@ -181,7 +181,7 @@ fn first_replies(replies: &str, count: usize) -> &str {
     replies.get(..len).unwrap_or(replies)
 }
 
-/// The bytes of a editor, at most `step` a read, of which the one that has `calls_left` before it fails.
+/// The bytes of a session, at most `step` a read, of which the one that has `calls_left` before it fails.
 fn source_of(script: &Script, step: usize, calls_left: u32) -> Source<'_> {
     Source {
         bytes: script.session.as_bytes(),
