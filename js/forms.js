@@ -10,11 +10,13 @@ export const FORMS = new Map([
   ["discard", ["discard DOC"]],
   ["use", ["use DOC", "use -"]],
   ["list", ["list"]],
+  ["status", ["status"]],
+  ["undotext", ["undotext"]],
+  ["redotext", ["redotext"]],
   ["stamp", ["stamp LAYER X Y WIDTH TILES", "stamp+ LAYER X Y WIDTH TILES"]],
   ["erase", ["erase LAYER X Y WIDTH HEIGHT", "erase+ LAYER X Y WIDTH HEIGHT"]],
   ["fill", ["fill LAYER X Y TILE"]],
   ["select", ["select replace|add|subtract|intersect X Y WIDTH HEIGHT", "select none"]],
-  ["tile", ["tile LAYER X Y"]],
   ["layer", [
     "layer add tile|object NAME", "layer remove LAYER", "layer rename LAYER NAME",
     "layer show LAYER yes|no", "layer move LAYER PLACE",
@@ -40,10 +42,8 @@ export const FORMS = new Map([
   ["end", ["end"]],
   ["limit", ["limit NUMBER"]],
   ["show", ["show"]],
-  ["status", ["status"]],
-  ["undotext", ["undotext"]],
-  ["redotext", ["redotext"]],
   ["text", ["text PLACE"]],
+  ["tile", ["tile LAYER X Y"]],
 ]);
 
 /**

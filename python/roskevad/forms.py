@@ -10,19 +10,20 @@ FORMS: dict[str, tuple[str, ...]] = {
     'discard': ('discard DOC',),
     'use': ('use DOC', 'use -'),
     'list': ('list',),
+    'status': ('status',),
+    'undotext': ('undotext',),
+    'redotext': ('redotext',),
     'stamp': ('stamp LAYER X Y WIDTH TILES', 'stamp+ LAYER X Y WIDTH TILES'),
     'erase': ('erase LAYER X Y WIDTH HEIGHT', 'erase+ LAYER X Y WIDTH HEIGHT'),
     'fill': ('fill LAYER X Y TILE',),
     'select': ('select replace|add|subtract|intersect X Y WIDTH HEIGHT', 'select none'),
-    'tile': ('tile LAYER X Y',),
     'layer': (
-        'layer add tile|object NAME', 'layer remove LAYER', 'layer rename LAYER NAME', 'layer show LAYER yes|no',
-        'layer move LAYER PLACE',
+        'layer add tile|object NAME', 'layer remove LAYER', 'layer rename LAYER NAME', 'layer show LAYER yes|no', 'layer move LAYER PLACE',
     ),
     'resize': ('resize WIDTH HEIGHT X Y',),
     'object': (
-        'object add LAYER X Y WIDTH HEIGHT NAME', 'object move OBJECT X Y', 'object move+ OBJECT X Y',
-        'object resize OBJECT WIDTH HEIGHT', 'object remove OBJECT',
+        'object add LAYER X Y WIDTH HEIGHT NAME', 'object move OBJECT X Y', 'object move+ OBJECT X Y', 'object resize OBJECT WIDTH HEIGHT',
+        'object remove OBJECT',
     ),
     'prop': (
         'prop set OWNER KEY string|file TEXT', 'prop set OWNER KEY int NUMBER', 'prop set OWNER KEY bool true|false',
@@ -39,10 +40,8 @@ FORMS: dict[str, tuple[str, ...]] = {
     'end': ('end',),
     'limit': ('limit NUMBER',),
     'show': ('show',),
-    'status': ('status',),
-    'undotext': ('undotext',),
-    'redotext': ('redotext',),
     'text': ('text PLACE',),
+    'tile': ('tile LAYER X Y',),
 }
 
 
