@@ -72,7 +72,7 @@ impl FuseStore {
 }
 
 impl MapStore for FuseStore {
-    ghost use Rattle.std.specs.Prelude.{◌≡◌, ◌≤◌, ◌↔◌, ◌∷◌, IsErrOf, OnOk, Some, true};
+    ghost use Rattle.std.specs.Prelude.{◌≡◌, ◌≤◌, ◌↔◌, ◌∷◌, [], IsErrOf, OnOk, Some, true};
     ghost use Rattle.std.specs.FinMap.{get};
     ghost use Rattle.map_store.specs.Asking.{loading, storing};
     ghost use Rattle.map_store.specs.Storing.{IsOldOrNew, Loads, Stores};

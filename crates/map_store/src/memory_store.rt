@@ -66,7 +66,7 @@ impl MemoryStore {
 }
 
 impl MapStore for MemoryStore {
-    ghost use Rattle.std.specs.Prelude.{◌≡◌, Some, true};
+    ghost use Rattle.std.specs.Prelude.{◌≡◌, [], Some, true};
     ghost use Rattle.std.specs.FinMap.{get};
     ghost use Rattle.map_store.specs.Stored.{files_of};
     ghost use Rattle.map_store.specs.Storing.{IsOldOrNew};
