@@ -31,7 +31,7 @@ extern "C" {
 #endif
 
 /* The version of this header. `roskevad_version` gives that of the library. */
-#define ROSKEVAD_VERSION "0.2.0"
+#define ROSKEVAD_VERSION "0.3.0"
 
 /* The greatest undo limit. */
 #define ROSKEVAD_GREATEST_LIMIT 1000000
