@@ -11,7 +11,9 @@ DESTDIR =
 VERSION := $(shell cat VERSION)
 ROOT = $(DESTDIR)$(PREFIX)
 
+# The shared library, and what programs that are linked with it look for.
 SHARED := libroskevad.so.$(VERSION)
+SONAME := $(shell sed -n 's/^soname //p' tools/library_names.txt)
 MAN := $(notdir $(wildcard docs/man/*.1))
 LICENCES := LICENSE-APACHE LICENSE-MIT js/NOTICES.txt
 # The Python package, which the page to draw on needs.
@@ -22,7 +24,7 @@ OWN_FOLDERS := $(shell find python/roskevad -depth -type d ! -name __pycache__ |
 	share/roskevad/python share/roskevad share/doc/roskevad
 FOLDERS := bin lib/pkgconfig include share/man/man1 $(OWN_FOLDERS)
 FILES := bin/tile_editor bin/map_report bin/tile_page \
-	lib/libroskevad.a lib/$(SHARED) lib/libroskevad.so lib/pkgconfig/roskevad.pc include/roskevad.h \
+	lib/libroskevad.a lib/$(SHARED) lib/$(SONAME) lib/libroskevad.so lib/pkgconfig/roskevad.pc include/roskevad.h \
 	$(MAN:%=share/man/man1/%) $(PACKAGE:%=share/roskevad/%) share/roskevad/python/roskevad/libroskevad.so \
 	$(addprefix share/doc/roskevad/,$(notdir $(LICENCES)))
 
@@ -39,7 +41,7 @@ install:
 	chmod 755 "$(ROOT)/bin/tile_page"
 	install -m 644 lib/libroskevad.a "$(ROOT)/lib"
 	install -m 755 lib/libroskevad.so "$(ROOT)/lib/$(SHARED)"
-	ln -sfn $(SHARED) "$(ROOT)/lib/libroskevad.so"
+	for name in $(SONAME) libroskevad.so; do ln -sfn $(SHARED) "$(ROOT)/lib/$$name" || exit 1; done
 	$(FILL_IN) tools/install/roskevad.pc.in >"$(ROOT)/lib/pkgconfig/roskevad.pc"
 	chmod 644 "$(ROOT)/lib/pkgconfig/roskevad.pc"
 	install -m 644 include/roskevad.h "$(ROOT)/include"

@@ -18,7 +18,12 @@
  *
  * Bytes come out to a buffer of the caller's: they stand at its front where all of them fit, and else the buffer is as it
  * was. The answer is how many there are, so that a larger buffer can be made: the line is done by then, and is not to be
- * stepped again, but `roskevad_reply` gives its reply again. */
+ * stepped again, but `roskevad_reply` gives its reply again.
+ *
+ * The shared library's soname is libroskevad.so.0. Its number rises with a release in which a program that was linked with an older
+ * library would no longer work: where a function `roskevad_*` is gone or has another signature, a struct has other fields, or a
+ * number that is answered has another meaning. Functions that are new do not raise it: each has the release that it came with as its
+ * symbol version, as ROSKEVAD_0.2, so no program that needs it begins with a library that is older. */
 #ifndef ROSKEVAD_H
 #define ROSKEVAD_H
 
@@ -31,7 +36,7 @@ extern "C" {
 #endif
 
 /* The version of this header. `roskevad_version` gives that of the library. */
-#define ROSKEVAD_VERSION "0.2.0"
+#define ROSKEVAD_VERSION "0.3.0"
 
 /* The greatest undo limit. */
 #define ROSKEVAD_GREATEST_LIMIT 1000000

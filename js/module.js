@@ -3,7 +3,7 @@
 import { BadModule, Broken, NoMemory } from "./faults.js";
 
 /** The version of this package, which that of the module must be. */
-export const VERSION = "0.2.0";
+export const VERSION = "0.3.0";
 
 // What a call answers in place of a length, a number or a place. include/roskevad.h says more.
 export const DONE = 0;

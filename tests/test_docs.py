@@ -1,7 +1,8 @@
 # SPDX-License-Identifier: MIT OR Apache-2.0
 """Looks whether the pages say what is so:
 
-- each file that a page links or names is there, and each page is reached from the README;
+- each file that a page links or names is there, and each page is reached from the README; the
+  functions that docs/architecture.md walks through stand in the files that it names;
 - each transcript gives the replies that stand there, and that of the README has the lines of
   `examples/town.session`; each line that stands there as refused is refused so;
 - each command in the pages at the top and in `docs/` ends with status 0, and each block of
@@ -22,7 +23,7 @@ import subprocess
 
 from lib.cases import CORES, Case, check_each, fail_with, passed, skip, unlike
 from lib.forms import HELP, spread
-from lib.pages import Clone, Page, pages
+from lib.pages import CODE, Clone, Page, pages
 from lib.places import BIN, EXAMPLES, TOP
 from lib.refusals import OF_MAPS, ROWS
 from lib.runner import all_steps
@@ -79,6 +80,25 @@ def test_each_page_is_reached_from_the_readme():
         for path, page in known.items()
         if path not in reached
     )
+
+
+def fault_of_walk(case):
+    """The functions of a row that none of its files has, or None. A type stands in front of some."""
+    functions, files = case.given
+    sources = [(TOP / name).read_text() for name in CODE.findall(files)]
+    missing = [
+        name
+        for name in re.findall(r'`(?:\w+::)?([a-z_]+)`', functions)
+        if not any(re.search(rf'\bfn {name}\b', source) for source in sources)
+    ]
+    return f'no function {", ".join(missing)} in {files}' if missing else None
+
+
+def test_functions_of_the_walks():
+    """The walks of lines through the crates name the file of each function."""
+    rows = list(Page(TOP / 'docs' / 'architecture.md').rows_of('Functions', 'Files'))
+    assert len(rows) > 12, rows
+    check_each([Case(row[0], row, None) for row in rows], fault_of_walk)
 
 
 # ---- lines

@@ -1,13 +1,12 @@
 # SPDX-License-Identifier: MIT OR Apache-2.0
 """Compiles a use of each name of `include/roskevad.h` in each standard of C and C++ that the
-compilers here have, with the warnings that strict projects turn on: there are none. The shared
-library gives out what the header declares."""
+compilers here have, with the warnings that strict projects turn on: there are none."""
 import re
 import shutil
 import subprocess
 
 from lib.cases import Case, check_each
-from lib.places import LIB, NATIVE, TOP
+from lib.places import NATIVE, TOP
 
 HEADER = (TOP / 'include' / 'roskevad.h').read_text()
 USE = NATIVE / 'header_use.c'
@@ -71,15 +70,3 @@ def test_each_name_is_used():
     )
     left = [name for pair in names for name in pair if name and name not in use]
     assert names and left == [], f'{USE.name} does not use {left}'
-
-
-def test_names_of_the_library():
-    declared = re.findall(r'^(?:size_t|void) (roskevad_\w+)\(', HEADER, re.MULTILINE)
-    told = subprocess.run(
-        ['nm', '-D', '--defined-only', LIB / 'libroskevad.so'],
-        capture_output=True,
-        text=True,
-        check=True,
-    ).stdout
-    given = re.findall(r' T (roskevad_\w+)', told)
-    assert sorted(declared) == sorted(given), {*declared} ^ {*given}

@@ -15,9 +15,11 @@ from pathlib import Path
 
 from lib.cases import Case, check_each, fail_with, unlike
 from lib.commands import came_of
+from lib.kit import tool
 from lib.places import BIN, EXAMPLES, EXAMPLE_MAPS, MAP_REPORT, TILE_EDITOR, TOP
 
 VERSION = (TOP / 'VERSION').read_text().strip()
+SHARED, SONAME = f'libroskevad.so.{VERSION}', tool('build_library').soname()
 MAN = TOP / 'docs' / 'man'
 PROGRAMS = ('tile_editor', 'map_report', 'tile_page')
 LINES = TOP / 'docs' / 'session-lines.md'
@@ -66,8 +68,7 @@ def test_what_is_installed():
         wanted = [
             *(f'bin/{name}' for name in PROGRAMS),
             'lib/libroskevad.a',
-            f'lib/libroskevad.so.{VERSION}',
-            'lib/libroskevad.so',
+            *(f'lib/{name}' for name in (SHARED, SONAME, 'libroskevad.so')),
             'lib/pkgconfig/roskevad.pc',
             'include/roskevad.h',
             *(f'share/man/man1/{name}.1' for name in PROGRAMS),
@@ -111,7 +112,16 @@ def test_a_program_in_c():
         status, _, errors = place.run('./fence', map_path, fenced)
         assert status == 0 and fenced.exists(), errors
         loaded = place.run('ldd', './fence')[1]
-        assert f'{place.top}/lib/libroskevad.so.{VERSION}' in loaded, loaded
+        assert f'{SONAME} => {place.top}/lib/{SONAME} ' in loaded, loaded
+
+
+def test_links_to_the_library():
+    """Programs look for the soname, and the linker for the name without a number: both lead to the
+    file that has the version's."""
+    with Place() as place:
+        links = [place.top / 'lib' / name for name in (SONAME, 'libroskevad.so')]
+        fault = unlike([SHARED, SHARED], [os.readlink(link) for link in links])
+        assert not fault and not (place.top / 'lib' / SHARED).is_symlink(), fault
 
 
 def test_uninstall():

@@ -1,7 +1,7 @@
 # SPDX-License-Identifier: MIT OR Apache-2.0
-"""Tries the heap of the module, `tools/wasm/heap.c`, by random calls in this machine's own code, also
-where memory ends. Each block keeps its bytes; and when all is freed, the whole memory is one free
-block."""
+"""Tries the heap of the module, `crates/roskevad_c/module_heap/heap.c`, by random calls in this
+machine's own code, also where memory ends. Each block keeps its bytes; and when all is freed, the
+whole memory is one free block."""
 import subprocess
 
 from lib.cases import Case, check_each

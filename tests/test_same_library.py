@@ -78,8 +78,8 @@ def test_names_that_it_gives_out():
 def test_calls_that_the_module_has():
     """Those of the header, with what the host takes memory by, and no more; and it imports nothing."""
     sections = lower.Lowering((TOP / 'js' / 'roskevad.wasm').read_bytes())
-    header = (TOP / 'include' / 'roskevad.h').read_text()
-    calls = re.findall(r'^(?:size_t|void) (roskevad_\w+)\(', header, re.MULTILINE)
+    library = tool('build_library')
+    calls = library.declared(library.HEADER.read_text())
     fault = unlike(sorted([*calls, 'alloc', 'free']), sorted(sections.exports))
     assert not fault, fault
     assert lower.Lowering.IMPORTS not in sections.sections, 'the module has imports'

@@ -1,14 +1,14 @@
 # SPDX-License-Identifier: MIT OR Apache-2.0
 """Compares the version in the file VERSION with every place that names it: what the programs and
-the Python package print, the header, the names of the shared library, the metadata of both
-packages, the page of the library, and the newest heading of CHANGELOG.md, where that is there."""
+the Python package print, the header, the metadata of both packages, the page of the library, and
+the newest heading of CHANGELOG.md, where that is there."""
 import os
 import re
 import sys
 
 from lib.cases import Case, check_each, unlike
 from lib.commands import came_of
-from lib.places import BIN, LIB, MAP_REPORT, TILE_EDITOR, TOP
+from lib.places import BIN, MAP_REPORT, TILE_EDITOR, TOP
 
 VERSION = (TOP / 'VERSION').read_text().removesuffix('\n')
 # A place in a file: what stands before the version there, and what behind.
@@ -57,14 +57,6 @@ def test_the_python_package():
     code = 'import roskevad; print(roskevad.__version__)'
     fault = unlike((0, f'{VERSION}\n', ''), printed(sys.executable, '-c', code))
     assert not fault, f'roskevad.__version__: {fault}'
-
-
-def test_names_of_the_shared_library():
-    """Its own name, and the version of the names that it gives out."""
-    _, told, _ = printed('objdump', '-p', LIB / 'libroskevad.so')
-    given = re.search(r'SONAME +(\S+)', told)[1], sorted(set(re.findall(r'\b(ROSKEVAD_\S+)', told)))
-    fault = unlike((f'libroskevad.so.{VERSION}', [f'ROSKEVAD_{VERSION.rpartition(".")[0]}']), given)
-    assert not fault, f'objdump -p lib/libroskevad.so: {fault}'
 
 
 def test_the_newest_heading_of_the_changes():

@@ -4,7 +4,7 @@ import ctypes
 from pathlib import Path
 
 #: The version of this package, which that of the library must be.
-VERSION = '0.2.0'
+VERSION = '0.3.0'
 
 DONE = 0
 NONE = 2**64 - 1

@@ -35,7 +35,7 @@ static unsigned long memory_grow(unsigned long more)
 
 #define __builtin_wasm_memory_size(memory) memory_size()
 #define __builtin_wasm_memory_grow(memory, more) memory_grow(more)
-#include "../../tools/wasm/heap.c"
+#include "../../crates/roskevad_c/module_heap/heap.c"
 
 typedef struct held {
     u8 *at;

@@ -21,7 +21,7 @@ import sys
 from pathlib import Path
 
 I32, I64, V128 = 0x7F, 0x7E, 0x7B
-# 3 GiB; tools/wasm/heap.c asks for no more.
+# 3 GiB; crates/roskevad_c/module_heap/heap.c asks for no more.
 MOST_PAGES = 49152
 # The section at the end.
 MARK = b'roskevad'

@@ -4,8 +4,8 @@
 1. The kit hands its LLVM module to the `clang` of a toolchain folder. That folder is one of ours here,
    whose clang keeps the module and then does what the kit's does.
 2. retarget.py writes the text of the module anew, for WebAssembly.
-3. The kit's clang compiles it, and heap.c, which stands for the kit's heap over malloc; `rattle-link`
-   links both. It imports nothing.
+3. The kit's clang compiles it, and crates/roskevad_c/module_heap/heap.c, which stands for the kit's
+   heap over malloc; `rattle-link` links both. It imports nothing.
 4. lower.py gives it 32-bit addresses, as all browsers and Node take.
 
 The kit's own target for WebAssembly refuses every crate with a heap. No step depends on where it is
@@ -17,7 +17,7 @@ from pathlib import Path
 
 from . import lower, retarget
 
-HERE = Path(__file__).resolve().parent
+HEAP = Path(__file__).resolve().parents[2] / 'crates/roskevad_c/module_heap/heap.c'
 TARGET = retarget.TARGET
 # What is written for a function, and what the kit's compiler says to clang for this target. Vectors
 # are needed: the module has some, which would become many single instructions.
@@ -87,7 +87,7 @@ def compile_module(clang, bitcode, folder):
 
 def compile_heap(clang, folder):
     words = [*WORDS, '-Wall', '-Wextra', '-O2', '-ffreestanding', '-nostdinc', '-c', '-x', 'c']
-    run(clang, *words, HERE / 'heap.c', '-o', 'heap.o', folder=folder)
+    run(clang, *words, HEAP, '-o', 'heap.o', folder=folder)
 
 
 def build(kit, bitcode, folder, version):

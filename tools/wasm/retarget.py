@@ -16,7 +16,7 @@ LAYOUT = 'e-m:e-p:64:64-p10:8:8-p20:8:8-i64:64-i128:128-n32:64-S128-ni:1:10:20'
 EXPORTED = 'roskevad_'
 # Attributes with a value: those of x86-64 alone are left out.
 LEFT_OUT = ('target-cpu', 'target-features', 'tune-cpu', 'probe-stack', 'stack-probe-size')
-# The functions of tools/wasm/heap.c.
+# The functions of crates/roskevad_c/module_heap/heap.c.
 HEAP = {'rattle_alloc', 'rattle_realloc', 'rattle_dealloc'}
 # Intrinsics that each target has, by their names without types.
 INTRINSICS = {

@@ -70,7 +70,7 @@ fn table_arg<'a>(alloc: Global) -> Result<Arg<'a>, AllocError> {
 // The command without options.
 fn bare_command<'a>(alloc: Global) -> Command<'a> {
     Command::new(alloc, "map_report")
-        .version("0.2.0")
+        .version("0.3.0")
         .about(ABOUT)
         .after_help(AFTER_HELP)
 }

@@ -440,8 +440,8 @@ pub extern "C" fn roskevad_put_back(alloc: Global, bytes: &[u8], text: &mut [u8]
 /// Copies the version of the library, and answers its size.
 #[unsafe(no_mangle)]
 pub extern "C" fn roskevad_version(version: &mut [u8]) -> usize
-    ensures size { result ≡ size_of (Some (codes "0.2.0")) }
-    ensures copied { version.new ≡ filled (Some (codes "0.2.0")) version.old }
+    ensures size { result ≡ size_of (Some (codes "0.3.0")) }
+    ensures copied { version.new ≡ filled (Some (codes "0.3.0")) version.old }
 {
-    copy_bytes(Some(b"0.2.0"), version)
+    copy_bytes(Some(b"0.3.0"), version)
 }

@@ -146,7 +146,7 @@ fn whole_command<'a>(alloc: Global) -> Result<Command<'a>, AllocError>
     ensures limit { IfOk result (λ c. GivesOnly c (codes "limit") (IsUnsignedIn 0 MAX_LIMIT)) }
 {
     let with_folder = Command::new(alloc, "tile_editor")
-        .version("0.2.0")
+        .version("0.3.0")
         .about(ABOUT)
         .after_help(AFTER_HELP)
         .arg(folder_arg(alloc))?;
