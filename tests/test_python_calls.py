@@ -331,8 +331,8 @@ def test_what_is_said_of_threads():
     page = ' '.join((TOP / 'docs' / 'library.md').read_text().split())
     package = ' '.join((Editor.__doc__ or '').split())
     for name, text, thing in (
-        ('the header', header, 'slots'),
-        ('the page', page, 'sessions'),
+        ('the header', header, 'editors'),
+        ('the page', page, 'editors'),
         ('the package', package, 'editors'),
     ):
         assert words.replace('things', thing) in text, name
