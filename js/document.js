@@ -3,7 +3,7 @@
 import { Closed, Refused } from "./faults.js";
 import { Properties } from "./properties.js";
 import { doubtful, partsOf, rowsOf } from "./rows.js";
-import { Seen } from "./seen.js";
+import { Outline } from "./outline.js";
 import { Selection } from "./selection.js";
 import { Tilesets } from "./tilesets.js";
 import { Layer, Layers, Objects } from "./views.js";
@@ -43,11 +43,11 @@ export class Document {
     this._keeping(() => this._editor.step(`use ${this._name}`));
   }
 
-  // What work gives that changes nothing of what was seen.
+  // What work gives that changes nothing of the outline that was kept.
   _keeping(work) {
-    const seen = this._editor._seen;
+    const outline = this._editor._keptOutline;
     const given = work();
-    this._editor._seen = seen;
+    this._editor._keptOutline = outline;
     return given;
   }
 
@@ -74,16 +74,16 @@ export class Document {
 
   _look(answer) {
     this._enter();
-    return answer(this._seenNow());
+    return answer(this._outlineNow());
   }
 
-  _seenNow() {
-    const seen = this._editor._seen;
-    if (seen !== null && seen.document === this._name) {
-      return seen;
+  _outlineNow() {
+    const outline = this._editor._keptOutline;
+    if (outline !== null && outline.document === this._name) {
+      return outline;
     }
-    this._editor._seen = new Seen(this._name, this._editor.outline());
-    return this._editor._seen;
+    this._editor._keptOutline = new Outline(this._name, this._editor.outline());
+    return this._editor._keptOutline;
   }
 
   // What `_look` gives, for a text of the document: no document becomes active, and nothing is thrown.
@@ -110,23 +110,23 @@ export class Document {
   }
 
   get width() {
-    return this._look((seen) => seen.outline.width);
+    return this._look((outline) => outline.tree.width);
   }
 
   get height() {
-    return this._look((seen) => seen.outline.height);
+    return this._look((outline) => outline.tree.height);
   }
 
   get tileWidth() {
-    return this._look((seen) => seen.outline.tilewidth);
+    return this._look((outline) => outline.tree.tilewidth);
   }
 
   get tileHeight() {
-    return this._look((seen) => seen.outline.tileheight);
+    return this._look((outline) => outline.tree.tileheight);
   }
 
   get orientation() {
-    return this._look((seen) => seen.outline.orientation);
+    return this._look((outline) => outline.tree.orientation);
   }
 
   get origin() {
@@ -143,7 +143,7 @@ export class Document {
   }
 
   get properties() {
-    return new Properties(this, "map", (seen) => seen.outline);
+    return new Properties(this, "map", (outline) => outline.tree);
   }
 
   get tilesets() {
@@ -279,8 +279,8 @@ export class Document {
         if (!(fault instanceof Refused)) {
           throw fault;
         }
-        const told = `stamp: row ${first} and those below it of ${rows.length} rows; those above it stand, as a step`;
-        throw new Refused(fault.code, fault.words, told, place);
+        const call = `stamp: row ${first} and those below it of ${rows.length} rows; those above it stand, as a step`;
+        throw new Refused(fault.code, fault.words, call, place);
       }
     }
   }
@@ -306,10 +306,10 @@ export class Document {
 
   // The cells of a rectangle as far as it is on the map.
   _cellsWithin({ layer, left, top, width, height }) {
-    const outline = this._look((seen) => seen.outline);
+    const { tree } = this._look((outline) => outline);
     const [x, y] = [Math.max(left, 0), Math.max(top, 0)];
-    const right = Math.min(left + width, outline.width);
-    const bottom = Math.min(top + height, outline.height);
+    const right = Math.min(left + width, tree.width);
+    const bottom = Math.min(top + height, tree.height);
     return this._editor.cells(layer, x, y, Math.max(right - x, 0), Math.max(bottom - y, 0));
   }
 
@@ -337,14 +337,14 @@ export class Document {
 
   // The width and the cells of a rectangle of a tile layer.
   _cellsOf(layer, x, y, width, height) {
-    const { outline, members } = this._look((seen) => ({ outline: seen.outline, members: layer._has(seen) }));
+    const { tree, members } = this._look((outline) => ({ tree: outline.tree, members: layer._has(outline) }));
     const asked = `Layer ${layer.id}: cells ${x}, ${y}, ${width}, ${height}`;
     if (members.type !== "tilelayer") {
       throw new Refused(31, "layer of another kind", asked);
     }
     const [left, top] = [words.coordinate(x, "x"), words.coordinate(y, "y")];
-    const wide = width === null ? outline.width - left : words.coordinate(width, "a width");
-    const high = height === null ? outline.height - top : words.coordinate(height, "a height");
+    const wide = width === null ? tree.width - left : words.coordinate(width, "a width");
+    const high = height === null ? tree.height - top : words.coordinate(height, "a height");
     const cells = this._editor.cells(layer.id, left, top, wide, high);
     if (cells === null) {
       throw new Refused(32, "outside the map", asked);
@@ -394,8 +394,8 @@ export class Document {
     if (this._isClosed) {
       return `Document ${this._name}, closed`;
     }
-    const told = this._peek(({ outline }) => `, ${outline.width} by ${outline.height}, ${this._ask("status").slice(3)}`);
-    return `Document ${this._name}${told ?? ""}`;
+    const standing = this._peek(({ tree }) => `, ${tree.width} by ${tree.height}, ${this._ask("status").slice(3)}`);
+    return `Document ${this._name}${standing ?? ""}`;
   }
 
   [Symbol.for("nodejs.util.inspect.custom")]() {

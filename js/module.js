@@ -31,8 +31,8 @@ const BESIDE = new URL("./roskevad.wasm", import.meta.url);
 const MARK = "roskevad";
 // The bytes of the place that what is not longer is copied through, each way.
 const ROOM = 65_536;
-// The bytes of what is told of many lines.
-const HEARD_BYTES = 32;
+// The bytes of what the library says of lines that it has done.
+const LINES_DONE_BYTES = 32;
 const NEWLINE = 10;
 // The characters of a short text.
 const SHORT = 100;
@@ -60,7 +60,7 @@ export class Module {
     this._giveMemory = this._guarded(exports.free);
     this._line = this.take(ROOM);
     this._reply = this.take(ROOM);
-    this._heard = this.take(HEARD_BYTES);
+    this._linesDone = this.take(LINES_DONE_BYTES);
   }
 
   /**
@@ -74,9 +74,9 @@ export class Module {
     if (!mark) {
       throw new BadModule("it is cut short, or another one");
     }
-    see(decoder.decode(mark));
+    checkVersion(decoder.decode(mark));
     const module = new Module((await WebAssembly.instantiate(compiled, {})).exports);
-    see(decoder.decode(module.told((at, room) => module.calls.version(at, room))));
+    checkVersion(decoder.decode(module.copyBytes((at, room) => module.calls.version(at, room))));
     return module;
   }
 
@@ -171,7 +171,7 @@ export class Module {
    * The bytes that a call copies to a place with room for so many items, of `unit` bytes each; null
    * where there are none. Where they do not fit, `again` copies them to a larger place. Throws NoMemory.
    */
-  told(call, again = call, unit = 1) {
+  copyBytes(call, again = call, unit = 1) {
     const count = this.number(call(this._reply, ROOM / unit));
     if (count === null) {
       return null;
@@ -187,7 +187,7 @@ export class Module {
   }
 
   /**
-   * What a call without a slot makes of the text of a map: the text, null where it makes none; and why not,
+   * What a call without an editor makes of the text of a map: the text, null where it makes none; and why not,
    * in words, else null. The text is made once more where it has no room. Throws NoMemory.
    */
   made(name, given) {
@@ -211,13 +211,13 @@ export class Module {
   }
 
   /** The same as a text. `guess` is how many bytes it may have: where that is right, the call is made once. */
-  toldText(call, again = call, guess = 0) {
+  copyText(call, again = call, guess = 0) {
     const decoded = (at, size) => decoder.decode(this.bytes().subarray(at, at + size));
-    const told = (at, room) => {
+    const read = (at, room) => {
       const size = this.number(call(at, room));
       return [size, size !== null && size <= room ? decoded(at, size) : null];
     };
-    const [size, text] = guess > ROOM ? this.holding(guess, (at) => told(at, guess)) : told(this._reply, ROOM);
+    const [size, text] = guess > ROOM ? this.holding(guess, (at) => read(at, guess)) : read(this._reply, ROOM);
     if (size === null || text !== null) {
       return text;
     }
@@ -232,15 +232,15 @@ export class Module {
    * until the next call. It may end behind any line: the answer tells how many lines and bytes are done,
    * and whether the last line was refused. Throws NoMemory.
    */
-  ran(slot, at, size, stop, take) {
+  runLines(editor, at, size, stop, take) {
     const { run_lines, reply } = this.calls;
-    const lines = run_lines(slot, at, size, stop ? 1 : 0, this._reply, ROOM, this._heard);
+    const lines = run_lines(editor, at, size, stop ? 1 : 0, this._reply, ROOM, this._linesDone);
     // Four numbers of 64 bits, below 2^32.
-    const heard = new Uint32Array(this._memory.buffer, this._heard, HEARD_BYTES / 4);
-    const [bytes, , replies, , isRefused, , hasRoom] = heard;
+    const done = new Uint32Array(this._memory.buffer, this._linesDone, LINES_DONE_BYTES / 4);
+    const [bytes, , replies, , isRefused, , hasRoom] = done;
     take(this.bytes().subarray(this._reply, this._reply + replies));
     if (!hasRoom) {
-      take(withNewline(this.told((to, room) => reply(slot, to, room))));
+      take(withNewline(this.copyBytes((to, room) => reply(editor, to, room))));
     }
     return { lines, bytes, isRefused: isRefused === 1 };
   }
@@ -280,7 +280,7 @@ export function bytesOf(data) {
   throw new TypeError("bytes or a text are wanted");
 }
 
-function see(version) {
+function checkVersion(version) {
   if (version !== VERSION) {
     throw new BadModule(`its version is ${version}, and that of the package ${VERSION}`);
   }

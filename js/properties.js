@@ -21,7 +21,7 @@ export class Properties {
   }
 
   get _all() {
-    const listed = this._document._look((seen) => this._members(seen).properties ?? []);
+    const listed = this._document._look((outline) => this._members(outline).properties ?? []);
     return new Map(listed.map((each) => [each.name, each]));
   }
 
@@ -87,7 +87,7 @@ export class Properties {
   }
 
   [Symbol.for("nodejs.util.inspect.custom")]() {
-    const listed = this._document._peek((seen) => this._members(seen).properties ?? []) ?? [];
+    const listed = this._document._peek((outline) => this._members(outline).properties ?? []) ?? [];
     return `<${this}: ${JSON.stringify(Object.fromEntries(listed.map((each) => [each.name, each.value])))}>`;
   }
 }

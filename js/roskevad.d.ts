@@ -101,7 +101,7 @@ export class Module {
 export type SelectionRun = [row: number, column: number, count: number];
 
 /**
- * An editor of tile maps: a session in memory, which does the lines that docs/session-lines.md lists.
+ * An editor of tile maps, in memory, which does the lines that docs/session-lines.md lists.
  *
  * Its calls throw Closed behind `close`, Broken where the engine broke a call of its module off, and
  * NoMemory where the module has no memory for what they give.

@@ -3,12 +3,13 @@
 //
 //   const editor = await Editor.create({ limit: 0 });
 //   editor.step("new town 4 3 16 16 town.tsj");
-import { originOf, restored } from "./aside.js";
+import { originOf, restored } from "./tiled_maps.js";
 import { joined } from "./bytes.js";
 import { Document } from "./document.js";
 import { Closed, NoMemory, Refused } from "./faults.js";
 import { BAD_NAME, DONE, Module, NONE, bytesOf, textOf } from "./module.js";
-import { Unpackable, packed, unpacked } from "./packed.js";
+import { Unpackable, packLayers, unpackLayers } from "./compressed_layers.js";
+import { drawn } from "./outline.js";
 import * as words from "./words.js";
 
 export { Document } from "./document.js";
@@ -36,15 +37,15 @@ const CLOSING = /^(?:close|discard) ([A-Za-z0-9_.-]+)$/;
 const QUIET = /^(?: *$|#)/;
 const REFUSAL = /^no (\d+) (.*)$/s;
 const GREATEST_LIMIT = 1_000_000;
-// The bytes of what a session is kept in, and of a run of the selection.
-const SLOT_BYTES = 16;
+// The bytes of the library's own handle of an editor, and of a run of the selection.
+const EDITOR_BYTES = 16;
 const RUN_BYTES = 12;
 const CELL_BYTES = 4;
 // The characters of lines that are handed on at once.
 const PART = 20_000;
 
 /**
- * An editor of tile maps: a session in memory, which does the lines that docs/session-lines.md lists.
+ * An editor of tile maps, in memory, which does the lines that docs/session-lines.md lists.
  *
  * Its calls throw Closed behind `close`, Broken where the engine broke a call of its module off, and
  * NoMemory where the module has no memory for what they give.
@@ -59,19 +60,19 @@ export class Editor {
       throw new RangeError(`a limit is from 0 to ${GREATEST_LIMIT}: ${limit}`);
     }
     this._module = module;
-    // The open documents that were handed out, by their names, and what was seen of one that nothing has
+    // The open documents that were handed out, by their names, and the outline of one that nothing has
     // changed since.
     this._handles = new Map();
     // The names of those that are being opened.
     this._opening = new Set();
-    this._seen = null;
+    this._keptOutline = null;
     // About how many bytes an outline has: as many as the last one, or as the file that was opened.
     this._outlineSize = 0;
     // Whether anything of a map was set aside or unpacked. Until then maps are given as they are.
     this._hasSetAside = false;
-    this._slot = module.take(SLOT_BYTES);
-    module.bytes().fill(0, this._slot, this._slot + SLOT_BYTES);
-    if (module.calls.open(this._slot, limit) !== DONE) {
+    this._cEditor = module.take(EDITOR_BYTES);
+    module.bytes().fill(0, this._cEditor, this._cEditor + EDITOR_BYTES);
+    if (module.calls.open(this._cEditor, limit) !== DONE) {
       this.close();
       throw new NoMemory();
     }
@@ -87,11 +88,11 @@ export class Editor {
 
   /** Gives back its memory. Twice is harmless. */
   close() {
-    const [module, slot] = [this._module, this._slot];
-    this._slot = 0;
-    if (slot !== 0 && !module.isBroken) {
-      module.calls.close(slot);
-      module.giveBack(slot);
+    const [module, cEditor] = [this._module, this._cEditor];
+    this._cEditor = 0;
+    if (cEditor !== 0 && !module.isBroken) {
+      module.calls.close(cEditor);
+      module.giveBack(cEditor);
     }
   }
 
@@ -101,19 +102,19 @@ export class Editor {
   }
 
   _open() {
-    if (this._slot === 0) {
+    if (this._cEditor === 0) {
       throw new Closed();
     }
-    return this._slot;
+    return this._cEditor;
   }
 
   // ---- lines
 
   /** Does what a line asks for, and gives the reply, "" where the line is quiet. Throws Refused. */
   step(line) {
-    const [say, again] = this._saying(line);
-    const reply = this._module.toldText(say, again) ?? "";
-    this._see(line, reply);
+    const [call, again] = this._callsFor(line);
+    const reply = this._module.copyText(call, again) ?? "";
+    this._forgetIfClosed(line, reply);
     const refusal = reply.startsWith("no ") && REFUSAL.exec(reply);
     if (refusal) {
       throw new Refused(Number(refusal[1]), refusal[2], line);
@@ -126,22 +127,22 @@ export class Editor {
    * line is quiet.
    */
   stepBytes(line) {
-    const [say, again] = this._saying(line);
-    const reply = this._module.told(say, again);
+    const [call, again] = this._callsFor(line);
+    const reply = this._module.copyBytes(call, again);
     if (this._handles.size > 0 && reply !== null) {
-      this._see(textOf(bytesOf(line)), textOf(reply.subarray(0, 3)));
+      this._forgetIfClosed(textOf(bytesOf(line)), textOf(reply.subarray(0, 3)));
     }
-    this._seen = null;
+    this._keptOutline = null;
     return reply;
   }
 
-  // The call that hears a line and copies its reply, and the one that copies the reply again.
-  _saying(line) {
-    const [module, slot] = [this._module, this._open()];
+  // The call that does a line and copies its reply, and the one that copies the reply again.
+  _callsFor(line) {
+    const [module, cEditor] = [this._module, this._open()];
     const { step, reply } = module.calls;
     return [
-      (to, room) => module.given(line, (at, size) => step(slot, at, size, to, room)),
-      (to, room) => reply(slot, to, room),
+      (to, room) => module.given(line, (at, size) => step(cEditor, at, size, to, room)),
+      (to, room) => reply(cEditor, to, room),
     ];
   }
 
@@ -156,14 +157,14 @@ export class Editor {
     if (lines.some((line) => line.includes("\n"))) {
       throw new RangeError("a line has no newline in it");
     }
-    this._seen = null;
+    this._keptOutline = null;
     const replies = [];
     const take = (bytes) => replies.push(...textOf(bytes).split("\n").slice(0, -1));
     let done = 0;
     for (const part of partsOf(lines)) {
       const came = this._run(part, true, take);
       if (this._handles.size > 0) {
-        this._seeAll(lines.slice(done, done + came.lines - Number(came.isRefused)));
+        this._forgetClosed(lines.slice(done, done + came.lines - Number(came.isRefused)));
       }
       done += came.lines;
       if (came.isRefused) {
@@ -182,19 +183,19 @@ export class Editor {
     const parts = [];
     this._run(session, false, (bytes) => parts.push(bytes.slice()));
     const all = joined(parts);
-    this._seeSession(session, all);
+    this._forgetClosedBySession(session, all);
     return all;
   }
 
   // Does lines that are cut at newlines, perhaps to the first refused one. Gives how many are done, and
   // whether the last one was refused. `take` gets the replies, part by part.
   _run(session, stop, take) {
-    const [module, slot] = [this._module, this._open()];
+    const [module, cEditor] = [this._module, this._open()];
     return module.given(session, (at, size) => {
       const end = at + size;
       let [lines, isRefused] = [0, false];
       while (at < end && !(stop && isRefused)) {
-        const came = module.ran(slot, at, end - at, stop, take);
+        const came = module.runLines(cEditor, at, end - at, stop, take);
         at += came.bytes;
         lines += came.lines;
         isRefused = came.isRefused;
@@ -225,7 +226,7 @@ export class Editor {
 
   /** The bytes under a name, and null where there is no file of that name. */
   file(name) {
-    return this._module.told((to, room) =>
+    return this._module.copyBytes((to, room) =>
       this._module.given(name, (at, size) => this._call("file", at, size, to, room)),
     );
   }
@@ -238,7 +239,7 @@ export class Editor {
   /** The names of the files, in their order. */
   files() {
     return Array.from({ length: this._call("file_count") }, (_, at) =>
-      this._module.toldText((to, room) => this._call("file_name", at, to, room)),
+      this._module.copyText((to, room) => this._call("file_name", at, to, room)),
     );
   }
 
@@ -256,7 +257,7 @@ export class Editor {
   async _opened(name, data, call) {
     this._open();
     const given = bytesOf(data);
-    const { bytes, why } = await withCode(call, unpacked(given));
+    const { bytes, why } = await withCode(call, unpackLayers(given));
     const text = this._made("set_aside", bytes, call);
     this._hasSetAside ||= text !== given;
     return this._openBytes(name, text, call, why);
@@ -272,15 +273,15 @@ export class Editor {
   }
 
   async _saved(call) {
-    const shown = this._say("show", call).slice(MAP.length);
+    const shown = this._replyTo("show", call).slice(MAP.length);
     const bytes = this._hasSetAside ? this._made("put_back", shown, call) : shown;
-    this._say("clean", call);
+    this._replyTo("clean", call);
     if (!this._hasSetAside) {
       return bytes;
     }
     const document = this._activeName();
     try {
-      return await packed(bytes);
+      return await packLayers(bytes);
     } catch (fault) {
       this._markDirty(document);
       throw fault;
@@ -288,7 +289,7 @@ export class Editor {
   }
 
   // The reply to a line that a call says. Throws Refused with the call.
-  _say(line, call, why = null) {
+  _replyTo(line, call, why = null) {
     const reply = this.stepBytes(line);
     const refusal = REFUSAL.exec(textOf(reply.subarray(0, LONGEST_REFUSAL)));
     if (refusal) {
@@ -315,7 +316,7 @@ export class Editor {
     this.putFile(name, bytes);
     this._outlineSize = Math.min(bytes.length, LONGEST_GUESS);
     try {
-      return textOf(this._say(`open ${document} ${name}`, call, why));
+      return textOf(this._replyTo(`open ${document} ${name}`, call, why));
     } finally {
       if (!this._module.isBroken) {
         this.removeFile(name);
@@ -331,7 +332,7 @@ export class Editor {
 
   // Leaves no index of a document clean, if it is still there.
   _markDirty(document) {
-    if (this._slot === 0 || this._module.isBroken) {
+    if (this._cEditor === 0 || this._module.isBroken) {
       return;
     }
     const active = this._activeName();
@@ -364,7 +365,7 @@ export class Editor {
 
   _outlineText(asked) {
     const call = (to, room) => this._call("outline", to, room);
-    const text = this._module.toldText(call, call, this._outlineSize + SPARE);
+    const text = this._module.copyText(call, call, this._outlineSize + SPARE);
     if (text === null) {
       throw noDocument(asked);
     }
@@ -387,7 +388,7 @@ export class Editor {
       return null;
     }
     const call = (to, room) => this._call("cells", layer, x, y, width, height, to, room);
-    const bytes = this._module.told(call, call, CELL_BYTES);
+    const bytes = this._module.copyBytes(call, call, CELL_BYTES);
     return bytes && new Uint32Array(bytes.buffer);
   }
 
@@ -449,7 +450,7 @@ export class Editor {
   /** The text for the action of the step at this place, from 0; null where there is none. */
   actionText(at) {
     return isCount(at)
-      ? this._module.toldText((to, room) => this._call("action_text", at, to, room))
+      ? this._module.copyText((to, room) => this._call("action_text", at, to, room))
       : null;
   }
 
@@ -535,15 +536,15 @@ export class Editor {
   }
 
   // Notes what a line has done to what was handed out: it may have closed a document.
-  _see(line, reply) {
-    this._seen = null;
+  _forgetIfClosed(line, reply) {
+    this._keptOutline = null;
     if (this._handles.size > 0 && reply.startsWith("ok ")) {
-      this._seeAll([line]);
+      this._forgetClosed([line]);
     }
   }
 
   // The same of lines that were done.
-  _seeAll(lines) {
+  _forgetClosed(lines) {
     for (const line of lines) {
       const closed = CLOSING.exec(line);
       const handle = closed && this._handles.get(closed[1]);
@@ -555,12 +556,12 @@ export class Editor {
   }
 
   // The same of a session, of which each line that is not quiet has its reply.
-  _seeSession(session, replies) {
-    this._seen = null;
+  _forgetClosedBySession(session, replies) {
+    this._keptOutline = null;
     if (this._handles.size > 0) {
-      const told = textOf(replies).split("\n");
+      const answers = textOf(replies).split("\n");
       const lines = textOf(bytesOf(session)).split("\n").filter((line) => !QUIET.test(line));
-      this._seeAll(lines.filter((_, at) => told[at]?.startsWith("ok ")));
+      this._forgetClosed(lines.filter((_, at) => answers[at]?.startsWith("ok ")));
     }
   }
 
@@ -606,14 +607,6 @@ async function withCode(call, work) {
       throw refusedCall(fault.code, words, call, fault.why);
     }
     throw fault;
-  }
-}
-
-/** The layers in drawing order, those that stand in a group behind it. */
-function* drawn(layers) {
-  for (const layer of layers) {
-    yield layer;
-    yield* drawn(layer.layers ?? []);
   }
 }
 

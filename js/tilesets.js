@@ -25,7 +25,7 @@ export class Tileset {
   }
 
   get _members() {
-    const members = this._document._look((seen) => seen.tilesets.get(this.firstId));
+    const members = this._document._look((outline) => outline.tilesets.get(this.firstId));
     if (members === undefined) {
       throw new Refused(36, "no such tileset", this.toString());
     }
@@ -67,9 +67,9 @@ export class Tileset {
 }
 
 /** The tile that a value, which is not 0, stands for. */
-export function tileOf(document, seen, value) {
+export function tileOf(document, outline, value) {
   const base = (value & BASE) >>> 0;
-  const first = seen.tilesetOf(base);
+  const first = outline.tilesetOf(base);
   const flips = Object.entries(FLAGS).map(([name, bit]) => [name, (value & bit) !== 0]);
   return Object.freeze({
     value,
@@ -87,14 +87,14 @@ export class Tilesets {
   }
 
   *[Symbol.iterator]() {
-    for (const first of this._document._look((seen) => [...seen.tilesets.keys()])) {
+    for (const first of this._document._look((outline) => [...outline.tilesets.keys()])) {
       yield new Tileset(this._document, first);
     }
   }
 
   /** The number of tilesets. */
   get size() {
-    return this._document._look((seen) => seen.tilesets.size);
+    return this._document._look((outline) => outline.tilesets.size);
   }
 
   /** The first one in order; null where the map has none. */
@@ -104,11 +104,11 @@ export class Tilesets {
   }
 
   _found(key) {
-    return this._document._look((seen) => {
+    return this._document._look((outline) => {
       if (typeof key === "number") {
-        return seen.tilesets.has(key) ? key : null;
+        return outline.tilesets.has(key) ? key : null;
       }
-      const found = [...seen.tilesets.values()].find((each) => (each.source ?? each.name) === key);
+      const found = [...outline.tilesets.values()].find((each) => (each.source ?? each.name) === key);
       return found?.firstgid ?? null;
     });
   }

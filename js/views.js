@@ -2,7 +2,7 @@
 // The layers of a document, and their objects, as they are at each call.
 import { Refused } from "./faults.js";
 import { Properties } from "./properties.js";
-import { drawn } from "./seen.js";
+import { drawn } from "./outline.js";
 import { tileOf } from "./tilesets.js";
 import * as words from "./words.js";
 
@@ -31,7 +31,7 @@ class View {
   }
 
   get _members() {
-    return this._document._look((seen) => this._has(seen));
+    return this._document._look((outline) => this._has(outline));
   }
 
   [INSPECT]() {
@@ -48,8 +48,8 @@ export class MapObject extends View {
     return this.id;
   }
 
-  _has(seen) {
-    const members = seen.objects.get(this.id);
+  _has(outline) {
+    const members = outline.objects.get(this.id);
     if (members === undefined) {
       throw new Refused(34, "no such object", `MapObject ${this.id}`);
     }
@@ -57,7 +57,7 @@ export class MapObject extends View {
   }
 
   get layer() {
-    const id = this._document._look((seen) => [this._has(seen), seen.layerOf.get(this.id)][1]);
+    const id = this._document._look((outline) => [this._has(outline), outline.layerOf.get(this.id)][1]);
     return new Layer(this._document, id);
   }
 
@@ -94,14 +94,14 @@ export class MapObject extends View {
   }
 
   get tile() {
-    return this._document._look((seen) => {
-      const { gid } = this._has(seen);
-      return gid ? tileOf(this._document, seen, gid) : null;
+    return this._document._look((outline) => {
+      const { gid } = this._has(outline);
+      return gid ? tileOf(this._document, outline, gid) : null;
     });
   }
 
   get properties() {
-    return new Properties(this._document, `object:${this.id}`, (seen) => this._has(seen));
+    return new Properties(this._document, `object:${this.id}`, (outline) => this._has(outline));
   }
 
   move(x, y, { merge = false } = {}) {
@@ -119,8 +119,8 @@ export class MapObject extends View {
   }
 
   toString() {
-    const told = this._document._peek((seen) => this._has(seen));
-    return told ? `MapObject ${this.id} ${told.name} at ${told.x}, ${told.y}` : `MapObject ${this.id}`;
+    const members = this._document._peek((outline) => this._has(outline));
+    return members ? `MapObject ${this.id} ${members.name} at ${members.x}, ${members.y}` : `MapObject ${this.id}`;
   }
 }
 
@@ -157,8 +157,8 @@ export class Objects {
   }
 
   get _all() {
-    return this._document._look((seen) =>
-      this._layer === null ? [...seen.objects.values()] : seen.layers.get(this._layer)?.objects ?? [],
+    return this._document._look((outline) =>
+      this._layer === null ? [...outline.objects.values()] : outline.layers.get(this._layer)?.objects ?? [],
     );
   }
 
@@ -200,8 +200,8 @@ export class Objects {
  * call throws Refused, 30.
  */
 export class Layer extends View {
-  _has(seen) {
-    const members = seen.layers.get(this.id);
+  _has(outline) {
+    const members = outline.layers.get(this.id);
     if (members === undefined) {
       throw new Refused(30, "no such layer", `Layer ${this.id}`);
     }
@@ -237,7 +237,7 @@ export class Layer extends View {
   }
 
   get properties() {
-    return new Properties(this._document, `layer:${this.id}`, (seen) => this._has(seen));
+    return new Properties(this._document, `layer:${this.id}`, (outline) => this._has(outline));
   }
 
   cells(x = 0, y = 0, width = null, height = null) {
@@ -253,7 +253,7 @@ export class Layer extends View {
 
   tile(x, y) {
     const [value] = this._document._cellsOf(this, x, y, 1, 1).cells;
-    return value === 0 ? null : this._document._look((seen) => tileOf(this._document, seen, value));
+    return value === 0 ? null : this._document._look((outline) => tileOf(this._document, outline, value));
   }
 
   move(place) {
@@ -265,8 +265,8 @@ export class Layer extends View {
   }
 
   toString() {
-    const told = this._document._peek((seen) => this._has(seen));
-    return told ? `Layer ${this.id} ${KINDS[told.type]} ${told.name}` : `Layer ${this.id}`;
+    const members = this._document._peek((outline) => this._has(outline));
+    return members ? `Layer ${this.id} ${KINDS[members.type]} ${members.name}` : `Layer ${this.id}`;
   }
 }
 
@@ -279,11 +279,11 @@ export class Layers {
   }
 
   get _below() {
-    return this._document._look((seen) => {
-      if (this._group !== null && !seen.layers.has(this._group)) {
+    return this._document._look((outline) => {
+      if (this._group !== null && !outline.layers.has(this._group)) {
         throw new Refused(30, "no such layer", `Layers of ${this._group}`);
       }
-      return seen.below(this._group);
+      return outline.below(this._group);
     });
   }
 

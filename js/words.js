@@ -22,15 +22,15 @@ function shown(word) {
   return word.length <= SHOWN ? JSON.stringify(word) : `${JSON.stringify(word.slice(0, SHOWN))}..`;
 }
 
-/** A value as a fault tells it. */
-function told(value) {
+/** A value as a fault quotes it. */
+function quoted(value) {
   return typeof value === "string" ? shown(value) : String(value).slice(0, SHOWN);
 }
 
 /** A text that a line can have. Throws TypeError where it is none, RangeError where no line can say it. */
 export function text(word, what) {
   if (typeof word !== "string") {
-    throw new TypeError(`${what} is a string: ${told(word)}`);
+    throw new TypeError(`${what} is a string: ${quoted(word)}`);
   }
   if (word === "") {
     throw new RangeError(`${what} is empty, and no line can say that`);
@@ -76,7 +76,7 @@ export function macro(words, action) {
 /** The name of a document. Throws TypeError where it is no text, RangeError where no line can say it. */
 export function document(name) {
   if (typeof name !== "string") {
-    throw new TypeError(`the name of a document is a string: ${told(name)}`);
+    throw new TypeError(`the name of a document is a string: ${quoted(name)}`);
   }
   if (!DOCUMENT.test(name)) {
     throw new RangeError(
@@ -88,7 +88,7 @@ export function document(name) {
 
 function whole(value, what) {
   if (!Number.isInteger(value)) {
-    throw new TypeError(`${what} is a whole number: ${told(value)}`);
+    throw new TypeError(`${what} is a whole number: ${quoted(value)}`);
   }
   return value;
 }
@@ -113,7 +113,7 @@ export function number(value, what) {
 /** A word of a few. Throws RangeError for any other. */
 export function oneOf(word, words, what) {
   if (!words.includes(word)) {
-    throw new RangeError(`${what} is one of ${words.join(", ")}: ${told(word)}`);
+    throw new RangeError(`${what} is one of ${words.join(", ")}: ${quoted(word)}`);
   }
   return word;
 }
@@ -137,7 +137,7 @@ export function setting(name, value, kind) {
   }
   const wanted = { int: "number", bool: "boolean" }[kind] ?? "string";
   if (typeof value !== wanted || (kind === "int" && !Number.isInteger(value))) {
-    throw new TypeError(`${what} has the type ${kind}, and takes no such value: ${told(value)}`);
+    throw new TypeError(`${what} has the type ${kind}, and takes no such value: ${quoted(value)}`);
   }
   if (kind === "int") {
     return `int ${coordinate(value, what)}`;
@@ -172,6 +172,6 @@ export function typeOf(name, value) {
     return "object";
   }
   throw new TypeError(
-    `the property ${shown(name)} is a string, a whole number, a boolean or a MapObject: ${told(value)}`,
+    `the property ${shown(name)} is a string, a whole number, a boolean or a MapObject: ${quoted(value)}`,
   );
 }

@@ -188,10 +188,10 @@ async function servedBy(key) {
   const place = new ServedFiles(key);
   place.addEventListener("gone", ({ detail }) => {
     const words = `${detail} Saving has to wait; all else goes on. If it starts at the same port with another key, open its new address in this tab.`;
-    notice("server", words, [["Try again", () => place.told().then(() => true, () => false)]]);
+    notice("server", words, [["Try again", () => place.folderListing().then(() => true, () => false)]]);
   });
   place.addEventListener("back", () => endNotice("server"));
-  return { place, told: await place.told().catch(() => ({ files: [], limit: 0 })) };
+  return { place, listing: await place.folderListing().catch(() => ({ files: [], limit: 0 })) };
 }
 
 // Opens the files that the server was started with. One that fails keeps no other one away.
@@ -204,14 +204,14 @@ async function start() {
   if (missing.length) return notice("needed", `This page cannot work here. It needs ${missing.join(", ")}.`);
   const key = isExample() ? null : new URLSearchParams(location.search).get("key");
   const [module, served] = await Promise.all([loadModule(), key === null ? null : servedBy(key)]);
-  const editor = new PageEditor(module, served?.told.limit ?? 0);
+  const editor = new PageEditor(module, served?.listing.limit ?? 0);
   if (served) editor.place = served.place;
   const page = new Page(editor);
   await editor.journal.start();
   page.panel.start();
   page.toolbar.show();
   const isRestored = await page.recovery.start();
-  if (!isRestored && served) await openAll(page, served.told.files);
+  if (!isRestored && served) await openAll(page, served.listing.files);
   if (!isRestored && isExample()) await page.example.open();
   editor.tellSoon();
   await editor.telling;

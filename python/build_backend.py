@@ -26,23 +26,23 @@ DATE = (1980, 1, 1, 0, 0, 0)
 PROGRAM, PLAIN = 0o755, 0o644
 
 
-def told(name: str) -> str:
+def project_field(name: str) -> str:
     """What the project's file says of a name."""
     found = re.search(rf'^{name} = "(.*)"$', PROJECT, re.MULTILINE)
     assert found, name
     return found[1]
 
 
-NAME, VERSION = told('name'), told('version')
+NAME, VERSION = project_field('name'), project_field('version')
 INFO = f'{NAME}-{VERSION}.dist-info'
 
 
 def metadata() -> bytes:
     """What is said of the package."""
     rows = [
-        'Metadata-Version: 2.4', f'Name: {NAME}', f'Version: {VERSION}', f'Summary: {told("description")}',
-        f'License-Expression: {told("license")}', *(f'License-File: {name}' for name in LICENCES),
-        f'Requires-Python: {told("requires-python")}',
+        'Metadata-Version: 2.4', f'Name: {NAME}', f'Version: {VERSION}', f'Summary: {project_field("description")}',
+        f'License-Expression: {project_field("license")}', *(f'License-File: {name}' for name in LICENCES),
+        f'Requires-Python: {project_field("requires-python")}',
     ]
     return ('\n'.join(rows) + '\n').encode()
 

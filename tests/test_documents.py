@@ -182,16 +182,16 @@ def test_no_memory_in_a_long_stamp():
     """The rows of the parts before stand, as one step."""
     with Editor() as editor:
         document = editor.new('a', 200, 200, 16, 16, 'a.tsj')
-        said = editor._said
+        reply_to = editor._reply_to
 
         def refuse(line, call):
             if line.startswith('stamp') and len(line) > 1000 and not line.startswith('stamp 1 0 0 '):
                 raise Refused(90, 'no memory', line)
-            return said(line, call)
+            return reply_to(line, call)
 
-        editor._said = refuse
+        editor._reply_to = refuse
         refusal = raised(Refused, document.stamp, 1, 0, 0, [[1000000000] * 200] * 200)
-        editor._said = said
+        editor._reply_to = reply_to
         cells = document.layers[1].cells()
         rows = sum(map(bool, cells)) // 200
         see((90, 1), (refusal.code, refusal.place))
@@ -219,17 +219,17 @@ def test_a_handler_in_a_call():
     """In the midst of a call of a document, and so between its lines, a call raises RuntimeError."""
     with Editor() as editor:
         document, other = made(editor), editor.new('b', 4, 3, 16, 16, 'a.tsj')
-        said, faults = editor._said, []
+        reply_to, faults = editor._reply_to, []
 
         def interrupt(line, call):
-            reply = said(line, call)
+            reply = reply_to(line, call)
             faults.append(raised(RuntimeError, lambda: other.status))
             faults.append(raised(RuntimeError, editor.step, 'use b'))
             return reply
 
-        editor._said = interrupt
+        editor._reply_to = interrupt
         document.stamp(1, 0, 0, [[5]])
-        editor._said = said
+        editor._reply_to = reply_to
         see((4, document, 5), (len(faults), editor.active, document.layers[1].cells()[0]))
 
 

@@ -11,7 +11,7 @@ from lib.sessions import all_runs, fault_of_files, fault_of_replies
 
 sys.path.insert(0, str(TOP / 'python'))
 from roskevad import Editor  # noqa: E402
-from roskevad.library import LIBRARY, Heard  # noqa: E402
+from roskevad.library import LIBRARY, LinesDone  # noqa: E402
 
 IS_LONG = True
 
@@ -31,26 +31,26 @@ def replies_by_line(editor, session):
 def replies_by_many(editor, session):
     """The replies to the lines of a session, by calls with room for some of them, which end at a
     refused line or go on behind it, in turn."""
-    room, heard = ctypes.create_string_buffer(1000), Heard()
+    room, done = ctypes.create_string_buffer(1000), LinesDone()
     place, calls, replies = 0, 0, []
     bytes_of_session = ctypes.create_string_buffer(session, len(session) + 1)
     while place < len(session):
         calls += 1
         lines = LIBRARY.roskevad_run_lines(
-            editor._slot,
+            editor._c_editor,
             ctypes.cast(ctypes.addressof(bytes_of_session) + place, ctypes.c_char_p),
             len(session) - place,
             calls % 2,
             room,
             1000,
-            heard,
+            done,
         )
-        assert lines == len(lines_of(session[place : place + heard.bytes]))
-        place += heard.bytes
-        replies.append(room[: heard.replies])
-        if not heard.has_room:
-            replies.append(editor._told('reply') + b'\n')
-        assert place == len(session) or not heard.has_room or calls % 2 and heard.is_refused
+        assert lines == len(lines_of(session[place : place + done.bytes]))
+        place += done.bytes
+        replies.append(room[: done.replies])
+        if not done.has_room:
+            replies.append(editor._copy_bytes('reply') + b'\n')
+        assert place == len(session) or not done.has_room or calls % 2 and done.is_refused
     return b''.join(replies)
 
 

@@ -54,7 +54,7 @@ def fault_of_views(editor, chosen):
     """How what the editor tells differs from the text of the map."""
     text = editor.step('show')[len('map ') :]
     tree = json.loads(text)
-    outline = editor._told('outline')
+    outline = editor._copy_bytes('outline')
     if outline != text_of(without_data(tree)):
         return unlike(text_of(without_data(tree)), outline)
     if (editor.last_layer_id() + 1, editor.last_object_id() + 1) != (

@@ -20,7 +20,7 @@ def check_calls(browser):
 def check_sessions(browser):
     runs = all_runs()
     with Server(runs) as server:
-        told(browser, server, '/tests/module/hear.mjs', 'hearAll', server.address, 'step')
+        told(browser, server, '/tests/module/run_sessions.mjs', 'runAll', server.address, 'step')
         cases = [Case(run.name, number, None) for number, run in enumerate(runs)]
         check_each(cases, lambda case: server.fault_of(case.given))
 

@@ -12,7 +12,7 @@ from lib import tiled_package
 from lib.any_maps import exports, in_each_format, saved_as, some_map
 from lib.cases import Case, check_each, unlike
 from lib.json_texts import tree_of
-from lib.packings import ZSTANDARD
+from lib.compressions import ZSTANDARD
 from module.node import ran
 
 IS_LONG = True

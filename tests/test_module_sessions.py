@@ -21,7 +21,7 @@ SIDE = 1024
 def check_in_node(runs, way):
     """Each run comes out on the module as it must."""
     with Server(runs) as server:
-        ran('hear.mjs', server.address, way)
+        ran('run_sessions.mjs', server.address, way)
         cases = [Case(run.name, number, None) for number, run in enumerate(runs)]
         check_each(cases, lambda case: server.fault_of(case.given))
 

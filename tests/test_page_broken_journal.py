@@ -540,7 +540,7 @@ def test_a_save_before_a_journal_begins_anew():
         page.js('roskevad.editor.doLines(["select replace 1 1 2 2"])')
         page.wait(lambda: page.notices(), 'the journal is full')
         # A hand of the driver's would wait until the save has ended.
-        page.js('document.querySelector("#notices .notice[data-about=full] button").click()')
+        page.js('document.querySelector("#notice-bars .notice[data-about=full] button").click()')
         page.js('roskevad.editor.journal.bound = 2 ** 28; globalThis.goOn()')
         page.wait(lambda: page.notices() == [], 'it has begun anew')
         page.settle()

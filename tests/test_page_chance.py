@@ -168,7 +168,7 @@ class Chance:
         self.outside[name] = path.read_bytes()
         self.page.js('dispatchEvent(new Event("focus"))')
         time.sleep(0.3)
-        for button in self.page.driver.find_elements('css selector', '#notices button'):
+        for button in self.page.driver.find_elements('css selector', '#notice-bars button'):
             if button.text in ('Reload', 'Not now') and self.numbers.random() < 0.7:
                 self.page.js('arguments[0].click()', button)
                 break

@@ -124,7 +124,7 @@ def test_killed_in_a_replay():
         assert before[1][1] > 15_000
         life.kill()
         page = life.begin()
-        page.js('document.querySelector("#notices button").click()')
+        page.js('document.querySelector("#notice-bars button").click()')
         life.kill()
         page = life.begin()
         page.answer('Restore')

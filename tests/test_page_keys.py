@@ -304,7 +304,7 @@ def test_all_has_a_name():
             press(page, Keys.ESCAPE)
         page.keys('r')
         page.ctrl('c')
-        assert page.find('#told').get_attribute('textContent') == 'Select cells first, with the tool Select.'
+        assert page.find('#announcement').get_attribute('textContent') == 'Select cells first, with the tool Select.'
         assert state_of(next(each for each in Tree(page).all('status') if each), 'live') == 'polite'
 
 
@@ -379,7 +379,7 @@ def test_map_by_keys():
         focus(page, '#view')
         press(page, Keys.ARROW_RIGHT)
         hold(page, Keys.SHIFT, Keys.ARROW_LEFT * 6, Keys.ARROW_UP * 6)
-        told = page.find('#told').get_attribute('textContent')
+        told = page.find('#announcement').get_attribute('textContent')
         assert told.startswith('0, 0 ') and 'Ground' in told and page.find('#place').text == told, told
         press(page, Keys.ARROW_DOWN * 2, Keys.ARROW_RIGHT * 3)
         press(page, Keys.ENTER)
@@ -526,7 +526,7 @@ def test_own_maps_stay_alone():
         assert 'new tab' not in page.find('#try').get_attribute('title')
         driver.close()
         driver.switch_to.window(own)
-        assert 'in a new tab' in page.find('#told').get_attribute('textContent')
+        assert 'in a new tab' in page.find('#announcement').get_attribute('textContent')
         assert page.js('return roskevad.editor.place.kind') == 'served' and standing(page) == (0, 0)
         page.reload()
         assert page.notices() == [] and standing(page) == (0, 0)

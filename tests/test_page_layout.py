@@ -119,7 +119,7 @@ def test_contrasts_and_targets():
                 assert page.texts('#properties .fault')
                 seen += see_all(page, (theme, 'a notice'))
             with Bench(empty=True, has_log=False) as page:
-                page.wait(lambda: page.texts('#start-maps .told'), 'the maps are listed')
+                page.wait(lambda: page.texts('#start-maps .details'), 'the maps are listed')
                 seen += see_all(page, (theme, 'no map'))
         passed(seen)
     finally:
@@ -308,7 +308,7 @@ def test_bars_over_the_map():
             page.drag([cell])
             x, y = page.point(cell)
             assert page.notices() and is_apart(box(page, '#bars'), [x - 8, y - 8, x + 8, y + 8]), cell
-            page.js('document.querySelector("#notices .notice").remove()')
+            page.js('document.querySelector("#notice-bars .notice").remove()')
         passed(10)
 
 
@@ -408,7 +408,7 @@ def test_no_map():
         page.wait(lambda: dict(page.js(CARDS)).get('house.tmj') == 'yes', 'the house is drawn')
         cards = dict(page.js(CARDS))
         assert 'town.tmj' in cards and page.find('#empty').is_displayed()
-        assert '8 × 6' in page.find('#start-maps li[data-path="house.tmj"] .told').text
+        assert '8 × 6' in page.find('#start-maps li[data-path="house.tmj"] .details').text
         assert page.texts('#start-ways button')[0] == 'New map'
         look((700, 480, 1))
         shown = page.js('return roskevad.startPage.waiting.length')

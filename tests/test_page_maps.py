@@ -99,7 +99,7 @@ def test_list():
         assert told_of(page, 'town.tmj') == ['open', f'{round((EXAMPLE_MAPS / "town.tmj").stat().st_size / 1000)} kB']
         assert told_of(page, 'house.tmj')[0] == '' and told_of(page, 'broken.tmj')[1] == '10 bytes'
         assert told_of(page, 'y.tmj')[1] == '1.2 MB'
-        told = 'return document.querySelector(`#file-list li[data-path="z59.tmj"] .told`).textContent'
+        told = 'return document.querySelector(`#file-list li[data-path="z59.tmj"] .details`).textContent'
         assert page.js(told) == '', 'a row that is not seen is not read'
         page.js('document.getElementById("file-list").scrollTo(0, 100000)')
         page.wait(lambda: page.js(told) != '', 'a row that comes into view is read')
@@ -150,7 +150,7 @@ def test_files_that_are_no_maps():
     with bench as page:
         page.open()
         page.choose_files(bench.folder / 'tiles.png')
-        page.wait(lambda: 'No map is among the chosen files' in page.find('#start-told').text, 'that no map is there')
+        page.wait(lambda: 'No map is among the chosen files' in page.find('#start-hint').text, 'that no map is there')
         assert page.notices() == []
 
 

@@ -47,7 +47,7 @@ const sum = canvas => new Uint32Array(canvas.getContext("2d").getImageData(0, 0,
     await frame();
     seen.push(sum(view.canvas), sum(overlay.canvas));
   }
-  const words = document.getElementById("not-drawn").textContent;
+  const words = document.getElementById("undrawn-features").textContent;
   if (active) editor.doLines([`discard ${active}`]);
   await frame();
   for (const name of ["error", "unhandledrejection"]) removeEventListener(name, onError);
@@ -116,7 +116,7 @@ def shown(page, text, files=None):
     assert page.editor.lines('stamp 1 0 0 1 7')[0].startswith('ok 1/1'), page.editor.state()
     held = page.js('return held')
     assert held < LONGEST, held
-    return page.find('#not-drawn').text
+    return page.find('#undrawn-features').text
 
 
 def drawn_tilesets(page):

@@ -67,7 +67,7 @@ def test_zoom_and_width():
         assert abs(frame_of(page, '#left')[2] - before - 150) < 8
         left, top, _, _ = frame_of(page, '#palette-size')
         page.drag_points([[int(left + 7 * 48 + 20), int(top + 20)]])
-        assert page.find('#tile-told').text == 'tile 7'
+        assert page.find('#tile-number').text == 'tile 7'
         page.keys('b')
         page.drag([(20, 20)])
         assert spelled(page)[-1] == f'stamp {layer_of(page, "Ground")["id"]} 20 20 1 8'
@@ -158,8 +158,8 @@ def add_and_remove(bench, source):
         ground = choose(page, 'Ground')
         before = page.texts('#tilesets option')
         page.find('#add-tileset').click()
-        page.wait(lambda: '32 tiles of 16 × 16' in page.texts('#file-list .told'), 'a tileset is looked into')
-        assert 'in the map already' in page.texts('#file-list .told')
+        page.wait(lambda: '32 tiles of 16 × 16' in page.texts('#file-list .details'), 'a tileset is looked into')
+        assert 'in the map already' in page.texts('#file-list .details')
         page.fill_in(file=source)
         # The tileset that is there has the ids 1 to 32.
         assert spelled(page)[-1] == f'tileset add 33 {source}' and page.notices() == []
@@ -243,7 +243,7 @@ def test_hostile_files():
         page.js('return roskevad.documents.openPath("right.tsx.tmj")')
         page.settle()
         page.find('#add-tileset').click()
-        page.wait(lambda: 'too large' in ' '.join(page.texts('#file-list .told')), 'files are looked into')
+        page.wait(lambda: 'too large' in ' '.join(page.texts('#file-list .details')), 'files are looked into')
         page.fill_in('Cancel')
 
 

@@ -605,10 +605,10 @@ def test_texts_and_words():
         red = {(at // 4 % 96, at // 4 // 96) for at in places}
         assert len(red) > 100 and all(16 <= x < 76 and 16 <= y < 76 for x, y in red), len(red)
         assert max(y for _, y in red) > 40, 'the text goes on below its first line'
-        told = page.find('#not-drawn').text
+        told = page.find('#undrawn-features').text
         assert all(word in told for word in ('parallax', 'texts', 'animations')), told
         image = {'type': 'imagelayer', 'id': 1, 'name': 'I', 'visible': True, 'opacity': 1}
         image.update(x=0, y=0, image='none.png')
         put(folder / 'image.tmj', map_of([image], 8, 6))
         page.choose_files(folder / 'image.tmj')
-        page.wait(lambda: 'none.png' in page.find('#not-drawn').text, 'the image is named')
+        page.wait(lambda: 'none.png' in page.find('#undrawn-features').text, 'the image is named')

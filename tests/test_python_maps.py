@@ -21,20 +21,20 @@ from lib.asides import exact
 from lib.cases import CORES, Case, check_each, passed, unlike
 from lib.json_texts import tree_of
 from lib.maps import map_of, new_map, property_of, text_of, thing, things, tiles
-from lib.packings import (
+from lib.compressions import (
     GZIP,
     ZLIB,
     ZSTANDARD,
     data_of,
-    packed_bytes,
+    compressed_bytes,
     text_of_bytes,
-    with_packing,
+    with_compression,
     zstandard,
 )
 from lib.places import TOP, example_maps
 
 sys.path.insert(0, str(TOP / 'python'))
-from roskevad import Editor, Refused, packings  # noqa: E402
+from roskevad import Editor, Refused, compressions  # noqa: E402
 
 IS_LONG = True
 PACKAGES = ('tiled', 'python3-zstandard')
@@ -91,17 +91,17 @@ def test_random_maps():
 def test_layers_stay_packed():
     """With the level of the file; a layer that is added is an array."""
     cells = [1 + at % 9 for at in range(30)]
-    for packing in (ZLIB, GZIP, ZSTANDARD):
+    for compression in (ZLIB, GZIP, ZSTANDARD):
         for level in (-1, 1, 9):
-            tree = with_packing(map_of(tiles(1, 6, 5, data=cells), width=6, height=5), packing, level)
+            tree = with_compression(map_of(tiles(1, 6, 5, data=cells), width=6, height=5), compression, level)
             with opened(json.dumps(tree).encode()) as editor:
                 editor.step('stamp 1 0 0 1 3')
                 editor.step('layer add tile New')
                 first, second = json.loads(editor.save_map(all_maps=True))['layers']
-            wanted = packing, text_of_bytes(packed_bytes(_words([3, *cells[1:]]), packing, level))
-            came = first['compression'], _without_system(first['data'], packing)
-            fault = unlike((wanted[0], _without_system(wanted[1], packing)), came) or unlike([0] * 30, second['data'])
-            assert not fault and 'compression' not in second, f'{packing} {level}: {fault}'
+            wanted = compression, text_of_bytes(compressed_bytes(_words([3, *cells[1:]]), compression, level))
+            came = first['compression'], _without_system(first['data'], compression)
+            fault = unlike((wanted[0], _without_system(wanted[1], compression)), came) or unlike([0] * 30, second['data'])
+            assert not fault and 'compression' not in second, f'{compression} {level}: {fault}'
             passed()
 
 
@@ -109,10 +109,10 @@ def _words(values):
     return b''.join(value.to_bytes(4, 'little') for value in values)
 
 
-def _without_system(text, packing):
+def _without_system(text, compression):
     """Packed data without the byte in which gzip tells its system."""
     data = base64.b64decode(text)
-    return data[:9] + data[10:] if packing == GZIP else data
+    return data[:9] + data[10:] if compression == GZIP else data
 
 
 def test_maps_that_need_nothing():
@@ -195,29 +195,29 @@ def refused(code, why, data):
     return unlike((code, WORDS[code], why, "open_map('m')", ()), came) or unlike(([], 'docs'), left)
 
 
-def with_data(data, packing=ZLIB, width=6, height=5, **members):
-    layer = tiles(1, width, height, data=data, encoding='base64', compression=packing, **members)
+def with_data(data, compression=ZLIB, width=6, height=5, **members):
+    layer = tiles(1, width, height, data=data, encoding='base64', compression=compression, **members)
     return json.dumps(map_of(layer, width=width, height=height)).encode()
 
 
 def damaged():
-    """Data of 30 cells that are at fault, of each packing."""
+    """Data of 30 cells that are at fault, of each compression."""
     cells = _words(range(30))
-    for packing in (ZLIB, GZIP, ZSTANDARD):
-        whole = packed_bytes(cells, packing)
+    for compression in (ZLIB, GZIP, ZSTANDARD):
+        whole = compressed_bytes(cells, compression)
         rows = {
             'nothing': b'',
             'no such stream': b'abcdefgh' * 9,
             'a byte behind it': whole + b'x',
             'a stream behind it': whole * 2,
-            'a byte too few': packed_bytes(cells[:-1], packing),
-            'a byte too many': packed_bytes(cells + b'x', packing),
-            'ten million bytes': packed_bytes(bytes(10_000_000), packing),
+            'a byte too few': compressed_bytes(cells[:-1], compression),
+            'a byte too many': compressed_bytes(cells + b'x', compression),
+            'ten million bytes': compressed_bytes(bytes(10_000_000), compression),
         }
         rows.update({f'cut at {at}': whole[:at] for at in range(1, len(whole), 7)})
         rows['without its last byte'] = whole[:-1]
         for name, data in rows.items():
-            yield Case(f'{packing}, {name}', with_data(text_of_bytes(data), packing), (66, BAD_DATA))
+            yield Case(f'{compression}, {name}', with_data(text_of_bytes(data), compression), (66, BAD_DATA))
     yield Case('no base64', with_data('a*b='), (66, BAD_DATA))
     yield Case('base64 that is cut', with_data('abc'), (66, BAD_DATA))
 
@@ -249,7 +249,7 @@ def test_maps_that_are_refused():
         ('too deep', 51, 'set aside or put back, it would nest deeper than 127',
          kept(a='deep').replace(b'"deep"', b'[' * 125 + b'0.5' + b']' * 125)),
         ('too many fractions', 51, 'it has more than 200,000 fractions', kept(a=[0.5] * 200_001)),
-        ('another packing', 65, "there is no compression 'lzma'", with_data('', 'lzma')),
+        ('another compression', 65, "there is no compression 'lzma'", with_data('', 'lzma')),
         ('a chunk of another size', 66, BAD_DATA, chunks_with(1, 16, data_of([1] * 255, ZLIB))),
         ('a chunk without a size', 51, bad_chunk, chunks_with(1, 0, data_of([1], ZLIB))),
         ('chunks that overlap', 51, 'two chunks of a layer overlap', kept(infinite=True, layers=[overlapping])),
@@ -263,7 +263,7 @@ def test_zstandard_is_missing():
     """Then a map is refused as 65, which says what is wanted; a map that is open is not saved."""
     data = with_data(data_of([1] * 30, ZSTANDARD), ZSTANDARD)
     with opened(data) as editor:
-        modules, packings._MODULES = packings._MODULES, ()
+        modules, compressions._MODULES = compressions._MODULES, ()
         try:
             why = 'Zstandard needs Python 3.14, or the package backports.zstd or zstandard'
             fault = refused(65, why, data)
@@ -276,7 +276,7 @@ def test_zstandard_is_missing():
                 assert (refusal.code, refusal.why) == (51, why), refusal
             assert editor.step('status') == 'ok 1/1 dirty 0'
         finally:
-            packings._MODULES = modules
+            compressions._MODULES = modules
     passed(3)
 
 
@@ -298,31 +298,31 @@ assert grown < 30_000, f'{{grown}} KB'
 
 def test_bombs():
     """Two gigabytes in a few bytes are refused, and the memory stays as it was."""
-    for packing in (ZLIB, GZIP, ZSTANDARD):
-        data = with_data(text_of_bytes(_bomb(packing)), packing)
+    for compression in (ZLIB, GZIP, ZSTANDARD):
+        data = with_data(text_of_bytes(_bomb(compression)), compression)
         with tempfile.TemporaryDirectory() as folder:
             file = Path(folder) / 'bomb.tmj'
             file.write_bytes(data)
             code = BOMB.format(path=str(TOP / 'python'), file=str(file))
             done = subprocess.run([sys.executable, '-c', code], capture_output=True, text=True, timeout=120)
-        assert done.returncode == 0, f'{packing}: {done.stderr[-600:]}'
+        assert done.returncode == 0, f'{compression}: {done.stderr[-600:]}'
         passed()
 
 
-def _bomb(packing):
+def _bomb(compression):
     """Two gigabytes of zeros, packed."""
     piece, count = bytes(1 << 20), 2048
-    if packing == ZSTANDARD:
+    if compression == ZSTANDARD:
         packer = zstandard().ZstdCompressor(level=1).compressobj()
         return b''.join([*(packer.compress(piece) for _ in range(count)), packer.flush()])
     # After a full flush the next piece is packed as this one was.
     packer = zlib.compressobj(1, zlib.DEFLATED, -15)
     packed = (packer.compress(piece) + packer.flush(zlib.Z_FULL_FLUSH)) * count + packer.flush()
-    sum_of = zlib.crc32 if packing == GZIP else zlib.adler32
+    sum_of = zlib.crc32 if compression == GZIP else zlib.adler32
     total = sum_of(b'')
     for _ in range(count):
         total = sum_of(piece, total)
-    if packing == GZIP:
+    if compression == GZIP:
         return b'\x1f\x8b\x08' + bytes(7) + packed + struct.pack('<II', total, len(piece) * count)
     return b'\x78\x01' + packed + struct.pack('>I', total)
 

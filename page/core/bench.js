@@ -143,14 +143,14 @@ export class Bench extends EventTarget {
     const { editor } = this;
     if (editor.stand().depth) return this.sayRefusal(editor.doLines(lines));
     const done = editor.doLines([`begin ${text}`, ...lines, "end"]);
-    if (!done.isHeard && done.replies.length > 1) editor.doLines(["end", "undo"]);
+    if (!done.isAccepted && done.replies.length > 1) editor.doLines(["end", "undo"]);
     return this.sayRefusal(done);
   }
 
   // Does lines for a dialog: gives null, or where one was refused what the dialog says, and the field that a code is about.
   async attempt(lines, fields = {}) {
     const done = await this.editor.send(lines);
-    if (done.isHeard) return this.bubble.hide();
+    if (done.isAccepted) return this.bubble.hide();
     return { words: saidOf(done), field: fields[/^no (\d+)/.exec(done.refusal ?? "")?.[1]] };
   }
 

@@ -14,7 +14,7 @@ const [PIECES, PIECE] = [100, 60_000];
 const PASSING = 500;
 
 // What a request gives.
-function told(request) {
+function resultOf(request) {
   return new Promise((resolve, reject) => {
     request.onsuccess = () => resolve(request.result);
     request.onerror = () => reject(request.error);
@@ -36,7 +36,7 @@ export class Database {
       made.createObjectStore(FILES, { keyPath: ["journal", "path"] });
     };
     const database = new Database();
-    database.opened = await told(request);
+    database.opened = await resultOf(request);
     database.opened.onclose = () => onEnd(new Error("the browser has closed its database"));
     return database;
   }
@@ -71,7 +71,7 @@ export class Database {
   }
 
   read(store, ask) {
-    return told(ask(this.opened.transaction([store], "readonly").objectStore(store)));
+    return resultOf(ask(this.opened.transaction([store], "readonly").objectStore(store)));
   }
 
   // All rows: those that can be read. One that cannot is no more than its id.

@@ -121,7 +121,7 @@ export class Documents {
     if (!file) return this.saveAs();
     if (!isClean) return this.saveTo(this.editor.openDocuments.document, file);
     this.bench.say(`${file} is saved already.`);
-    return { isHeard: true };
+    return { isAccepted: true };
   }
 
   // Saves a document, into its file or into one that is asked for.
@@ -137,10 +137,10 @@ export class Documents {
   async saveAs(document = this.editor.openDocuments.document, typed = null, refusal = null) {
     if (!document) return this.bench.act(["save map.tmj"]);
     const field = { name: "file", label: "File", value: typed ?? document.file?.path ?? `${document.name}.tmj`, kind: KINDS.path };
-    const told = await ask("Save the map", [field], ["OK"], undefined, refusal);
-    if (!told) return { isHeard: false };
-    const done = await this.saveTo(document, told.file);
-    return done.isHeard || done.isKept || !done.refusal ? done : this.saveAs(document, told.file, { words: saidOf(done) });
+    const chosen = await ask("Save the map", [field], ["OK"], undefined, refusal);
+    if (!chosen) return { isAccepted: false };
+    const done = await this.saveTo(document, chosen.file);
+    return done.isAccepted || done.isKept || !done.refusal ? done : this.saveAs(document, chosen.file, { words: saidOf(done) });
   }
 
   // ---- closing
@@ -150,12 +150,12 @@ export class Documents {
     const found = this.editor.documents().find(each => each.name === name);
     if (!document) return null;
     if (found.isClean) return this.closed(document);
-    const told = await (found.isWriting ? this.askWriting(found) : ask(`${titleOf(found)} has changes that are not saved.`, [], [SAVE, DISCARD]));
-    if (told?.answer === DISCARD.text || told?.answer === LEAVE.text) return this.closed(document, "discard");
-    if (told?.answer === WAIT) return document.written().then(() => this.editor.openDocuments.isOpen(document) && this.close(name));
-    if (told?.answer !== SAVE) return null;
+    const typed = await (found.isWriting ? this.askWriting(found) : ask(`${titleOf(found)} has changes that are not saved.`, [], [SAVE, DISCARD]));
+    if (typed?.answer === DISCARD.text || typed?.answer === LEAVE.text) return this.closed(document, "discard");
+    if (typed?.answer === WAIT) return document.written().then(() => this.editor.openDocuments.isOpen(document) && this.close(name));
+    if (typed?.answer !== SAVE) return null;
     const saved = await this.saveOf(document);
-    return saved.isHeard ? this.closed(document) : null;
+    return saved.isAccepted ? this.closed(document) : null;
   }
 
   askWriting(found) {
@@ -170,7 +170,7 @@ export class Documents {
     const at = documents.findIndex(each => each.name === name);
     const neighbour = documents[at]?.isActive ? documents[at + 1] ?? documents[at - 1] : null;
     const done = await this.bench.act([`${word} ${name}`, ...(neighbour ? [`use ${neighbour.name}`] : [])]);
-    if (done.isHeard) this.outside.forget(document);
+    if (done.isAccepted) this.outside.forget(document);
     return done;
   }
 
@@ -182,7 +182,7 @@ export class Documents {
       { name: "height", label: "Rows", value: map.height, kind: KINDS.cells },
       { name: "right", label: "The old map goes to the right by", value: 0, kind: KINDS.coordinate },
       { name: "down", label: "and down by", value: 0, kind: KINDS.coordinate },
-    ], ["OK"], told => this.bench.attempt([`resize ${told.width} ${told.height} ${told.right} ${told.down}`]));
+    ], ["OK"], typed => this.bench.attempt([`resize ${typed.width} ${typed.height} ${typed.right} ${typed.down}`]));
   }
 }
 

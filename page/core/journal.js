@@ -40,7 +40,7 @@ export function lock(id) {
 }
 
 // Events: `full` where it has reached its bound; `broken` where the browser keeps nothing from now on, and `mended` where it keeps all
-// again; `lost` where it would, but what is kept is gone, and the window holds it no more: who hears that begins the journal anew.
+// again; `lost` where it would, but what is kept is gone, and the window holds it no more: who learns that begins the journal anew.
 export class Journal extends EventTarget {
   constructor(version, limit) {
     super();

@@ -6,14 +6,14 @@ const DAY = 24 * 60 * 60 * 1000;
 
 const isText = value => typeof value === "string";
 const isCount = value => Number.isInteger(value) && value >= 0;
-const isTold = each => isText(each?.name) && (each.path === null || isText(each.path)) && isCount(each.steps) && isCount(each.lines);
+const isDocumentSummary = each => isText(each?.name) && (each.path === null || isText(each.path)) && isCount(each.steps) && isCount(each.lines);
 const IS_RIGHT = {
   id: isText,
   version: isText,
   limit: isCount,
   count: isCount,
   changed: isCount,
-  documents: documents => Array.isArray(documents) && documents.every(isTold),
+  documents: documents => Array.isArray(documents) && documents.every(isDocumentSummary),
   source: source => isText(source?.kind),
 };
 

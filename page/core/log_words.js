@@ -57,7 +57,7 @@ const OF_WORDS = {
   layer: (words, names) => ofLayer(words, names),
   object: (words, names) => ofObject(words, names),
   prop: (words, names) => ofProperty(words, names),
-  tileset: words => (words[1] === "add" ? `Add tileset ${rest(words, 3)}` : `${told(words[1])} tileset ${rest(words, 2)}`),
+  tileset: words => (words[1] === "add" ? `Add tileset ${rest(words, 3)}` : `${capitalised(words[1])} tileset ${rest(words, 2)}`),
 };
 
 const OF_SELECT = {
@@ -68,21 +68,21 @@ const OF_SELECT = {
   intersect: cells => `Keep the selection within ${cells}`,
 };
 
-const told = word => `${word.charAt(0).toUpperCase()}${word.slice(1).replace(/\+$/, "")}`;
+const capitalised = word => `${word.charAt(0).toUpperCase()}${word.slice(1).replace(/\+$/, "")}`;
 
 function ofLayer(words, names) {
   const [, what, id, value] = words;
   if (what === "add") return `Add ${id} layer ${rest(words, 3)}`;
   if (wordOf(what) === "show") return `${value === "no" ? "Hide" : "Show"} layer ${names.layer(id)}`;
-  return wordOf(what) === "rename" ? `Rename layer ${names.layer(id)} to ${rest(words, 3)}` : `${told(what)} layer ${names.layer(id)}`;
+  return wordOf(what) === "rename" ? `Rename layer ${names.layer(id)} to ${rest(words, 3)}` : `${capitalised(what)} layer ${names.layer(id)}`;
 }
 
 function ofObject(words, names) {
   const [, what, id] = words;
-  return what.startsWith("add") ? `Add object ${rest(words, 7)}` : `${told(what)} ${names.object(id)}`;
+  return what.startsWith("add") ? `Add object ${rest(words, 7)}` : `${capitalised(what)} ${names.object(id)}`;
 }
 
 function ofProperty([, what, owner, key], names) {
   const [kind, id] = owner.split(":");
-  return `${told(what)} ${key} of ${kind === "map" ? "the map" : names[kind]?.(id) ?? owner}`;
+  return `${capitalised(what)} ${key} of ${kind === "map" ? "the map" : names[kind]?.(id) ?? owner}`;
 }

@@ -10,8 +10,8 @@ const FARTHEST = 1_000_000;
 const within = (number, least, most) => Math.max(least, Math.min(most, number));
 
 // A layer of what the file has: with the group that it stands in, or null, how deep, and whether it is seen.
-function layerOf(told, group, place, siblings, odd) {
-  const data = LAYER.take(told, odd, titleOfLayer(told)) ?? {};
+function layerOf(members, group, place, siblings, odd) {
+  const data = LAYER.take(members, odd, titleOfLayer(members)) ?? {};
   const isSeen = (group?.isSeen ?? true) && data.visible !== false;
   const layer = { data, group, depth: group ? group.depth + 1 : 0, place, siblings, id: data.id, type: data.type, isSeen };
   layer.offsetX = (group?.offsetX ?? 0) + within(data.offsetx ?? 0, -FARTHEST, FARTHEST);
@@ -38,11 +38,11 @@ function flattened(layers, odd) {
 }
 
 export class MapModel {
-  // `told` is the outline, and `cells(layer, x, y, width, height)` gives the cells of a rectangle.
-  constructor(told, cells) {
+  // `outline` is the parsed outline, and `cells(layer, x, y, width, height)` gives the cells of a rectangle.
+  constructor(outline, cells) {
     // The members that are of another kind than Tiled writes.
     this.odd = new OddMembers();
-    const data = this.data = MAP.take(told, this.odd, "the map");
+    const data = this.data = MAP.take(outline, this.odd, "the map");
     this.cells = cells;
     this.width = data.width;
     this.height = data.height;

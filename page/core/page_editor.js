@@ -1,5 +1,5 @@
 // SPDX-License-Identifier: MIT OR Apache-2.0
-// The editor of this window, with its journal and its files: hears lines, keeps them in the journal, and tells what has changed.
+// The editor of this window, with its journal and its files: does lines, keeps them in the journal, and tells what has changed.
 //
 // Lines are done at once, in the order in which they come. Of `open` and `save` the file is read and written beside them.
 import { Broken, Editor, FORMS, NoMemory, VERSION, documentName } from "../../js/roskevad.js";
@@ -21,7 +21,7 @@ import { sourceOf } from "../files/sources.js";
 const OPEN = /^open ([A-Za-z0-9_][A-Za-z0-9_.-]{0,63}) ([A-Za-z0-9_][A-Za-z0-9_.-]{0,99})$/;
 const SAVE = /^save ([A-Za-z0-9_][A-Za-z0-9_.-]{0,99})$/;
 const STATUS = /^ok (\d+)\/(\d+) (clean|dirty) (\d+)$/;
-const UNHEARD = { replies: [], isHeard: false };
+const NOT_ACCEPTED = { replies: [], isAccepted: false };
 // How many lines that are played the journal may be behind.
 const MOST_BEHIND = 10_000;
 // How long a part of lines takes that are played, and how often it is looked whether something has ended, in milliseconds.
@@ -49,7 +49,7 @@ class NotReplaced extends Error {}
 //   cells      cells have changed otherwise than by a stroke of the hand; the detail is the part in which alone, or null
 //   selection  the selection has changed
 //   done       lines were done; the detail is the stroke whose edits they are, or null
-//   lines      the lines that were heard, each with its number, its reply, what is at fault in it, how many cells it names, and its gesture
+//   lines      the lines that were done or refused, each with its number, its reply, what is at fault in it, how many cells it names, and its gesture
 //   state      how the documents and the steps stand, once the journal has it
 //   broken     the engine has ended the editor
 //   unopened   a map was not opened, since it cannot be shown; the detail is { path, why }
@@ -70,7 +70,7 @@ export class PageEditor extends EventTarget {
     // Whether the active document has a map that cannot be shown, and whether no line is taken, since the journal begins anew.
     Object.assign(this, { isUnshown: false, isAside: false });
     this.steps = 200;
-    this.heard = 0;
+    this.lineCount = 0;
     this.listed = [];
     this.changed = NOTHING;
     // Writes that have not ended, by their paths, and how many calls wait for something.
@@ -104,21 +104,21 @@ export class PageEditor extends EventTarget {
 
   // Does lines at once, up to the first that is refused, or all of them. `stroke` is the stroke whose edits they are: it draws itself.
   // `gesture` is a word for what the hand did, where the lines do not tell it: `rectangle`, `pattern`, `cut`, `empty`, `paste`.
-  // Gives the replies, how many lines were come to, whether all of these were heard and accepted, and the first refusal with its line. Behind
+  // Gives the replies, how many lines were come to, whether all of these were accepted, and the first refusal with its line. Behind
   // the time `until`, in milliseconds, no further line is begun.
   doLines(lines, { isFree = false, stroke = null, gesture = null, until = Infinity } = {}) {
     const replies = [];
     let [count, refusal, refused] = [0, null, null];
     for (const line of lines) {
-      if (this.isBarred(line)) return { ...UNHEARD, replies, count, barred: this.barred };
-      const reply = this.hear(line, stroke !== null, gesture);
+      if (this.isBarred(line)) return { ...NOT_ACCEPTED, replies, count, barred: this.barred };
+      const reply = this.runLine(line, stroke !== null, gesture);
       count++;
       if (reply !== null) replies.push(reply);
       if (isRefusal(reply) && refusal === null) [refusal, refused] = [reply, line];
       if ((refusal && !isFree) || performance.now() > until) break;
     }
     this.settle(stroke);
-    return { replies, count, isHeard: refusal === null, refusal, refused };
+    return { replies, count, isAccepted: refusal === null, refusal, refused };
   }
 
   // Does lines one behind the other, and waits for the files that they read and write. With `goOn` each part of them takes a short time; behind
@@ -143,17 +143,17 @@ export class PageEditor extends EventTarget {
   }
 
   async sendAll(lines, { isFree = false, gesture = null, goOn = null }) {
-    const came = { replies: [], count: 0, isHeard: true, refusal: null };
-    while (came.count < lines.length && (came.isHeard || isFree)) {
+    const came = { replies: [], count: 0, isAccepted: true, refusal: null };
+    while (came.count < lines.length && (came.isAccepted || isFree)) {
       const end = endOfPart(lines, came.count);
       const until = goOn ? performance.now() + SHORT : Infinity;
       const isFile = end === came.count;
-      const done = isFile ? await this.hearFile(lines[end]) : this.doLines(lines.slice(came.count, end), { isFree, gesture, until });
+      const done = isFile ? await this.runFileLine(lines[end]) : this.doLines(lines.slice(came.count, end), { isFree, gesture, until });
       came.replies.push(...done.replies);
       came.count = isFile ? end + 1 : isFree && done.barred ? end : came.count + done.count;
-      came.isHeard &&= done.isHeard;
+      came.isAccepted &&= done.isAccepted;
       for (const word of ["refusal", "refused", "barred", "why"]) came[word] ??= done[word];
-      if (came.count >= lines.length || (goOn && came.isHeard && !goOn(came.count))) break;
+      if (came.count >= lines.length || (goOn && came.isAccepted && !goOn(came.count))) break;
       // The journal writes all at once that it has not written, so that stays small.
       if (goOn && this.journal.added - this.journal.written > MOST_BEHIND) await this.journal.kept();
       await pause();
@@ -162,7 +162,7 @@ export class PageEditor extends EventTarget {
   }
 
   // Does one line, and gives its reply.
-  hear(line, isDrawn, gesture) {
+  runLine(line, isDrawn, gesture) {
     let reply;
     let changes;
     try {
@@ -202,7 +202,7 @@ export class PageEditor extends EventTarget {
   }
 
   list(line, reply, gesture = null) {
-    this.listed.push([++this.heard, cut(line), reply === null ? null : cut(reply), shortHintOf(reply, line), cellsIn(line), gesture]);
+    this.listed.push([++this.lineCount, cut(line), reply === null ? null : cut(reply), shortHintOf(reply, line), cellsIn(line), gesture]);
   }
 
   // Takes what the lines have changed.
@@ -255,7 +255,7 @@ export class PageEditor extends EventTarget {
   }
 
   // ---- files
-  async hearFile(line) {
+  async runFileLine(line) {
     await this.ready();
     const [, name, source] = OPEN.exec(line) ?? [];
     return name ? this.open(name, source) : this.save(SAVE.exec(line)[1]);
@@ -266,11 +266,11 @@ export class PageEditor extends EventTarget {
     while (this.isAside) await pause();
   }
 
-  // A line that has failed before the editor has heard it.
+  // A line that has failed before the editor has got it.
   failed(line, reply, why) {
     this.list(line, reply);
     this.settle();
-    return { replies: [reply], isHeard: false, refusal: reply, refused: line, why };
+    return { replies: [reply], isAccepted: false, refusal: reply, refused: line, why };
   }
 
   // Opens what a file has.
@@ -293,20 +293,20 @@ export class PageEditor extends EventTarget {
     const line = `open ${name} ${word}`;
     const path = this.names.pathOf(word);
     await this.ready();
-    let told;
+    let answer;
     try {
-      told = await opened(this.editor, name, bytes);
+      answer = await opened(this.editor, name, bytes);
     } catch (fault) {
       this.break(fault);
-      return { ...UNHEARD, barred: this.barred };
+      return { ...NOT_ACCEPTED, barred: this.barred };
     }
-    const [reply, why] = told;
+    const [reply, why] = answer;
     const unshown = isRefusal(reply) ? "" : this.whyUnshown();
     if (unshown) return this.notOpened(line, name, path, unshown);
     this.list(line, reply);
     if (!isRefusal(reply)) this.take(line, reply, ALL, { file: { path, bytes, ...mark }, instead });
     this.settle();
-    return { replies: [reply], isHeard: !isRefusal(reply), refusal: isRefusal(reply) ? reply : null, why };
+    return { replies: [reply], isAccepted: !isRefusal(reply), refusal: isRefusal(reply) ? reply : null, why };
   }
 
   // Why the map that is active in the editor cannot be shown; "" where it can.
@@ -360,8 +360,8 @@ export class PageEditor extends EventTarget {
     return this.during(this.wordOf(path).then(async word => {
       await this.ready();
       const { active } = this.openDocuments;
-      if (this.isBroken) return { ...UNHEARD, barred: this.barred };
-      if (!this.openDocuments.isOpen(document)) return UNHEARD;
+      if (this.isBroken) return { ...NOT_ACCEPTED, barred: this.barred };
+      if (!this.openDocuments.isOpen(document)) return NOT_ACCEPTED;
       if (document.name === active) return this.save(word);
       this.doLines([`use ${document.name}`]);
       const saved = this.save(word);
@@ -400,12 +400,12 @@ export class PageEditor extends EventTarget {
       this.unsave(document);
     }
     this.settle();
-    const told = { replies: [reply], isHeard: isWritten, refusal: isWritten ? null : reply, isKept: came instanceof NotReplaced };
-    return { ...told, why: isWritten ? null : `${path}: ${came.message}` };
+    const done = { replies: [reply], isAccepted: isWritten, refusal: isWritten ? null : reply, isKept: came instanceof NotReplaced };
+    return { ...done, why: isWritten ? null : `${path}: ${came.message}` };
   }
 
   // Writes bytes, and gives how many they are. The journal has their hash before the file does, so that they are known where the page ends
-  // before it hears that they have arrived.
+  // before it learns that they have arrived.
   async write(document, path, word, bytes) {
     this.sends(document, { path, word, hash: await hashOf(bytes), size: bytes.length });
     await this.journal.kept();
@@ -460,13 +460,13 @@ export class PageEditor extends EventTarget {
   // ---- what is told
   // Tells how all stands once the journal has what was done.
   tellSoon() {
-    this.isTold = false;
+    this.isUpToDate = false;
     this.telling ??= this.tellAll();
   }
 
   async tellAll() {
-    while (!this.isTold && !this.isBroken) {
-      this.isTold = true;
+    while (!this.isUpToDate && !this.isBroken) {
+      this.isUpToDate = true;
       const standing = this.standingNow();
       if (!standing) break;
       await this.journal.kept();
@@ -553,7 +553,7 @@ export class PageEditor extends EventTarget {
   // Puts the editor of a replay in the place of this one, and gives the saves of which the journal does not say that they have arrived.
   takeUp({ editor, openDocuments, names, listed, limit, module, pendingSaves }) {
     this.takeOver(editor, openDocuments, limit);
-    Object.assign(this, { names, module, listed, heard: listed.length, changed: ALL });
+    Object.assign(this, { names, module, listed, lineCount: listed.length, changed: ALL });
     return pendingSaves;
   }
 

@@ -52,8 +52,8 @@ export class Player {
     const progress = new Progress(this.bench, lines.length);
     const playing = isMacro ? this.asMacro(lines, progress) : this.oneByOne(lines, progress);
     const done = await this.editor.during(playing.finally(() => progress.end()));
-    this.refused = done.isHeard ? null : text;
-    this.bench.say(done.isHeard ? wordsOfPlayed(lines.length, done, isMacro) : wordsOfRefused(lines, done));
+    this.refused = done.isAccepted ? null : text;
+    this.bench.say(done.isAccepted ? wordsOfPlayed(lines.length, done, isMacro) : wordsOfRefused(lines, done));
   }
 
   // Asks where the lines write files, or open one that is here as it was downloaded last. Gives whether they are played.
@@ -69,10 +69,10 @@ export class Player {
   // Plays lines as one step; where one is refused there is none. Gives how many were done, and whether `isBack`: nothing is changed.
   async asMacro(lines, progress) {
     const begun = this.editor.doLines([`begin ${MACRO}`]);
-    if (!begun.isHeard) return { ...begun, count: 0, isBack: true };
+    if (!begun.isAccepted) return { ...begun, count: 0, isBack: true };
     const done = await this.oneByOne(lines, progress);
-    const ended = this.editor.doLines(done.isHeard ? ["end"] : ["end", "undo"]);
-    return { ...done, isBack: !done.isHeard && ended.isHeard };
+    const ended = this.editor.doLines(done.isAccepted ? ["end"] : ["end", "undo"]);
+    return { ...done, isBack: !done.isAccepted && ended.isAccepted };
   }
 
   oneByOne(lines, progress) {
@@ -113,7 +113,7 @@ function wordsOfPlayed(all, { count }, isMacro) {
   return `${words}${isMacro ? ", as one step" : ""}.`;
 }
 
-// What is said where a line was refused, or could not be heard.
+// What is said where a line was refused, or could not be done.
 function wordsOfRefused(lines, done) {
   const at = done.barred ? done.count : Math.max(0, done.count - 1);
   const line = `Line ${grouped(at + 1)} of ${grouped(lines.length)}, '${lines[at].slice(0, LONGEST_LINE)}'`;

@@ -53,7 +53,7 @@ export class Replay {
 
   // The saves of which the journal does not say that they have arrived: [{ document, row, sent }].
   get pendingSaves() {
-    return [...this.pending].filter(([document]) => this.openDocuments.isOpen(document)).map(([document, told]) => ({ document, ...told }));
+    return [...this.pending].filter(([document]) => this.openDocuments.isOpen(document)).map(([document, save]) => ({ document, ...save }));
   }
 
   async takeEntry(entry) {

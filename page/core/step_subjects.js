@@ -32,7 +32,7 @@ function subjectOf(line) {
 }
 
 // What a line is about, and how it does that.
-function toldOf(line, gesture) {
+function subjectAndHowOf(line, gesture) {
   const how = howOf(line, gesture);
   return how === undefined ? subjectOf(line) : { ...subjectOf(line), how };
 }
@@ -76,8 +76,8 @@ export class StepSubjects {
   // A step was added behind those below the index; or the line was joined to the last one, or has changed nothing; or the last one is gone.
   step(line, before, index, gesture) {
     this.all.length = Math.min(this.all.length, before, index);
-    const told = toldOf(line, gesture);
-    if (index > before) this.all[before] = told;
-    else if (isFollowing(line) && !isSame(this.all[index - 1], told)) this.all[index - 1] = subjectOf(line);
+    const subject = subjectAndHowOf(line, gesture);
+    if (index > before) this.all[before] = subject;
+    else if (isFollowing(line) && !isSame(this.all[index - 1], subject)) this.all[index - 1] = subjectOf(line);
   }
 }

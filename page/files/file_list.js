@@ -14,7 +14,7 @@ export function sizeOf(bytes) {
 }
 
 export class FileList {
-  // `files` are told by a place: [{ path, size }]. `known` has words for some paths. `look(path)` gives of another one the words, and
+  // `files` are listed by a place: [{ path, size }]. `known` has words for some paths. `look(path)` gives of another one the words, and
   // whether it is refused: { words, isRefused }. `fields` are asked for below the list, each an element with a name.
   constructor(title, files, { known = new Map(), look, none, fields = [] }) {
     Object.assign(this, { title, files, known, look, fields, chosen: null, waiting: [], isEnded: false });
@@ -31,7 +31,7 @@ export class FileList {
   row({ path, size }) {
     const words = this.known.get(path) ?? (size > LARGEST_SEEN ? "too large to look into here" : "");
     return element("li", { data: { path } }, element("span", { className: "name", textContent: path, title: path }),
-      element("span", { className: "told", textContent: words }), element("span", { className: "size", textContent: sizeOf(size) }));
+      element("span", { className: "details", textContent: words }), element("span", { className: "size", textContent: sizeOf(size) }));
   }
 
   // Shows the list, and gives the path that was chosen; null where none was.
@@ -67,8 +67,8 @@ export class FileList {
     while (this.waiting.length && !this.isEnded) {
       const [row] = this.waiting;
       const { words, isRefused } = await this.look(row.dataset.path).catch(fault => ({ words: fault.message, isRefused: true }));
-      const told = row.querySelector(".told");
-      told.textContent = told.title = words;
+      const details = row.querySelector(".details");
+      details.textContent = details.title = words;
       row.classList.toggle("refused", isRefused);
       await new Promise(done => setTimeout(done));
       this.waiting.shift();

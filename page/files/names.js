@@ -30,9 +30,9 @@ export function joined(folder, path) {
 // The path that leads from a folder, with its slash or "", to a path beside it.
 export function pathFrom(folder, path) {
   const [from, to] = [folder.split("/").slice(0, -1), path.split("/")];
-  let alike = 0;
-  while (alike < from.length && alike < to.length - 1 && from[alike] === to[alike]) alike++;
-  return [...from.slice(alike).map(() => ".."), ...to.slice(alike)].join("/");
+  let shared = 0;
+  while (shared < from.length && shared < to.length - 1 && from[shared] === to[shared]) shared++;
+  return [...from.slice(shared).map(() => ".."), ...to.slice(shared)].join("/");
 }
 
 // A name that is not taken: with a number behind it where it must be.

@@ -19,7 +19,7 @@ export class OutsideChanges {
   constructor(bench, saveAs, probe) {
     Object.assign(this, { bench, editor: bench.editor, saveAs, probe });
     // The documents that notices are about, and the mark of each one whose file is left as it is.
-    this.told = new Map();
+    this.noticed = new Map();
     this.kept = new WeakMap();
     this.editor.mayReplace = (document, path) => this.mayReplace(document, path);
     const look = () => document.hidden || this.look();
@@ -32,7 +32,7 @@ export class OutsideChanges {
     if (this.isLooking) return;
     this.isLooking = true;
     // One that a session has closed, too.
-    for (const document of this.told.values()) if (!this.editor.openDocuments.isOpen(document)) this.forget(document);
+    for (const document of this.noticed.values()) if (!this.editor.openDocuments.isOpen(document)) this.forget(document);
     try {
       for (const document of [...this.editor.openDocuments.byName.values()]) await this.lookAt(document);
     } finally {
@@ -50,22 +50,22 @@ export class OutsideChanges {
 
   // Nothing is said of a document any more.
   forget(document) {
-    if (this.told.get(aboutOf(document)) !== document) return;
-    this.told.delete(aboutOf(document));
+    if (this.noticed.get(aboutOf(document)) !== document) return;
+    this.noticed.delete(aboutOf(document));
     endNotice(aboutOf(document));
   }
 
   sayChanged(document) {
     if (this.kept.get(document) === document.file.mark) return;
-    if (hasNotice(aboutOf(document)) && this.told.get(aboutOf(document)) === document) return;
+    if (hasNotice(aboutOf(document)) && this.noticed.get(aboutOf(document)) === document) return;
     this.tell(document, `${document.file.path} has changed outside of this page.`);
   }
 
   tell(document, words) {
-    this.told.set(aboutOf(document), document);
+    this.noticed.set(aboutOf(document), document);
     notice(aboutOf(document), words, [
       [RELOAD, () => this.reload(document), "Show what the file has; the steps of the document end"],
-      [SAVE_AS, async () => (await this.saveAs(document)).isHeard, "Save what the page has into another file"],
+      [SAVE_AS, async () => (await this.saveAs(document)).isAccepted, "Save what the page has into another file"],
       ["Not now", () => this.kept.set(document, document.file?.mark)],
     ]);
   }
@@ -98,7 +98,7 @@ export class OutsideChanges {
     // How the map is shown is kept under its file, and so goes over.
     this.bench.tell("layout");
     const done = await this.editor.reopen(document, found);
-    if (!done.isHeard) return this.sayNotLoaded(document, saidOf(done));
+    if (!done.isAccepted) return this.sayNotLoaded(document, saidOf(done));
     this.forget(document);
     if (isKept || document.lines.length !== lines) this.editor.unsave(document);
     else this.editor.doLines([`discard ${document.name}`]);
@@ -129,7 +129,7 @@ export class OutsideChanges {
     const steps = count === 1 ? "1 step ends" : `${count} steps end`;
     const ends = isClean ? `${steps}.` : `${count ? `${steps}, and ` : ""}what is not saved is lost.`;
     const answers = [destroying(isClean ? RELOAD : "Discard and reload"), KEEP_BOTH];
-    const told = await ask(`${lastOf(file.path)} is loaded anew: ${ends}`, [], answers);
-    return told && told.answer === KEEP_BOTH;
+    const typed = await ask(`${lastOf(file.path)} is loaded anew: ${ends}`, [], answers);
+    return typed && typed.answer === KEEP_BOTH;
   }
 }

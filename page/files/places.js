@@ -331,17 +331,17 @@ export class ServedFiles extends EventTarget {
 
   // What the server tells of its folder: its name, where it lies below the root, the files to open, the limit and the maps. Throws Failed
   // where another folder is served here by now.
-  async told() {
-    const told = await (await this.ask(this.address("/files"))).json();
-    if (this.source && told.source !== this.source) throw new Failed(`another folder is served here by now, ${told.folder}`);
-    this.title = told.folder;
-    this.source = told.source;
-    this.prefix = told.prefix;
-    return told;
+  async folderListing() {
+    const listing = await (await this.ask(this.address("/files"))).json();
+    if (this.source && listing.source !== this.source) throw new Failed(`another folder is served here by now, ${listing.folder}`);
+    this.title = listing.folder;
+    this.source = listing.source;
+    this.prefix = listing.prefix;
+    return listing;
   }
 
   async maps() {
-    return (await this.told()).maps.sort(byPath);
+    return (await this.folderListing()).maps.sort(byPath);
   }
 
   async tilesets() {
@@ -353,7 +353,7 @@ export class ServedFiles extends EventTarget {
   }
 
   async look(path) {
-    const { maps } = await this.told();
+    const { maps } = await this.folderListing();
     return maps.find(each => each.path === path) ?? this.lookAt(path);
   }
 
@@ -393,7 +393,7 @@ export class ServedFiles extends EventTarget {
     const headers = mark ? { "If-Match": `"${mark.hash}"` } : { "If-None-Match": "*" };
     const address = this.addressOf(path);
     if (!address) throw new Failed("it lies outside of what the server has");
-    await this.told();
+    await this.folderListing();
     const answer = await this.ask(address, { method: "PUT", body: bytes, headers });
     if (answer.status === 412) throw new Changed(path);
     if (!answer.ok) throw new Failed((await answer.text()).trim() || `the server answers ${answer.status}`);

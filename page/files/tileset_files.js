@@ -30,37 +30,37 @@ function readXml(text) {
   const children = name => [...root.children].filter(child => child.tagName === name);
   const numbers = NUMBERS.filter(name => root.hasAttribute(name)).map(name => [name, Number(root.getAttribute(name))]);
   const [image] = children("image");
-  const told = present({ name: root.getAttribute("name"), image: image?.getAttribute("source") });
-  return { ...Object.fromEntries(numbers), ...told, ...looksInXml(root, image, children("tile")) };
+  const members = present({ name: root.getAttribute("name"), image: image?.getAttribute("source") });
+  return { ...Object.fromEntries(numbers), ...members, ...looksInXml(root, image, children("tile")) };
 }
 
 function readJson(text) {
-  let told;
+  let members;
   try {
-    told = JSON.parse(text);
+    members = JSON.parse(text);
   } catch {
     throw new Wrong("its file is no JSON");
   }
-  if (!isRecord(told)) throw new Wrong("its file is no tileset");
-  return told;
+  if (!isRecord(members)) throw new Wrong("its file is no tileset");
+  return members;
 }
 
 // ---- what is told
 // What a file tells, where each number is one that can be drawn with; throws Wrong. Other odd members are told to `odd`, and count as not
 // there.
 export function checked(file, odd = new OddMembers(), title = "the tileset") {
-  const told = TILESET.take(file, odd, title);
-  const wrong = NUMBERS.find(name => told[ODD]?.includes(name));
+  const members = TILESET.take(file, odd, title);
+  const wrong = NUMBERS.find(name => members[ODD]?.includes(name));
   if (wrong) throw new Wrong(`its ${wrong} is ${shownNumber(file[wrong])}, and must be ${GRID[wrong].words}`);
-  if (told[ODD]?.includes("image")) throw new Wrong("its image is no path");
+  if (members[ODD]?.includes("image")) throw new Wrong("its image is no path");
   for (const name of ["tilewidth", "tileheight"]) {
-    if (told[name] > LONGEST_SIDE) throw new Wrong(`its ${name} is ${grouped(told[name])} pixels, and tiles up to ${grouped(LONGEST_SIDE)} are drawn`);
+    if (members[name] > LONGEST_SIDE) throw new Wrong(`its ${name} is ${grouped(members[name])} pixels, and tiles up to ${grouped(LONGEST_SIDE)} are drawn`);
   }
-  const looks = looksOf(told);
+  const looks = looksOf(members);
   const farthest = Math.max(...looks.offset.map(Math.abs));
   if (farthest > LONGEST_SIDE) throw new Wrong(`its tiles are moved by ${grouped(farthest)} pixels, and up to ${grouped(LONGEST_SIDE)} are drawn`);
-  const numbers = NUMBERS.filter(name => told[name] !== undefined).map(name => [name, told[name]]);
-  return { ...Object.fromEntries(numbers), name: (told.name ?? "").slice(0, LONGEST_NAME), image: told.image || null, tiles: endOf(told.tiles ?? []), ...looks };
+  const numbers = NUMBERS.filter(name => members[name] !== undefined).map(name => [name, members[name]]);
+  return { ...Object.fromEntries(numbers), name: (members.name ?? "").slice(0, LONGEST_NAME), image: members.image || null, tiles: endOf(members.tiles ?? []), ...looks };
 }
 
 // The first id behind those of the tiles that are told one by one.

@@ -146,11 +146,11 @@ class Question {
     const answered = shown(this.dialog);
     if (refusal) this.refuse(refusal);
     const answer = await answered;
-    return answer ? this.told(answer) : null;
+    return answer ? this.typed(answer) : null;
   }
 
   // What was typed, as lines spell it.
-  told(answer) {
+  typed(answer) {
     const typed = Object.fromEntries(new FormData(this.form));
     for (const { name, kind } of this.fields) if (kind) typed[name] = kind.spelled(typed[name]);
     return { ...typed, answer };
@@ -159,12 +159,12 @@ class Question {
   async answer(answer) {
     if (this.isBusy) return;
     if (!answer) return this.dialog.close("");
-    const told = this.told(answer);
-    const wrong = this.fields.find(({ name, kind }) => kind?.fault(told[name]));
-    if (wrong) return this.refuse({ words: wrong.kind.fault(told[wrong.name]), field: wrong.name });
+    const typed = this.typed(answer);
+    const wrong = this.fields.find(({ name, kind }) => kind?.fault(typed[name]));
+    if (wrong) return this.refuse({ words: wrong.kind.fault(typed[wrong.name]), field: wrong.name });
     this.isBusy = true;
     this.dialog.dataset.busy = "yes";
-    const refusal = await this.take(told);
+    const refusal = await this.take(typed);
     this.isBusy = false;
     delete this.dialog.dataset.busy;
     return refusal ? this.refuse(refusal) : this.dialog.close(answer);

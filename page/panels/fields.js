@@ -121,9 +121,9 @@ class FileField extends TextField {
 
   async choose({ place, folder }) {
     const paths = await pathsFrom(place, folder).catch(() => []);
-    const told = await ask("A file of the folder", [{ name: "file", label: "File", value: this.input.value, kind: this.kind, list: paths }]);
-    if (!told) return;
-    this.input.value = told.file;
+    const typed = await ask("A file of the folder", [{ name: "file", label: "File", value: this.input.value, kind: this.kind, list: paths }]);
+    if (!typed) return;
+    this.input.value = typed.file;
     await this.commit();
   }
 }

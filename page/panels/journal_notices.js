@@ -106,7 +106,7 @@ export class JournalNotices {
     for (const { name, isClean, path } of this.editor.documents()) {
       if (isClean && path) continue;
       const done = await this.documents.saveOf(this.editor.openDocuments.byName.get(name));
-      if (!done.isHeard) return false;
+      if (!done.isAccepted) return false;
     }
     await this.editor.beginAnew();
     endNotice("full");
@@ -121,7 +121,7 @@ export class JournalNotices {
     if (!(await ask(`A macro is open in ${names}. It ends where the journal begins anew; what is in it stays, as one step.`, [], [END]))) return false;
     const back = `use ${this.editor.openDocuments.active ?? "-"}`;
     const lines = open.flatMap(({ name, depth }) => [`use ${name}`, ...Array(depth).fill("end")]);
-    return this.bench.sayRefusal(this.editor.doLines([...lines, back])).isHeard;
+    return this.bench.sayRefusal(this.editor.doLines([...lines, back])).isAccepted;
   }
 
   // ---- the editor, and maps that cannot be shown
@@ -151,6 +151,6 @@ export class JournalNotices {
 
   async forget(document, title) {
     if (!(await ask(`Forget ${title}, with its steps? What is not saved is lost.`, [], [destroying("Forget")]))) return false;
-    return (await this.documents.closed(document, "discard"))?.isHeard ?? true;
+    return (await this.documents.closed(document, "discard"))?.isAccepted ?? true;
   }
 }

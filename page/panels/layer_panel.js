@@ -105,10 +105,10 @@ export class LayerPanel {
   async add(kind) {
     const field = { name: "name", label: "Name", value: kind === "tile" ? "Tiles" : "Objects", kind: KINDS.text };
     const title = `A new ${kind} layer, on top of all`;
-    const told = await ask(title, [field], ["OK"], ({ name }) => this.bench.attempt([`layer add ${kind} ${name}`]));
-    if (!told) return;
+    const typed = await ask(title, [field], ["OK"], ({ name }) => this.bench.attempt([`layer add ${kind} ${name}`]));
+    if (!typed) return;
     this.bench.chooseLayer(this.bench.map.data.nextlayerid - 1);
-    this.bench.say(`${told.name} is on top of all layers. 'Down' or a drag moves it.`);
+    this.bench.say(`${typed.name} is on top of all layers. 'Down' or a drag moves it.`);
   }
 
   async rename() {

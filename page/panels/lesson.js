@@ -101,9 +101,9 @@ export class Lesson {
 
   // The bar stands beside what the ring is around.
   keepTarget(box) {
-    const told = box && [box.left, box.top, box.right, box.bottom].join(" ");
-    if (told === this.told) return;
-    Object.assign(this, { told, target: box });
+    const targetPlace = box && [box.left, box.top, box.right, box.bottom].join(" ");
+    if (targetPlace === this.targetPlace) return;
+    Object.assign(this, { targetPlace, target: box });
     this.page.bars.place();
   }
 

@@ -23,29 +23,29 @@ export class LinePanel {
     this.box.onkeydown = event => this.key(event);
     this.box.oninput = () => this.showForms();
     byId("copy").onclick = () => this.copy();
-    this.heard = [];
+    this.newLines = [];
     this.editor.addEventListener("lines", event => {
       // No more are listed than that, however long the panels wait.
-      this.heard = [...this.heard, ...event.detail].slice(-SHOWN);
+      this.newLines = [...this.newLines, ...event.detail].slice(-SHOWN);
       if (!bench.isHeld) this.show();
     });
     bench.addEventListener("free", () => this.show());
   }
 
   show() {
-    const lines = this.heard.splice(0);
+    const lines = this.newLines.splice(0);
     if (!lines.length) return;
     const list = byId("lines");
     const isAtEnd = list.scrollTop + list.clientHeight >= list.scrollHeight - 30;
-    list.append(...lines.map(heard => this.row(heard)));
+    list.append(...lines.map(line => this.row(line)));
     while (list.children.length > SHOWN) list.firstChild.remove();
     if (isAtEnd) list.scrollTop = list.scrollHeight;
   }
 
   row([, line, reply, why, cells, gesture]) {
     const words = this.wordsOf(line, reply, cells, gesture);
-    const told = [element("span", { className: "reply", textContent: reply ?? "" }), why ? element("span", { className: "why", textContent: why }) : null];
-    const row = element("li", { title: why ?? "" }, words, element("code", { textContent: line }), ...told);
+    const answer = [element("span", { className: "reply", textContent: reply ?? "" }), why ? element("span", { className: "why", textContent: why }) : null];
+    const row = element("li", { title: why ?? "" }, words, element("code", { textContent: line }), ...answer);
     row.classList.toggle("refused", reply?.startsWith("no ") ?? false);
     row.classList.toggle("follows", isFollowing(line));
     return row;

@@ -14,7 +14,7 @@ export function notice(about, words, buttons = [], kind = "") {
   const bar = element("div", { className: `notice ${kind}`, data: { about } }, element("span", { textContent: words }), ...made);
   all.get(about)?.remove();
   all.set(about, bar);
-  byId("notices").append(bar);
+  byId("notice-bars").append(bar);
 }
 
 export const hasNotice = about => all.has(about);

@@ -72,7 +72,7 @@ export class ObjectList {
     for (const [layer, objects] of found) {
       if (rows.length >= MOST_ROWS) break;
       rows.push(this.headOf(layer, objects));
-      for (const object of objects.slice(0, MOST_ROWS - rows.length)) rows.push(this.told(object, layer));
+      for (const object of objects.slice(0, MOST_ROWS - rows.length)) rows.push(this.entryOf(object, layer));
     }
     return rows;
   }
@@ -83,7 +83,7 @@ export class ObjectList {
     return { layer: layer.id, name, kind: `${countOf(objects.length)} of ${countOf((layer.data.objects ?? []).length)}`, isHidden: !layer.isSeen };
   }
 
-  told(object, layer) {
+  entryOf(object, layer) {
     const isHidden = !layer.isSeen || object.visible === false;
     return { object: object.id, name: object.name || "(no name)", kind: `${object.type || object.class || ""} ${object.id}`.trim(), isHidden };
   }

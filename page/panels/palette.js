@@ -243,6 +243,6 @@ export class Palette {
   // Tells which tile is under the hand, by its id.
   tell(place) {
     const tile = place && place[0] + place[1] * this.columns;
-    byId("tile-told").textContent = place && tile < this.tileset.count ? `tile ${tile}` : "";
+    byId("tile-number").textContent = place && tile < this.tileset.count ? `tile ${tile}` : "";
   }
 }

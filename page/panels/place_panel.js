@@ -148,10 +148,10 @@ function isForMaps({ path, bytes, file }) {
 function wordsOfOthers(taken) {
   const others = taken.filter(each => !isMap(each.path, each.bytes) && !isForMaps(each)).map(each => each.path);
   const [inXml, unknown] = [others.filter(isXmlMapName), others.filter(path => !isXmlMapName(path))];
-  const told = [];
-  if (inXml.length) told.push(`${listOf(inXml)}: ${IN_XML}`);
-  if (unknown.length) told.push(`Passed over: ${listOf(unknown)}. The page opens maps that are saved as JSON (.tmj or .json), with their tilesets and images.`);
-  return told.join(" ");
+  const sentences = [];
+  if (inXml.length) sentences.push(`${listOf(inXml)}: ${IN_XML}`);
+  if (unknown.length) sentences.push(`Passed over: ${listOf(unknown)}. The page opens maps that are saved as JSON (.tmj or .json), with their tilesets and images.`);
+  return sentences.join(" ");
 }
 
 // The first of some names, and how many more there are.

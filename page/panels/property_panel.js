@@ -213,7 +213,7 @@ export class PropertyPanel {
     const wrong = faults.find(([, fault]) => fault);
     if (wrong) return wrong[0].focus();
     const done = await this.bench.editor.send([`prop set ${this.owner().word} ${name.value} ${type.value} ${value}`]);
-    if (!done.isHeard) return mark(name, saidOf(done));
+    if (!done.isAccepted) return mark(name, saidOf(done));
     this.bench.bubble.hide();
     name.value = "";
     // The keys stay in the row, for the next property.

@@ -17,7 +17,7 @@ const PARTS = [
   ["#steps", { role: "listbox", "aria-label": "Steps" }],
   ["#objects", { role: "listbox", "aria-label": "Objects" }],
   ["#lines", { role: "log", "aria-label": "Lines", "aria-live": "off", tabindex: "0" }],
-  ["#palette", { role: "application", "aria-label": "Tiles", "aria-describedby": "tile-told", tabindex: "0" }],
+  ["#palette", { role: "application", "aria-label": "Tiles", "aria-describedby": "tile-number", tabindex: "0" }],
   ["#view", { role: "application", "aria-label": "Map", "aria-describedby": "place", tabindex: "0" }],
   ["#left", { "aria-label": "Tiles and objects" }],
   ["#right", { "aria-label": "Layers, properties and steps" }],
@@ -30,16 +30,16 @@ const PRESSED = "#tools button, #grid, #turn-names, #turn-mini-map, #macro, #sid
 const HAS_LETTER = /[\p{L}\p{N}]/u;
 
 const textOf = (row, part) => row.querySelector(part)?.textContent ?? "";
-const put = (at, told) => Object.entries(told).forEach(([name, value]) => value === null ? at.removeAttribute(name) : at.setAttribute(name, value));
+const put = (at, attributes) => Object.entries(attributes).forEach(([name, value]) => value === null ? at.removeAttribute(name) : at.setAttribute(name, value));
 const listed = (...words) => words.filter(word => word).join(", ");
 
 export class Readers {
   constructor(bench, layers) {
     // The buttons that were named here.
     Object.assign(this, { bench, layers, named: new WeakSet() });
-    for (const [selector, told] of PARTS) for (const each of document.querySelectorAll(selector)) put(each, told);
-    this.told = element("div", { id: "told", role: "status" });
-    document.body.append(this.told);
+    for (const [selector, attributes] of PARTS) for (const each of document.querySelectorAll(selector)) put(each, attributes);
+    this.announcement = element("div", { id: "announcement", role: "status" });
+    document.body.append(this.announcement);
     this.rules = [
       [PRESSED, at => put(at, { "aria-pressed": at.classList.contains("on") })],
       ["button", at => this.nameButton(at)],
@@ -76,7 +76,7 @@ export class Readers {
   }
 
   say(words) {
-    this.told.textContent = words;
+    this.announcement.textContent = words;
   }
 
   nameMap() {

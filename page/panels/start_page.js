@@ -19,8 +19,8 @@ export class StartPage {
     this.box = byId("empty");
     this.list = element("ul", { id: "start-maps" });
     this.ways = element("div", { id: "start-ways" });
-    this.told = element("p", { id: "start-told" });
-    this.box.append(element("h1", { textContent: "Draw a map" }), this.ways, this.told, this.list);
+    this.hint = element("p", { id: "start-hint" });
+    this.box.append(element("h1", { textContent: "Draw a map" }), this.ways, this.hint, this.list);
     for (const kind of ["pointerdown", "pointermove", "pointerup", "wheel"]) this.box.addEventListener(kind, event => event.stopPropagation());
     this.seen = new IntersectionObserver(entries => entries.forEach(each => each.isIntersecting && this.see(each.target)), { root: this.box });
     this.editor.addEventListener("state", () => this.show());
@@ -67,7 +67,7 @@ export class StartPage {
     const hasOthers = this.editor.place.files?.size > 0;
     const none = hasOthers ? "No map is among the chosen files: choose one, too, or make a new one."
       : "Make a new map, or open some: choose them, or drop files or a folder here.";
-    this.told.textContent = maps.length ? `Or go on with a map of ${this.editor.place.title || "this folder"}:` : none;
+    this.hint.textContent = maps.length ? `Or go on with a map of ${this.editor.place.title || "this folder"}:` : none;
     this.list.replaceChildren(...maps.map(each => this.card(each)));
     for (const card of this.list.children) this.seen.observe(card);
   }
@@ -75,8 +75,8 @@ export class StartPage {
   card({ path, size }) {
     const ratio = devicePixelRatio;
     const canvas = element("canvas", { width: Math.round(WIDTH * ratio), height: Math.round(HEIGHT * ratio) });
-    const told = element("span", { className: "told", textContent: sizeOf(size) });
-    const parts = [canvas, element("span", { className: "name", textContent: path }), told];
+    const details = element("span", { className: "details", textContent: sizeOf(size) });
+    const parts = [canvas, element("span", { className: "name", textContent: path }), details];
     const open = element("button", { type: "button", title: `Open ${path}`, onclick: () => this.documents.openPath(path) }, ...parts);
     return element("li", { data: { path, size } }, open);
   }
@@ -107,7 +107,7 @@ export class StartPage {
     const looked = await this.probe.look(place, path, editor => sketch(editor, place, path, card.querySelector("canvas"), isOver));
     card.classList.toggle("refused", looked.isRefused);
     const map = looked.found;
-    card.querySelector(".told").textContent = map ? `${map.width} × ${map.height} · ${sizeOf(Number(size))}` : looked.words;
+    card.querySelector(".details").textContent = map ? `${map.width} × ${map.height} · ${sizeOf(Number(size))}` : looked.words;
     card.dataset.drawn = "yes";
   }
 }

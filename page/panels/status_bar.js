@@ -19,8 +19,8 @@ export class StatusBar {
 
   // What of the map is not drawn, or otherwise than in Tiled.
   showNotDrawn(words) {
-    byId("not-drawn").textContent = words.length ? `Not drawn: ${words.join(", ")}` : "";
-    byId("not-drawn").title = byId("not-drawn").textContent;
+    byId("undrawn-features").textContent = words.length ? `Not drawn: ${words.join(", ")}` : "";
+    byId("undrawn-features").title = byId("undrawn-features").textContent;
   }
 
   // The cell, the pixel of the map, the layer and its tile.

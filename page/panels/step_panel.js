@@ -54,8 +54,8 @@ export class StepPanel {
   wordsOf({ text, subject }) {
     const { layers, objects } = this.names.get(this.editor.state.active) ?? {};
     const named = subject && this.nameIn(subject, layers, objects);
-    const told = [named, subject?.how].filter(each => each).join(": ");
-    return told ? `${text} · ${told}` : text;
+    const about = [named, subject?.how].filter(each => each).join(": ");
+    return about ? `${text} · ${about}` : text;
   }
 
   nameIn({ name = "", layer, object }, layers, objects) {

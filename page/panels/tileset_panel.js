@@ -64,7 +64,7 @@ export class TilesetPanel {
     const path = await new FileList("Add a tileset", files, { known, look: path => this.look(path), none, fields: [label] }).ask();
     if (!path) return null;
     const done = await this.bench.act([`tileset add ${first.value} ${pathFrom(folder, path)}`]);
-    if (done.isHeard) this.palette.choose(Number(first.value));
+    if (done.isAccepted) this.palette.choose(Number(first.value));
     return done;
   }
 

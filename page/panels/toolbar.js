@@ -84,7 +84,7 @@ export class Toolbar {
   // Does an undo or a redo, and has the browser measure how long it takes until it is seen.
   async turn(line, event) {
     const done = await this.bench.act([line]);
-    if (done.isHeard) this.bench.view.measure(line, event.timeStamp);
+    if (done.isAccepted) this.bench.view.measure(line, event.timeStamp);
   }
 
   turnGrid() {

@@ -129,6 +129,6 @@ export class CarriedTiles {
     const { bench } = this;
     const done = lines.length > 1 ? bench.doAsOne("Add Tilesets || add tilesets", lines) : await bench.act(lines);
     await this.tilesets.reading;
-    return done.isHeard;
+    return done.isAccepted;
   }
 }

@@ -13,8 +13,8 @@ export const nameOf = object => object.name || `Object ${object.id}`;
 // The lines that make a copy with an id in a layer.
 function linesOf(object, id, layer, x, y, name) {
   const size = [object.width ?? 0, object.height ?? 0].map(Math.floor).join(" ");
-  const unsaid = new Set(lostByCopy({ properties: object.properties }));
-  const said = (object.properties ?? []).filter(each => !unsaid.has(`the property ${each.name}`));
+  const lost = new Set(lostByCopy({ properties: object.properties }));
+  const said = (object.properties ?? []).filter(each => !lost.has(`the property ${each.name}`));
   return [
     `object add ${layer} ${Math.round(x)} ${Math.round(y)} ${size} ${name}`,
     ...said.map(({ name: key, type = "string", value }) => `prop set object:${id} ${key} ${type} ${value}`),
@@ -43,9 +43,9 @@ export class ObjectCopies {
   // Calls `go` where lines can copy an object whole. Else it says what they cannot, and offers to copy the rest.
   whole(object, done, go) {
     endNotice(ABOUT);
-    const unsaid = lostByCopy(object);
-    if (!unsaid.length) return go();
-    const words = `${nameOf(object)} is not ${done}: no line can copy ${listed(unsaid)}.`;
+    const lost = lostByCopy(object);
+    if (!lost.length) return go();
+    const words = `${nameOf(object)} is not ${done}: no line can copy ${listed(lost)}.`;
     this.bench.say(words);
     notice(ABOUT, words, done === "cut" ? [["OK", () => {}]] : [["Copy the rest", () => void go()], ["OK", () => {}]], "mild");
     return null;
@@ -104,7 +104,7 @@ export class ObjectCopies {
     const name = await this.nameFor(object);
     if (name === null) return false;
     const id = bench.map.data.nextobjectid;
-    if (!bench.doAsOne(step, linesOf(object, id, layer, x, y, name)).isHeard) return false;
+    if (!bench.doAsOne(step, linesOf(object, id, layer, x, y, name)).isAccepted) return false;
     bench.chooseObject(id);
     if (object.point) bench.say("The copy is a rectangle of no size: no line makes a point.");
     return true;
@@ -114,7 +114,7 @@ export class ObjectCopies {
   async nameFor(object) {
     if (!KINDS.text.fault(object.name ?? "")) return object.name;
     const title = object.name ? "No line can say the name of this object" : "No line adds an object without a name";
-    const told = await ask(title, [{ name: "name", label: "Name of the copy", value: "object", kind: KINDS.text }]);
-    return told?.name ?? null;
+    const typed = await ask(title, [{ name: "name", label: "Name of the copy", value: "object", kind: KINDS.text }]);
+    return typed?.name ?? null;
   }
 }

@@ -120,7 +120,7 @@ export class ObjectTool {
     const done = bench.sayRefusal(bench.editor.doLines([`object move${follows ? "+" : ""} ${object.id} ${x} ${y}`]));
     this.isNudging = false;
     // Back where the run began its step is gone, and a line that follows would join the step before it.
-    if (!done.isHeard || (x === run.x && y === run.y)) this.run = null;
+    if (!done.isAccepted || (x === run.x && y === run.y)) this.run = null;
     return true;
   }
 
@@ -185,8 +185,8 @@ export async function insertObject(bench, [x, y, width, height]) {
   const [left, top, ...size] = map.projection.objectBox([x, y, x + width, y + height]);
   const box = [...bench.overlay.inLayer(layer, left, top).map(Math.round), ...size];
   const field = { name: "name", label: "Name", value: "object", kind: KINDS.text };
-  const told = await ask("A new object", [field], ["OK"], ({ name }) => bench.attempt([`object add ${layer.id} ${box.join(" ")} ${name}`]));
-  if (!told) return null;
+  const typed = await ask("A new object", [field], ["OK"], ({ name }) => bench.attempt([`object add ${layer.id} ${box.join(" ")} ${name}`]));
+  if (!typed) return null;
   bench.chooseObject(bench.map.data.nextobjectid - 1);
   return bench.tell("inserted");
 }

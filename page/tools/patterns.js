@@ -53,8 +53,8 @@ export function patternOver(stamp, layer, { x, y, width, height, isIn = () => tr
 // Draws a block of any size as one step, or as none where it changes nothing; gives whether it has changed something. `gesture` is what the
 // hand did.
 export function drawBlock(bench, block, gesture) {
-  const hear = line => bench.sayRefusal(bench.editor.doLines([line], { stroke, gesture })).isHeard;
-  const stroke = new Stroke(bench.map, () => block, hear);
+  const runLine = line => bench.sayRefusal(bench.editor.doLines([line], { stroke, gesture })).isAccepted;
+  const stroke = new Stroke(bench.map, () => block, runLine);
   const edits = stroke.put(block);
   bench.view.redrawCells(edits);
   return edits.length > 0;

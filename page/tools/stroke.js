@@ -50,10 +50,10 @@ export function cellsOnLine([fromX, fromY], [x, y]) {
 }
 
 export class Stroke {
-  // `blockAt(x, y)` is the block that the hand leaves at a cell. `hear(line)` does a line, and tells whether it was accepted. The stroke
+  // `blockAt(x, y)` is the block that the hand leaves at a cell. `runLine(line)` does a line, and tells whether it was accepted. The stroke
   // begins with a line from a cell `from`, where there is one.
-  constructor(map, blockAt, hear, from = null) {
-    Object.assign(this, { blockAt, hear, from, last: null, isOver: false });
+  constructor(map, blockAt, runLine, from = null) {
+    Object.assign(this, { blockAt, runLine, from, last: null, isOver: false });
     this.begin(map);
   }
 
@@ -89,7 +89,7 @@ export class Stroke {
   edit(block) {
     const changed = this.isOver ? null : this.map.changes(block);
     if (!changed?.places.length) return null;
-    if (!this.hear(lineOf(block, this.unlike > 0))) {
+    if (!this.runLine(lineOf(block, this.unlike > 0))) {
       this.isOver = true;
       return null;
     }

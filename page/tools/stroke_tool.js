@@ -44,7 +44,7 @@ export class StrokeTool {
     const from = event.shiftKey ? this.start : null;
     this.document = bench.editor.openDocuments.active;
     this.isBarred = true;
-    this.stroke = new Stroke(bench.map, (x, y) => this.blockAt(x, y), line => this.hear(line), from);
+    this.stroke = new Stroke(bench.map, (x, y) => this.blockAt(x, y), line => this.runLine(line), from);
     this.draw(place, event);
   }
 
@@ -63,8 +63,8 @@ export class StrokeTool {
   }
 
   // Does a line of the stroke. Behind one that is refused the stroke is over.
-  hear(line) {
-    return this.bench.sayRefusal(this.bench.editor.doLines([line], { stroke: this.stroke })).isHeard;
+  runLine(line) {
+    return this.bench.sayRefusal(this.bench.editor.doLines([line], { stroke: this.stroke })).isAccepted;
   }
 
   draw(place, event) {

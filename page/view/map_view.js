@@ -87,10 +87,10 @@ export class MapView {
   // Has each pixel of the canvases be one of the screen. `size` is that of the box in such pixels, where the browser tells it.
   resize(size = null) {
     this.ratio = window.devicePixelRatio || 1;
-    const lengthOf = (length, told) => Math.max(1, Math.abs(told - length * this.ratio) < 2 ? told : Math.round(length * this.ratio));
+    const lengthOf = (length, measured) => Math.max(1, Math.abs(measured - length * this.ratio) < 2 ? measured : Math.round(length * this.ratio));
     const width = lengthOf(this.box.clientWidth, size?.inlineSize);
     const height = lengthOf(this.box.clientHeight, size?.blockSize);
-    for (const canvas of this.box.querySelectorAll("#map, #marks, #hand")) {
+    for (const canvas of this.box.querySelectorAll("#map, #overlay, #hand")) {
       if (canvas.width !== width) canvas.width = width;
       if (canvas.height !== height) canvas.height = height;
       this.align(canvas);

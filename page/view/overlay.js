@@ -22,7 +22,7 @@ export class Overlay {
     this.view = view;
     this.editor = editor;
     this.tilesets = tilesets;
-    this.canvas = view.box.querySelector("#marks");
+    this.canvas = view.box.querySelector("#overlay");
     this.pen = this.canvas.getContext("2d");
     this.cells = new CellOverlay(view, this.pen, view.box.querySelector("#hand").getContext("2d"));
     this.hasGrid = true;

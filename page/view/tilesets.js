@@ -18,44 +18,44 @@ const LONGEST_NAME = 80;
 const WHOLE = "whole";
 
 class Tileset {
-  // `first` and `last` are values of the map, and `told` is what its file tells: checked, or nothing. The size of an image is known also
+  // `first` and `last` are values of the map, and `members` is what its file has: checked, or nothing. The size of an image is known also
   // where it has no place: { width, height }.
-  constructor(first, last, source, told, image, map, size = null) {
+  constructor(first, last, source, members, image, map, size = null) {
     Object.assign(this, { first, source, image, why: "" });
-    this.name = told.name || source?.slice(0, LONGEST_NAME) || "tiles";
-    this.tileWidth = told.tilewidth || map.tileWidth;
-    this.tileHeight = told.tileheight || map.tileHeight;
-    this.spacing = told.spacing ?? 0;
-    this.margin = told.margin ?? 0;
-    this.columns = told.columns || 8;
-    [this.offsetX, this.offsetY] = told.offset ?? [0, 0];
-    this.alignment = told.alignment ?? "unspecified";
-    this.told = told;
+    this.name = members.name || source?.slice(0, LONGEST_NAME) || "tiles";
+    this.tileWidth = members.tilewidth || map.tileWidth;
+    this.tileHeight = members.tileheight || map.tileHeight;
+    this.spacing = members.spacing ?? 0;
+    this.margin = members.margin ?? 0;
+    this.columns = members.columns || 8;
+    [this.offsetX, this.offsetY] = members.offset ?? [0, 0];
+    this.alignment = members.alignment ?? "unspecified";
+    this.members = members;
     const most = last - first + 1;
-    this.count = Math.min(told.tilecount || told.tiles || USUAL, most, MOST_BARE);
-    if (told.image && (image ?? size)) this.takeImage(image ?? size, most, map);
+    this.count = Math.min(members.tilecount || members.tiles || USUAL, most, MOST_BARE);
+    if (members.image && (image ?? size)) this.takeImage(image ?? size, most, map);
   }
 
   // Keeps to the tiles that the image holds.
   takeImage(image, most, map) {
-    const { told } = this;
-    const held = heldBy(image, { ...this, columns: told.columns });
-    this.why = claimOf(image, { ...this, columns: told.columns }, held, told.tilecount ?? 0);
-    this.held = Math.min(told.tilecount || held.count, held.count);
-    if (held.count > 0) Object.assign(this, { columns: held.columns, count: Math.min(told.tilecount || held.count, held.count, most) });
+    const { members } = this;
+    const held = heldBy(image, { ...this, columns: members.columns });
+    this.why = claimOf(image, { ...this, columns: members.columns }, held, members.tilecount ?? 0);
+    this.held = Math.min(members.tilecount || held.count, held.count);
+    if (held.count > 0) Object.assign(this, { columns: held.columns, count: Math.min(members.tilecount || held.count, held.count, most) });
     else Object.assign(this, { image: null, columns: 8, count: Math.min(this.count, USUAL), tileWidth: map.tileWidth, tileHeight: map.tileHeight });
   }
 
   // How many values it takes of those of the map, as Tiled reckons the first id of the next one; null where that is not known.
   get span() {
-    const known = this.held || this.told.tiles || null;
-    return this.why ? known : Math.max(this.told.tilecount ?? 0, known ?? 0) || null;
+    const known = this.held || this.members.tiles || null;
+    return this.why ? known : Math.max(this.members.tilecount ?? 0, known ?? 0) || null;
   }
 
   // How many tiles it has; null where that is not known, as where its image alone tells it, and is not there.
   get size() {
-    const isTold = this.held > 0 || !this.told.image || (this.told.tilecount > 0 && !this.why);
-    return isTold ? this.span : null;
+    const isKnown = this.held > 0 || !this.members.image || (this.members.tilecount > 0 && !this.why);
+    return isKnown ? this.span : null;
   }
 
   // It has no image any more.
@@ -79,7 +79,7 @@ class Tileset {
 
   // Where a tile stands in the image, in pixels; of an animation its first picture does.
   placeOf(id) {
-    const shown = this.told.frames?.get(id) ?? id;
+    const shown = this.members.frames?.get(id) ?? id;
     const tile = shown < this.count ? shown : id;
     const column = tile % this.columns;
     const row = Math.floor(tile / this.columns);
@@ -90,12 +90,12 @@ class Tileset {
 // A tileset of which each tile has an image of its own.
 class PictureSet extends Tileset {
   // `pictures` are the images by the ids of the tiles.
-  constructor(first, last, source, told, pictures, map) {
-    super(first, last, source, told, null, map);
+  constructor(first, last, source, members, pictures, map) {
+    super(first, last, source, members, null, map);
     this.pictures = pictures;
     // Some image: so it is drawn.
     this.image = pictures.values().next().value ?? null;
-    this.count = Math.min(told.tiles, last - first + 1, MOST_BARE);
+    this.count = Math.min(members.tiles, last - first + 1, MOST_BARE);
   }
 
   drop() {
@@ -104,7 +104,7 @@ class PictureSet extends Tileset {
   }
 
   imageFor(id) {
-    return this.pictures.get(this.told.frames?.get(id)) ?? this.pictures.get(id);
+    return this.pictures.get(this.members.frames?.get(id)) ?? this.pictures.get(id);
   }
 
   sizeOf(id) {
@@ -204,16 +204,16 @@ export class Tilesets {
     this.looks = new TileLooks(value => this.of(value), () => this.onLooks());
   }
 
-  // Reads what a tileset tells, and the files of its images: { data, key, told, files, why }, where `why` is what is wrong with it.
+  // Reads what a tileset tells, and the files of its images: { data, key, members, files, why }, where `why` is what is wrong with it.
   async read(data, found) {
-    const read = { data, key: keyOf(data, this.folder, this.editor.place), told: {}, files: new Map(), why: "" };
+    const read = { data, key: keyOf(data, this.folder, this.editor.place), members: {}, files: new Map(), why: "" };
     const odd = new OddMembers();
     found.odd.push(odd);
     try {
       const path = data.source ?? "";
-      const told = data.source ? await this.readFile(this.folder + path, found) : data;
-      read.told = checked(told, odd, data.source ? `the tileset ${data.source}` : "a tileset in the map");
-      for (const [id, image] of imagesTold(read.told)) await this.readImage(read, id, this.folder + folderOf(path) + image, found);
+      const members = data.source ? await this.readFile(this.folder + path, found) : data;
+      read.members = checked(members, odd, data.source ? `the tileset ${data.source}` : "a tileset in the map");
+      for (const [id, image] of imagesIn(read.members)) await this.readImage(read, id, this.folder + folderOf(path) + image, found);
     } catch (fault) {
       if (!(fault instanceof Wrong)) throw fault;
       read.why = fault.message;
@@ -227,9 +227,9 @@ export class Tilesets {
     return bytes ? readTileset(path, bytes) : {};
   }
 
-  async readImage({ files, told }, id, path, found) {
+  async readImage({ files, members }, id, path, found) {
     const bytes = await this.bytesOf(path, found);
-    if (bytes) files.set(id, { ...imageFile(path, bytes), clear: told.clear });
+    if (bytes) files.set(id, { ...imageFile(path, bytes), clear: members.clear });
   }
 
   async bytesOf(path, found) {
@@ -257,7 +257,7 @@ export class Tilesets {
 }
 
 // The images that a tileset tells: one under a name of its own, or those of its tiles by their ids.
-const imagesTold = told => (told.image ? [[WHOLE, told.image]] : told.pictures);
+const imagesIn = members => (members.image ? [[WHOLE, members.image]] : members.pictures);
 
 const imageKeyOf = ({ path, clear }) => `${clear ?? ""} ${path}`;
 
@@ -288,14 +288,14 @@ const closeAll = images => {
 };
 
 // A tileset of what was read of it, and of the images. `last` is the last value of the map that it may have.
-function made({ data, told, files, why }, last, images, map, found) {
+function made({ data, members, files, why }, last, images, map, found) {
   const all = [...files].map(([id, file]) => [id, images.get(imageKeyOf(file))]);
   const said = why || all.map(([, image]) => image).find(image => image instanceof Wrong)?.message || "";
-  const isPictures = !said && !told.image && told.pictures?.length > 0;
+  const isPictures = !said && !members.image && members.pictures?.length > 0;
   const pictures = new Map(said ? [] : all.filter(([, image]) => image));
   const tileset = isPictures
-    ? new PictureSet(data.firstgid, last, data.source, told, pictures, map)
-    : new Tileset(data.firstgid, last, data.source, said ? { name: told.name } : told, pictures.get(WHOLE) ?? null, map, files.get(WHOLE));
+    ? new PictureSet(data.firstgid, last, data.source, members, pictures, map)
+    : new Tileset(data.firstgid, last, data.source, said ? { name: members.name } : members, pictures.get(WHOLE) ?? null, map, files.get(WHOLE));
   tileset.why ||= said;
   if (tileset.why) found.wrong.push({ name: data.source ?? tileset.name, why: tileset.why });
   return tileset;

@@ -55,7 +55,7 @@ export function undrawnFeatures(map, tilesets, images) {
   const odd = [map.odd, ...tilesets.odd].filter(each => each.count > 0);
   const found = [
     ["parallax", some(map.layers, isMoved)],
-    ["animations (their first picture stands)", some(tilesets.all, set => set.told.frames)],
+    ["animations (their first picture stands)", some(tilesets.all, set => set.members.frames)],
     ...objectWords(map),
     ...imageWords(tilesets, images),
     ["modes of blending", some(map.layers, layer => layer.data.mode && layer.data.mode !== "normal")],

@@ -17,7 +17,7 @@ from .views import Layer, Layers, Objects
 from .library import NONE, SelectionRun
 from .properties import Properties
 from .rows import Part, doubtful, parts_of, rows_of
-from .seen import Members, Seen
+from .outline import Members, Outline
 from .selection import Run, Selection
 from .tilesets import Tilesets
 
@@ -100,22 +100,22 @@ class Document:
     def _enter(self) -> None:
         if self._is_closed:
             raise Closed(f'the document {self._name} is closed')
-        seen, line = self._editor._seen, f'use {self._name}'
-        self._editor._said(line, line)
-        self._editor._seen = seen
+        outline, line = self._editor._kept_outline, f'use {self._name}'
+        self._editor._reply_to(line, line)
+        self._editor._kept_outline = outline
 
     def _say(self, line: str) -> str:
         """The reply to a line, in a turn."""
-        reply = self._editor._said(line, line).decode('utf-8', 'replace')
+        reply = self._editor._reply_to(line, line).decode('utf-8', 'replace')
         if _LOG.isEnabledFor(logging.DEBUG):
             _LOG.debug('%s: %.200s: %.200s', self._name, line, reply)
         return reply
 
     def _ask(self, line: str) -> str:
         """The reply to a line that changes nothing."""
-        seen = self._editor._seen
+        outline = self._editor._kept_outline
         reply = self._say(line)
-        self._editor._seen = seen
+        self._editor._kept_outline = outline
         return reply
 
     def _edit(self, line: str) -> None:
@@ -130,22 +130,22 @@ class Document:
 
         return self._do(work)
 
-    def _seen_now(self) -> Seen:
-        """What is seen of the map, in a turn."""
-        seen = self._editor._seen
-        if seen is None or seen.document != self._name:
-            seen = self._editor._seen = Seen(self._name, self._editor._outline('outline()'))
-        return seen
+    def _outline_now(self) -> Outline:
+        """The outline of the map, in a turn."""
+        outline = self._editor._kept_outline
+        if outline is None or outline.document != self._name:
+            outline = self._editor._kept_outline = Outline(self._name, self._editor._outline_tree('outline()'))
+        return outline
 
-    def _look(self, answer: Callable[[Seen], _Answer]) -> _Answer:
-        return self._do(lambda: answer(self._seen_now()))
+    def _look(self, answer: Callable[[Outline], _Answer]) -> _Answer:
+        return self._do(lambda: answer(self._outline_now()))
 
-    def _peek(self, answer: Callable[[Seen], _Answer]) -> Optional[_Answer]:
+    def _peek(self, answer: Callable[[Outline], _Answer]) -> Optional[_Answer]:
         """The same for a `repr`, which makes no document active, and raises nothing."""
 
         def entered() -> _Answer:
             self._enter()
-            return answer(self._seen_now())
+            return answer(self._outline_now())
 
         with contextlib.suppress(Exception):
             return self._editor._in_turn(lambda: self._editor._restored(entered))
@@ -183,27 +183,27 @@ class Document:
     @property
     def width(self) -> int:
         """The width of the map in cells."""
-        return self._look(lambda seen: int(seen.outline['width']))
+        return self._look(lambda outline: int(outline.tree['width']))
 
     @property
     def height(self) -> int:
         """The height of the map in cells."""
-        return self._look(lambda seen: int(seen.outline['height']))
+        return self._look(lambda outline: int(outline.tree['height']))
 
     @property
     def tile_width(self) -> int:
         """The width of a cell in pixels."""
-        return self._look(lambda seen: int(seen.outline['tilewidth']))
+        return self._look(lambda outline: int(outline.tree['tilewidth']))
 
     @property
     def tile_height(self) -> int:
         """The height of a cell in pixels."""
-        return self._look(lambda seen: int(seen.outline['tileheight']))
+        return self._look(lambda outline: int(outline.tree['tileheight']))
 
     @property
     def orientation(self) -> str:
         """How the cells lie, in the words of Tiled's files: orthogonal, isometric, staggered or hexagonal."""
-        return self._look(lambda seen: str(seen.outline['orientation']))
+        return self._look(lambda outline: str(outline.tree['orientation']))
 
     @property
     def origin(self) -> tuple[int, int]:
@@ -223,7 +223,7 @@ class Document:
     @property
     def properties(self) -> Properties:
         """The properties of the map, a live view."""
-        return Properties(self, 'map', lambda seen: seen.outline)
+        return Properties(self, 'map', lambda outline: outline.tree)
 
     @property
     def tilesets(self) -> Tilesets:
@@ -236,7 +236,7 @@ class Document:
 
     def outline(self) -> Members:
         """The same without the cells: a copy."""
-        return self._do(lambda: self._editor._outline('outline()'))
+        return self._do(lambda: self._editor._outline_tree('outline()'))
 
     # ---- its steps
     @property
@@ -250,7 +250,7 @@ class Document:
 
         def step(place: int) -> Step:
             text = self._ask(f'text {place}')[len('text '):]
-            action = self._editor._told('action_text', place) or b''
+            action = self._editor._copy_bytes('action_text', place) or b''
             return Step(text, action.decode('utf-8', 'replace'), self._editor._call('is_macro', place) == 1)
 
         return self._do(lambda: tuple(map(step, range(self._status_now().count))))
@@ -366,8 +366,8 @@ class Document:
             try:
                 self._paint(at, f'{area.width} {part.values}', merge, stroke)
             except Refused as refusal:
-                told = f'stamp: row {part.first} and those below it of {len(rows)} rows; those above it stand, as a step'
-                raise Refused(refusal.code, refusal.words, told, place, forms=()) from None
+                call = f'stamp: row {part.first} and those below it of {len(rows)} rows; those above it stand, as a step'
+                raise Refused(refusal.code, refusal.words, call, place, forms=()) from None
 
     def _paint(self, area: _Area, rest: str, merge: bool, stroke: Optional[_Stroke]) -> None:
         """Says a stamp, or an erase where the rest has no values."""
@@ -387,9 +387,9 @@ class Document:
 
     def _cells_within(self, area: _Area) -> 'Optional[array[int]]':
         """The cells of a rectangle as far as it is on the map."""
-        outline = self._seen_now().outline
+        tree = self._outline_now().tree
         left, top = max(area.x, 0), max(area.y, 0)
-        right, bottom = min(area.x + area.width, outline['width']), min(area.y + area.height, outline['height'])
+        right, bottom = min(area.x + area.width, tree['width']), min(area.y + area.height, tree['height'])
         return self._editor._cells(area.layer, left, top, max(right - left, 0), max(bottom - top, 0))
 
     def erase(self, layer: LayerLike, x: int, y: int, width: int, height: int, merge: bool = False) -> None:
@@ -412,7 +412,7 @@ class Document:
                 raise ValueError(f'{layer!r} is no layer of {self._name!r}')
             return layer.id
         if isinstance(layer, str):
-            found = next((id for id, each in self._seen_now().layers.items() if each['name'] == layer), None)
+            found = next((id for id, each in self._outline_now().layers.items() if each['name'] == layer), None)
             if found is None:
                 raise KeyError(layer)
             return found
@@ -426,11 +426,11 @@ class Document:
             raise Refused(code, what, f'Layer {layer.id}: cells {left}, {top}, {width}, {height}', forms=())
 
         def work() -> tuple[int, memoryview]:
-            seen = self._seen_now()
-            if layer._has(seen)['type'] != 'tilelayer':
+            outline = self._outline_now()
+            if layer._has(outline)['type'] != 'tilelayer':
                 refuse(31, 'layer of another kind')
-            wide = seen.outline['width'] - left if width is None else words.coordinate(width, 'a width')
-            high = seen.outline['height'] - top if height is None else words.coordinate(height, 'a height')
+            wide = outline.tree['width'] - left if width is None else words.coordinate(width, 'a width')
+            high = outline.tree['height'] - top if height is None else words.coordinate(height, 'a height')
             cells = self._editor._cells(layer.id, left, top, wide, high)
             if cells is None:
                 refuse(32, 'outside the map')
@@ -517,5 +517,5 @@ class Document:
     def __repr__(self) -> str:
         if self._is_closed:
             return f'<Document {self._name!r}, closed>'
-        told = self._peek(lambda seen: f'{seen.outline["width"]} by {seen.outline["height"]}, {self._ask("status")[len("ok "):]}')
-        return f'<Document {self._name!r}>' if told is None else f'<Document {self._name!r}, {told}>'
+        standing = self._peek(lambda outline: f'{outline.tree["width"]} by {outline.tree["height"]}, {self._ask("status")[len("ok "):]}')
+        return f'<Document {self._name!r}>' if standing is None else f'<Document {self._name!r}, {standing}>'

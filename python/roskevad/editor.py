@@ -15,14 +15,14 @@ from pathlib import Path
 from typing import TYPE_CHECKING, Any, Callable, ContextManager, Iterable, Iterator, NoReturn, Optional, Protocol, TypeVar, Union, cast
 
 from . import library, words
-from .aside import origin_of, put_back, restored, set_aside
 from .document import Document
 from .faults import Closed, Refused
-from .library import LIBRARY, Heard, SelectionRun, Slot
+from .library import LIBRARY, CEditor, LinesDone, SelectionRun
 from .names import document_name
+from .outline import Outline, drawn
 from .rooms import Room
 from .saving import Saving
-from .seen import Seen
+from .tiled_maps import origin_of, put_back, restored, set_aside
 
 if TYPE_CHECKING:
     from _typeshed import ReadableBuffer
@@ -65,11 +65,11 @@ def _word_of(line: str) -> bytes:
         raise TypeError(f'run_lines takes a str for each line: {type(line).__name__}') from None
 
 
-def _told_forked() -> Closed:
+def _fork_fault() -> Closed:
     return Closed('an Editor is not used in a fork of its process')
 
 
-def _told_busy() -> RuntimeError:
+def _busy_fault() -> RuntimeError:
     return RuntimeError('an Editor is not called from a signal handler or a callback while its thread is in a call')
 
 
@@ -94,10 +94,10 @@ def _turn(method: _Method) -> _Method:
     @functools.wraps(method)
     def call(self: 'Editor', *words: Any, **named: Any) -> Any:
         if self._process != _forks[0]:
-            raise _told_forked()
+            raise _fork_fault()
         with self._lock:
             if self._is_busy:
-                raise _told_busy()
+                raise _busy_fault()
             self._is_busy = True
             try:
                 try:
@@ -113,7 +113,7 @@ def _turn(method: _Method) -> _Method:
 
 
 class Editor:
-    """An editor of tile maps: a session in memory, which does the lines that docs/session-lines.md lists.
+    """An editor of tile maps, in memory, which does the lines that docs/session-lines.md lists.
 
     `limit` is the undo limit of each document when it is made, at most 1,000,000, where 0 stands for none. `folder` is where
     `open_file` and `save_file` find files by their names.
@@ -130,19 +130,19 @@ class Editor:
         self._unsettled: Optional[_Unsettled] = None
         # Whether a save has failed: then what is read of a file need not be what the disk has, and is compared no more.
         self._has_failed = False
-        # The open documents that were handed out, by their names, and what was seen of one that nothing has changed since.
+        # The open documents that were handed out, by their names, and the outline of one that nothing has changed since.
         self._handles: dict[str, Document] = {}
-        self._seen: Optional[Seen] = None
+        self._kept_outline: Optional[Outline] = None
         # Whether anything of a map was set aside or unpacked. Until then maps are saved as the editor holds them.
         self._has_set_aside = False
-        self._slot = Slot()
+        self._c_editor = CEditor()
         self._process = _forks[0]
-        self._at = ctypes.byref(self._slot)
+        self._at = ctypes.byref(self._c_editor)
         self._room = Room(4096)
         self.folder = Path(folder)
         if not 0 <= limit <= 1_000_000:
             raise ValueError(f'a limit is from 0 to 1000000: {limit}')
-        if LIBRARY.roskevad_open(self._slot, limit) != library.DONE:
+        if LIBRARY.roskevad_open(self._c_editor, limit) != library.DONE:
             raise MemoryError
 
     # ---- its life
@@ -168,7 +168,7 @@ class Editor:
 
     @_turn
     def _close(self) -> None:
-        LIBRARY.roskevad_close(self._slot)
+        LIBRARY.roskevad_close(self._c_editor)
 
     def _settle(self) -> None:
         """Ends what a call has begun, where it has not ended it."""
@@ -178,14 +178,14 @@ class Editor:
 
     # What follows takes no turn: it is called in one.
     def _call(self, name: str, *words: Any) -> int:
-        answer: int = getattr(LIBRARY, f'roskevad_{name}')(self._slot, *words)
+        answer: int = getattr(LIBRARY, f'roskevad_{name}')(self._c_editor, *words)
         if answer == library.CLOSED:
             raise Closed('the editor is closed')
         if answer == library.NO_MEMORY:
             raise MemoryError
         return answer
 
-    def _told(self, name: str, *words: Any) -> Optional[bytes]:
+    def _copy_bytes(self, name: str, *words: Any) -> Optional[bytes]:
         """The bytes that a call gives out, where it has them at each time that it is called."""
         size = self._call(name, *words, self._room.at, self._room.size)
         if size == library.NONE:
@@ -193,14 +193,14 @@ class Editor:
         if size > self._room.size:
             self._room = Room(size)
             self._call('reply' if name == 'step' else name, *(() if name == 'step' else words), self._room.at, size)
-        told: bytes = self._room.bytes[:size]
-        return told
+        copied: bytes = self._room.bytes[:size]
+        return copied
 
-    def _said(self, line: str, call: str) -> bytes:
+    def _reply_to(self, line: str, call: str) -> bytes:
         """The reply to a line that a call makes. Raises Refused with the call."""
-        self._seen = None
+        self._kept_outline = None
         data = _bytes_of(line)
-        reply = self._told('step', data, len(data)) or b''
+        reply = self._copy_bytes('step', data, len(data)) or b''
         refusal = _REFUSAL.fullmatch(reply.decode()) if reply.startswith(b'no ') else None
         if refusal:
             raise Refused(int(refusal[1]), refusal[2], call, forms=())
@@ -212,10 +212,10 @@ class Editor:
         line here: it is a byte like any other."""
         data = line if isinstance(line, bytes) else _data_of(line, 'step_bytes')
         if self._process != _forks[0]:
-            raise _told_forked()
+            raise _fork_fault()
         with self._lock:
             if self._is_busy:
-                raise _told_busy()
+                raise _busy_fault()
             self._is_busy = True
             try:
                 try:
@@ -224,9 +224,9 @@ class Editor:
                     room = self._room
                     size = _STEP(self._at, data, len(data), room.at, room.size)
                     reply: Optional[bytes] = room.bytes[:size] if size <= room.size else self._long(size)
-                    self._seen = None
+                    self._kept_outline = None
                     if self._handles and data.startswith(_CLOSINGS):
-                        self._see_closed(data, reply)
+                        self._forget_if_closed(data, reply)
                     return reply
                 finally:
                     self._is_busy = False
@@ -243,10 +243,10 @@ class Editor:
         if '\n' in line:
             raise ValueError('step takes one line, and there is a newline in it')
         if self._process != _forks[0]:
-            raise _told_forked()
+            raise _fork_fault()
         with self._lock:
             if self._is_busy:
-                raise _told_busy()
+                raise _busy_fault()
             self._is_busy = True
             try:
                 try:
@@ -255,9 +255,9 @@ class Editor:
                     room = self._room
                     size = _STEP(self._at, data, len(data), room.at, room.size)
                     reply: bytes = room.bytes[:size] if size <= room.size else self._long(size) or b''
-                    self._seen = None
+                    self._kept_outline = None
                     if self._handles and data.startswith(_CLOSINGS):
-                        self._see_closed(data, reply)
+                        self._forget_if_closed(data, reply)
                 finally:
                     self._is_busy = False
             finally:
@@ -271,7 +271,7 @@ class Editor:
 
     def _long(self, size: int) -> Optional[bytes]:
         """A reply that the room is too small for; `None` where there is none."""
-        return None if size == library.NONE else self._told('reply')
+        return None if size == library.NONE else self._copy_bytes('reply')
 
     def run_lines(self, lines: Iterable[str]) -> list[str]:
         """Does lines, one after another, in one call of the library, and gives the replies to those that are not quiet.
@@ -290,21 +290,21 @@ class Editor:
         data = b''.join(word + b'\n' for word in words)
         if 32 * len(words) > self._room.size:
             self._room = Room(32 * len(words))
-        done, heard = 0, Heard()
+        count, done = 0, LinesDone()
         replies: list[str] = []
-        self._seen = None
+        self._kept_outline = None
         try:
             while data:
-                done += self._call('run_lines', data, len(data), 1, self._room.at, self._room.size, heard)
-                replies += self._room.bytes[:heard.replies].decode('utf-8', 'replace').split('\n')[:-1]
-                if not heard.has_room:
-                    replies.append((self._told('reply') or b'').decode('utf-8', 'replace'))
-                if heard.is_refused:
-                    raise _refused(replies.pop(), words[done - 1], done - 1, replies)
-                data = data[heard.bytes:]
+                count += self._call('run_lines', data, len(data), 1, self._room.at, self._room.size, done)
+                replies += self._room.bytes[:done.replies].decode('utf-8', 'replace').split('\n')[:-1]
+                if not done.has_room:
+                    replies.append((self._copy_bytes('reply') or b'').decode('utf-8', 'replace'))
+                if done.is_refused:
+                    raise _refused(replies.pop(), words[count - 1], count - 1, replies)
+                data = data[done.bytes:]
         finally:
             if self._handles:
-                self._see_closings(words[:done - heard.is_refused])
+                self._forget_closed(words[:count - done.is_refused])
         return replies
 
     # ---- the files that `open` and `save` find
@@ -323,7 +323,7 @@ class Editor:
     def file(self, name: str) -> Optional[bytes]:
         """The bytes under a name, and `None` where there is no file of that name."""
         word = _bytes_of(name)
-        return self._told('file', word, len(word))
+        return self._copy_bytes('file', word, len(word))
 
     @_turn
     def remove_file(self, name: str) -> bool:
@@ -337,7 +337,7 @@ class Editor:
     @_turn
     def files(self) -> list[str]:
         """The names of the files, in their order."""
-        names = (self._told('file_name', at) for at in range(self._call('file_count')))
+        names = (self._copy_bytes('file_name', at) for at in range(self._call('file_count')))
         return [name.decode() for name in names if name is not None]
 
     # ---- maps as bytes
@@ -357,12 +357,12 @@ class Editor:
     def _saved_bytes(self, call: str, all_maps: bool) -> bytes:
         data = self._shown(call)
         whole = self._whole(data, call) if all_maps else data
-        self._said('clean', call)
+        self._reply_to('clean', call)
         return whole
 
     def _shown(self, call: str) -> bytes:
         """The active document's map as the editor holds it."""
-        return self._said('show', call)[len(b'map '):]
+        return self._reply_to('show', call)[len(b'map '):]
 
     def _whole(self, data: bytes, call: str) -> bytes:
         """A map that the editor holds, with what was set aside put back, and packed as it was."""
@@ -387,11 +387,11 @@ class Editor:
     def _open(self, document: str, data: Optional[bytes], call: str) -> str:
         """Opens a document with these bytes, which stand in the store under a free name meanwhile."""
         name = next(name for name in map('roskevad{}.tmj'.format, itertools.count()) if not self._has(name))
-        self._unsettled = _Lent(self, name)
+        self._unsettled = _TemporaryFile(self, name)
         try:
             if data is not None:
                 self._put(name, data)
-            return self._said(f'open {document} {name}', call).decode()
+            return self._reply_to(f'open {document} {name}', call).decode()
         finally:
             self._settle()
 
@@ -443,14 +443,14 @@ class Editor:
 
     def _refuse_save(self, call: str) -> None:
         """Raises what a `save` would be refused with before it writes."""
-        state = self._said('status', call)
+        state = self._reply_to('status', call)
         if state == b'ok none clean':
             raise Refused(10, 'no active document', call, forms=())
         if not state.endswith(b' 0'):
             raise Refused(20, 'macro open', call, forms=())
 
     def _mark_clean(self) -> None:
-        self._told('step', b'clean', len(b'clean'))
+        self._copy_bytes('step', b'clean', len(b'clean'))
 
     # ---- the active document
     @_turn
@@ -461,7 +461,7 @@ class Editor:
     @_turn
     def outline(self) -> dict[str, Any]:
         """The active document's map as `map` gives it, without the member `data` of tile layers. Raises Refused."""
-        return self._outline('outline()')
+        return self._outline_tree('outline()')
 
     @property
     @_turn
@@ -474,11 +474,11 @@ class Editor:
         tree = json.loads(self._outline_text('origin'))
         return origin_of(tree) if self._has_set_aside else (0, 0)
 
-    def _outline(self, call: str) -> dict[str, Any]:
+    def _outline_tree(self, call: str) -> dict[str, Any]:
         return self._tree(self._outline_text(call))
 
     def _outline_text(self, call: str) -> bytes:
-        text = self._told('outline')
+        text = self._copy_bytes('outline')
         if text is None:
             raise Refused(10, 'no active document', call, forms=())
         return text
@@ -503,12 +503,12 @@ class Editor:
     @_turn
     def layer_id(self, name: str) -> int:
         """The id of the first layer of that name, in drawing order, groups and what stands in them too. Raises KeyError where there is none."""
-        return _id_of(_drawn(self._outline(f'layer_id({name!r})')['layers']), name)
+        return _id_of(drawn(self._outline_tree(f'layer_id({name!r})')['layers']), name)
 
     @_turn
     def object_id(self, name: str) -> int:
         """The id of the first object of that name, in drawing order. Raises KeyError where there is none."""
-        layers = _drawn(self._outline(f'object_id({name!r})')['layers'])
+        layers = drawn(self._outline_tree(f'object_id({name!r})')['layers'])
         return _id_of((each for layer in layers for each in layer.get('objects', ())), name)
 
     @_turn
@@ -552,7 +552,7 @@ class Editor:
     @_turn
     def action_text(self, at: int) -> Optional[str]:
         """The text that names the action of the step at this place of the active document, from 0; `None` where there is none."""
-        text = self._told('action_text', at)
+        text = self._copy_bytes('action_text', at)
         return None if text is None else text.decode('utf-8', 'replace')
 
     # ---- all documents
@@ -563,8 +563,8 @@ class Editor:
         return self._restored(lambda: list(filter(self._is_dirty, self._names())))
 
     def _is_dirty(self, document: str) -> bool:
-        self._said(f'use {document}', 'unsaved()')
-        return self._said('status', 'unsaved()').split(b' ')[2] == b'dirty'
+        self._reply_to(f'use {document}', 'unsaved()')
+        return self._reply_to('status', 'unsaved()').split(b' ')[2] == b'dirty'
 
     # ---- documents, in the words of their callers
     @property
@@ -576,7 +576,7 @@ class Editor:
     @contextlib.contextmanager
     def _locked(self) -> Iterator[None]:
         if self._process != _forks[0]:
-            raise _told_forked()
+            raise _fork_fault()
         with self._lock:
             yield
 
@@ -587,7 +587,7 @@ class Editor:
         cells = f'{words.number(width, "a width")} {words.number(height, "a height")}'
         pixels = f'{words.number(tile_width, "a width")} {words.number(tile_height, "a height")}'
         line = f'new {words.document(name)} {cells} {pixels} {words.text(tileset, "the source of a tileset")}'
-        document = self._in_turn(lambda: (self._said(line, line), self._handle(name))[1])
+        document = self._in_turn(lambda: (self._reply_to(line, line), self._handle(name))[1])
         _LOG.info('%s: made', name)
         return document
 
@@ -599,7 +599,7 @@ class Editor:
             words.document(name)
         path = Path(source) if isinstance(source, (str, os.PathLike)) else None
         opened = name or (self._in_turn(self._free_name) if path is None else document_name(path))
-        told = 'bytes' if path is None else repr(os.fspath(path))
+        given = 'bytes' if path is None else repr(os.fspath(path))
         try:
             if path is None:
                 self.open_map(opened, cast('ReadableBuffer', source), all_maps=True)
@@ -607,7 +607,7 @@ class Editor:
                 self.open_file(path, opened)
         except Refused as refusal:
             # The call of the caller, and not a name that the caller has not given.
-            call = f'open({told})' if name is None else f'open({told}, {name!r})'
+            call = f'open({given})' if name is None else f'open({given}, {name!r})'
             raise refusal._of(call) from refusal.__cause__
         _LOG.info('%s: opened from %s', opened, 'bytes' if path is None else path)
         return self._in_turn(lambda: self._handle(opened, path))
@@ -631,7 +631,7 @@ class Editor:
     @active.setter
     def active(self, document: Optional[Document]) -> None:
         if document is None:
-            self._in_turn(lambda: self._said('use -', 'use -'))
+            self._in_turn(lambda: self._reply_to('use -', 'use -'))
         elif document.editor is not self:
             raise ValueError(f'{document!r} is open in another editor')
         else:
@@ -648,16 +648,16 @@ class Editor:
 
     def _names(self) -> list[str]:
         """The names of the open documents, in order of opening."""
-        return [name.lstrip('*') for name in self._said('list', 'list').decode().split(' ')[1:]]
+        return [name.lstrip('*') for name in self._reply_to('list', 'list').decode().split(' ')[1:]]
 
     def _active_name(self) -> str:
         """The name of the active document, `-` where none is."""
-        names = self._said('list', 'list').decode().split(' ')[1:]
+        names = self._reply_to('list', 'list').decode().split(' ')[1:]
         return next((name[1:] for name in names if name.startswith('*')), '-')
 
     def _restored(self, work: Callable[[], _Answer]) -> _Answer:
         """Has work done, and makes the document active again that is active before it."""
-        self._unsettled = _Used(self, self._active_name())
+        self._unsettled = _ActiveDocument(self, self._active_name())
         try:
             return work()
         finally:
@@ -676,24 +676,24 @@ class Editor:
         if handle is not None:
             handle._close()
 
-    def _see_closed(self, line: bytes, reply: Optional[bytes]) -> None:
+    def _forget_if_closed(self, line: bytes, reply: Optional[bytes]) -> None:
         if reply is not None and reply.startswith(b'ok '):
-            self._see_closings([line])
+            self._forget_closed([line])
 
-    def _see_closings(self, lines: Iterable[bytes]) -> None:
+    def _forget_closed(self, lines: Iterable[bytes]) -> None:
         for line in lines:
             if line.startswith(_CLOSINGS):
                 self._forget(line.partition(b' ')[2].decode())
 
     def __repr__(self) -> str:
         try:
-            names = self._in_turn(lambda: self._said('list', 'list').decode().split(' ')[1:])
+            names = self._in_turn(lambda: self._reply_to('list', 'list').decode().split(' ')[1:])
         except (Closed, RuntimeError, MemoryError):
             return '<Editor, closed or in a call>'
         return f'<Editor of {", ".join(names) or "no document"}>'
 
 
-class _Lent:
+class _TemporaryFile:
     """A name of the store that a call needs for itself, and which has no file before and behind it."""
 
     def __init__(self, editor: Editor, name: str):
@@ -704,7 +704,7 @@ class _Lent:
         self._editor._removed(self._name)
 
 
-class _Used:
+class _ActiveDocument:
     """A document that is active before a call and behind it, `-` where none is."""
 
     def __init__(self, editor: Editor, document: str):
@@ -712,7 +712,7 @@ class _Used:
         self._document = document
 
     def settle(self) -> None:
-        self._editor._said(f'use {self._document}', 'unsaved()')
+        self._editor._reply_to(f'use {self._document}', 'unsaved()')
 
 
 def _failed(call: str) -> Refused:
@@ -724,13 +724,6 @@ def _refused(reply: str, word: bytes, place: int, replies: list[str]) -> Refused
     refusal = _REFUSAL.fullmatch(reply)
     assert refusal
     return Refused(int(refusal[1]), refusal[2], word.decode('utf-8', 'surrogateescape'), place, replies)
-
-
-def _drawn(layers: list[dict[str, Any]]) -> Iterable[dict[str, Any]]:
-    """The layers in drawing order, those that stand in a group behind it."""
-    for layer in layers:
-        yield layer
-        yield from _drawn(layer.get('layers', []))
 
 
 def _id_of(parts: Iterable[dict[str, Any]], name: str) -> int:

@@ -23,8 +23,8 @@ UNLIKE = 2**64 - 12
 TOO_MANY_FRACTIONS = 2**64 - 13
 
 
-class Slot(ctypes.Structure):
-    """What a session is kept in. All zero is a closed one."""
+class CEditor(ctypes.Structure):
+    """`roskevad_editor`, what the library keeps an editor in. All zero is a closed one."""
 
     _fields_ = [('at', ctypes.c_void_p), ('is_open', ctypes.c_bool)]
 
@@ -35,8 +35,8 @@ class SelectionRun(ctypes.Structure):
     _fields_ = [('row', ctypes.c_uint32), ('column', ctypes.c_uint32), ('count', ctypes.c_uint32)]
 
 
-class Heard(ctypes.Structure):
-    """What came of many lines."""
+class LinesDone(ctypes.Structure):
+    """`roskevad_lines_done`, what came of many lines."""
 
     _fields_ = [
         ('bytes', ctypes.c_size_t),
@@ -46,28 +46,28 @@ class Heard(ctypes.Structure):
     ]
 
 
-_SIZE, _SLOT, _BYTES = ctypes.c_size_t, ctypes.POINTER(Slot), ctypes.c_char_p
+_SIZE, _EDITOR, _BYTES = ctypes.c_size_t, ctypes.POINTER(CEditor), ctypes.c_char_p
 _ROOM = ctypes.c_void_p
 _PARAMETERS = {
-    'open': [_SLOT, _SIZE],
-    'step': [_SLOT, _BYTES, _SIZE, _ROOM, _SIZE],
-    'reply': [_SLOT, _ROOM, _SIZE],
-    'run_lines': [_SLOT, _BYTES, _SIZE, _SIZE, _ROOM, _SIZE, ctypes.POINTER(Heard)],
-    'put_file': [_SLOT, _BYTES, _SIZE, _BYTES, _SIZE],
-    'file': [_SLOT, _BYTES, _SIZE, _ROOM, _SIZE],
-    'remove_file': [_SLOT, _BYTES, _SIZE],
-    'file_count': [_SLOT],
-    'file_name': [_SLOT, _SIZE, _ROOM, _SIZE],
-    'selection_count': [_SLOT],
-    'selection_run': [_SLOT, _SIZE, ctypes.POINTER(SelectionRun)],
-    'clean_index': [_SLOT],
-    'is_macro': [_SLOT, _SIZE],
-    'action_text': [_SLOT, _SIZE, _ROOM, _SIZE],
-    'next_layer_id': [_SLOT],
-    'next_object_id': [_SLOT],
-    'cells': [_SLOT, ctypes.c_uint32, _SIZE, _SIZE, _SIZE, _SIZE, _ROOM, _SIZE],
-    'outline': [_SLOT, _ROOM, _SIZE],
-    'close': [_SLOT],
+    'open': [_EDITOR, _SIZE],
+    'step': [_EDITOR, _BYTES, _SIZE, _ROOM, _SIZE],
+    'reply': [_EDITOR, _ROOM, _SIZE],
+    'run_lines': [_EDITOR, _BYTES, _SIZE, _SIZE, _ROOM, _SIZE, ctypes.POINTER(LinesDone)],
+    'put_file': [_EDITOR, _BYTES, _SIZE, _BYTES, _SIZE],
+    'file': [_EDITOR, _BYTES, _SIZE, _ROOM, _SIZE],
+    'remove_file': [_EDITOR, _BYTES, _SIZE],
+    'file_count': [_EDITOR],
+    'file_name': [_EDITOR, _SIZE, _ROOM, _SIZE],
+    'selection_count': [_EDITOR],
+    'selection_run': [_EDITOR, _SIZE, ctypes.POINTER(SelectionRun)],
+    'clean_index': [_EDITOR],
+    'is_macro': [_EDITOR, _SIZE],
+    'action_text': [_EDITOR, _SIZE, _ROOM, _SIZE],
+    'next_layer_id': [_EDITOR],
+    'next_object_id': [_EDITOR],
+    'cells': [_EDITOR, ctypes.c_uint32, _SIZE, _SIZE, _SIZE, _SIZE, _ROOM, _SIZE],
+    'outline': [_EDITOR, _ROOM, _SIZE],
+    'close': [_EDITOR],
     'set_aside': [_BYTES, _SIZE, _ROOM, _SIZE],
     'put_back': [_BYTES, _SIZE, _ROOM, _SIZE],
     'version': [_ROOM, _SIZE],

@@ -4,7 +4,7 @@ import copy
 from typing import TYPE_CHECKING, Any, Callable, Iterator, MutableMapping, Optional
 
 from . import words
-from .seen import Members, Seen
+from .outline import Members, Outline
 
 if TYPE_CHECKING:
     from .document import Document
@@ -17,13 +17,13 @@ class Properties(MutableMapping[str, Any]):
 
     __slots__ = '_document', '_owner', '_members'
 
-    def __init__(self, document: 'Document', owner: str, members: Callable[[Seen], Members]):
+    def __init__(self, document: 'Document', owner: str, members: Callable[[Outline], Members]):
         self._document = document
         self._owner = owner
         self._members = members
 
     def _all(self) -> dict[str, Members]:
-        return self._document._look(lambda seen: {each['name']: each for each in self._members(seen).get('properties', ())})
+        return self._document._look(lambda outline: {each['name']: each for each in self._members(outline).get('properties', ())})
 
     def __getitem__(self, key: str) -> Any:
         """The value of the property of a name. Raises KeyError where there is none."""
@@ -66,7 +66,7 @@ class Properties(MutableMapping[str, Any]):
         self._document._edit(f'prop set{"+" if merge else ""} {self._owner} {name} {words.setting(name, value, kind)}')
 
     def __repr__(self) -> str:
-        all_ = self._document._peek(lambda seen: {each['name']: _value_of(each) for each in self._members(seen).get('properties', ())})
+        all_ = self._document._peek(lambda outline: {each['name']: _value_of(each) for each in self._members(outline).get('properties', ())})
         return f'<Properties of {self._owner}>' if all_ is None else f'Properties({all_})'
 
 

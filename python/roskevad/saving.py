@@ -56,8 +56,8 @@ def _front(name: str) -> str:
 def holder_of(path: Path) -> str:
     """Which program has a file locked, as far as the system tells: `tile_editor, process 4711`."""
     try:
-        told = os.stat(path)
-        wanted = f'{os.major(told.st_dev):02x}:{os.minor(told.st_dev):02x}:{told.st_ino}'
+        found = os.stat(path)
+        wanted = f'{os.major(found.st_dev):02x}:{os.minor(found.st_dev):02x}:{found.st_ino}'
         for line in Path('/proc/locks').read_text('ascii').splitlines():
             words = line.split()
             if words[1:2] == ['FLOCK'] and words[5] == wanted:

@@ -5,7 +5,7 @@ from typing import TYPE_CHECKING, Iterator, NamedTuple, Optional, Union
 from . import words
 from .faults import Refused
 from .rows import BASE
-from .seen import Members, Seen
+from .outline import Members, Outline
 
 if TYPE_CHECKING:
     from .document import Document
@@ -32,10 +32,10 @@ class Tileset:
     def _members(self) -> Members:
         return self._document._look(self._find)
 
-    def _find(self, seen: Seen) -> Members:
-        if self.first_id not in seen.tilesets:
+    def _find(self, outline: Outline) -> Members:
+        if self.first_id not in outline.tilesets:
             raise Refused(36, 'no such tileset', repr(self), forms=())
-        return seen.tilesets[self.first_id]
+        return outline.tilesets[self.first_id]
 
     @property
     def source(self) -> Optional[str]:
@@ -91,10 +91,10 @@ class Tile(NamedTuple):
     turned: bool
 
 
-def tile_of(document: 'Document', seen: Seen, value: int) -> Tile:
+def tile_of(document: 'Document', outline: Outline, value: int) -> Tile:
     """The tile that a value, which is not 0, stands for."""
     base = value & BASE
-    first = seen.tileset_of(base)
+    first = outline.tileset_of(base)
     flags = [value & bit != 0 for bit in _FLAGS]
     tileset = None if first is None else Tileset(document, first)
     return Tile(value, tileset, None if first is None else base - first, *flags)
@@ -111,10 +111,10 @@ class Tilesets:
 
     def __iter__(self) -> Iterator[Tileset]:
         """Each tileset, in order."""
-        return iter([Tileset(self._document, first) for first in self._document._look(lambda seen: list(seen.tilesets))])
+        return iter([Tileset(self._document, first) for first in self._document._look(lambda outline: list(outline.tilesets))])
 
     def __len__(self) -> int:
-        return self._document._look(lambda seen: len(seen.tilesets))
+        return self._document._look(lambda outline: len(outline.tilesets))
 
     @property
     def first(self) -> Optional[Tileset]:
@@ -122,10 +122,10 @@ class Tilesets:
         return next(iter(self), None)
 
     def _found(self, key: object) -> Optional[int]:
-        def find(seen: Seen) -> Optional[int]:
+        def find(outline: Outline) -> Optional[int]:
             if isinstance(key, int):
-                return key if key in seen.tilesets else None
-            names = ((first, each.get('source', each.get('name'))) for first, each in seen.tilesets.items())
+                return key if key in outline.tilesets else None
+            names = ((first, each.get('source', each.get('name'))) for first, each in outline.tilesets.items())
             return next((first for first, name in names if name == key), None)
 
         return self._document._look(find)

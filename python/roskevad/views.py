@@ -6,7 +6,7 @@ from typing import TYPE_CHECKING, Any, Callable, Iterator, Optional, TypeVar, Un
 from . import words
 from .faults import Refused
 from .properties import Properties
-from .seen import Members, Seen, drawn
+from .outline import Members, Outline, drawn
 from .tilesets import Tile, tile_of
 
 if TYPE_CHECKING:
@@ -30,17 +30,17 @@ class _View:
         self._document = document
         self._id = id
 
-    def _find(self, seen: Seen) -> Members:
+    def _find(self, outline: Outline) -> Members:
         raise NotImplementedError
 
-    def _has(self, seen: Seen) -> Members:
+    def _has(self, outline: Outline) -> Members:
         try:
-            return self._find(seen)
+            return self._find(outline)
         except KeyError:
             raise Refused(self._code, self._words, f'{type(self).__name__} {self.id}', forms=()) from None
 
     def _look(self, answer: Callable[[Members], _Answer]) -> _Answer:
-        return self._document._look(lambda seen: answer(self._has(seen)))
+        return self._document._look(lambda outline: answer(self._has(outline)))
 
     @property
     def id(self) -> int:
@@ -76,13 +76,13 @@ class MapObject(_View):
         super().__init__(document, id)
         self._object_id = id
 
-    def _find(self, seen: Seen) -> Members:
-        return seen.objects[self.id].members
+    def _find(self, outline: Outline) -> Members:
+        return outline.objects[self.id].members
 
     @property
     def layer(self) -> 'Layer':
         """The layer that it is in. Raises Refused."""
-        return Layer(self._document, self._document._look(lambda seen: (self._has(seen), seen.objects[self.id].layer)[1]))
+        return Layer(self._document, self._document._look(lambda outline: (self._has(outline), outline.objects[self.id].layer)[1]))
 
     @property
     def name(self) -> str:
@@ -131,9 +131,9 @@ class MapObject(_View):
     def tile(self) -> Optional[Tile]:
         """Its tile, where it is one; else None. Raises Refused."""
 
-        def find(seen: Seen) -> Optional[Tile]:
-            value = self._has(seen).get('gid', 0)
-            return tile_of(self._document, seen, value) if value else None
+        def find(outline: Outline) -> Optional[Tile]:
+            value = self._has(outline).get('gid', 0)
+            return tile_of(self._document, outline, value) if value else None
 
         return self._document._look(find)
 
@@ -157,8 +157,8 @@ class MapObject(_View):
         self._document._edit(f'object remove {self.id}')
 
     def __repr__(self) -> str:
-        told = self._document._peek(lambda seen: '{name!r} at {x}, {y}'.format(**self._find(seen)))
-        return f'<MapObject {self.id} {told or "of " + repr(self._document.name)}>'
+        described = self._document._peek(lambda outline: '{name!r} at {x}, {y}'.format(**self._find(outline)))
+        return f'<MapObject {self.id} {described or "of " + repr(self._document.name)}>'
 
 
 class Objects:
@@ -171,8 +171,8 @@ class Objects:
         self._document = document
         self._layer = layer
 
-    def _all(self, seen: Seen) -> dict[int, Members]:
-        return {id: each.members for id, each in seen.objects.items() if self._layer in (None, each.layer)}
+    def _all(self, outline: Outline) -> dict[int, Members]:
+        return {id: each.members for id, each in outline.objects.items() if self._layer in (None, each.layer)}
 
     def __iter__(self) -> Iterator[MapObject]:
         """Each object, in drawing order."""
@@ -182,7 +182,7 @@ class Objects:
         return len(self._document._look(self._all))
 
     def _found(self, key: object) -> Optional[int]:
-        return self._document._look(lambda seen: _found_in(self._all(seen), key))
+        return self._document._look(lambda outline: _found_in(self._all(outline), key))
 
     def __getitem__(self, key: Union[int, str]) -> MapObject:
         """The object with an id, or the first of a name. Raises KeyError where there is none."""
@@ -221,8 +221,8 @@ class Layer(_View):
 
     __slots__ = ()
 
-    def _find(self, seen: Seen) -> Members:
-        return seen.layers[self.id]
+    def _find(self, outline: Outline) -> Members:
+        return outline.layers[self.id]
 
     @property
     def kind(self) -> str:
@@ -277,7 +277,7 @@ class Layer(_View):
         """The tile of a cell; None where the cell is empty. Raises TypeError, ValueError; Refused: 31 where it is no tile layer, 32
         outside the map."""
         value = self._document._cells_of(self, x, y, 1, 1)[1][0]
-        return self._document._look(lambda seen: tile_of(self._document, seen, value)) if value else None
+        return self._document._look(lambda outline: tile_of(self._document, outline, value)) if value else None
 
     def move(self, place: int) -> None:
         """Moves it to a place among the layers beside it, from 0, which is drawn first. Raises TypeError, ValueError; Refused."""
@@ -288,8 +288,8 @@ class Layer(_View):
         self._document._edit(f'layer remove {self.id}')
 
     def __repr__(self) -> str:
-        told = self._document._peek(lambda seen: '{1} {0[name]!r}'.format(self._find(seen), KINDS[self._find(seen)['type']]))
-        return f'<Layer {self.id} {told or "of " + repr(self._document.name)}>'
+        described = self._document._peek(lambda outline: '{1} {0[name]!r}'.format(self._find(outline), KINDS[self._find(outline)['type']]))
+        return f'<Layer {self.id} {described or "of " + repr(self._document.name)}>'
 
 
 class Layers:
@@ -302,18 +302,18 @@ class Layers:
         self._document = document
         self._group = group
 
-    def _all(self, seen: Seen) -> dict[int, Members]:
-        return {each['id']: each for each in drawn(self._below(seen))}
+    def _all(self, outline: Outline) -> dict[int, Members]:
+        return {each['id']: each for each in drawn(self._below(outline))}
 
-    def _below(self, seen: Seen) -> list[Members]:
+    def _below(self, outline: Outline) -> list[Members]:
         try:
-            return seen.below(self._group)
+            return outline.below(self._group)
         except KeyError:
             raise Refused(30, 'no such layer', repr(self), forms=()) from None
 
     def __iter__(self) -> Iterator[Layer]:
         """Each layer, in drawing order; a group is one, and `walk` enters it."""
-        return iter(self._document._look(lambda seen: [Layer(self._document, each['id']) for each in self._below(seen)]))
+        return iter(self._document._look(lambda outline: [Layer(self._document, each['id']) for each in self._below(outline)]))
 
     def walk(self) -> Iterator[Layer]:
         """Each layer, in drawing order, a group before those in it."""
@@ -323,7 +323,7 @@ class Layers:
         return len(self._document._look(self._below))
 
     def _found(self, key: object) -> Optional[int]:
-        return self._document._look(lambda seen: _found_in(self._all(seen), key))
+        return self._document._look(lambda outline: _found_in(self._all(outline), key))
 
     def __getitem__(self, key: Union[int, str]) -> Layer:
         """The layer with an id, or the first of a name, in groups too. Raises KeyError where there is none."""
@@ -341,8 +341,8 @@ class Layers:
         ValueError for another kind."""
         said = words.one_of(kind, tuple(KINDS.values()), 'the kind of a layer')
 
-        def find(seen: Seen) -> Optional[int]:
-            found = (id for id, each in self._all(seen).items() if (each['name'], KINDS[each['type']]) == (name, said))
+        def find(outline: Outline) -> Optional[int]:
+            found = (id for id, each in self._all(outline).items() if (each['name'], KINDS[each['type']]) == (name, said))
             return next(found, None)
 
         id = self._document._look(find)
@@ -357,5 +357,5 @@ class Layers:
         return self._document._add('layer', f'layer add {said} {words.text(name, "the name of a layer")}')
 
     def __repr__(self) -> str:
-        told: Any = self._document._peek(lambda seen: [each['name'] for each in self._below(seen)])
-        return f'<Layers of {self._document.name!r}: {told}>'
+        described: Any = self._document._peek(lambda outline: [each['name'] for each in self._below(outline)])
+        return f'<Layers of {self._document.name!r}: {described}>'

@@ -5,7 +5,7 @@ import json
 from lib import infinite, tiled_package
 from lib.asides import exact
 from lib.maps import map_of, thing, things, tiles
-from lib.packings import CSV, PACKINGS, PLAIN, with_cells, with_packing
+from lib.compressions import CSV, COMPRESSIONS, PLAIN, with_cells, with_compression
 
 
 def saved_as(tree):
@@ -21,7 +21,7 @@ def some_map(chosen):
         cells = [chosen.choice((0, chosen.randint(0, 2**32 - 1))) for _ in range(width * height)]
         layer = tiles(1, width, height, data=cells, opacity=chosen.choice((1, 0.1)))
         tree = map_of(layer, things(2, thing(1, x=chosen.choice((3, 413.333)))), width=width, height=height)
-    return with_packing(tree, chosen.choice(PACKINGS), chosen.choice((-1, 1, 9)))
+    return with_compression(tree, chosen.choice(COMPRESSIONS), chosen.choice((-1, 1, 9)))
 
 
 def exports(folder):
@@ -35,17 +35,17 @@ def exports(folder):
 def in_each_format(path):
     """The files of a map as Tiled exports it in each tile layer format, finite and infinite."""
     tree = json.loads(path.read_bytes())
-    for packing in PACKINGS:
+    for compression in COMPRESSIONS:
         for is_infinite in (False, True):
-            given = with_packing(tree, packing, 9)
+            given = with_compression(tree, compression, 9)
             if is_infinite:
                 make_infinite(given)
             (path.parent / 'given.tmj').write_bytes(json.dumps(given).encode())
-            name = f'{packing}_{is_infinite}.tmj'
+            name = f'{compression}_{is_infinite}.tmj'
             data = tiled_package.exported(path.parent / 'given.tmj', path.parent, name)
             told = json.loads(data)
             came = told['infinite'], told['layers'][0].get('compression') or CSV
-            wanted = is_infinite, CSV if packing == PLAIN else packing
+            wanted = is_infinite, CSV if compression == PLAIN else compression
             assert came == wanted, f'Tiled has exported {came}, and not {wanted}'
             yield path.parent / name
 

@@ -335,8 +335,8 @@ async function startedWorker() {
 async function editorsInWorkers() {
   const worker = await startedWorker();
   const came = await new Promise((give, fail) => {
-    const heard = (message) => give(message.data ?? message);
-    (worker.on ?? worker.addEventListener).call(worker, "message", heard);
+    const take = (message) => give(message.data ?? message);
+    (worker.on ?? worker.addEventListener).call(worker, "message", take);
     (worker.on ?? worker.addEventListener).call(worker, "error", fail);
   });
   same(came, ["ok 0/0 clean 0", "ok 1/1 dirty 0"]);

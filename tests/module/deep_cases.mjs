@@ -76,11 +76,11 @@ const DEEP_LINES = [
 ];
 
 // Opens a map with a member that is as deep as it may be, and edits it. One that is deeper is refused.
-function deepMap(editor, hear, made) {
+function deepMap(editor, run, made) {
   for (let depth = DEEPEST; ; depth--) {
     editor.putFile("deep.tmj", made(depth));
     try {
-      hear(["open deep deep.tmj"]);
+      run(["open deep deep.tmj"]);
       break;
     } catch (fault) {
       if (fault.code !== 60 || depth < DEEPEST / 2) {
@@ -88,16 +88,16 @@ function deepMap(editor, hear, made) {
       }
     }
   }
-  hear(DEEP_LINES);
+  run(DEEP_LINES);
 }
 
-/** Has an editor do them all. `hear` has it do lines, none of which is refused. */
-export function deepCases(editor, hear = (lines) => lines.forEach((line) => editor.step(line))) {
-  hear(macros());
-  hear(LONG_STAMPS);
+/** Has an editor do them all. `run` has it do lines, none of which is refused. */
+export function deepCases(editor, run = (lines) => lines.forEach((line) => editor.step(line))) {
+  run(macros());
+  run(LONG_STAMPS);
   LONG_LINES.forEach((line) => editor.stepBytes(line));
   for (const isArray of [true, false]) {
-    deepMap(editor, hear, (depth) => mapOf(grouped(0, 0), nested(depth, isArray)));
-    deepMap(editor, hear, (depth) => mapOf(grouped(GROUPS, nested(depth - 2 * GROUPS, isArray)), 0));
+    deepMap(editor, run, (depth) => mapOf(grouped(0, 0), nested(depth, isArray)));
+    deepMap(editor, run, (depth) => mapOf(grouped(GROUPS, nested(depth - 2 * GROUPS, isArray)), 0));
   }
 }

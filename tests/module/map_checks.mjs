@@ -23,8 +23,8 @@ async function streamed(bytes, stream) {
   return new Uint8Array(await new Response(new Blob([bytes]).stream().pipeThrough(stream)).arrayBuffer());
 }
 
-const packed = (bytes, packing) => streamed(bytes, new CompressionStream(FORMATS[packing]));
-const unpacked = (bytes, packing) => streamed(bytes, new DecompressionStream(FORMATS[packing]));
+const packed = (bytes, compression) => streamed(bytes, new CompressionStream(FORMATS[compression]));
+const unpacked = (bytes, compression) => streamed(bytes, new DecompressionStream(FORMATS[compression]));
 
 function tiles(id, members) {
   return { id, name: `Layer ${id}`, opacity: 1, type: "tilelayer", visible: true, x: 0, y: 0, ...members };
@@ -48,8 +48,8 @@ function mapOf(layers, members) {
   return JSON.stringify({ ...tree, ...members });
 }
 
-function packedMap(data, packing, members) {
-  const layer = { data, compression: packing, encoding: "base64", height: HEIGHT, width: WIDTH };
+function packedMap(data, compression, members) {
+  const layer = { data, compression: compression, encoding: "base64", height: HEIGHT, width: WIDTH };
   return mapOf([tiles(1, { ...layer, ...members })]);
 }
 
@@ -78,34 +78,34 @@ async function mapsThatNeedNothing() {
 }
 
 async function packedMaps() {
-  for (const packing of ["zlib", "gzip"]) {
+  for (const compression of ["zlib", "gzip"]) {
     const editor = await Editor.create();
-    const data = base64(await packed(new Uint8Array(CELLS.buffer), packing));
+    const data = base64(await packed(new Uint8Array(CELLS.buffer), compression));
     const spaced = `\n   ${data.slice(0, 8)} ${data.slice(8)}\n`;
     for (const [name, text] of [["a", data], ["b", spaced], ["c", data.replaceAll("/", "\\/")]]) {
-      const source = packedMap("DATA", packing, { compression: packing }).replace("DATA", text);
+      const source = packedMap("DATA", compression, { compression: compression }).replace("DATA", text);
       const given = source.replaceAll("\n", "\\n");
-      same(await editor.openMap(name, given), "ok 0/0 clean 0", `${packing} ${name}`);
+      same(await editor.openMap(name, given), "ok 0/0 clean 0", `${compression} ${name}`);
       same([...editor.cells(1, 0, 0, WIDTH, HEIGHT)], [...CELLS]);
     }
     editor.step("stamp 1 0 0 1 3");
     editor.step("layer add tile New");
     const { layers: [layer, added] } = await savedTree(editor);
-    same([layer.compression, layer.encoding, added.compression], [packing, "base64", undefined]);
+    same([layer.compression, layer.encoding, added.compression], [compression, "base64", undefined]);
     same([added.data.length, layer.roskevad_compression], [WIDTH * HEIGHT, undefined]);
-    const cells = await unpacked(bytesOf(layer.data), packing);
+    const cells = await unpacked(bytesOf(layer.data), compression);
     same([...new Uint32Array(cells.buffer)], [3, ...CELLS.slice(1)]);
     editor.close();
   }
 }
 
-async function damagedRows(packing) {
+async function damagedRows(compression) {
   const cells = new Uint8Array(CELLS.buffer);
-  const whole = await packed(cells, packing);
+  const whole = await packed(cells, compression);
   const rows = [
     new Uint8Array(), encoder.encode("abcdefgh".repeat(9)), Uint8Array.of(...whole, 120),
-    Uint8Array.of(...whole, ...whole), await packed(cells.subarray(1), packing),
-    await packed(Uint8Array.of(...cells, 1), packing), await packed(new Uint8Array(10_000_000), packing),
+    Uint8Array.of(...whole, ...whole), await packed(cells.subarray(1), compression),
+    await packed(Uint8Array.of(...cells, 1), compression), await packed(new Uint8Array(10_000_000), compression),
   ];
   for (let at = 1; at < whole.length; at += 5) {
     rows.push(whole.subarray(0, at));
@@ -116,10 +116,10 @@ async function damagedRows(packing) {
 
 async function damagedData() {
   const editor = await Editor.create();
-  for (const packing of ["zlib", "gzip"]) {
-    for (const [at, data] of [...(await damagedRows(packing)), "a*b=", "abc"].entries()) {
-      const { code, words, line, why } = await refusedLater(editor.openMap("m", packedMap(data, packing)));
-      same([code, words, line, why], [66, "bad data", 'openMap("m")', BAD_DATA], `${packing} ${at}:`);
+  for (const compression of ["zlib", "gzip"]) {
+    for (const [at, data] of [...(await damagedRows(compression)), "a*b=", "abc"].entries()) {
+      const { code, words, line, why } = await refusedLater(editor.openMap("m", packedMap(data, compression)));
+      same([code, words, line, why], [66, "bad data", 'openMap("m")', BAD_DATA], `${compression} ${at}:`);
     }
   }
   same([editor.files(), editor.step("list")], [[], "docs"]);

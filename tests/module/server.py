@@ -1,6 +1,6 @@
 # SPDX-License-Identifier: MIT OR Apache-2.0
 """Serves the package for JavaScript and runs of sessions, and takes what came of them. So Node and the
-browsers hear them by the same script, hear.mjs. Its page calls a function of a script."""
+browsers do them by the same script, run_sessions.mjs. Its page calls a function of a script."""
 import json
 import queue
 import threading
@@ -53,7 +53,7 @@ def unpacked(data):
 
 
 def asked(run):
-    """What a run is heard from: its limit, its session and its files, by their names behind a
+    """What a run is made from: its limit, its session and its files, by their names behind a
     slash."""
     limit = run.options[1] if run.options else '0'
     files = {f'/{name}': data for name, data in run.before.items()}

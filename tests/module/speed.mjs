@@ -15,12 +15,12 @@ export async function times(text, turns) {
   const session = { bytes: new TextEncoder().encode(text), lines: text.trimEnd().split("\n") };
   const module = await Module.load();
   const found = {};
-  for (const [name, heard] of Object.entries(WAYS)) {
+  for (const [name, run] of Object.entries(WAYS)) {
     found[name] = [];
     for (let turn = 0; turn < turns; turn++) {
       const editor = new Editor(module);
       const begin = performance.now();
-      heard(editor, session);
+      run(editor, session);
       found[name].push(performance.now() - begin);
       editor.close();
     }

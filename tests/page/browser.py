@@ -192,11 +192,11 @@ class Page:
         )
 
     def notices(self):
-        return self.js('return [...document.querySelectorAll("#notices .notice")].map(each => each.innerText)')
+        return self.js('return [...document.querySelectorAll("#notice-bars .notice")].map(each => each.innerText)')
 
     def answer(self, text):
         """Clicks at a button of a notice."""
-        for each in self.driver.find_elements(By.CSS_SELECTOR, '#notices button'):
+        for each in self.driver.find_elements(By.CSS_SELECTOR, '#notice-bars button'):
             if each.text == text:
                 each.click()
                 self.js('return new Promise(done => setTimeout(done, 50))')

@@ -93,11 +93,11 @@ def server_of(chosen: argparse.Namespace) -> Server:
     folder = Folder(chosen.folder, chosen.root)
     first = int.from_bytes(hashlib.sha256(os.fsencode(folder.folder)).digest()[:4], 'big') % _PORTS
     tried = [_FIRST_PORT + (first + at) % _PORTS for at in range(_TRIES)] + [0] if chosen.port is None else [chosen.port]
-    told: dict[str, Any] = {'files': chosen.files, 'limit': chosen.limit, 'version': __version__}
+    settings: dict[str, Any] = {'files': chosen.files, 'limit': chosen.limit, 'version': __version__}
     key = key_of(chosen.key_file)
     for port in tried:
         try:
-            return Server(folder, port, key, told)
+            return Server(folder, port, key, settings)
         except OSError as fault:
             reason = fault.strerror
     sys.exit(f'tile_page: port {tried[0]}: {reason}')

@@ -39,19 +39,19 @@ def is_map(path: Path) -> bool:
     return path.suffix.lower() in MAPS
 
 
-def is_told(name: str) -> bool:
-    """Whether a name can be told: it is UTF-8, with no control character and no end of a line. Other files are not listed, not read
+def can_be_listed(name: str) -> bool:
+    """Whether a name can be listed: it is UTF-8, with no control character and no end of a line. Other files are not listed, not read
     and not saved."""
     return not any(unicodedata.category(each) in _UNTOLD for each in name)
 
 
-def time_of(told: os.stat_result) -> int:
+def time_of(file_stat: os.stat_result) -> int:
     """When a file was changed, in microseconds: a number that JavaScript has exactly."""
-    return told.st_mtime_ns // 1000
+    return file_stat.st_mtime_ns // 1000
 
 
 class Folder:
-    """A folder of maps below a root. Paths are told from the folder in `maps`, and from the root elsewhere; links are followed, and
+    """A folder of maps below a root. Paths are given from the folder in `maps`, and from the root elsewhere; links are followed, and
     what they lead to lies below the root. Saves of one file come one behind the other."""
 
     def __init__(self, folder: Path, root: Path):
@@ -88,48 +88,48 @@ class Folder:
         found: list[dict[str, Any]] = []
         for path in self._names(top):
             if (suffixes is None or path.suffix.lower() in suffixes) and len(found) < _MOST_FILES:
-                told = self._told(path)
-                if told is not None:
+                file_stat = self._stat_of(path)
+                if file_stat is not None:
                     name = Path(os.path.relpath(path, self.folder)).as_posix()
-                    found.append({'path': name, 'size': told.st_size, 'time': time_of(told)})
+                    found.append({'path': name, 'size': file_stat.st_size, 'time': time_of(file_stat)})
         return found
 
     def _names(self, folder: Path) -> Iterator[Path]:
-        """The files of a folder and of those in it, but for hidden ones and names that can't be told; links to folders are not
+        """The files of a folder and of those in it, but for hidden ones and names that can't be listed; links to folders are not
         followed."""
         seen = 0
         for top, folders, names in os.walk(folder):
             depth = len(Path(top).relative_to(folder).parts)
-            folders[:] = sorted(name for name in folders if is_told(name) and not name.startswith('.')) if depth < _DEEPEST else []
+            folders[:] = sorted(name for name in folders if can_be_listed(name) and not name.startswith('.')) if depth < _DEEPEST else []
             seen += len(names)
             if seen > _MOST_NAMES:
                 return
-            yield from (Path(top) / name for name in sorted(names) if is_told(name) and not name.startswith('.'))
+            yield from (Path(top) / name for name in sorted(names) if can_be_listed(name) and not name.startswith('.'))
 
-    def _told(self, path: Path) -> Optional[os.stat_result]:
+    def _stat_of(self, path: Path) -> Optional[os.stat_result]:
         """What the system tells of a regular file that lies below the root, links followed; `None` where there is no such file."""
         try:
             real = path.resolve(strict=True)
-            told = real.stat()
+            file_stat = real.stat()
         except (OSError, ValueError, RuntimeError):
             return None
-        return told if real.is_relative_to(self.root) and stat.S_ISREG(told.st_mode) else None
+        return file_stat if real.is_relative_to(self.root) and stat.S_ISREG(file_stat.st_mode) else None
 
     def read(self, name: str) -> Optional[tuple[bytes, int]]:
         """The bytes of a map, a tileset or an image, and its time; `None` where there is no such file, or it is too long."""
         path = self._path(name)
-        told = None if path is None or path.suffix.lower() not in KINDS else self._told(path)
-        if path is None or told is None or told.st_size > LONGEST_FILE:
+        file_stat = None if path is None or path.suffix.lower() not in KINDS else self._stat_of(path)
+        if path is None or file_stat is None or file_stat.st_size > LONGEST_FILE:
             return None
         try:
             data = path.read_bytes()
         except OSError:
             return None
-        return (data, time_of(told)) if len(data) <= LONGEST_FILE else None
+        return (data, time_of(file_stat)) if len(data) <= LONGEST_FILE else None
 
     def _path(self, name: str) -> Optional[Path]:
-        """The path of a name from the root; `None` where it can't be told, or is none of a file, as one that ends with a slash."""
-        return self.root / name if is_told(name) and PurePosixPath(name).as_posix() == name else None
+        """The path of a name from the root; `None` where it can't be listed, or is none of a file, as one that ends with a slash."""
+        return self.root / name if can_be_listed(name) and PurePosixPath(name).as_posix() == name else None
 
     def place(self, name: str) -> Optional[Path]:
         """Where a map is saved: in the folder, or below it, in a folder that is there. `None` where it must not be."""
@@ -187,6 +187,6 @@ class Folder:
             if os.path.lexists(path):
                 raise Unlike
             return
-        told = self._told(path)
-        if told is None or told.st_size > LONGEST_FILE or hashlib.sha256(path.read_bytes()).hexdigest() != wanted:
+        file_stat = self._stat_of(path)
+        if file_stat is None or file_stat.st_size > LONGEST_FILE or hashlib.sha256(path.read_bytes()).hexdigest() != wanted:
             raise Unlike

@@ -15,8 +15,8 @@ def _kept() -> Path:
     given = os.environ.get('XDG_RUNTIME_DIR', '')
     path = Path(given) / 'roskevad' if given else Path(tempfile.gettempdir()) / f'roskevad-{os.getuid()}'
     path.mkdir(mode=0o700, exist_ok=True)
-    told = path.lstat()
-    if not stat.S_ISDIR(told.st_mode) or told.st_uid != os.getuid() or told.st_mode & 0o077:
+    folder_stat = path.lstat()
+    if not stat.S_ISDIR(folder_stat.st_mode) or folder_stat.st_uid != os.getuid() or folder_stat.st_mode & 0o077:
         raise PermissionError(f'{path} is not of this user alone')
     return path
 

@@ -64,15 +64,15 @@ class Refusal(Exception):
 
 
 class Server(ThreadingHTTPServer):
-    """Serves the page and a folder on 127.0.0.1. `told` is what the page is told at its start."""
+    """Serves the page and a folder on 127.0.0.1. `settings` is what the page gets at its start."""
 
     daemon_threads = True
     block_on_close = False
     request_queue_size = 128
 
-    def __init__(self, folder: Folder, port: int, key: str, told: dict[str, Any]):
+    def __init__(self, folder: Folder, port: int, key: str, settings: dict[str, Any]):
         super().__init__(('127.0.0.1', port), Door)
-        self.folder, self.key, self.told = folder, key, told
+        self.folder, self.key, self.settings = folder, key, settings
         self._waiting: dict[socket.socket, None] = {}
         self._waits = threading.Lock()
         port = self.server_address[1]
@@ -303,8 +303,8 @@ class Door(BaseHTTPRequestHandler):
     def _give_files(self, body: bytes) -> None:
         folder = self.server.folder
         where = {'folder': str(folder.folder), 'prefix': folder.prefix, 'source': folder.source}
-        told: dict[str, Any] = {**self.server.told, **where, 'maps': folder.maps()}
-        self._give(json.dumps(told, separators=(',', ':')).encode(), 'application/json')
+        answer: dict[str, Any] = {**self.server.settings, **where, 'maps': folder.maps()}
+        self._give(json.dumps(answer, separators=(',', ':')).encode(), 'application/json')
 
     def _give_names(self, body: bytes) -> None:
         self._give(json.dumps(self.server.folder.names(), separators=(',', ':')).encode(), 'application/json')

@@ -1,7 +1,7 @@
 // SPDX-License-Identifier: MIT OR Apache-2.0
 // Maps whose layers are compressed: unpacked before the library reads them, and packed again behind it.
 import { joined } from "./bytes.js";
-import { Edit, NOTE, edited, mapAndLayers } from "./layers.js";
+import { Edit, NOTE, edited, mapAndLayers } from "./json_scanner.js";
 
 const NOTE_TAKEN = `a layer has a member of the reserved name "${NOTE}"`;
 const TOO_LONG = "unpacked, its layers have more than 67,108,864 bytes";
@@ -32,8 +32,8 @@ export class Unpackable extends Error {
  * where none is. A layer stays as it is where the host cannot unpack it: `why` has the reason then, else
  * null. Throws Unpackable.
  */
-export async function unpacked(bytes) {
-  const text = seen(bytes);
+export async function unpackLayers(bytes) {
+  const text = textThatMayHavePacked(bytes);
   if (text === null) {
     return { bytes, why: null };
   }
@@ -41,20 +41,20 @@ export async function unpacked(bytes) {
   if (layers.some((layer) => layer.has(NOTE))) {
     throw new Unpackable(51, NOTE_TAKEN);
   }
-  const packings = layers.map(packingOf);
-  const why = whyNot(packings.find((packing) => packing && whyNot(packing)));
+  const compressions = layers.map(compressionOf);
+  const why = whyNot(compressions.find((compression) => compression && whyNot(compression)));
   const budget = { rest: MOST_BYTES };
   const edits = [];
   for (const [at, layer] of layers.entries()) {
-    if (packings[at] && !whyNot(packings[at])) {
-      edits.push(...(await unpackedLayer(layer, packings[at], cellsOf(map), budget)));
+    if (compressions[at] && !whyNot(compressions[at])) {
+      edits.push(...(await unpackedLayer(layer, compressions[at], cellsOf(map), budget)));
     }
   }
   return { bytes: edits.length > 0 ? new TextEncoder().encode(edited(text, edits)) : bytes, why };
 }
 
 /** The bytes of a map with those layers packed that note how; the same bytes where none does. */
-export async function packed(bytes) {
+export async function packLayers(bytes) {
   const text = decoder.decode(bytes);
   if (!text.includes(`"${NOTE}"`)) {
     return bytes;
@@ -67,7 +67,7 @@ export async function packed(bytes) {
 }
 
 // The text of bytes in which a layer may be packed, else null.
-function seen(bytes) {
+function textThatMayHavePacked(bytes) {
   try {
     const text = decoder.decode(bytes);
     return text.includes('compression"') || text.includes("\\u") ? text : null;
@@ -77,19 +77,19 @@ function seen(bytes) {
 }
 
 // How a layer is packed; null where it is not.
-function packingOf(layer) {
-  const packing = layer.get("compression")?.value;
-  const isPacked = typeof packing === "string" && packing !== "" && layer.get("encoding")?.value === "base64";
-  return isPacked ? packing : null;
+function compressionOf(layer) {
+  const compression = layer.get("compression")?.value;
+  const isPacked = typeof compression === "string" && compression !== "" && layer.get("encoding")?.value === "base64";
+  return isPacked ? compression : null;
 }
 
 // Why the host cannot unpack that, or null.
-function whyNot(packing) {
-  if (!packing) {
+function whyNot(compression) {
+  if (!compression) {
     return null;
   }
-  if (!FORMATS.has(packing)) {
-    return packing === "zstd" ? "JavaScript has no Zstandard" : `there is no compression ${packing}`;
+  if (!FORMATS.has(compression)) {
+    return compression === "zstd" ? "JavaScript has no Zstandard" : `there is no compression ${compression}`;
   }
   return typeof DecompressionStream === "undefined" ? "this host has no DecompressionStream" : null;
 }
@@ -112,9 +112,9 @@ function* holdersOf(layer, cells) {
   }
 }
 
-async function unpackedLayer(layer, packing, cells, budget) {
+async function unpackedLayer(layer, compression, cells, budget) {
   const name = layer.get("compression");
-  const edits = [new Edit(name.start, name.end, `"","${NOTE}":"${packing}"`)];
+  const edits = [new Edit(name.start, name.end, `"","${NOTE}":"${compression}"`)];
   for (const [holder, count] of holdersOf(layer, cells)) {
     const data = holder.get("data")?.value;
     if (typeof data !== "string" || count === null) {
@@ -128,15 +128,15 @@ async function unpackedLayer(layer, packing, cells, budget) {
 
 async function packedLayer(layer) {
   const note = layer.get(NOTE);
-  const packing = note?.value;
-  if (!FORMATS.has(packing)) {
+  const compression = note?.value;
+  if (!FORMATS.has(compression)) {
     return [];
   }
   const edits = [new Edit(note.nameStart, note.nameEnd, '"compression"')];
   for (const [holder] of holdersOf(layer, null)) {
     const data = holder.get("data")?.value;
     if (typeof data === "string") {
-      const stream = new CompressionStream(FORMATS.get(packing));
+      const stream = new CompressionStream(FORMATS.get(compression));
       edits.push(dataEdit(holder, await through(stream, bytesOfBase64(data), Infinity)));
     }
   }

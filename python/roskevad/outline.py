@@ -1,5 +1,5 @@
 # SPDX-License-Identifier: MIT OR Apache-2.0
-"""What was seen of a document's map: its outline, with what looks things up in it."""
+"""The outline of a document's map, with what looks things up in it."""
 import functools
 from typing import Any, Iterable, Iterator, NamedTuple, Optional
 
@@ -20,17 +20,17 @@ def drawn(layers: Iterable[Members]) -> Iterator[Members]:
         yield from drawn(layer.get('layers', ()))
 
 
-class Seen:
-    """The outline of a document, which nothing has changed since."""
+class Outline:
+    """The outline of a document, as its map was when it was asked for: its tree, and what is in it by ids."""
 
-    def __init__(self, document: str, outline: Members):
+    def __init__(self, document: str, tree: Members):
         self.document = document
-        self.outline = outline
+        self.tree = tree
 
     @functools.cached_property
     def layers(self) -> dict[int, Members]:
         """All layers by their ids, in drawing order."""
-        return {layer['id']: layer for layer in drawn(self.outline['layers'])}
+        return {layer['id']: layer for layer in drawn(self.tree['layers'])}
 
     @functools.cached_property
     def objects(self) -> dict[int, PlacedObject]:
@@ -42,11 +42,11 @@ class Seen:
     @functools.cached_property
     def tilesets(self) -> dict[int, Members]:
         """The tilesets by their first ids, in order."""
-        return {each['firstgid']: each for each in self.outline['tilesets']}
+        return {each['firstgid']: each for each in self.tree['tilesets']}
 
     def below(self, group: Optional[int]) -> list[Members]:
         """The layers in a group, or those in none."""
-        return list(self.outline['layers'] if group is None else self.layers[group].get('layers', ()))
+        return list(self.tree['layers'] if group is None else self.layers[group].get('layers', ()))
 
     def tileset_of(self, value: int) -> Optional[int]:
         """The first id of the tileset that a value without flags is a tile of."""

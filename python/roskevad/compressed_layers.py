@@ -1,8 +1,8 @@
 # SPDX-License-Identifier: MIT OR Apache-2.0
 """Maps whose layers are compressed: unpacked before the library reads them, and packed again behind it.
 
-    data = packed(put_back(..))          what a file has
-    unpacked(data).data                  what the library reads
+    data = pack_layers(put_back(..))     what a file has
+    unpack_layers(data).data             what the library reads
 
 While a layer is unpacked, a member of it notes how it was packed. The level stands in the map's own `compressionlevel`, which the
 library keeps. Layers that are added meanwhile have no such note, and are arrays.
@@ -11,8 +11,8 @@ import base64
 import binascii
 from typing import Any, Iterator, NamedTuple, Optional
 
-from .layers import NOTE, Edit, Members, edited, map_and_layers
-from .packings import pack, unpack, why_not
+from .json_scanner import NOTE, Edit, Members, edited, map_and_layers
+from .compressions import pack, unpack, why_not
 
 _NOTE_TAKEN = f'a layer has a member of the reserved name "{NOTE}"'
 _TOO_LONG = 'unpacked, its layers have more than 67,108,864 bytes'
@@ -30,7 +30,7 @@ class Unpackable(Exception):
         self.why = why
 
 
-class Unpacked(NamedTuple):
+class UnpackedMap(NamedTuple):
     """A map that is unpacked as far as it can be."""
 
     #: Its bytes: the same, where no layer is packed.
@@ -39,30 +39,30 @@ class Unpacked(NamedTuple):
     why: Optional[str]
 
 
-def unpacked(data: bytes) -> Unpacked:
+def unpack_layers(data: bytes) -> UnpackedMap:
     """A map with its layers unpacked. Raises Unpackable: 51 where a layer has the member of a note, or they are too many bytes; 66
     where data do not unpack to four bytes a cell. Nothing is unpacked any further."""
     text = _text_of(data) if b'compression"' in data or b'\\u' in data else None
     if text is None:
-        return Unpacked(data, None)
+        return UnpackedMap(data, None)
     members, layers = map_and_layers(text)
     if any(NOTE in layer for layer in layers):
         raise Unpackable(51, _NOTE_TAKEN)
-    why = next(filter(None, (why_not(packing) for packing in map(_packing_of, layers) if packing)), None)
+    why = next(filter(None, (why_not(compression) for compression in map(_compression_of, layers) if compression)), None)
     unpacker = _Unpacker(_cells_of(members))
     edits = [edit for layer in layers for edit in unpacker.edits(layer)]
-    return Unpacked(edited(text, edits).encode() if edits else data, why)
+    return UnpackedMap(edited(text, edits).encode() if edits else data, why)
 
 
-def packed(data: bytes) -> bytes:
+def pack_layers(data: bytes) -> bytes:
     """A map with those layers packed that note how. Raises Unpackable: 51 where that can't be done here."""
     text = _text_of(data) if f'"{NOTE}"'.encode() in data else None
     if text is None:
         return data
     members, layers = map_and_layers(text)
-    told = _value_of(members, 'compressionlevel')
-    level = told if type(told) is int else -1
-    return edited(text, [edit for layer in layers for edit in _packing_edits(layer, level)]).encode()
+    stated = _value_of(members, 'compressionlevel')
+    level = stated if type(stated) is int else -1
+    return edited(text, [edit for layer in layers for edit in _edits_to_pack(layer, level)]).encode()
 
 
 def _text_of(data: bytes) -> Optional[str]:
@@ -77,11 +77,11 @@ def _value_of(members: Members, name: str) -> Any:
     return members[name].value() if name in members else None
 
 
-def _packing_of(layer: Members) -> Optional[str]:
+def _compression_of(layer: Members) -> Optional[str]:
     """How a layer is packed; `None` where it is not."""
-    packing = _value_of(layer, 'compression')
-    is_packed = isinstance(packing, str) and packing and _value_of(layer, 'encoding') == 'base64'
-    return packing if is_packed else None
+    compression = _value_of(layer, 'compression')
+    is_packed = isinstance(compression, str) and compression and _value_of(layer, 'encoding') == 'base64'
+    return compression if is_packed else None
 
 
 def _cells_of(members: Members) -> Optional[int]:
@@ -110,34 +110,34 @@ class _Unpacker:
 
     def edits(self, layer: Members) -> Iterator[Edit]:
         """What changes in the text of a layer."""
-        packing = _packing_of(layer)
-        if packing is None or why_not(packing):
+        compression = _compression_of(layer)
+        if compression is None or why_not(compression):
             return
         named = layer['compression']
-        yield Edit(named.start, named.end, f'"","{NOTE}":"{packing}"')
+        yield Edit(named.start, named.end, f'"","{NOTE}":"{compression}"')
         for holder, cells in _holders_of(layer, self._cells):
             data = _value_of(holder, 'data')
             if not isinstance(data, str) or cells is None:
                 # The library says so.
                 return
-            yield _data_edit(holder, self._unpacked(packing, data, cells * _CELL_BYTES))
+            yield _data_edit(holder, self._unpacked(compression, data, cells * _CELL_BYTES))
 
-    def _unpacked(self, packing: str, data: str, size: int) -> bytes:
+    def _unpacked(self, compression: str, data: str, size: int) -> bytes:
         self._rest -= -(-size // 3) * 4
         if self._rest < 0:
             raise Unpackable(51, _TOO_LONG)
-        found = unpack(packing, _decoded(data) or b'', size)
+        found = unpack(compression, _decoded(data) or b'', size)
         if found is None:
             raise Unpackable(66, _BAD_DATA)
         return found
 
 
-def _packing_edits(layer: Members, level: int) -> Iterator[Edit]:
+def _edits_to_pack(layer: Members, level: int) -> Iterator[Edit]:
     """What changes in the text of a layer that is packed, if it notes how."""
-    packing = _value_of(layer, NOTE)
-    if not isinstance(packing, str):
+    compression = _value_of(layer, NOTE)
+    if not isinstance(compression, str):
         return
-    why = why_not(packing)
+    why = why_not(compression)
     if why:
         raise Unpackable(51, why)
     note = layer[NOTE]
@@ -145,7 +145,7 @@ def _packing_edits(layer: Members, level: int) -> Iterator[Edit]:
     for holder, _ in _holders_of(layer, None):
         data = _value_of(holder, 'data')
         if isinstance(data, str):
-            yield _data_edit(holder, pack(packing, _decoded(data) or b'', level))
+            yield _data_edit(holder, pack(compression, _decoded(data) or b'', level))
 
 
 def _data_edit(holder: Members, data: bytes) -> Edit:

@@ -9,7 +9,7 @@ import zlib
 from lib.maps import layers_in
 
 CSV, PLAIN, ZLIB, GZIP, ZSTANDARD = 'csv', 'base64', 'zlib', 'gzip', 'zstd'
-PACKINGS = (CSV, PLAIN, ZLIB, GZIP, ZSTANDARD)
+COMPRESSIONS = (CSV, PLAIN, ZLIB, GZIP, ZSTANDARD)
 
 
 def zstandard():
@@ -19,23 +19,23 @@ def zstandard():
     return package
 
 
-def packed_bytes(data, packing, level=-1):
+def compressed_bytes(data, compression, level=-1):
     """Bytes as Tiled packs them, with a level of its own where that is -1."""
-    if packing == ZLIB:
+    if compression == ZLIB:
         return zlib.compress(data, level)
-    if packing == GZIP:
+    if compression == GZIP:
         return gzip.compress(data, 6 if level == -1 else level, mtime=0)
-    if packing == ZSTANDARD:
+    if compression == ZSTANDARD:
         return zstandard().ZstdCompressor(level=6 if level == -1 else level).compress(data)
     return data
 
 
-def unpacked_bytes(data, packing):
-    if packing == ZLIB:
+def decompressed_bytes(data, compression):
+    if compression == ZLIB:
         return zlib.decompress(data)
-    if packing == GZIP:
+    if compression == GZIP:
         return gzip.decompress(data)
-    if packing == ZSTANDARD:
+    if compression == ZSTANDARD:
         return zstandard().ZstdDecompressor().decompress(data)
     return data
 
@@ -44,21 +44,21 @@ def text_of_bytes(data):
     return base64.b64encode(data).decode()
 
 
-def data_of(cells, packing, level=-1):
+def data_of(cells, compression, level=-1):
     """The data of a layer or a chunk."""
-    if packing == CSV:
+    if compression == CSV:
         return list(cells)
-    return text_of_bytes(packed_bytes(struct.pack(f'<{len(cells)}I', *cells), packing, level))
+    return text_of_bytes(compressed_bytes(struct.pack(f'<{len(cells)}I', *cells), compression, level))
 
 
-def packing_of(layer):
+def compression_of(layer):
     return layer.get('compression') or layer.get('encoding') or CSV
 
 
-def cells_in(data, packing):
+def cells_in(data, compression):
     if isinstance(data, list):
         return data
-    plain = unpacked_bytes(base64.b64decode(data, validate=True), packing)
+    plain = decompressed_bytes(base64.b64decode(data, validate=True), compression)
     return list(struct.unpack(f'<{len(plain) // 4}I', plain))
 
 
@@ -67,19 +67,19 @@ def holders(layer):
     return layer['chunks'] if 'chunks' in layer else [layer]
 
 
-def with_packing(tree, packing, level=-1):
+def with_compression(tree, compression, level=-1):
     """A map with its tile layers packed so. Those of the map that is given are packed in any way."""
     tree = copy.deepcopy(tree)
     for layer in layers_in(tree['layers']):
         if layer['type'] != 'tilelayer':
             continue
-        old = packing_of(layer)
+        old = compression_of(layer)
         for holder in holders(layer):
-            holder['data'] = data_of(cells_in(holder['data'], old), packing, level)
+            holder['data'] = data_of(cells_in(holder['data'], old), compression, level)
         for name in ('encoding', 'compression'):
             layer.pop(name, None)
-        if packing != CSV:
-            layer.update(encoding='base64', compression='' if packing == PLAIN else packing)
+        if compression != CSV:
+            layer.update(encoding='base64', compression='' if compression == PLAIN else compression)
     return {**tree, 'compressionlevel': level}
 
 
@@ -88,8 +88,8 @@ def with_cells(tree):
     tree = copy.deepcopy(tree)
     for layer in layers_in(tree['layers']):
         if layer['type'] == 'tilelayer':
-            packing = packing_of(layer)
+            compression = compression_of(layer)
             for holder in holders(layer):
-                holder['data'] = cells_in(holder['data'], packing)
-            layer['compression'] = packing
+                holder['data'] = cells_in(holder['data'], compression)
+            layer['compression'] = compression
     return tree

@@ -7,7 +7,7 @@ from typing import Any, Optional
 from . import library
 from .faults import Refused
 from .library import LIBRARY
-from .packed import Unpackable, packed, unpacked
+from .compressed_layers import Unpackable, pack_layers, unpack_layers
 from .rooms import Room
 
 # The name under which it stands, in the map, in layers and objects.
@@ -34,7 +34,7 @@ def set_aside(data: bytes, call: str) -> tuple[bytes, Optional[str]]:
     """The text of a map that `open` can read, where it can; and why a layer stays packed, in words. Raises Refused, with the call:
     51 and 66."""
     try:
-        found = unpacked(data)
+        found = unpack_layers(data)
     except Unpackable as fault:
         raise _refused(fault, call) from None
     return _made('set_aside', found.data, call), found.why
@@ -43,7 +43,7 @@ def set_aside(data: bytes, call: str) -> tuple[bytes, Optional[str]]:
 def put_back(data: bytes, call: str) -> bytes:
     """The text of a map as it was before. Raises Refused, with the call: 51."""
     try:
-        return packed(_made('put_back', data, call))
+        return pack_layers(_made('put_back', data, call))
     except Unpackable as fault:
         raise _refused(fault, call) from None
 

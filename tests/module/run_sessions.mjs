@@ -1,8 +1,8 @@
 // SPDX-License-Identifier: MIT OR Apache-2.0
-// Hears runs of sessions on the module, in Node or in a page: the server gives each run, and takes what
+// Does runs of sessions on the module, in Node or in a page: the server gives each run, and takes what
 // came of it.
 //
-//   node tests/module/hear.mjs ADDRESS WAY
+//   node tests/module/run_sessions.mjs ADDRESS WAY
 import { Editor, Module } from "../../js/roskevad.js";
 
 const encoder = new TextEncoder();
@@ -63,7 +63,7 @@ function joined(pieces) {
 const WAYS = { step: stepped, lines: (editor, session) => editor.runBytes(session) };
 
 // What comes of a run: its replies, and its files.
-function heard(module, run, way) {
+function outcomeOf(module, run, way) {
   const editor = new Editor(module, { limit: Number(decoder.decode(run.get("limit"))) });
   try {
     for (const [name, data] of run) {
@@ -78,18 +78,18 @@ function heard(module, run, way) {
   }
 }
 
-/** Hears all runs of a server in one module. */
-export async function hearAll(address, way) {
+/** Does all runs of a server in one module. */
+export async function runAll(address, way) {
   const module = await Module.load();
   const count = await (await fetch(`${address}/runs`)).json();
   for (let number = 0; number < count; number++) {
     const answer = await fetch(`${address}/runs/${number}`);
     const run = unpacked(new Uint8Array(await answer.arrayBuffer()));
-    const body = packed(heard(module, run, way));
+    const body = packed(outcomeOf(module, run, way));
     await fetch(`${address}/runs/${number}`, { method: "POST", body });
   }
 }
 
 if (typeof process === "object") {
-  await hearAll(process.argv[2], process.argv[3]);
+  await runAll(process.argv[2], process.argv[3]);
 }

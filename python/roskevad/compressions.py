@@ -11,33 +11,33 @@ _EITHER = 47
 _WINDOWS = {ZLIB: 15, GZIP: 31}
 # The modules that have Zstandard, the first of which is Python's own, from 3.14 on.
 _MODULES = ('compression.zstd', 'backports.zstd', 'zstandard')
-# The level that stands for the packing's own, and which Tiled takes for Zstandard then.
+# The level that stands for the compression's own, and which Tiled takes for Zstandard then.
 _ANY_LEVEL, _ZSTANDARD_LEVEL, _GREATEST_ZSTANDARD_LEVEL = -1, 6, 22
 
 
-def why_not(packing: str) -> Optional[str]:
-    """Why that packing can't be unpacked here, in words; `None` where it can."""
-    if packing in _WINDOWS:
+def why_not(compression: str) -> Optional[str]:
+    """Why that compression can't be unpacked here, in words; `None` where it can."""
+    if compression in _WINDOWS:
         return None
-    if packing != ZSTANDARD:
-        return f'there is no compression {packing[:40]!r}'
+    if compression != ZSTANDARD:
+        return f'there is no compression {compression[:40]!r}'
     if _zstandard() is None:
         return 'Zstandard needs Python 3.14, or the package backports.zstd or zstandard'
     return None
 
 
-def unpack(packing: str, data: bytes, size: int) -> Optional[bytes]:
+def unpack(compression: str, data: bytes, size: int) -> Optional[bytes]:
     """The bytes that are packed; `None` where they are not so many, where data are cut short or damaged, or something stands behind
     them."""
-    found = _unpack_zstandard(data, size) if packing == ZSTANDARD else _unpack_zlib(data, size)
+    found = _unpack_zstandard(data, size) if compression == ZSTANDARD else _unpack_zlib(data, size)
     return found if found is not None and len(found) == size else None
 
 
-def pack(packing: str, data: bytes, level: int) -> bytes:
-    """Packs bytes, with a level as Tiled takes it: -1 is the packing's own."""
-    if packing == ZSTANDARD:
+def pack(compression: str, data: bytes, level: int) -> bytes:
+    """Packs bytes, with a level as Tiled takes it: -1 is the compression's own."""
+    if compression == ZSTANDARD:
         return _pack_zstandard(data, _ZSTANDARD_LEVEL if level == _ANY_LEVEL else min(max(level, 1), _GREATEST_ZSTANDARD_LEVEL))
-    packer = zlib.compressobj(level if level == _ANY_LEVEL else min(max(level, 1), 9), zlib.DEFLATED, _WINDOWS[packing])
+    packer = zlib.compressobj(level if level == _ANY_LEVEL else min(max(level, 1), 9), zlib.DEFLATED, _WINDOWS[compression])
     return packer.compress(data) + packer.flush()
 
 
