@@ -1,10 +1,11 @@
 // SPDX-License-Identifier: MIT OR Apache-2.0
 // Maps whose layers are compressed: unpacked before the library reads them, and packed again behind it.
 import { joined } from "./bytes.js";
+import { MAX_CELLS, MAX_FILE_BYTES } from "./limits.js";
 import { Edit, NOTE, edited, mapAndLayers } from "./json_scanner.js";
 
 const NOTE_TAKEN = `a layer has a member of the reserved name "${NOTE}"`;
-const TOO_LONG = "unpacked, its layers have more than 67,108,864 bytes";
+const TOO_LONG = `unpacked, its layers have more than ${MAX_FILE_BYTES.toLocaleString("en-US")} bytes`;
 
 // What the host calls the formats. That of a stream is told by its first two bytes, as Tiled does.
 const FORMATS = new Map([["zlib", "deflate"], ["gzip", "gzip"]]);
@@ -13,8 +14,6 @@ const GZIP = [0x1f, 0x8b];
 const BEHIND_END = Uint8Array.of(0x78, 0x9c, 0x4b, 4, 0, 0, 0x62, 0, 0x62, 0);
 let seesEnd = null;
 const CELL_BYTES = 4;
-const MOST_CELLS = 1_048_576;
-const MOST_BYTES = 67_108_864;
 // So many bytes are given to a stream at once: what they unpack to is at most a thousand times as much.
 const PIECE = 4_096;
 const decoder = new TextDecoder("utf-8", { ignoreBOM: true, fatal: true });
@@ -43,7 +42,7 @@ export async function unpackLayers(bytes) {
   }
   const compressions = layers.map(compressionOf);
   const why = whyNot(compressions.find((compression) => compression && whyNot(compression)));
-  const budget = { rest: MOST_BYTES };
+  const budget = { rest: MAX_FILE_BYTES };
   const edits = [];
   for (const [at, layer] of layers.entries()) {
     if (compressions[at] && !whyNot(compressions[at])) {
@@ -98,7 +97,7 @@ function whyNot(compression) {
 function cellsOf(members) {
   const [width, height] = ["width", "height"].map((name) => members.get(name)?.value);
   const isSize = [width, height].every((side) => Number.isSafeInteger(side) && side > 0);
-  return isSize && width * height <= MOST_CELLS ? width * height : null;
+  return isSize && width * height <= MAX_CELLS ? width * height : null;
 }
 
 // What holds data of a layer: the layer, or each of its chunks, with how many cells it has.

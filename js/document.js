@@ -1,6 +1,7 @@
 // SPDX-License-Identifier: MIT OR Apache-2.0
 // A document of an editor, in the words of its caller.
 import { Closed, Refused } from "./faults.js";
+import { MAX_COORDINATE } from "./limits.js";
 import { Properties } from "./properties.js";
 import { doubtful, partsOf, rowsOf } from "./rows.js";
 import { Outline } from "./outline.js";
@@ -11,7 +12,7 @@ import * as words from "./words.js";
 
 const MODES = ["replace", "add", "subtract", "intersect"];
 // A place past every map: a stamp there changes nothing.
-const NOWHERE = "1000000000 1000000000";
+const NOWHERE = `${MAX_COORDINATE} ${MAX_COORDINATE}`;
 const TEXT = "text ";
 const STATUS = /^ok (\d+)\/(\d+) (clean|dirty) (\d+)$/;
 

@@ -1,6 +1,7 @@
 // SPDX-License-Identifier: MIT OR Apache-2.0
 // The module of the proved library: how it is loaded, and how it is called.
 import { BadModule, Broken, NoMemory } from "./faults.js";
+import { MAX_FILE_BYTES } from "./limits.js";
 
 /** The version of this package, which that of the module must be. */
 export const VERSION = "0.3.0";
@@ -23,8 +24,7 @@ const ASIDE_FAULTS = new Map([
   [NONE - 12, "it has more than 200,000 fractions"],
 ]);
 // The longest text that is made, as in the program.
-const LONGEST = 67_108_864;
-const TOO_LONG = "set aside or put back, it would be longer than 67,108,864 bytes";
+const TOO_LONG = `set aside or put back, it would be longer than ${MAX_FILE_BYTES.toLocaleString("en-US")} bytes`;
 
 // The module beside this file, and the section with the version at its end.
 const BESIDE = new URL("./roskevad.wasm", import.meta.url);
@@ -198,13 +198,13 @@ export class Module {
         const size = this.number(call(at, given.length, to, room));
         return [size, size !== null && size <= room ? this.bytes().slice(to, to + size) : null];
       });
-      const room = Math.min(2 * given.length + ROOM, LONGEST);
+      const room = Math.min(2 * given.length + ROOM, MAX_FILE_BYTES);
       const [size, text] = copied(room);
       // A text that is no JSON is refused by its reader.
       if (text !== null || size === null || size === NOT_JSON) {
         return { text, why: null };
       }
-      return size <= LONGEST
+      return size <= MAX_FILE_BYTES
         ? { text: copied(size)[1], why: null }
         : { text, why: ASIDE_FAULTS.get(size) ?? TOO_LONG };
     });

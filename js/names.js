@@ -1,6 +1,6 @@
 // SPDX-License-Identifier: MIT OR Apache-2.0
 // The names of documents that a line can spell.
-const LONGEST = 64;
+import { MAX_DOCUMENT_NAME } from "./limits.js";
 
 /**
  * The name of the document as which a file may be opened: that of the file, without what follows its last
@@ -12,5 +12,5 @@ export function documentName(path) {
   const point = name.lastIndexOf(".");
   const stem = point > 0 && point < name.length - 1 ? name.slice(0, point) : name;
   const spelled = stem.replace(/[^A-Za-z0-9_.-]/gu, "_").replace(/^[.-]+/, "");
-  return spelled.slice(0, LONGEST) || "map";
+  return spelled.slice(0, MAX_DOCUMENT_NAME) || "map";
 }

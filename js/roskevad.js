@@ -7,6 +7,7 @@ import { originOf, restored } from "./tiled_maps.js";
 import { joined } from "./bytes.js";
 import { Document } from "./document.js";
 import { Closed, NoMemory, Refused } from "./faults.js";
+import { MAX_LIMIT } from "./limits.js";
 import { BAD_NAME, DONE, Module, NONE, bytesOf, textOf } from "./module.js";
 import { Unpackable, packLayers, unpackLayers } from "./compressed_layers.js";
 import { drawn } from "./outline.js";
@@ -36,7 +37,6 @@ const LONGEST_REFUSAL = 200;
 const CLOSING = /^(?:close|discard) ([A-Za-z0-9_.-]+)$/;
 const QUIET = /^(?: *$|#)/;
 const REFUSAL = /^no (\d+) (.*)$/s;
-const GREATEST_LIMIT = 1_000_000;
 // The bytes of the library's own handle of an editor, and of a run of the selection.
 const EDITOR_BYTES = 16;
 const RUN_BYTES = 12;
@@ -56,8 +56,8 @@ export class Editor {
    * is made, at most 1,000,000, where 0 stands for none.
    */
   constructor(module, { limit = 0 } = {}) {
-    if (!Number.isInteger(limit) || limit < 0 || limit > GREATEST_LIMIT) {
-      throw new RangeError(`a limit is from 0 to ${GREATEST_LIMIT}: ${limit}`);
+    if (!Number.isInteger(limit) || limit < 0 || limit > MAX_LIMIT) {
+      throw new RangeError(`a limit is from 0 to ${MAX_LIMIT}: ${limit}`);
     }
     this._module = module;
     // The open documents that were handed out, by their names, and the outline of one that nothing has

@@ -1,11 +1,9 @@
 // SPDX-License-Identifier: MIT OR Apache-2.0
 // The rows of a stamp, and the parts of it that fit into lines.
-import { GREATEST_NUMBER } from "./words.js";
+import { MAX_COORDINATE, MAX_LINE, MAX_NUMBER, MAX_SIDE } from "./limits.js";
 
-const WIDEST_ROW = 4096;
-const LONGEST_LINE = 65_535;
 // The most bytes of a stamp's line before its values.
-const LONGEST_HEAD = "stamp+ 4294967295 -1000000000 -1000000000 4096 ".length;
+const LONGEST_HEAD = `stamp+ ${MAX_NUMBER} -${MAX_COORDINATE} -${MAX_COORDINATE} ${MAX_SIDE} `.length;
 const SHOWN = 100;
 /** The bits of a value that are no flags. */
 export const BASE = 0x0fff_ffff;
@@ -27,8 +25,8 @@ export function rowsOf(rows) {
       `the rows of a stamp are ragged: row 0 has ${width} values, and row ${ragged} has ${listed[ragged].length}`,
     );
   }
-  if (width > WIDEST_ROW) {
-    throw new RangeError(`a row of a stamp has at most ${WIDEST_ROW} values: ${width}`);
+  if (width > MAX_SIDE) {
+    throw new RangeError(`a row of a stamp has at most ${MAX_SIDE} values: ${width}`);
   }
   return listed;
 }
@@ -46,7 +44,7 @@ function rowOf(row, place) {
     if (!Number.isInteger(value)) {
       throw new TypeError(`row ${place} of a stamp has a value that is no whole number: ${String(value)}`);
     }
-    if (value < 0 || value > GREATEST_NUMBER) {
+    if (value < 0 || value > MAX_NUMBER) {
       throw new RangeError(`a value of a stamp has 32 bits: ${value} in row ${place}`);
     }
   }
@@ -55,7 +53,7 @@ function rowOf(row, place) {
 
 /** The rows, cut so that each part fits into a line: its first row, its number of rows, its values. */
 export function* partsOf(rows) {
-  const room = LONGEST_LINE - LONGEST_HEAD;
+  const room = MAX_LINE - LONGEST_HEAD;
   let [first, size, said] = [0, 0, []];
   for (const [place, row] of rows.entries()) {
     const values = row.join(",");

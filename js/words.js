@@ -1,15 +1,12 @@
 // SPDX-License-Identifier: MIT OR Apache-2.0
 // Checks words before they become a line: what no line can say is told with the caller's own words, and
 // nothing is sent.
+import { MAX_COORDINATE, MAX_DOCUMENT_NAME, MAX_NUMBER, MAX_TEXT } from "./limits.js";
 
 const encoder = new TextEncoder();
-/** The most bytes of a text in a line. */
-export const LONGEST_TEXT = 200;
-export const GREATEST_COORDINATE = 1_000_000_000;
-export const GREATEST_NUMBER = 4_294_967_295;
 // What stands between the two texts of a macro.
 const DIVIDER = " || ";
-const DOCUMENT = /^[A-Za-z0-9_][A-Za-z0-9_.-]{0,63}$/;
+const DOCUMENT = new RegExp(`^[A-Za-z0-9_][A-Za-z0-9_.-]{0,${MAX_DOCUMENT_NAME - 1}}$`);
 const COLOUR = /^#([0-9a-f]{6}|[0-9a-f]{8})$/;
 // eslint-disable-next-line no-control-regex
 const CONTROL = /[\u0000-\u001f\u007f]/;
@@ -42,8 +39,8 @@ export function text(word, what) {
     throw new RangeError(`${what} has half of a character in it: ${shown(word)}`);
   }
   const size = encoder.encode(word).length;
-  if (size > LONGEST_TEXT) {
-    throw new RangeError(`${what} has ${size} bytes, and a line takes at most ${LONGEST_TEXT}: ${shown(word)}`);
+  if (size > MAX_TEXT) {
+    throw new RangeError(`${what} has ${size} bytes, and a line takes at most ${MAX_TEXT}: ${shown(word)}`);
   }
   return word;
 }
@@ -95,7 +92,7 @@ function whole(value, what) {
 
 /** A coordinate. Throws TypeError where it is no whole number, RangeError where it is out of range. */
 export function coordinate(value, what) {
-  if (Math.abs(whole(value, what)) > GREATEST_COORDINATE) {
+  if (Math.abs(whole(value, what)) > MAX_COORDINATE) {
     throw new RangeError(`${what} is from -1,000,000,000 to 1,000,000,000: ${value}`);
   }
   // -0 is spelled "0".
@@ -104,7 +101,7 @@ export function coordinate(value, what) {
 
 /** A number from 0. Throws as `coordinate` does. */
 export function number(value, what) {
-  if (whole(value, what) < 0 || value > GREATEST_NUMBER) {
+  if (whole(value, what) < 0 || value > MAX_NUMBER) {
     throw new RangeError(`${what} is from 0 to 4,294,967,295: ${value}`);
   }
   return value + 0;

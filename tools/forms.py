@@ -66,7 +66,7 @@ def limits():
         for name in names:
             number = re.search(rf'^pub const {name}: \w+ = ([\d_]+);', text, re.MULTILINE)[1]
             found[RENAMED.get(name, name)] = int(number.replace('_', ''))
-    return found
+    return {**found, 'MAX_NUMBER': 2**32 - 1}
 
 
 def filled(text):

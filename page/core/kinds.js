@@ -1,9 +1,8 @@
 // SPDX-License-Identifier: MIT OR Apache-2.0
 // What may stand in a field, or at a word of a line. Each kind says what is wanted, what is wrong with a text, and how a line spells it.
+import { MAX_COORDINATE, MAX_DOCUMENT_NAME, MAX_FILE_NAME, MAX_NUMBER, MAX_PIXELS, MAX_SIDE, MAX_TEXT, MAX_TILE_SIDE } from "../../js/limits.js";
+
 const encoder = new TextEncoder();
-const MOST_BYTES = 200;
-const MOST_PIXELS = 1_000_000_000;
-const MOST_NUMBER = 4_294_967_295;
 // eslint-disable-next-line no-control-regex
 const CONTROL = /[\u0000-\u001f\u007f]/;
 
@@ -14,7 +13,7 @@ function textFault(text) {
   if (text === "") return "not empty: no line takes an empty text";
   if (CONTROL.test(text)) return "one line, without tabs";
   const size = encoder.encode(text).length;
-  return size > MOST_BYTES ? `at most ${MOST_BYTES} bytes; this has ${grouped(size)}` : "";
+  return size > MAX_TEXT ? `at most ${MAX_TEXT} bytes; this has ${grouped(size)}` : "";
 }
 
 const keyFault = text => (text.includes(" ") ? "no space in it: no line can say such a name" : textFault(text));
@@ -39,22 +38,26 @@ function matched(pattern, wanted, spelled = text => text) {
   return { wanted, fault: text => (pattern.test(text) ? "" : wanted), spelled };
 }
 
-const NAME_SIGNS = "of A-Z a-z 0-9 _ . -, the first neither . nor -";
+// A name of at most so many characters.
+function named(most) {
+  return matched(new RegExp(`^[A-Za-z0-9_][A-Za-z0-9_.-]{0,${most - 1}}$`), `1 to ${most} of A-Z a-z 0-9 _ . -, the first neither . nor -`);
+}
+
 const asIs = text => text;
 
 export const KINDS = {
-  text: { wanted: `a text of 1 to ${MOST_BYTES} bytes`, fault: textFault, spelled: asIs },
-  key: { wanted: `a name of 1 to ${MOST_BYTES} bytes, without a space`, fault: keyFault, spelled: asIs },
-  coordinate: whole(-MOST_PIXELS, MOST_PIXELS),
-  size: whole(0, MOST_PIXELS),
-  number: whole(0, MOST_NUMBER),
-  side: whole(1, 65_535),
-  cells: whole(1, 4_096),
+  text: { wanted: `a text of 1 to ${MAX_TEXT} bytes`, fault: textFault, spelled: asIs },
+  key: { wanted: `a name of 1 to ${MAX_TEXT} bytes, without a space`, fault: keyFault, spelled: asIs },
+  coordinate: whole(-MAX_COORDINATE, MAX_COORDINATE),
+  size: whole(0, MAX_PIXELS),
+  number: whole(0, MAX_NUMBER),
+  side: whole(1, MAX_TILE_SIDE),
+  cells: whole(1, MAX_SIDE),
   bool: matched(/^(true|false)$/, "true or false"),
   colour: matched(/^#([0-9a-f]{6}|[0-9a-f]{8})$/, "#rrggbb or #aarrggbb, in digits of 0-9 and a-f", text => text.trim().toLowerCase()),
   path: matched(/^(?!.*\.(tmx|tsx|xml)$).*[^/]$/i, "the name of a file that is not .tmx: maps are saved as JSON, as .tmj"),
-  document: matched(/^[A-Za-z0-9_][A-Za-z0-9_.-]{0,63}$/, `1 to 64 ${NAME_SIGNS}`),
-  file: matched(/^[A-Za-z0-9_][A-Za-z0-9_.-]{0,99}$/, `1 to 100 ${NAME_SIGNS}`),
+  document: named(MAX_DOCUMENT_NAME),
+  file: named(MAX_FILE_NAME),
 };
 
 // The types of properties that a line sets, each with the kind of its values.

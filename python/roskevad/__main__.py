@@ -11,6 +11,7 @@ from typing import Optional
 
 from . import Editor, Refused, __version__
 from .forms import FORMS, forms_of
+from .limits import MAX_LIMIT
 from .names import document_name, is_document_name
 
 
@@ -21,8 +22,8 @@ def options() -> argparse.Namespace:
     parser.add_argument('--limit', type=int, default=0, help='the most steps that a document keeps; 0 is no limit')
     parser.add_argument('--version', action='version', version=f'roskevad {__version__}')
     chosen = parser.parse_args()
-    if not 0 <= chosen.limit <= 1_000_000:
-        parser.error(f'a limit is from 0 to 1000000: {chosen.limit}')
+    if not 0 <= chosen.limit <= MAX_LIMIT:
+        parser.error(f'a limit is from 0 to {MAX_LIMIT}: {chosen.limit}')
     if not chosen.folder.is_dir():
         parser.error(f'no such folder: {chosen.folder}')
     return chosen

@@ -13,12 +13,13 @@ from typing import Any, Iterator, NamedTuple, Optional
 
 from .json_scanner import NOTE, Edit, Members, edited, map_and_layers
 from .compressions import pack, unpack, why_not
+from .limits import MAX_CELLS, MAX_FILE_BYTES
 
 _NOTE_TAKEN = f'a layer has a member of the reserved name "{NOTE}"'
-_TOO_LONG = 'unpacked, its layers have more than 67,108,864 bytes'
+_TOO_LONG = f'unpacked, its layers have more than {MAX_FILE_BYTES:,} bytes'
 _BAD_DATA = 'the data of a layer does not unpack to 4 bytes a cell'
 _NO_SPACE = str.maketrans('', '', ' \t\r\n')
-_CELL_BYTES, _MOST_CELLS, _MOST_BYTES = 4, 1_048_576, 67_108_864
+_CELL_BYTES = 4
 
 
 class Unpackable(Exception):
@@ -88,7 +89,7 @@ def _cells_of(members: Members) -> Optional[int]:
     """How many cells a map or a chunk says that it has; `None` where it does not say so, or has too many."""
     width, height = _value_of(members, 'width'), _value_of(members, 'height')
     is_size = type(width) is int and type(height) is int and width > 0 and height > 0
-    return width * height if is_size and width * height <= _MOST_CELLS else None
+    return width * height if is_size and width * height <= MAX_CELLS else None
 
 
 def _holders_of(layer: Members, cells: Optional[int]) -> Iterator[tuple[Members, Optional[int]]]:
@@ -106,7 +107,7 @@ class _Unpacker:
 
     def __init__(self, cells: Optional[int]):
         self._cells = cells
-        self._rest = _MOST_BYTES
+        self._rest = MAX_FILE_BYTES
 
     def edits(self, layer: Members) -> Iterator[Edit]:
         """What changes in the text of a layer."""

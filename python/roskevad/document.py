@@ -15,6 +15,7 @@ from . import words
 from .faults import Closed, Refused
 from .views import Layer, Layers, Objects
 from .library import NONE, SelectionRun
+from .limits import MAX_COORDINATE
 from .properties import Properties
 from .rows import Part, doubtful, parts_of, rows_of
 from .outline import Members, Outline
@@ -30,7 +31,7 @@ _Answer = TypeVar('_Answer')
 LayerLike = Union[int, str, Layer]
 MODES = ('replace', 'add', 'subtract', 'intersect')
 # A place past every map: a stamp there changes nothing.
-_NOWHERE = '1000000000 1000000000'
+_NOWHERE = f'{MAX_COORDINATE} {MAX_COORDINATE}'
 
 
 @dataclass(frozen=True)

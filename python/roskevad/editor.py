@@ -18,6 +18,7 @@ from . import library, words
 from .document import Document
 from .faults import Closed, Refused
 from .library import LIBRARY, CEditor, LinesDone, SelectionRun
+from .limits import MAX_FILE_BYTES, MAX_LIMIT
 from .names import document_name
 from .outline import Outline, drawn
 from .rooms import Room
@@ -31,7 +32,6 @@ _LOG = logging.getLogger('roskevad')
 _REFUSAL = re.compile(r'no (\d+) (.*)', re.DOTALL)
 _STEP = LIBRARY.roskevad_step
 # The longest file that is opened.
-_LONGEST_FILE = 67_108_864
 # How many forks lie between this process and the one that loaded the module.
 _forks = [0]
 
@@ -140,8 +140,8 @@ class Editor:
         self._at = ctypes.byref(self._c_editor)
         self._room = Room(4096)
         self.folder = Path(folder)
-        if not 0 <= limit <= 1_000_000:
-            raise ValueError(f'a limit is from 0 to 1000000: {limit}')
+        if not 0 <= limit <= MAX_LIMIT:
+            raise ValueError(f'a limit is from 0 to {MAX_LIMIT}: {limit}')
         if LIBRARY.roskevad_open(self._c_editor, limit) != library.DONE:
             raise MemoryError
 
@@ -739,8 +739,8 @@ def _read(path: Path) -> tuple[Optional[bytes], Optional[OSError]]:
         with open(path, 'rb', opener=lambda name, flags: os.open(name, flags | os.O_NONBLOCK)) as file:
             if not stat.S_ISREG(os.fstat(file.fileno()).st_mode):
                 return None, OSError(f'{path} is no regular file')
-            data = file.read(_LONGEST_FILE + 1)
-            return (data, None) if len(data) <= _LONGEST_FILE else (None, OSError(f'{path} is too long'))
+            data = file.read(MAX_FILE_BYTES + 1)
+            return (data, None) if len(data) <= MAX_FILE_BYTES else (None, OSError(f'{path} is too long'))
     except FileNotFoundError:
         return None, None
     except OSError as fault:

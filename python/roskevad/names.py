@@ -5,10 +5,11 @@ import re
 from pathlib import PurePath
 from typing import Union
 
-_LONGEST_DOCUMENT, _LONGEST_FILE = 64, 100
+from .limits import MAX_DOCUMENT_NAME, MAX_FILE_NAME
+
 #: The names of documents and of files that a line can spell, as patterns.
-DOCUMENT = rf'[A-Za-z0-9_][A-Za-z0-9_.-]{{0,{_LONGEST_DOCUMENT - 1}}}'
-FILE = rf'[A-Za-z0-9_][A-Za-z0-9_.-]{{0,{_LONGEST_FILE - 1}}}'
+DOCUMENT = rf'[A-Za-z0-9_][A-Za-z0-9_.-]{{0,{MAX_DOCUMENT_NAME - 1}}}'
+FILE = rf'[A-Za-z0-9_][A-Za-z0-9_.-]{{0,{MAX_FILE_NAME - 1}}}'
 
 
 def is_document_name(word: str) -> bool:
@@ -26,4 +27,4 @@ def document_name(path: Union[str, 'os.PathLike[str]']) -> str:
     point. Each character that no line can spell becomes `_`; points and hyphens at the front are left out, and so is what
     follows 64 characters. It is `map` where nothing is left."""
     spelled = re.sub('[^A-Za-z0-9_.-]', '_', PurePath(path).stem)
-    return spelled.lstrip('.-')[:_LONGEST_DOCUMENT] or 'map'
+    return spelled.lstrip('.-')[:MAX_DOCUMENT_NAME] or 'map'

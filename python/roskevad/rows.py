@@ -3,14 +3,13 @@
 import operator
 from typing import Any, Iterable, Iterator, NamedTuple
 
-from .words import GREATEST_NUMBER
+from .limits import MAX_COORDINATE, MAX_LINE, MAX_NUMBER, MAX_SIDE
 
 #: The most values of a row that a line takes, and the most bytes of a line.
-WIDEST_ROW, LONGEST_LINE = 4096, 65_535
 #: The bits of a value that are no flags.
 BASE = 0x0FFF_FFFF
 # The most bytes of a stamp's line before its values.
-_LONGEST_HEAD = len('stamp+ 4294967295 -1000000000 -1000000000 4096 ')
+_LONGEST_HEAD = len(f'stamp+ {MAX_NUMBER} -{MAX_COORDINATE} -{MAX_COORDINATE} {MAX_SIDE} ')
 
 
 class Part(NamedTuple):
@@ -31,8 +30,8 @@ def rows_of(rows: Any) -> list[list[int]]:
     for place, row in enumerate(listed):
         if len(row) != width:
             raise ValueError(f'the rows of a stamp are ragged: row 0 has {width} values, and row {place} has {len(row)}')
-    if width > WIDEST_ROW:
-        raise ValueError(f'a row of a stamp has at most {WIDEST_ROW} values: {width}')
+    if width > MAX_SIDE:
+        raise ValueError(f'a row of a stamp has at most {MAX_SIDE} values: {width}')
     return listed
 
 
@@ -50,15 +49,15 @@ def _row_of(row: Any, place: int) -> list[int]:
         values = [operator.index(value) for value in _listed(row, f'values of row {place}')]
     except TypeError:
         raise TypeError(f'row {place} of a stamp is a sequence of whole numbers: {row!r}'[:200]) from None
-    if values and not 0 <= min(values) <= max(values) <= GREATEST_NUMBER:
-        wrong = next(value for value in values if not 0 <= value <= GREATEST_NUMBER)
+    if values and not 0 <= min(values) <= max(values) <= MAX_NUMBER:
+        wrong = next(value for value in values if not 0 <= value <= MAX_NUMBER)
         raise ValueError(f'a value of a stamp has 32 bits: {wrong} in row {place}')
     return values
 
 
 def parts_of(rows: list[list[int]]) -> Iterator[Part]:
     """The rows, cut so that each part fits into a line."""
-    room = LONGEST_LINE - _LONGEST_HEAD
+    room = MAX_LINE - _LONGEST_HEAD
     first, size, said = 0, 0, list[str]()
     for place, row in enumerate(rows):
         values = ','.join(map(str, row))

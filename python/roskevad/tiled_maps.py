@@ -8,6 +8,7 @@ from . import library
 from .faults import Refused
 from .library import LIBRARY
 from .compressed_layers import Unpackable, pack_layers, unpack_layers
+from .limits import MAX_FILE_BYTES
 from .rooms import Room
 
 # The name under which it stands, in the map, in layers and objects.
@@ -25,8 +26,7 @@ _FAULTS = {
     library.TOO_MANY_FRACTIONS: 'it has more than 200,000 fractions',
 }
 # The longest text that is made, as in the program.
-_LONGEST = 67_108_864
-_TOO_LONG = 'set aside or put back, it would be longer than 67,108,864 bytes'
+_TOO_LONG = f'set aside or put back, it would be longer than {MAX_FILE_BYTES:,} bytes'
 _WORDS = {51: 'store failed', 66: 'bad data'}
 
 
@@ -55,9 +55,9 @@ def _refused(fault: Unpackable, call: str) -> Refused:
 def _made(name: str, data: bytes, call: str) -> bytes:
     """What a call of the library makes of a text: the same, where it makes none. The text is made once more, where it has no room."""
     function = getattr(LIBRARY, f'roskevad_{name}')
-    room = Room(min(2 * len(data) + 65_536, _LONGEST))
+    room = Room(min(2 * len(data) + 65_536, MAX_FILE_BYTES))
     size: int = function(data, len(data), room.at, room.size)
-    if room.size < size <= _LONGEST:
+    if room.size < size <= MAX_FILE_BYTES:
         room = Room(size)
         size = function(data, len(data), room.at, room.size)
     if size == library.NO_MEMORY:
@@ -65,7 +65,7 @@ def _made(name: str, data: bytes, call: str) -> bytes:
     # A text that is no JSON is refused by its reader.
     if size in (library.NONE, library.NOT_JSON):
         return data
-    if size > _LONGEST:
+    if size > MAX_FILE_BYTES:
         raise Refused(51, _WORDS[51], call, forms=(), why=_FAULTS.get(size, _TOO_LONG))
     text: bytes = room.bytes[:size]
     return text

@@ -5,12 +5,11 @@ import re
 from numbers import Integral
 from typing import Any, Optional
 
+from .limits import MAX_COORDINATE, MAX_NUMBER, MAX_TEXT
 from .names import is_document_name
 
 #: The most bytes of a text in a line.
-LONGEST_TEXT = 200
 #: The greatest coordinate, and the greatest number, that a line can have.
-GREATEST_COORDINATE, GREATEST_NUMBER = 1_000_000_000, 4_294_967_295
 #: What stands between the two texts of a macro.
 DIVIDER = ' || '
 #: What a MapObject has its id under, so that it can be the value of a property.
@@ -35,8 +34,8 @@ def text(word: object, what: str) -> str:
         size = len(word.encode())
     except UnicodeEncodeError:
         raise ValueError(f'{what} has half of a character in it: {_shown(word)}') from None
-    if size > LONGEST_TEXT:
-        raise ValueError(f'{what} has {size} bytes, and a line takes at most {LONGEST_TEXT}: {_shown(word)}')
+    if size > MAX_TEXT:
+        raise ValueError(f'{what} has {size} bytes, and a line takes at most {MAX_TEXT}: {_shown(word)}')
     return word
 
 
@@ -78,7 +77,7 @@ def _whole(value: Any, what: str) -> int:
 def coordinate(value: object, what: str) -> int:
     """A coordinate. Raises TypeError where it is no whole number, and ValueError where it is out of range."""
     number = _whole(value, what)
-    if abs(number) > GREATEST_COORDINATE:
+    if abs(number) > MAX_COORDINATE:
         raise ValueError(f'{what} is from -1,000,000,000 to 1,000,000,000: {number}')
     return number
 
@@ -86,7 +85,7 @@ def coordinate(value: object, what: str) -> int:
 def number(value: object, what: str) -> int:
     """A number from 0. Raises as `coordinate` does."""
     whole = _whole(value, what)
-    if not 0 <= whole <= GREATEST_NUMBER:
+    if not 0 <= whole <= MAX_NUMBER:
         raise ValueError(f'{what} is from 0 to 4,294,967,295: {whole}')
     return whole
 

@@ -1,0 +1,23 @@
+// SPDX-License-Identifier: MIT OR Apache-2.0
+// The limits of the editor. Written by tools/reference, as the crates have them.
+export const MAX_LINE = 65_535;
+export const MAX_DOCUMENT_NAME = 64;
+export const MAX_FILE_NAME = 100;
+export const MAX_TEXT = 200;
+export const MAX_KEY = 200;
+export const MAX_COORDINATE = 1_000_000_000;
+export const MAX_SIDE = 4_096;
+export const MAX_CELLS = 1_048_576;
+export const MAX_TILE_SIDE = 65_535;
+export const MAX_LAYERS = 256;
+export const MAX_GROUPS = 16;
+export const MAX_OBJECTS = 4_096;
+export const MAX_PROPERTIES = 256;
+export const MAX_TILESETS = 256;
+export const MAX_NEXT_ID = 2_147_483_647;
+export const MAX_FIRST_ID = 268_435_455;
+export const MAX_PIXELS = 1_000_000_000;
+export const MAX_LIMIT = 1_000_000;
+export const MAX_OPEN_MACROS = 64;
+export const MAX_FILE_BYTES = 67_108_864;
+export const MAX_NUMBER = 4_294_967_295;
