@@ -1,7 +1,7 @@
 -- The walk that makes a tree finite, member by member; and what a refusal says.
-use Rattle.std.proofs.Common.{◌≡◌, ℕ, inl, inr, List, [], ◌∷◌, ◌++◌, map, Bool, true, false, true≢false, Less, Greater, nat_cmp, string_bytes, refl, sym, ap}
-use Rattle.std.proofs.Common.{◌∙◌, arith}
-use Rattle.std.specs.Prelude.{◌&&◌, ◌||◌, codes, nat_le, ℤ, pos, Option, Some, None, Result, Ok, Err, IfErr, option_and_then, if◌then◌else◌}
+use Rattle.std.proofs.Common.{◌≡◌, ℕ, List, [], ◌∷◌, ◌++◌, map, Bool, true, false, true≢false, Less, Greater, nat_cmp, string_bytes, refl, sym, ap}
+use Rattle.std.proofs.Common.{◌∙◌}
+use Rattle.std.specs.Prelude.{◌&&◌, ◌||◌, codes, ℤ, pos, Option, Some, None, Result, Ok, Err, IfErr, option_and_then, if◌then◌else◌}
 use Rattle.std.specs.List.Sorted.{IsStrictlySortedBy}
 use Rattle.std.specs.List.{AllByRecursion}
 use Rattle.std.specs.Map.{keys_of}
@@ -11,8 +11,7 @@ use Rattle.std.specs.Cmp.Lexicographic.{slice_cmp}
 use Rattle.std.specs.Int.{w64, int_wrapping_sub}
 use Rattle.std.specs.Ordering.{ordering_reverse}
 use Rattle.std.proofs.lemmas.Cmp.{nat_list_cmp_total}
-use Rattle.std.proofs.lemmas.Bool.Decides.{nat_tests}
-use Rattle.serde_json.specs.Data.{Data, null, boolean, number, string, array, object, Items, no_items, item, Members, no_members, member, put, depth}
+use Rattle.serde_json.specs.Data.{Data, null, boolean, number, string, array, object, Items, no_items, item, Members, no_members, member, put}
 use Rattle.serde_json.specs.Find.{as_bool, as_object}
 use Rattle.serde_json.specs.View.{view, items_of, members_view}
 use Rattle.serde_json.proofs.Views.{Entry, get_member-put}
@@ -29,7 +28,6 @@ use Rattle.infinite_maps.specs.Survey.{survey_of, box_in, plane_of}
 use Rattle.infinite_maps.specs.Finite.{finite, items_finite, members_finite, is_kept, with_member, is_layers, is_memory, is_at_fault, is_blamed}
 use Rattle.infinite_maps.specs.Finite.{members_blamed, with_note, with_whole, map_note, corner_of, own_finite, map_on, finite_of, LeadsBack, IsUnlike}
 use Rattle.infinite_maps.specs.Finite.{IsNotMade}
-use Rattle.infinite_maps.proofs.Places.{answered}
 
 pub items_finite-items_of : (p : Plane) (part : Part) (ds : List Data) → items_of (map (finite p part) ds) ≡ items_finite p part (items_of ds)
 items_finite-items_of p part [] = refl
@@ -129,13 +127,7 @@ finite_of-finite (array ds) = refl
 finite_of-finite (object ms) = map_on-finite (object ms) ms (box_in ms) (plane_of (object ms) (box_in ms) (survey_of ms).layers)
 
 pub unlike_by : (f d : Data) → f ≡ finite_of d → (LeadsBack f d → ⊥) → IsUnlike d
-unlike_by f d is h back whole =
-    let finite' : is_infinite f ≡ false = ap is_infinite is ∙ finite_of-finite d in
-    let leads : infinite_of f ≡ Some d = ap infinite_of is ∙ back in
-    elim (answered (nat_le (depth d) 127)) [
-      | inl e ↦ absurd (h (finite', leads, grind (arith, nat_tests), whole))
-      | inr e ↦ grind (arith, nat_tests)
-    ]
+unlike_by f d is h back = h (ap is_infinite is ∙ finite_of-finite d, ap infinite_of is ∙ back)
 
 pub infinite_object : (d : Data) → is_infinite d ≡ true → as_object d ≡ None → ⊥
 infinite_object null e h = true≢false (sym e)

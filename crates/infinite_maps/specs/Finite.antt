@@ -1,10 +1,9 @@
 -- The finite map of an infinite one, and why there is none.
-use Rattle.std.specs.Prelude.{◌≡◌, ◌<◌, ◌≤◌, ◌||◌, ◌&&◌, List, ℕ, codes, ℤ, pos, Bool, true, false, not, Option, Some, None, if◌then◌else◌}
+use Rattle.std.specs.Prelude.{◌≡◌, ◌≢◌, ◌||◌, ◌&&◌, List, ℕ, codes, ℤ, pos, Bool, true, false, not, Option, Some, None, if◌then◌else◌}
 use Rattle.std.specs.Int.{w64, int_wrapping_sub}
 use Rattle.std.specs.Str.{bytes_eq}
-use Rattle.serde_json.specs.Data.{Data, null, boolean, number, string, array, object, Items, no_items, item, Members, no_members, member, put, depth}
+use Rattle.serde_json.specs.Data.{Data, null, boolean, number, string, array, object, Items, no_items, item, Members, no_members, member, put}
 use Rattle.serde_json.specs.Find.{get, get_member, of_integer, as_object}
-use Rattle.serde_json.specs.Written.{has_float}
 use Rattle.json_members.specs.Members.{put_some}
 use Rattle.infinite_maps.specs.declared.plane.Plane.{Plane}
 use Rattle.infinite_maps.specs.declared.part.Part.{Part}
@@ -126,9 +125,9 @@ finite_of (array ds) = array ds
 finite_of (object ms) = object (map_on (object ms) ms (box_of (survey_of ms).around)
     (plane_of (object ms) (box_of (survey_of ms).around) (survey_of ms).layers))
 
--- the finite map does not lead back, or nests too deep for a text; nothing is said of a map that has floats
+-- the finite map does not lead back
 abbrev pub IsUnlike : Data → Type 0
-IsUnlike d = infinite_of (finite_of d) ≡ Some d → has_float d ≡ false → 127 < depth d
+IsUnlike d = infinite_of (finite_of d) ≢ Some d
 
 -- ---- for private clauses
 abbrev pub is_memory : Fault → Bool
@@ -177,9 +176,9 @@ own_blamed f part ms = is_memory f || (is_layers part && is_at_fault f ms)
 abbrev pub with_member : Plane → Part → List ℕ → Data → Members → Members
 with_member p part k d ms = if is_kept part k then put k (finite p (below part k) d) ms else ms
 
--- the first map is finite and leads back to the second, which has a text and no floats
+-- the first map is finite and leads back to the second
 abbrev pub LeadsBack : Data → Data → Type 0
-LeadsBack f d = (is_infinite f ≡ false) × (infinite_of f ≡ Some d) × (depth d ≤ 127) × (has_float d ≡ false)
+LeadsBack f d = (is_infinite f ≡ false) × (infinite_of f ≡ Some d)
 
 -- what holds of a tree of which no finite one is made
 abbrev pub IsNotMade : Fault → Data → Type 0

@@ -17,7 +17,7 @@ pub enum Fault {
     Overlap,
     /// The finite map is within the limits, but its layers would have more than 16,777,216 cells in all.
     TooLarge,
-    /// The finite map would not come back as the map that it was made from, or that nests deeper than 127.
+    /// The finite map would not come back as the map that it was made from.
     Unlike,
 }
 

@@ -1,6 +1,6 @@
 // A finite map made of an infinite one.
-ghost use Rattle.std.specs.Prelude.{◌≡◌, ◌||◌, ◌≤◌, ◌<◌, ℤ, pos, codes, string_bytes, IfOk, IfErr, OnOk, IfSome, IsTrue, Some, None, true, false, is_some, not, option_map};
-ghost use Rattle.serde_json.specs.Data.{object, depth, no_members};
+ghost use Rattle.std.specs.Prelude.{◌≡◌, ◌↔◌, ◌||◌, ◌≤◌, ◌<◌, ℤ, pos, codes, string_bytes, IfOk, IfErr, OnOk, IfSome, IsTrue, Some, None, true, false, is_some, not, option_map};
+ghost use Rattle.serde_json.specs.Data.{object, no_members};
 ghost use Rattle.serde_json.specs.Find.{as_object};
 ghost use Rattle.serde_json.specs.View.{view as data_of, items_view, members_view};
 ghost use Rattle.json_members.specs.Members.{put_some};
@@ -452,16 +452,14 @@ fn finite_of(alloc: Global, value: &Value) -> Result<Value, Fault>
 
 // Whether a map is a finite one, of which the other comes back.
 fn comes_back(alloc: Global, finite: &Value, value: &Value) -> Result<bool, Fault>
-    ensures finite { IfOk result (λ same. IsTrue same → is_infinite (data_of finite.now) ≡ false) }
-    ensures back { IfOk result (λ same. IsTrue same → infinite_of (data_of finite.now) ≡ Some (data_of value.now)) }
-    ensures whole { IfOk result (λ same. LeadsBack (data_of finite.now) (data_of value.now) → same ≡ true) }
+    ensures back { IfOk result (λ same. IsTrue same ↔ LeadsBack (data_of finite.now) (data_of value.now)) }
     ensures memory { IfErr result (λ fault. fault ≡ Memory) }
 {
     if is_infinite(finite) {
         return Ok(false);
     }
     match made_infinite(alloc, finite)? {
-        Some(again) => Ok(is_same(alloc, &again, value)?),
+        Some(again) => Ok(is_same(&again, value)),
         None => Ok(false),
     }
 }
