@@ -7,13 +7,16 @@
 
 mod answers;
 mod asides;
+mod c_editor;
 mod copies;
 mod done_counts;
 mod held;
+mod lookups;
 mod names;
 mod parts;
 mod runs;
-mod c_editor;
+mod things;
+mod told;
 
 ghost use Rattle.std.specs.Prelude.{◌≡◌, nat_le, None, Some, codes, length, slice_get, if◌then◌else◌};
 ghost use Rattle.std.specs.FinMap.{keys, len};
@@ -27,12 +30,12 @@ ghost use Rattle.roskevad_c.specs.Answers.{action_at, cells_at, file_in, is_ther
 
 use crate::answers::{BAD_NAME, CLOSED, DONE, NO_MEMORY, NONE, TOO_GREAT};
 use crate::asides::copy_made;
+use crate::c_editor::CEditor;
 use crate::copies::{copy_bytes, copy_outline, copy_reply};
 use crate::done_counts::DoneCounts;
 use crate::names::spelled;
 use crate::runs::SelectionRun;
-use crate::c_editor::CEditor;
-use memory_editor::{Rectangle, MemoryEditor};
+use memory_editor::{MemoryEditor, Rectangle};
 use std::alloc::Global;
 use tiled_maps::{put_back, set_aside};
 
@@ -180,13 +183,7 @@ pub extern "C" fn roskevad_remove_file(alloc: Global, editor: &mut CEditor, name
         return CLOSED;
     };
     let answer = match spelled(name) {
-        Some(name) => {
-            if boxed.remove_file(name) {
-                DONE
-            } else {
-                NONE
-            }
-        }
+        Some(name) => { if boxed.remove_file(name) { DONE } else { NONE } }
         None => NONE,
     };
     *editor = CEditor::of_box(boxed);
