@@ -70,6 +70,21 @@ impl<C: Command> Editor<C> {
         &self.group
     }
 
+    /// Goes to the object with an id in the active document, so that a look-up finds it at once where ids rise along its layer. It is
+    /// for speed alone: the documents and their steps stay as they are.
+    pub fn seek_object(&mut self, object: u32)
+        requires { IsHeld C.change self.old }
+        ensures held { IsHeld C.change self.new }
+        ensures sound { IsSound C.change self.old → IsSound C.change self.new }
+        ensures machine { machine_of C.change self.new ≡ machine_of C.change self.old }
+        ensures kinds { kinds_in self.new ≡ kinds_in self.old }
+    {
+        match self.group.active_mut() {
+            Some(stack) => stack.seek_object(object),
+            None => {}
+        }
+    }
+
     /// Does what a line asks for, but for an edit, which is left to be put into a box and committed.
     ///
     /// The editor is as it was after an edit that was planned and after every refusal. The store is called for the lines

@@ -35,3 +35,4 @@ pub mod Written
 pub mod Outlines
 pub mod LayerLaw
 pub mod PutMembers
+pub mod Pieces

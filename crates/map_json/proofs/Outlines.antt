@@ -17,11 +17,11 @@ use Rattle.map_model.specs.WellFormed.{IsDrawn}
 use Rattle.map_json.specs.declared.detail.Detail.{Detail}
 use Rattle.map_json.specs.declared.detail.Detail.TheVariants.{Whole, Outline}
 use Rattle.map_json.specs.Appending.{AreWritten, layer_frame, replaced}
-use Rattle.map_json.specs.Details.{common_own, frame_in, layer_in, layers_in, numbers_in, numbers_of, outline_frame, shape_own}
+use Rattle.map_json.specs.Details.{frame_in, layer_in, layers_in, numbers_in, numbers_of, outline_frame, shape_own}
 use Rattle.map_json.specs.Members.{Own, with_own}
 use Rattle.map_json.specs.Outlines.{outline_layer, outline_own}
 use Rattle.map_values.specs.Arrays.{array_by, whole_tree}
-use Rattle.map_json.specs.Trees.{layer_own}
+use Rattle.map_json.specs.Trees.{common_own, layer_own}
 use Rattle.map_values.proofs.Lists.{Each-left}
 use Rattle.map_json.proofs.Frames.{framed-whole, layer_own-other, layer_tree-frame, layer_tree-group, layer_tree-numbers, layer_tree-groups}
 use Rattle.map_json.proofs.Frames.{replaced-layer_frame}

@@ -1,5 +1,5 @@
 -- What is written has whole numbers alone, and nests no deeper than a reader allows.
-use Rattle.std.proofs.Common.{◌≡◌, ℕ, zero, suc, ◌+◌, ◌-◌, ◌*◌, ◌≤◌, ℤ, pos, negsuc, List, [], ◌∷◌, Option, Some, None, Ordering, Less, Equal, Greater, nat_cmp}
+use Rattle.std.proofs.Common.{◌≡◌, ℕ, zero, suc, ◌+◌, ◌-◌, ◌*◌, ◌≤◌, ℤ, pos, negsuc, List, [], ◌∷◌, ◌++◌, Option, Some, None, Ordering, Less, Equal, Greater, nat_cmp}
 use Rattle.std.proofs.Common.{Bool, false, refl, subst, arith}
 use Rattle.std.specs.Prelude.{codes}
 use Rattle.std.specs.Option.{option_map}
@@ -33,7 +33,7 @@ use Rattle.map_json.specs.Members.{with_own}
 use Rattle.map_values.specs.Arrays.{items_by, array_by, whole_tree}
 use Rattle.map_json.specs.Trees.{value_tree, property_own, property_tree, properties_member, object_own, object_tree}
 use Rattle.map_json.specs.Trees.{tileset_own, tileset_tree, cells_tree, encoding_member, body_own, layer_own, layer_tree, layers_tree, own_around, tree_of}
-use Rattle.map_json.specs.Trees.{type_word}
+use Rattle.map_json.specs.Trees.{lists_own, plain_own, said_own, type_word}
 use Rattle.map_json.specs.Appending.{AreWritten, frame_of, framed_body, layer_frame}
 use Rattle.map_values.proofs.Lists.{Each-left, Each-right}
 use Rattle.map_json.proofs.DrawnLayers.{tree-Each}
@@ -85,13 +85,13 @@ pub kept_plain : (tier n : ℕ) (names : List (List ℕ)) (ms : Members) → tie
 kept_plain tier n names ms room h = let deep = h.shallow in (h.whole, omega arith)
 
 -- ---- scalars and lists
-text_plain : (n : ℕ) (s : List ℕ) → IsPlain n (string s)
+pub text_plain : (n : ℕ) (s : List ℕ) → IsPlain n (string s)
 text_plain n s = (refl, omega arith)
 
-truth_plain : (n : ℕ) (b : Bool) → IsPlain n (boolean b)
+pub truth_plain : (n : ℕ) (b : Bool) → IsPlain n (boolean b)
 truth_plain n b = (refl, omega arith)
 
-whole_plain : (n k : ℕ) → IsPlain n (whole_tree k)
+pub whole_plain : (n k : ℕ) → IsPlain n (whole_tree k)
 whole_plain n k = (refl, omega arith)
 
 integer_plain : (n : ℕ) (z : ℤ) → IsPlain n (number (of_integer z))
@@ -112,7 +112,7 @@ module _ {A : Type 0} (P : A → Type 0) (n : ℕ) (f : A → Data) (plain : (x 
       let b = more.1 in
       (rw (one.0, more.0) refl, omega arith)
 
-  array_plain : (xs : List A) → Each P xs → IsPlain (suc n) (array_by f xs)
+  pub array_plain : (xs : List A) → Each P xs → IsPlain (suc n) (array_by f xs)
   array_plain xs h = let all = items_plain xs h in let deep = all.1 in (all.0, omega arith)
 
 -- ---- owners
@@ -122,19 +122,19 @@ value_plain tier n (values.Whole z) room h = integer_plain n z
 value_plain tier n (values.Truth b) room h = truth_plain n b
 value_plain tier n (values.Other d) room h = let deep = h.shallow in (h.whole, omega arith)
 
-property_plain : (tier n : ℕ) → tier + n ≡ MAX_DEPTH → (p : Property) → IsProperty tier p → IsPlain (suc n) (property_tree p)
+pub property_plain : (tier n : ℕ) → tier + n ≡ MAX_DEPTH → (p : Property) → IsProperty tier p → IsPlain (suc n) (property_tree p)
 unfolding property_tree
 property_plain tier n room p h =
     object_plain n (property_own p) p.kept (text_plain n p.name, (text_plain n p.kind, (value_plain tier n p.value room h.value, tt)))
     (kept_plain tier n property_names p.kept room h.kept)
 
-properties_plain : (tier n : ℕ) → property_tier tier + n ≡ MAX_DEPTH → (ps : List Property) → AreProperties tier ps
+pub properties_plain : (tier n : ℕ) → property_tier tier + n ≡ MAX_DEPTH → (ps : List Property) → AreProperties tier ps
     → IsPlainOwn (suc (suc n)) (properties_member ps)
 properties_plain tier n room [] h = tt
 properties_plain tier n room (p ∷ ps) h = array_plain (IsProperty (property_tier tier)) (suc n) property_tree (property_plain (property_tier tier) n room)
     (p ∷ ps) h.each
 
-object_tree_plain : (tier n : ℕ) → property_tier tier + n ≡ MAX_DEPTH → (o : Object) → IsObject tier o → IsPlain (suc (suc (suc n))) (object_tree o)
+pub object_tree_plain : (tier n : ℕ) → property_tier tier + n ≡ MAX_DEPTH → (o : Object) → IsObject tier o → IsPlain (suc (suc (suc n))) (object_tree o)
 unfolding object_tree
 object_tree_plain tier n room o h =
     let m = suc (suc n) in
@@ -163,7 +163,7 @@ object_tree_plain tier n room o h =
     )
     (kept_plain tier m object_names o.kept (omega arith) h.kept)
 
-tileset_plain : (t : Tileset) → IsTileset t → IsPlain 125 (tileset_tree t)
+pub tileset_plain : (t : Tileset) → IsTileset t → IsPlain 125 (tileset_tree t)
 unfolding tileset_tree
 tileset_plain t h = object_plain 124 (tileset_own t) t.kept (whole_plain 124 t.first_id, (optional_plain 124 string (text_plain 124) t.source, tt))
     (kept_plain tileset_tier 124 tileset_names t.kept refl h.kept)
@@ -307,39 +307,23 @@ layers_AreWritten m h = record { tier = layer_tier; high = omega arith; balance 
 map_layers_plain : (m : MapParts) → IsWellFormed m → IsPlain 126 (layers_tree MAX_GROUPS m.width m.height m.layers)
 map_layers_plain m h = AreWritten-plain MAX_GROUPS m.width m.height m.layers (layers_AreWritten m h)
 
+-- its own members that are no lists, before others
+pub before_plain : (m : MapParts) (t : List (List ℕ × Option Data)) → ArePlainOwn 126 t → ArePlainOwn 126 (plain_own m ++ t)
+before_plain m t h =
+    let whole = whole_plain 126 in (
+      whole m.width,
+      (whole m.height, (whole m.tile_width, (whole m.tile_height, (truth_plain 126 false, (whole m.next_layer_id, (whole m.next_object_id, h)))))),
+    )
+
+-- its properties, and what says that it is a map
+pub said_plain : (m : MapParts) → IsWellFormed m → ArePlainOwn 126 (said_own m)
+said_plain m h = (properties_plain map_tier 124 refl m.properties h.properties, (text_plain 126 (codes "map"), (text_plain 126 (codes "1.10"), tt)))
+
 -- its members, with this for its layers
 around_plain : (d : Data) (m : MapParts) → IsPlain 126 d → IsWellFormed m → IsPlain 127 (object (with_own (own_around d m) m.kept))
 around_plain d m layers h =
-    let whole = whole_plain 126 in
     let tilesets = array_plain IsTileset 125 tileset_tree tileset_plain m.tilesets h.tilesets.each in
-    object_plain 126 (own_around d m) m.kept (
-      whole m.width,
-      (
-        whole m.height,
-        (
-          whole m.tile_width,
-          (
-            whole m.tile_height,
-            (
-              truth_plain 126 false,
-              (
-                whole m.next_layer_id,
-                (
-                  whole m.next_object_id,
-                  (
-                    layers,
-                    (
-                      tilesets,
-                      (properties_plain map_tier 124 refl m.properties h.properties, (text_plain 126 (codes "map"), (text_plain 126 (codes "1.10"), tt))),
-                    ),
-                  ),
-                ),
-              ),
-            ),
-          ),
-        ),
-      ),
-    )
+    object_plain 126 (own_around d m) m.kept (before_plain m (lists_own d m) (layers, (tilesets, said_plain m h)))
     (kept_plain map_tier 126 map_names m.kept refl h.kept)
 
 -- the tree of a well-formed map

@@ -1,30 +1,22 @@
 -- For private clauses: what is written of a layer and of a map, whole or as an outline.
 use Rattle.std.specs.Prelude.{ℕ, List, [], ◌∷◌, Option, Some, None}
-use Rattle.serde_json.specs.Data.{Data, array, string, Members, no_items}
-use Rattle.map_model.specs.declared.names.TheConstants.{TYPE, WIDTH, HEIGHT, ENCODING, COMPRESSION}
+use Rattle.serde_json.specs.Data.{Data, array, Members, no_items}
+use Rattle.map_model.specs.declared.names.TheConstants.{WIDTH, HEIGHT, ENCODING, COMPRESSION}
 use Rattle.map_model.specs.declared.parts.Body.{Body}
 use Rattle.map_model.specs.declared.parts.Body.TheVariants.{Tiles}
 use Rattle.map_model.specs.declared.parts.Encoding.{Encoding}
 use Rattle.map_model.specs.declared.parts.Encoding.TheVariants.{Array}
 use Rattle.map_model.specs.declared.parts.Layer.{Layer}
 use Rattle.map_model.specs.declared.parts.MapParts.{MapParts}
-use Rattle.map_model.specs.Format.{id_member, name_member, visible_member, properties_list}
 use Rattle.map_json.specs.declared.detail.Detail.{Detail}
 use Rattle.map_json.specs.declared.detail.Detail.TheVariants.{Whole, Outline}
 use Rattle.map_json.specs.Appending.{layer_frame}
 use Rattle.map_json.specs.Members.{Own, with_own}
 use Rattle.map_json.specs.Outlines.{outline_layer, outline_of, outline_own}
 use Rattle.map_values.specs.Arrays.{array_by, whole_tree}
-use Rattle.map_values.specs.Scalars.{own_value}
-use Rattle.map_json.specs.Trees.{encoding_member, layer_tree, properties_member, tree_of, type_word}
+use Rattle.map_json.specs.Trees.{encoding_member, layer_tree, tree_of}
 
--- the own members of a layer of any kind
-abbrev pub common_own : Layer → Own
-common_own l =
-    (TYPE.now, Some (string (type_word l.body))) ∷ own_value id_member l.id ∷ own_value name_member l.name
-    ∷ own_value visible_member l.visible ∷ (properties_list.name, properties_member l.properties) ∷ []
-
--- those of a tile layer's kind, but its values
+-- the own members of a tile layer's kind, but its values
 abbrev pub shape_own : ℕ → ℕ → Encoding → Own
 shape_own width height e =
     (ENCODING.now, encoding_member e) ∷ (COMPRESSION.now, None) ∷ (WIDTH.now, Some (whole_tree width)) ∷ (HEIGHT.now, Some (whole_tree height)) ∷ []

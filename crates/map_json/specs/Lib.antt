@@ -8,3 +8,4 @@ pub mod Appending
 pub mod RoundTrip
 pub mod Outlines
 pub mod Details
+pub mod PartTexts

@@ -94,11 +94,14 @@ body_own width height layers (Objects os) = (objects_list.name, Some (array_by o
 body_own width height layers Other = []
 body_own width height layers (Group' s r) = (layers_list.name, Some layers) ∷ []
 
+-- the own members of a layer of any kind
+abbrev pub common_own : Layer → Own
+common_own l =
+    (TYPE.now, Some (string (type_word l.body))) ∷ own_value id_member l.id ∷ own_value name_member l.name
+    ∷ own_value visible_member l.visible ∷ (properties_list.name, properties_member l.properties) ∷ []
+
 abbrev pub layer_own : ℕ → ℕ → Data → Layer → Own
-layer_own width height layers l =
-    ((TYPE.now, Some (string (type_word l.body))) ∷ own_value id_member l.id ∷ own_value name_member l.name
-    ∷ own_value visible_member l.visible ∷ (properties_list.name, properties_member l.properties) ∷ [])
-    ++ body_own width height layers l.body
+layer_own width height layers l = common_own l ++ body_own width height layers l.body
 
 -- a layer in which layers may stand in so many groups
 unfoldable pub layer_tree : ℕ → ℕ → ℕ → Layer → Data
@@ -121,15 +124,17 @@ plain_own m =
     ∷ own_value next_object_id_member m.next_object_id
     ∷ []
 
--- its lists, with this for its layers, and what says that it is a map
-abbrev pub lists_own : Data → MapParts → Own
-lists_own layers m =
-    (layers_list.name, Some layers)
-    ∷ (tilesets_list.name, Some (array_by tileset_tree m.tilesets))
-    ∷ (properties_list.name, properties_member m.properties)
+-- its properties, and what says that it is a map
+abbrev pub said_own : MapParts → Own
+said_own m =
+    (properties_list.name, properties_member m.properties)
     ∷ (TYPE.now, Some (string (codes "map")))
     ∷ (VERSION.now, Some (string (codes "1.10")))
     ∷ []
+
+-- its layers, for which this stands, its tilesets, and the same
+abbrev pub lists_own : Data → MapParts → Own
+lists_own layers m = (layers_list.name, Some layers) ∷ (tilesets_list.name, Some (array_by tileset_tree m.tilesets)) ∷ said_own m
 
 -- all of them
 abbrev pub own_around : Data → MapParts → Own

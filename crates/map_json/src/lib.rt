@@ -24,7 +24,13 @@ mod map_text;
 mod detail;
 mod writing;
 
+// The text of one thing of a map.
+mod part_text;
+
 pub use map_text::{saved_is_opened, write_map, write_outline, written_is_read};
 pub use map_values::{MapFault, NoTrail, Segment, Trail};
+pub use part_text::{
+    write_layer_head, write_map_head, write_object, write_properties, write_property, write_tileset,
+};
 pub use reading::{read_map, read_map_along};
 pub use refusals::MapRefusal;

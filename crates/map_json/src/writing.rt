@@ -7,9 +7,9 @@ ghost use Rattle.serde_json.specs.Find.{of_integer};
 ghost use Rattle.map_json.specs.Members.{with_own};
 ghost use Rattle.map_model.specs.declared.parts.Body.TheVariants.{Tiles};
 ghost use Rattle.map_values.specs.Arrays.{array_by, whole_tree};
-ghost use Rattle.map_json.specs.Trees.{plain_own, lists_own, value_tree, property_own, property_tree, properties_member, object_tree, tileset_tree, cells_tree, encoding_member, body_own, type_word};
+ghost use Rattle.map_json.specs.Trees.{common_own, plain_own, lists_own, said_own, value_tree, property_own, property_tree, properties_member, object_tree, tileset_tree, cells_tree, encoding_member, body_own, type_word};
 ghost use Rattle.map_json.specs.Appending.{frame_of, framed_body, framed_cells, layer_frame};
-ghost use Rattle.map_json.specs.Details.{common_own, frame_in, numbers_in, numbers_of, outline_frame, shape_own};
+ghost use Rattle.map_json.specs.Details.{frame_in, numbers_in, numbers_of, outline_frame, shape_own};
 
 use crate::detail::{Detail, Writing};
 use crate::size::Size;
@@ -33,7 +33,8 @@ pub trait Tree {
         ensures { IfOk result (λ value. data_of value ≡ tree size self.now) };
 }
 
-fn array_by<T: Tree + Drop>(
+/// The array of these elements.
+pub fn array_by<T: Tree + Drop>(
     alloc: Global,
     size: Size,
     elements: &Chain<T>,
@@ -335,6 +336,15 @@ fn outline_frame(alloc: Global, size: Size, layer: &Layer) -> Result<JsonObject,
     }
 }
 
+/// The members of a layer but those of its kind: its cells, its objects or its layers, and what tells how they are written.
+pub fn layer_head(alloc: Global, size: Size, layer: &Layer) -> Result<JsonObject, AllocError>
+    ensures { IfOk result (λ frame. frame ≡ with_own (common_own layer.now) layer.now.kept) }
+{
+    let mut members = JsonObject::from_kept(alloc, &layer.kept)?;
+    put_common(alloc, size, layer, &mut members)?;
+    Ok(members)
+}
+
 /// The members of a layer, as far as they are written, with an empty array for numbers and for the layers of a group.
 pub fn frame_in(alloc: Global, writing: Writing, layer: &Layer) -> Result<JsonObject, AllocError>
     ensures { IfOk result (λ frame.
@@ -398,21 +408,34 @@ fn put_plain(alloc: Global, map: &MapParts, members: &mut JsonObject) -> Result<
     Ok(())
 }
 
+// Puts the properties of a map, and what says that it is one.
+fn put_said(alloc: Global, map: &MapParts, members: &mut JsonObject) -> Result<(), AllocError>
+    ensures { OnOk result (members.new ≡ with_own (said_own map.now) members.old) }
+{
+    members.put(alloc, names::VERSION, text_tree(alloc, "1.10")?)?;
+    members.put(alloc, names::TYPE, text_tree(alloc, "map")?)?;
+    let properties = properties_member(alloc, Size::of_map(map), &map.properties)?;
+    members.put_some(alloc, names::PROPERTIES, properties)
+}
+
 // Puts the lists of a map, an empty array for its layers, and what says that it is a map.
 fn put_lists(alloc: Global, map: &MapParts, members: &mut JsonObject) -> Result<(), AllocError>
     ensures { OnOk result (members.new ≡ with_own (lists_own (array no_items) map.now) members.old) }
 {
-    let size = Size::of_map(map);
-    members.put(alloc, names::VERSION, text_tree(alloc, "1.10")?)?;
-    members.put(alloc, names::TYPE, text_tree(alloc, "map")?)?;
-    let properties = properties_member(alloc, size, &map.properties)?;
-    members.put_some(alloc, names::PROPERTIES, properties)?;
-    members.put(
-        alloc,
-        names::TILESETS,
-        array_by(alloc, size, &map.tilesets)?,
-    )?;
+    put_said(alloc, map, members)?;
+    let tilesets = array_by(alloc, Size::of_map(map), &map.tilesets)?;
+    members.put(alloc, names::TILESETS, tilesets)?;
     members.put(alloc, names::LAYERS, Value::from(Vec::new(alloc)))
+}
+
+/// The members of a map but its layers and its tilesets.
+pub fn map_head(alloc: Global, map: &MapParts) -> Result<JsonObject, AllocError>
+    ensures { IfOk result (λ frame. frame ≡ with_own (plain_own map.now ++ said_own map.now) map.now.kept) }
+{
+    let mut members = JsonObject::from_kept(alloc, &map.kept)?;
+    put_said(alloc, map, &mut members)?;
+    put_plain(alloc, map, &mut members)?;
+    Ok(members)
 }
 
 /// The members of a map, with an empty array for its layers.

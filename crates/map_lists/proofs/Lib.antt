@@ -1,0 +1,3 @@
+mod Flat
+mod RowWalks
+mod Subjects
