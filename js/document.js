@@ -19,10 +19,10 @@ const STATUS = /^ok (\d+)\/(\d+) (clean|dirty) (\d+)$/;
 /**
  * A document of an editor: a map, its selection and its steps.
  *
- * A call makes its document the active one, and leaves it so. Where the document was closed, also where
- * another one was opened under its name, and where the editor was closed, a call throws Closed. A call that
- * a line does throws Refused, with that line; words that no line can say throw RangeError or TypeError, and
- * nothing is done.
+ * A call makes its document the active one, where it is not, and leaves it so. Where the document was
+ * closed, also where another one was opened under its name, and where the editor was closed, a call throws
+ * Closed. A call that a line does throws Refused, with that line; words that no line can say throw
+ * RangeError or TypeError, and nothing is done.
  */
 export class Document {
   // Editors make it: `new`, `open` and `documents` give it.
@@ -41,26 +41,17 @@ export class Document {
     if (this._isClosed) {
       throw new Closed(`the document ${this._name}`);
     }
-    this._keeping(() => this._editor.step(`use ${this._name}`));
+    // What a broken module has told is no answer any more.
+    if (this._editor._activeHandle !== this || this._editor._module.isBroken) {
+      this._editor.step(`use ${this._name}`);
+      this._editor._activeHandle = this;
+    }
   }
 
-  // What work gives that changes nothing of the outline that was kept.
-  _keeping(work) {
-    const outline = this._editor._keptOutline;
-    const given = work();
-    this._editor._keptOutline = outline;
-    return given;
-  }
-
-  // The reply to a line that may change the document, and to one that does not.
+  // The reply to a line.
   _say(line) {
     this._enter();
     return this._editor.step(line);
-  }
-
-  _ask(line) {
-    this._enter();
-    return this._keeping(() => this._editor.step(line));
   }
 
   _edit(line) {
@@ -153,7 +144,7 @@ export class Document {
 
   map() {
     this._enter();
-    return this._keeping(() => this._editor.map());
+    return this._editor.map();
   }
 
   outline() {
@@ -164,7 +155,7 @@ export class Document {
   // ---- its steps
 
   get status() {
-    const [, index, count, state, depth] = STATUS.exec(this._ask("status"));
+    const [, index, count, state, depth] = STATUS.exec(this._say("status"));
     return Object.freeze({
       index: Number(index), count: Number(count), clean: state === "clean", depth: Number(depth),
     });
@@ -174,7 +165,7 @@ export class Document {
     const { count } = this.status;
     return Array.from({ length: count }, (_, place) =>
       Object.freeze({
-        text: this._ask(`text ${place}`).slice(TEXT.length),
+        text: this._say(`text ${place}`).slice(TEXT.length),
         action: this._editor.actionText(place) ?? "",
         isMacro: this._editor.isMacro(place) === true,
       }),
@@ -182,11 +173,11 @@ export class Document {
   }
 
   get undoText() {
-    return this._ask("undotext").slice(TEXT.length);
+    return this._say("undotext").slice(TEXT.length);
   }
 
   get redoText() {
-    return this._ask("redotext").slice(TEXT.length);
+    return this._say("redotext").slice(TEXT.length);
   }
 
   get cleanIndex() {
@@ -395,7 +386,7 @@ export class Document {
     if (this._isClosed) {
       return `Document ${this._name}, closed`;
     }
-    const standing = this._peek(({ tree }) => `, ${tree.width} by ${tree.height}, ${this._ask("status").slice(3)}`);
+    const standing = this._peek(({ tree }) => `, ${tree.width} by ${tree.height}, ${this._say("status").slice(3)}`);
     return `Document ${this._name}${standing ?? ""}`;
   }
 

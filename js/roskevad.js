@@ -33,6 +33,16 @@ const STORE_FAILED = 51;
 const COMPRESSED = 65;
 // The bytes of a refusal are fewer.
 const LONGEST_REFUSAL = 200;
+// Lines that leave the outline of each open document as it is: questions, edits of cells and of the selection,
+// with a `+` too, and what is about steps and saves. The outline has no cells, no selection and no steps.
+// Undo, redo and goto may change it; an `open` does not, but where something is set aside for it outlines are
+// read otherwise from then on.
+const KEEPING = new RegExp(
+  "^(?:stamp|erase|fill |select |tile |show|text |status|undotext|redotext|list|clean|dirty|clear|limit |begin |end|"
+  + "save |use |new )",
+);
+// Lines that may make another document active.
+const ACTIVATION = /^(?:use|new|open|close|discard) /;
 // A line that closes a document, and one that has no reply.
 const CLOSING = /^(?:close|discard) ([A-Za-z0-9_.-]+)$/;
 const QUIET = /^(?: *$|#)/;
@@ -60,12 +70,13 @@ export class Editor {
       throw new RangeError(`a limit is from 0 to ${MAX_LIMIT}: ${limit}`);
     }
     this._module = module;
-    // The open documents that were handed out, by their names, and the outline of one that nothing has
-    // changed since.
+    // The open documents that were handed out, by their names; the outline of one that nothing has changed
+    // since, and the one that a call has made active and that no line has changed since, where there are such.
     this._handles = new Map();
     // The names of those that are being opened.
     this._opening = new Set();
     this._keptOutline = null;
+    this._activeHandle = null;
     // About how many bytes an outline has: as many as the last one, or as the file that was opened.
     this._outlineSize = 0;
     // Whether anything of a map was set aside or unpacked. Until then maps are given as they are.
@@ -89,7 +100,7 @@ export class Editor {
   /** Gives back its memory. Twice is harmless. */
   close() {
     const [module, cEditor] = [this._module, this._cEditor];
-    this._cEditor = 0;
+    Object.assign(this, { _cEditor: 0, _keptOutline: null, _activeHandle: null });
     if (cEditor !== 0 && !module.isBroken) {
       module.calls.close(cEditor);
       module.giveBack(cEditor);
@@ -113,6 +124,7 @@ export class Editor {
   /** Does what a line asks for, and gives the reply, "" where the line is quiet. Throws Refused. */
   step(line) {
     const [call, again] = this._callsFor(line);
+    this._dropOutdated(line);
     const reply = this._module.copyText(call, again) ?? "";
     this._forgetIfClosed(line, reply);
     const refusal = reply.startsWith("no ") && REFUSAL.exec(reply);
@@ -128,11 +140,12 @@ export class Editor {
    */
   stepBytes(line) {
     const [call, again] = this._callsFor(line);
+    const text = this._handles.size > 0 ? textOf(bytesOf(line)) : "";
+    this._dropOutdated(text);
     const reply = this._module.copyBytes(call, again);
-    if (this._handles.size > 0 && reply !== null) {
-      this._forgetIfClosed(textOf(bytesOf(line)), textOf(reply.subarray(0, 3)));
+    if (reply !== null) {
+      this._forgetIfClosed(text, textOf(reply.subarray(0, 3)));
     }
-    this._keptOutline = null;
     return reply;
   }
 
@@ -157,7 +170,7 @@ export class Editor {
     if (lines.some((line) => line.includes("\n"))) {
       throw new RangeError("a line has no newline in it");
     }
-    this._keptOutline = null;
+    lines.forEach((line) => this._dropOutdated(line));
     const replies = [];
     const take = (bytes) => replies.push(...textOf(bytes).split("\n").slice(0, -1));
     let done = 0;
@@ -181,6 +194,7 @@ export class Editor {
    */
   runBytes(session) {
     const parts = [];
+    Object.assign(this, { _keptOutline: null, _activeHandle: null });
     this._run(session, false, (bytes) => parts.push(bytes.slice()));
     const all = joined(parts);
     this._forgetClosedBySession(session, all);
@@ -535,9 +549,18 @@ export class Editor {
     return this._handles.get(name);
   }
 
+  // Drops what is known of documents and a line may change, before it is done.
+  _dropOutdated(line) {
+    if (this._handles.size > 0 && !KEEPING.test(line)) {
+      this._keptOutline = null;
+    }
+    if (this._handles.size > 0 && ACTIVATION.test(line)) {
+      this._activeHandle = null;
+    }
+  }
+
   // Notes what a line has done to what was handed out: it may have closed a document.
   _forgetIfClosed(line, reply) {
-    this._keptOutline = null;
     if (this._handles.size > 0 && reply.startsWith("ok ")) {
       this._forgetClosed([line]);
     }
@@ -557,7 +580,6 @@ export class Editor {
 
   // The same of a session, of which each line that is not quiet has its reply.
   _forgetClosedBySession(session, replies) {
-    this._keptOutline = null;
     if (this._handles.size > 0) {
       const answers = textOf(replies).split("\n");
       const lines = textOf(bytesOf(session)).split("\n").filter((line) => !QUIET.test(line));

@@ -1,10 +1,15 @@
 # SPDX-License-Identifier: MIT OR Apache-2.0
 """Tries documents of the Python package beyond their lines: the files that they are opened from and
 saved to; threads, forks, signal handlers and interrupts; a memory that ends in the midst of a long
-stamp; what is logged, and what documents and their parts tell of themselves."""
+stamp; how often loops call the library; what is logged, and what documents and their parts tell of
+themselves."""
+import collections
+import contextlib
+import functools
 import json
 import logging
 import os
+import random
 import signal
 import subprocess
 import sys
@@ -16,7 +21,9 @@ from lib.cases import Case, check_each, raised, unlike
 from lib.places import EXAMPLE_MAPS, TOP
 
 sys.path.insert(0, str(TOP / 'python'))
-from roskevad import Closed, Editor, Refused  # noqa: E402
+from roskevad import Closed, Editor, Refused, library  # noqa: E402
+from roskevad.forms import FORMS  # noqa: E402
+from roskevad.library import LIBRARY  # noqa: E402
 
 TOWN = EXAMPLE_MAPS / 'town.tmj'
 
@@ -36,8 +43,8 @@ def see(wanted, came):
     assert not fault, fault
 
 
-def made(editor):
-    return editor.new('a', 4, 3, 16, 16, 'a.tsj')
+def made(editor, name='a'):
+    return editor.new(name, 4, 3, 16, 16, 'a.tsj')
 
 
 # ---- files
@@ -173,6 +180,81 @@ def test_with_a_document():
 
         see(13, raised(Refused, leave).code)
         see(['a'], list(editor.documents))
+
+
+# ---- what is known of a map
+
+
+class Calls:
+    """Counts the calls of the library for an editor, by their names, until the end of a `with`."""
+
+    def __init__(self, editor):
+        self.editor = editor
+
+    def __enter__(self):
+        self.counts, self.functions = collections.Counter(), {}
+        for name in library._PARAMETERS:
+            self.functions[name] = getattr(LIBRARY, f'roskevad_{name}')
+            setattr(LIBRARY, f'roskevad_{name}', functools.partial(self.call, name))
+        return self
+
+    def call(self, name, *words):
+        # Editors of other tests may be closed meanwhile.
+        self.counts[name] += words[0] is self.editor._c_editor
+        return self.functions[name](*words)
+
+    def __exit__(self, *_):
+        for name, function in self.functions.items():
+            setattr(LIBRARY, f'roskevad_{name}', function)
+
+
+def test_loops_of_stamps():
+    """Stamps by the name of a layer, and strokes, on a map of 1,000 objects: the outline is asked for once, and each stamp is one line,
+    in a stroke with what tells whether it is a step."""
+    with Editor() as editor:
+        document = editor.new('a', 100, 100, 16, 16, 'a.tsj')
+        things = document.layers.add('object', 'Things')
+        editor.run_lines(f'object add {things} {at} 0 8 8 thing' for at in range(1000))
+        with Calls(editor) as calls:
+            for at in range(1000):
+                document.stamp('Tile Layer 1', at % 100, at // 100, [[5]])
+        # Once more, with room for it.
+        see({'outline': 2, 'step': 1000}, dict(+calls.counts))
+        with Calls(editor) as calls:
+            for at in range(100):
+                with document.stroke():
+                    document.stamp('Tile Layer 1', at, 20, [[6]])
+                    document.stamp('Tile Layer 1', at, 21, [[6]])
+        see({'step': 400, 'cells': 400}, dict(+calls.counts))
+        see(1100 + 1001, document.status.count)
+
+
+# Lines of each form, with a number by chance.
+FORMS_BY_CHANCE = """stamp 1 0 0 2 #,3;stamp+ 1 1 0 1 #;erase 1 0 0 2 #;erase+ 1 1 0 1 1;fill 1 0 0 #;select add # 0 2 2;select none;tile 1 0 0
+layer add tile L;layer add object O;layer rename # N;layer show # no;layer show # yes;layer move # 0;layer remove #;resize 1# 6 0 0
+object add # 1 1 2 2 o;object move # 5 5;object move+ # 6 6;object resize # 3 3;object remove #;prop set map k# int 1;prop set+ map k# int 2
+prop remove map k#;tileset add 10# t.tsj;tileset remove 10#;undo;redo;goto #;clean;dirty;clear;begin A;end;limit #;show;status;undotext
+redotext;text #;list;use other;use town;use -;save s.tmj;new n# 2 2 8 8 n.tsj;close n#;discard n#;open o# s.tmj;discard o#;# a comment;"""
+
+
+def test_what_is_known_holds():
+    """Behind each line, done in each way, what calls know of their map is what the library tells."""
+    numbers = random.Random(7)
+    lines = [line.strip() for line in FORMS_BY_CHANCE.replace('\n', ';').split(';')]
+    words = {line.split(' ')[0].rstrip('+') for line in lines}
+    see(set(FORMS), words & set(FORMS))
+    for way in ('step', 'step_bytes', 'run_lines'):
+        with Editor() as editor:
+            town, other = editor.open(TOWN), made(editor, 'other')
+            for _ in range(400):
+                line = numbers.choice(lines).replace('#', str(numbers.randrange(1, 8)))
+                for document in numbers.sample((town, other), numbers.randrange(3)):
+                    document.width
+                with contextlib.suppress(Refused):
+                    getattr(editor, way)({'step': line, 'step_bytes': line.encode(), 'run_lines': [line]}[way])
+                document = numbers.choice((town, other))
+                known = document._look(lambda outline: outline.tree)
+                assert known == document.outline() and f'*{document.name}' in editor.step('list'), (way, line)
 
 
 # ---- what falls in between

@@ -72,9 +72,10 @@ class _Stroke:
 class Document:
     """A document of an editor: a map, its selection and its steps.
 
-    A call makes its document the active one, and leaves it so. Where the document was closed, also where another one was opened
-    under its name, and where the editor was closed, a call raises Closed. A call that a line does raises Refused, with that
-    line, as docs/refusals.md has it; words that no line can say raise ValueError or TypeError, and nothing is done.
+    A call makes its document the active one, where it is not, and leaves it so. Where the document was closed, also where
+    another one was opened under its name, and where the editor was closed, a call raises Closed. A call that a line does raises
+    Refused, with that line, as docs/refusals.md has it; words that no line can say raise ValueError or TypeError, and nothing is
+    done.
     """
 
     # So that a name that it has not is never set silently.
@@ -101,22 +102,16 @@ class Document:
     def _enter(self) -> None:
         if self._is_closed:
             raise Closed(f'the document {self._name} is closed')
-        outline, line = self._editor._kept_outline, f'use {self._name}'
-        self._editor._reply_to(line, line)
-        self._editor._kept_outline = outline
+        if self._editor._active_handle is not self:
+            line = f'use {self._name}'
+            self._editor._reply_to(line, line)
+            self._editor._active_handle = self
 
     def _say(self, line: str) -> str:
         """The reply to a line, in a turn."""
         reply = self._editor._reply_to(line, line).decode('utf-8', 'replace')
         if _LOG.isEnabledFor(logging.DEBUG):
             _LOG.debug('%s: %.200s: %.200s', self._name, line, reply)
-        return reply
-
-    def _ask(self, line: str) -> str:
-        """The reply to a line that changes nothing."""
-        outline = self._editor._kept_outline
-        reply = self._say(line)
-        self._editor._kept_outline = outline
         return reply
 
     def _edit(self, line: str) -> None:
@@ -153,7 +148,7 @@ class Document:
         return None
 
     def _status_now(self) -> Status:
-        _, steps, state, depth = self._ask('status').split(' ')
+        _, steps, state, depth = self._say('status').split(' ')
         index, count = steps.split('/')
         return Status(int(index), int(count), state == 'clean', int(depth))
 
@@ -250,7 +245,7 @@ class Document:
         """All steps, done and undone; an open macro stands last."""
 
         def step(place: int) -> Step:
-            text = self._ask(f'text {place}')[len('text '):]
+            text = self._say(f'text {place}')[len('text '):]
             action = self._editor._copy_bytes('action_text', place) or b''
             return Step(text, action.decode('utf-8', 'replace'), self._editor._call('is_macro', place) == 1)
 
@@ -259,12 +254,12 @@ class Document:
     @property
     def undo_text(self) -> str:
         """The action text of the step that `undo` would undo; '' where there is none."""
-        return self._do(lambda: self._ask('undotext')[len('text '):])
+        return self._do(lambda: self._say('undotext')[len('text '):])
 
     @property
     def redo_text(self) -> str:
         """The action text of the step that `redo` would redo; '' where there is none."""
-        return self._do(lambda: self._ask('redotext')[len('text '):])
+        return self._do(lambda: self._say('redotext')[len('text '):])
 
     @property
     def clean_index(self) -> Optional[int]:
@@ -518,5 +513,5 @@ class Document:
     def __repr__(self) -> str:
         if self._is_closed:
             return f'<Document {self._name!r}, closed>'
-        standing = self._peek(lambda outline: f'{outline.tree["width"]} by {outline.tree["height"]}, {self._ask("status")[len("ok "):]}')
+        standing = self._peek(lambda outline: f'{outline.tree["width"]} by {outline.tree["height"]}, {self._say("status")[len("ok "):]}')
         return f'<Document {self._name!r}>' if standing is None else f'<Document {self._name!r}, {standing}>'

@@ -81,8 +81,16 @@ class _Unsettled(Protocol):
 
 _Method = TypeVar('_Method', bound=Callable[..., Any])
 _Answer = TypeVar('_Answer')
-# What lines that close a document begin with.
+# What lines that close a document begin with, and those that may make another one active.
 _CLOSINGS = b'close ', b'discard '
+_ACTIVATIONS = b'use ', b'new ', b'open ', *_CLOSINGS
+# What the lines begin with that leave the outline of each open document as it is: questions, edits of cells and of the selection, with a
+# `+` too, and what is about steps and saves. The outline has no cells, no selection and no steps. Undo, redo and goto may change it; an
+# `open` does not, but where something is set aside for it outlines are read otherwise from then on.
+_KEEPINGS = (
+    b'stamp', b'erase', b'fill ', b'select ', b'tile ', b'show', b'text ', b'status', b'undotext', b'redotext', b'list', b'clean', b'dirty',
+    b'clear', b'limit ', b'begin ', b'end', b'save ', b'use ', b'new ',
+)
 
 
 def _turn(method: _Method) -> _Method:
@@ -130,9 +138,11 @@ class Editor:
         self._unsettled: Optional[_Unsettled] = None
         # Whether a save has failed: then what is read of a file need not be what the disk has, and is compared no more.
         self._has_failed = False
-        # The open documents that were handed out, by their names, and the outline of one that nothing has changed since.
+        # The open documents that were handed out, by their names; the outline of one that nothing has changed since, and the one that a
+        # call has made active and that no line has changed since, where there are such.
         self._handles: dict[str, Document] = {}
         self._kept_outline: Optional[Outline] = None
+        self._active_handle: Optional[Document] = None
         # Whether anything of a map was set aside or unpacked. Until then maps are saved as the editor holds them.
         self._has_set_aside = False
         self._c_editor = CEditor()
@@ -168,6 +178,7 @@ class Editor:
 
     @_turn
     def _close(self) -> None:
+        self._kept_outline = self._active_handle = None
         LIBRARY.roskevad_close(self._c_editor)
 
     def _settle(self) -> None:
@@ -198,8 +209,8 @@ class Editor:
 
     def _reply_to(self, line: str, call: str) -> bytes:
         """The reply to a line that a call makes. Raises Refused with the call."""
-        self._kept_outline = None
         data = _bytes_of(line)
+        self._drop_outdated(data)
         reply = self._copy_bytes('step', data, len(data)) or b''
         refusal = _REFUSAL.fullmatch(reply.decode()) if reply.startswith(b'no ') else None
         if refusal:
@@ -221,10 +232,11 @@ class Editor:
                 try:
                     if self._unsettled is not None:
                         self._settle()
+                    if self._handles:
+                        self._drop_outdated(data)
                     room = self._room
                     size = _STEP(self._at, data, len(data), room.at, room.size)
                     reply: Optional[bytes] = room.bytes[:size] if size <= room.size else self._long(size)
-                    self._kept_outline = None
                     if self._handles and data.startswith(_CLOSINGS):
                         self._forget_if_closed(data, reply)
                     return reply
@@ -252,10 +264,11 @@ class Editor:
                 try:
                     if self._unsettled is not None:
                         self._settle()
+                    if self._handles:
+                        self._drop_outdated(data)
                     room = self._room
                     size = _STEP(self._at, data, len(data), room.at, room.size)
                     reply: bytes = room.bytes[:size] if size <= room.size else self._long(size) or b''
-                    self._kept_outline = None
                     if self._handles and data.startswith(_CLOSINGS):
                         self._forget_if_closed(data, reply)
                 finally:
@@ -292,7 +305,8 @@ class Editor:
             self._room = Room(32 * len(words))
         count, done = 0, LinesDone()
         replies: list[str] = []
-        self._kept_outline = None
+        for word in words if self._handles else ():
+            self._drop_outdated(word)
         try:
             while data:
                 count += self._call('run_lines', data, len(data), 1, self._room.at, self._room.size, done)
@@ -669,6 +683,13 @@ class Editor:
             self._handles[name] = Document(self, name)
             self._handles[name]._path = path
         return self._handles[name]
+
+    def _drop_outdated(self, line: bytes) -> None:
+        """Drops what is known of documents and a line may change, before it is done."""
+        if not line.startswith(_KEEPINGS):
+            self._kept_outline = None
+        if line.startswith(_ACTIVATIONS):
+            self._active_handle = None
 
     def _forget(self, name: str) -> None:
         """Notes that a document was closed."""

@@ -123,7 +123,87 @@ async function namesThatAreNotThere() {
   editor.close();
 }
 
+// The calls of the library that some work makes for an editor, by their names.
+function countedCalls(editor, work) {
+  const { calls } = editor._module;
+  const kept = { ...calls };
+  const counts = {};
+  for (const [name, call] of Object.entries(kept)) {
+    calls[name] = (...words) => {
+      counts[name] = (counts[name] ?? 0) + 1;
+      return call(...words);
+    };
+  }
+  try {
+    work();
+  } finally {
+    Object.assign(calls, kept);
+  }
+  return counts;
+}
+
+// Stamps by the name of a layer, and strokes, on a map of 1,000 objects: the outline is asked for once, and each
+// stamp is one line, in a stroke with what tells whether it is a step.
+async function loopsOfStamps() {
+  const editor = await Editor.create();
+  const document = editor.new("a", 100, 100, 16, 16, "a.tsj");
+  const things = document.layers.add("object", "Things");
+  editor.runLines(Array.from({ length: 1000 }, (_, at) => `object add ${things} ${at} 0 8 8 thing`));
+  const stamps = countedCalls(editor, () => {
+    for (let at = 0; at < 1000; at++) {
+      document.stamp("Tile Layer 1", at % 100, Math.floor(at / 100), [[5]]);
+    }
+  });
+  // Once more, with room for it.
+  same([stamps.outline <= 2, stamps.step, Object.keys(stamps).sort()], [true, 1000, ["outline", "step"]]);
+  const strokes = countedCalls(editor, () => {
+    for (let at = 0; at < 100; at++) {
+      document.stroke(() => {
+        document.stamp("Tile Layer 1", at, 20, [[6]]);
+        document.stamp("Tile Layer 1", at, 21, [[6]]);
+      });
+    }
+  });
+  same([strokes.step, strokes.outline ?? 0, document.status.count], [400, 0, 2101]);
+  editor.close();
+}
+
+// Behind each line, done in each way, what calls know of their map is what the library tells.
+async function knownOutlines() {
+  const lines = [
+    "stamp 1 0 0 1 5", "layer add tile L", "erase+ 1 0 0 1 1", "layer rename 1 N", "fill 1 0 0 6", "undo", "select none", "redo",
+    "use other", "resize 5 4 0 0", "use town", "prop set map k int 1", "begin A", "object add 3 0 0 1 1 o", "end", "goto 0",
+    "use -", "tileset add 9 t.tsj", "new third 1 1 1 1 t.tsj", "discard third", "clear", "show", "layer show 1 no", "status",
+  ];
+  const ways = [
+    (editor, line) => editor.step(line),
+    (editor, line) => editor.stepBytes(line),
+    (editor, line) => editor.stepBytes(new TextEncoder().encode(line)),
+    (editor, line) => editor.runLines([line]),
+    (editor, line) => editor.runBytes(`${line}\n`),
+  ];
+  for (const way of ways) {
+    const editor = await Editor.create();
+    const documents = ["other", "town"].map((name) => editor.new(name, 4, 3, 16, 16, "town.tsj"));
+    for (const [at, line] of [...lines, ...lines.reverse()].entries()) {
+      documents[at % 2].layers.add("object", "Things");
+      same(documents[at % 2].width > 0, true);
+      try {
+        way(editor, line);
+      } catch (fault) {
+        same(fault instanceof Refused, true);
+      }
+      for (const document of at % 3 === 0 ? documents : [documents[at % 2]]) {
+        const known = document._look((outline) => outline.tree);
+        same([known, editor.active === document], [document.outline(), true]);
+      }
+    }
+    editor.close();
+    thrown(Closed, () => documents[0].width);
+  }
+}
+
 export const DOCUMENT_CHECKS = [
   drawnDocuments, savedDocuments, propertiesOfOtherTypes, points, callsThatRefusalsName,
-  namesThatAreNotThere,
+  namesThatAreNotThere, loopsOfStamps, knownOutlines,
 ];
