@@ -80,7 +80,7 @@ def open_list(page):
 
 def told_of(page, path):
     row = page.find(f'#file-list li[data-path="{path}"]')
-    return [row.find_element('css selector', f'.{part}').text for part in ('told', 'size')]
+    return [row.find_element('css selector', f'.{part}').text for part in ('details', 'size')]
 
 
 def test_list():
