@@ -1,5 +1,5 @@
 -- The id of a layer of a name, or of its first object that has it, does not rest on what stands in a group.
-use Rattle.std.proofs.Common.{◌≡◌, ℕ, List, refl, ap, option_and_then}
+use Rattle.std.proofs.Common.{◌≡◌, ℕ, List, [], refl, ap, option_and_then}
 use Rattle.map_model.specs.declared.parts.Layer.{Layer}
 use Rattle.map_model.specs.Groups.{bare}
 use Rattle.map_model.proofs.GroupBodies.{objects_in-with}

@@ -1,6 +1,6 @@
 -- Sizes, layers and documents, as C sees them, and what it is told of one thing.
-use Rattle.std.specs.Prelude.{◌≡◌, ◌⊎◌, ℕ, nat_eq, nat_le, List, ◌++◌, map, drop, length, Option, None, Some}
-use Rattle.std.specs.Prelude.{option_and_then, slice_get, unwrap_or, if◌then◌else◌}
+use Rattle.std.specs.Prelude.{◌≡◌, ◌⊎◌, ℕ, nat_eq, nat_le, List, ◌++◌, map, drop, length, Option, None, Some, option_and_then, unwrap_or}
+use Rattle.std.specs.Prelude.{if◌then◌else◌}
 use Rattle.std.specs.List.{flat_map}
 use Rattle.std.specs.Option.{option_map}
 use Rattle.map_model.specs.declared.owner.Owner.{Owner}

@@ -6,7 +6,7 @@ use Rattle.map_json.proofs.part_text.write_property.Goals as goal
 pub returns : goal.returns
 returns c =
     let found = c.in-Some-property.ensures in
-    let at = c.in-Some-property.field-0-0 in
-    let whole = property_at-whole c.args.map.now c.in-Some.place at c.in-Some-property.property.now found.property found.well_formed in
+    let whole = property_at-whole c.args.map.now c.in-Some.place c.in-Some-property.field-0-0 c.in-Some-property.property.now found.property
+    found.well_formed in
     rw (sym c.in-Some.ensures.place, sym found.place, found.property)
     (ap Some (c.in_ok-to_vec.ensures.text (rw c.in_ok-tree.ensures whole) ∙ ap compact_text c.in_ok-tree.ensures))
