@@ -5,6 +5,7 @@ use Rattle.std.proofs.lemmas.Bool.{or_right, leb-true}
 use Rattle.std.specs.Prelude.{unwrap_or}
 use Rattle.serde_json.specs.Data.{Data, depth}
 use Rattle.serde_json.specs.Read.{max_depth}
+use Rattle.infinite_maps.specs.Finite.{finite_of}
 use Rattle.infinite_maps.specs.Infinite.{is_infinite}
 use Rattle.infinite_maps.specs.Overlaps.{has_overlap}
 use Rattle.infinite_maps.specs.Sound.{has_bad_chunk}
