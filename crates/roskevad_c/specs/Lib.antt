@@ -2,4 +2,3 @@ pub mod Answers
 pub mod Asides
 pub mod Counts
 pub mod Held
-pub mod Things

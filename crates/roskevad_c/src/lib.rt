@@ -11,12 +11,9 @@ mod c_editor;
 mod copies;
 mod done_counts;
 mod held;
-mod lookups;
 mod names;
 mod parts;
 mod runs;
-mod things;
-mod told;
 
 ghost use Rattle.std.specs.Prelude.{◌≡◌, nat_le, None, Some, codes, length, slice_get, if◌then◌else◌};
 ghost use Rattle.std.specs.FinMap.{keys, len};
