@@ -21,6 +21,10 @@ OVERLAP = 2**64 - 10
 TOO_LARGE = 2**64 - 11
 UNLIKE = 2**64 - 12
 TOO_MANY_FRACTIONS = 2**64 - 13
+# The kinds of a layer.
+TILES, OBJECTS, GROUP, IMAGE = 1, 2, 3, 4
+# What has properties, and what is looked for by its name.
+MAP, LAYER, OBJECT = 1, 2, 3
 
 
 class CEditor(ctypes.Structure):
@@ -46,8 +50,47 @@ class LinesDone(ctypes.Structure):
     ]
 
 
+class MapSizes(ctypes.Structure):
+    """`roskevad_sizes`, the sizes of a map, and how many layers and tilesets it has."""
+
+    _fields_ = [
+        ('width', ctypes.c_uint32),
+        ('height', ctypes.c_uint32),
+        ('tile_width', ctypes.c_uint32),
+        ('tile_height', ctypes.c_uint32),
+        ('next_layer', ctypes.c_uint32),
+        ('next_object', ctypes.c_uint32),
+        ('layers', ctypes.c_size_t),
+        ('tilesets', ctypes.c_size_t),
+    ]
+
+
+class LayerRow(ctypes.Structure):
+    """`roskevad_layer_row`, a layer in the list of all layers."""
+
+    _fields_ = [
+        ('id', ctypes.c_uint32),
+        ('parent', ctypes.c_uint32),
+        ('kind', ctypes.c_uint32),
+        ('is_visible', ctypes.c_uint32),
+        ('count', ctypes.c_size_t),
+    ]
+
+
+class DocumentStatus(ctypes.Structure):
+    """`roskevad_status`, how a document stands."""
+
+    _fields_ = [
+        ('index', ctypes.c_size_t),
+        ('count', ctypes.c_size_t),
+        ('depth', ctypes.c_size_t),
+        ('is_clean', ctypes.c_size_t),
+        ('is_active', ctypes.c_size_t),
+    ]
+
+
 _SIZE, _EDITOR, _BYTES = ctypes.c_size_t, ctypes.POINTER(CEditor), ctypes.c_char_p
-_ROOM = ctypes.c_void_p
+_ROOM, _NUMBER = ctypes.c_void_p, ctypes.c_uint32
 _PARAMETERS = {
     'open': [_EDITOR, _SIZE],
     'step': [_EDITOR, _BYTES, _SIZE, _ROOM, _SIZE],
@@ -65,8 +108,24 @@ _PARAMETERS = {
     'action_text': [_EDITOR, _SIZE, _ROOM, _SIZE],
     'next_layer_id': [_EDITOR],
     'next_object_id': [_EDITOR],
-    'cells': [_EDITOR, ctypes.c_uint32, _SIZE, _SIZE, _SIZE, _SIZE, _ROOM, _SIZE],
+    'cells': [_EDITOR, _NUMBER, _SIZE, _SIZE, _SIZE, _SIZE, _ROOM, _SIZE],
     'outline': [_EDITOR, _ROOM, _SIZE],
+    'sizes_of_map': [_EDITOR, ctypes.POINTER(MapSizes)],
+    'layers': [_EDITOR, _ROOM, _SIZE],
+    'object_ids': [_EDITOR, _NUMBER, _ROOM, _SIZE],
+    'tilesets': [_EDITOR, _ROOM, _SIZE],
+    'object': [_EDITOR, _NUMBER, _ROOM, _SIZE],
+    'object_layer': [_EDITOR, _NUMBER],
+    'layer': [_EDITOR, _NUMBER, _ROOM, _SIZE],
+    'tileset': [_EDITOR, _NUMBER, _ROOM, _SIZE],
+    'map_head': [_EDITOR, _ROOM, _SIZE],
+    'properties': [_EDITOR, _NUMBER, _NUMBER, _ROOM, _SIZE],
+    'property': [_EDITOR, _NUMBER, _NUMBER, _BYTES, _SIZE, _ROOM, _SIZE],
+    'find': [_EDITOR, _NUMBER, _BYTES, _SIZE],
+    'document_count': [_EDITOR],
+    'document_name': [_EDITOR, _SIZE, _ROOM, _SIZE],
+    'active': [_EDITOR],
+    'status_of': [_EDITOR, _SIZE, ctypes.POINTER(DocumentStatus)],
     'close': [_EDITOR],
     'set_aside': [_BYTES, _SIZE, _ROOM, _SIZE],
     'put_back': [_BYTES, _SIZE, _ROOM, _SIZE],

@@ -1,0 +1,171 @@
+/* SPDX-License-Identifier: MIT OR Apache-2.0 */
+/* Asks for one thing of a map after another. What counts the instructions of the whole process tells what a question takes, by two
+ * runs that differ in how many there are.
+ *
+ *     library_costs CALL TURNS MAP LAYER GREATEST      asks TURNS times; the objects of the LAYER have the ids from 1 to GREATEST
+ */
+#include <stdio.h>
+#include <stdlib.h>
+#include <string.h>
+
+#include "roskevad.h"
+
+#define ROOM 65536
+
+static roskevad_editor editor = ROSKEVAD_CLOSED;
+static char room[ROOM];
+
+/* Ends the program where an answer is none that was expected. */
+static void see(size_t answer, size_t most)
+{
+    if (answer > most) {
+        fprintf(stderr, "library_costs: a call answered %zu\n", answer);
+        exit(1);
+    }
+}
+
+static void open_map(const char *path)
+{
+    FILE *file = fopen(path, "rb");
+    if (!file || fseek(file, 0, SEEK_END) != 0)
+        exit(2);
+    size_t size = (size_t)ftell(file);
+    char *bytes = malloc(size);
+    rewind(file);
+    if (!bytes || fread(bytes, 1, size, file) != size)
+        exit(2);
+    fclose(file);
+    see(roskevad_editor_open(&editor, 0), ROSKEVAD_DONE);
+    see(roskevad_editor_put_file(&editor, "m.tmj", 5, bytes, size), ROSKEVAD_DONE);
+    free(bytes);
+    see(roskevad_editor_step(&editor, "open m m.tmj", 12, room, ROOM), ROOM);
+    if (memcmp(room, "ok", 2) != 0)
+        exit(2);
+}
+
+static uint32_t layer;
+
+static size_t ask_object(uint32_t id)
+{
+    return roskevad_editor_object(&editor, id, room, ROOM);
+}
+
+static size_t ask_object_layer(uint32_t id)
+{
+    return roskevad_editor_object_layer(&editor, id);
+}
+
+static size_t ask_properties(uint32_t id)
+{
+    return roskevad_editor_properties(&editor, ROSKEVAD_OBJECT, id, room, ROOM);
+}
+
+static size_t ask_property(uint32_t id)
+{
+    return roskevad_editor_property(&editor, ROSKEVAD_OBJECT, id, "kind", 4, room, ROOM);
+}
+
+static size_t ask_layer(uint32_t id)
+{
+    (void)id;
+    return roskevad_editor_layer(&editor, layer, room, ROOM);
+}
+
+static size_t ask_layer_property(uint32_t id)
+{
+    (void)id;
+    return roskevad_editor_property(&editor, ROSKEVAD_LAYER, layer, "kind", 4, room, ROOM);
+}
+
+static size_t ask_map_head(uint32_t id)
+{
+    (void)id;
+    return roskevad_editor_map_head(&editor, room, ROOM);
+}
+
+static size_t ask_tileset(uint32_t id)
+{
+    (void)id;
+    return roskevad_editor_tileset(&editor, 1, room, ROOM);
+}
+
+static size_t ask_tilesets(uint32_t id)
+{
+    static uint32_t ids[16];
+    (void)id;
+    return roskevad_editor_tilesets(&editor, ids, 16);
+}
+
+static size_t ask_sizes(uint32_t id)
+{
+    roskevad_sizes sizes;
+    (void)id;
+    return roskevad_editor_sizes_of_map(&editor, &sizes);
+}
+
+static size_t ask_layers(uint32_t id)
+{
+    static roskevad_layer_row rows[16];
+    (void)id;
+    return roskevad_editor_layers(&editor, rows, 16);
+}
+
+static size_t ask_status(uint32_t id)
+{
+    roskevad_status status;
+    (void)id;
+    return roskevad_editor_status_of(&editor, 0, &status);
+}
+
+static size_t ask_name(uint32_t id)
+{
+    (void)id;
+    return roskevad_editor_document_name(&editor, 0, room, ROOM);
+}
+
+static size_t ask_active(uint32_t id)
+{
+    (void)id;
+    return roskevad_editor_active(&editor) + roskevad_editor_document_count(&editor);
+}
+
+static size_t ask_object_ids(uint32_t id)
+{
+    (void)id;
+    return roskevad_editor_object_ids(&editor, 0, ROSKEVAD_NULL, 0);
+}
+
+static size_t ask_outline(uint32_t id)
+{
+    (void)id;
+    return roskevad_editor_outline(&editor, ROSKEVAD_NULL, 0);
+}
+
+static const struct {
+    const char *name;
+    size_t (*ask)(uint32_t id);
+} CALLS[] = {
+    {"object", ask_object}, {"object_layer", ask_object_layer}, {"properties", ask_properties}, {"property", ask_property},
+    {"layer", ask_layer}, {"layer_property", ask_layer_property}, {"map_head", ask_map_head}, {"tileset", ask_tileset},
+    {"tilesets", ask_tilesets}, {"sizes_of_map", ask_sizes}, {"layers", ask_layers}, {"status_of", ask_status},
+    {"document_name", ask_name}, {"active", ask_active}, {"object_ids", ask_object_ids}, {"outline", ask_outline},
+};
+
+int main(int count, char **words)
+{
+    if (count != 6)
+        return 2;
+    size_t at = 0;
+    while (at < sizeof CALLS / sizeof *CALLS && strcmp(CALLS[at].name, words[1]) != 0)
+        at++;
+    if (at == sizeof CALLS / sizeof *CALLS)
+        return 2;
+    open_map(words[3]);
+    layer = (uint32_t)strtoul(words[4], NULL, 10);
+    uint32_t turns = (uint32_t)strtoul(words[2], NULL, 10), greatest = (uint32_t)strtoul(words[5], NULL, 10);
+    /* The ids come far from one another: this number and 500 or 4,000 have no divisor in common. */
+    for (uint32_t turn = 0; turn < turns; turn++)
+        see(CALLS[at].ask(turn * 1237 % greatest + 1), (size_t)1 << 40);
+    roskevad_editor_close(&editor);
+    return 0;
+}
