@@ -11,19 +11,19 @@ import subprocess
 import tempfile
 from pathlib import Path
 
-from lib.cases import CORES, Case, check_each
+from lib.cases import Case, check_each
 from lib.maps import map_of, property_of, text_of, thing, things, tiles
-from lib.native import c_program, folder
+from lib.native import c_program
 from lib.places import NATIVE
 
 PACKAGES = ('valgrind',)
 FEW, MANY = 500, 4000
 MOST_RATIO = 1.2
-TURNS = 2000
-# What the calls of a walk take more of, at least: they are asked for less often.
-WALKS, LEAST_RATIO, WALK_TURNS = ['object_ids', 'outline'], 4, 20
+TURNS = 400
 LOOK_UPS = ['object', 'object_layer', 'properties', 'property', 'layer', 'layer_property', 'map_head', 'tileset']
 LOOK_UPS += ['tilesets', 'sizes_of_map', 'layers', 'status_of', 'document_name', 'active']
+# What goes through all objects takes at least so many times as many.
+WALKS, LEAST_RATIO = ['object_ids', 'find'], 4
 OBJECTS_LAYER = 2
 
 
@@ -37,52 +37,60 @@ def map_with(objects):
     return text_of(map_of(tiles(1), layer, tiles(3)))
 
 
+def costs_in(profile):
+    """How many instructions a call of each function `ask_NAME` takes, with all that it calls, by what
+    callgrind has written: behind the line of a function that is called come how often it is called
+    from there, and what that takes."""
+    names, asked, callee = {}, {}, None
+    lines = iter(profile.splitlines())
+    for line in lines:
+        named = re.match(r'(c?fn)=\((\d+)\)(?: (.*))?', line)
+        if named:
+            names.setdefault(named[2], named[3])
+            callee = names[named[2]] if named[1] == 'cfn' else None
+        elif line.startswith('calls=') and callee and callee.startswith('ask_'):
+            count, taken = int(line[len('calls=') :].split()[0]), int(next(lines).split()[-1])
+            asked.setdefault(callee[len('ask_') :], []).append((count, taken))
+    return {
+        name: sum(taken for _, taken in rows) / sum(count for count, _ in rows)
+        for name, rows in asked.items()
+    }
+
+
 @functools.cache
-def path_of(objects):
-    path = Path(folder()) / f'library_costs_{objects}.tmj'
-    with tempfile.NamedTemporaryFile(dir=path.parent, delete=False) as file:
-        file.write(map_with(objects))
-    return Path(file.name).replace(path)
-
-
-def instructions(call, turns, objects):
-    """How many instructions the program takes that asks so often."""
+def costs(objects):
+    """How many instructions each call takes on a map with so many objects."""
     program = c_program(NATIVE / 'library_costs.c')
-    words = ['valgrind', '--tool=callgrind', '--callgrind-out-file=/dev/null', program, call]
-    words += [str(turns), path_of(objects), str(OBJECTS_LAYER), str(objects)]
-    done = subprocess.run(words, capture_output=True, text=True)
-    assert done.returncode == 0, f'status {done.returncode}: {done.stderr[-500:]}'
-    return int(re.search(r'Collected : (\d+)', done.stderr)[1])
+    with tempfile.TemporaryDirectory() as top:
+        path, profile = Path(top) / 'm.tmj', Path(top) / 'profile'
+        path.write_bytes(map_with(objects))
+        words = ['valgrind', '--tool=callgrind', f'--callgrind-out-file={profile}', program]
+        words += [str(TURNS), path, str(OBJECTS_LAYER), str(objects)]
+        done = subprocess.run(words, capture_output=True, text=True)
+        assert done.returncode == 0, f'status {done.returncode}: {done.stderr[-500:]}'
+        return costs_in(profile.read_text())
 
 
-@functools.cache
-def before(objects):
-    """What the program takes that asks for nothing."""
-    return instructions('active', 0, objects)
-
-
-def cost(call, turns, objects):
-    """How many instructions a call takes."""
-    return (instructions(call, turns, objects) - before(objects)) / turns
+def compared(name):
+    """What a call takes on both maps, in words, and how many times as much on the larger one."""
+    few, many = costs(FEW)[name], costs(MANY)[name]
+    return f'{name}: {few:.0f} instructions with {FEW} objects, {many:.0f} with {MANY}', many / few
 
 
 def fault_of_look_up(case):
-    few, many = (cost(case.name, TURNS, objects) for objects in (FEW, MANY))
-    print(f'{case.name}: {few:.0f} instructions with {FEW} objects, {many:.0f} with {MANY}')
-    if few > 0 and many <= MOST_RATIO * few:
-        return None
-    return f'{few:.0f} instructions with {FEW} objects, and {many:.0f} with {MANY}'
+    told, ratio = compared(case.name)
+    print(told)
+    return told if ratio > MOST_RATIO else None
 
 
 def fault_of_walk(case):
-    few, many = (cost(case.name, WALK_TURNS, objects) for objects in (FEW, MANY))
-    is_seen = many >= LEAST_RATIO * few > 0
-    return None if is_seen else f'{few:.0f} instructions with {FEW} objects, and {many:.0f} with {MANY}'
+    told, ratio = compared(case.name)
+    return told if ratio < LEAST_RATIO else None
 
 
 def test_look_ups():
-    check_each([Case(call, None, None) for call in LOOK_UPS], fault_of_look_up, CORES)
+    check_each([Case(call, None, None) for call in LOOK_UPS], fault_of_look_up)
 
 
 def test_walks():
-    check_each([Case(call, None, None) for call in WALKS], fault_of_walk, CORES)
+    check_each([Case(call, None, None) for call in WALKS], fault_of_walk)

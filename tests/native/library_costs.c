@@ -1,8 +1,8 @@
 /* SPDX-License-Identifier: MIT OR Apache-2.0 */
-/* Asks for one thing of a map after another. What counts the instructions of the whole process tells what a question takes, by two
- * runs that differ in how many there are.
+/* Asks for one thing of a map after another, in functions of their own: what counts the instructions of each function tells what a
+ * question takes.
  *
- *     library_costs CALL TURNS MAP LAYER GREATEST      asks TURNS times; the objects of the LAYER have the ids from 1 to GREATEST
+ *     library_costs TURNS MAP LAYER GREATEST      asks each TURNS times; the objects of the LAYER have the ids from 1 to GREATEST
  */
 #include <stdio.h>
 #include <stdlib.h>
@@ -96,7 +96,7 @@ static size_t ask_tilesets(uint32_t id)
     return roskevad_editor_tilesets(&editor, ids, 16);
 }
 
-static size_t ask_sizes(uint32_t id)
+static size_t ask_sizes_of_map(uint32_t id)
 {
     roskevad_sizes sizes;
     (void)id;
@@ -110,14 +110,14 @@ static size_t ask_layers(uint32_t id)
     return roskevad_editor_layers(&editor, rows, 16);
 }
 
-static size_t ask_status(uint32_t id)
+static size_t ask_status_of(uint32_t id)
 {
     roskevad_status status;
     (void)id;
     return roskevad_editor_status_of(&editor, 0, &status);
 }
 
-static size_t ask_name(uint32_t id)
+static size_t ask_document_name(uint32_t id)
 {
     (void)id;
     return roskevad_editor_document_name(&editor, 0, room, ROOM);
@@ -129,43 +129,35 @@ static size_t ask_active(uint32_t id)
     return roskevad_editor_active(&editor) + roskevad_editor_document_count(&editor);
 }
 
+/* These go through all objects. */
 static size_t ask_object_ids(uint32_t id)
 {
     (void)id;
     return roskevad_editor_object_ids(&editor, 0, ROSKEVAD_NULL, 0);
 }
 
-static size_t ask_outline(uint32_t id)
+static size_t ask_find(uint32_t id)
 {
     (void)id;
-    return roskevad_editor_outline(&editor, ROSKEVAD_NULL, 0);
+    return roskevad_editor_find(&editor, ROSKEVAD_OBJECT, "none", 4) == ROSKEVAD_NONE ? 0 : SIZE_MAX;
 }
 
-static const struct {
-    const char *name;
-    size_t (*ask)(uint32_t id);
-} CALLS[] = {
-    {"object", ask_object}, {"object_layer", ask_object_layer}, {"properties", ask_properties}, {"property", ask_property},
-    {"layer", ask_layer}, {"layer_property", ask_layer_property}, {"map_head", ask_map_head}, {"tileset", ask_tileset},
-    {"tilesets", ask_tilesets}, {"sizes_of_map", ask_sizes}, {"layers", ask_layers}, {"status_of", ask_status},
-    {"document_name", ask_name}, {"active", ask_active}, {"object_ids", ask_object_ids}, {"outline", ask_outline},
+static size_t (*const CALLS[])(uint32_t) = {
+    ask_object, ask_object_layer, ask_properties, ask_property, ask_layer, ask_layer_property, ask_map_head, ask_tileset, ask_tilesets,
+    ask_sizes_of_map, ask_layers, ask_status_of, ask_document_name, ask_active, ask_object_ids, ask_find,
 };
 
 int main(int count, char **words)
 {
-    if (count != 6)
+    if (count != 5)
         return 2;
-    size_t at = 0;
-    while (at < sizeof CALLS / sizeof *CALLS && strcmp(CALLS[at].name, words[1]) != 0)
-        at++;
-    if (at == sizeof CALLS / sizeof *CALLS)
-        return 2;
-    open_map(words[3]);
-    layer = (uint32_t)strtoul(words[4], NULL, 10);
-    uint32_t turns = (uint32_t)strtoul(words[2], NULL, 10), greatest = (uint32_t)strtoul(words[5], NULL, 10);
-    /* The ids come far from one another: this number and 500 or 4,000 have no divisor in common. */
-    for (uint32_t turn = 0; turn < turns; turn++)
-        see(CALLS[at].ask(turn * 1237 % greatest + 1), (size_t)1 << 40);
+    open_map(words[2]);
+    layer = (uint32_t)strtoul(words[3], NULL, 10);
+    uint32_t turns = (uint32_t)strtoul(words[1], NULL, 10), greatest = (uint32_t)strtoul(words[4], NULL, 10);
+    /* The ids come far from one another: 1237 is prime, and no divisor of how many there are. */
+    for (size_t at = 0; at < sizeof CALLS / sizeof *CALLS; at++)
+        for (uint32_t turn = 0; turn < turns; turn++)
+            see(CALLS[at](turn * 1237 % greatest + 1), ROOM);
     roskevad_editor_close(&editor);
     return 0;
 }
