@@ -56,7 +56,7 @@ def drawn(editor: Editor, path: Path) -> Status:
     with document.macro('A', action='a'), document.stroke():
         document.erase('Ground', 0, 0, 1, 1)
     document.properties['author'] = 'me'
-    key: int = layer.objects.add('key', 0, 0)
+    key: MapObject = layer.objects.add('key', 0, 0)
     tile: Optional[Tile] = layer.tile(0, 0)
     runs: tuple[Run, ...] = document.selection.runs
     values: list[int] = layer.cells().tolist()
