@@ -12,6 +12,10 @@ export const NONE = 2 ** 32 - 1;
 export const CLOSED = NONE - 1;
 export const NO_MEMORY = NONE - 2;
 export const BAD_NAME = NONE - 4;
+/** The numbers of what has properties, and of what is found by a name. */
+export const OWNERS = { map: 1, layer: 2, object: 3 };
+/** The kinds of layers by their numbers. */
+export const KINDS = { 1: "tile", 2: "object", 3: "group", 4: "image" };
 const NOT_JSON = NONE - 5;
 // Why a map is not set aside, or put back: what the calls answer, and the words of the program.
 const ASIDE_FAULTS = new Map([
@@ -243,6 +247,17 @@ export class Module {
       take(withNewline(this.copyBytes((to, room) => reply(editor, to, room))));
     }
     return { lines, bytes, isRefused: isRefused === 1 };
+  }
+
+  /** How many items a call would copy; null where there are none. Throws NoMemory. */
+  count(call) {
+    return this.number(call(this._reply, 0));
+  }
+
+  /** So many numbers of 32 bits that a call writes; null where it writes none. */
+  numbers(count, call) {
+    const has = this.number(call(this._reply)) !== null;
+    return has ? new Uint32Array(this._memory.buffer, this._reply, count).slice() : null;
   }
 
   /** What a call answers, where that is a number, and null where there is none. Throws NoMemory. */

@@ -212,6 +212,28 @@ async function infiniteMaps() {
   editor.close();
 }
 
+// What was set aside is put back in a thing that is read alone: what its map says of how it was made finite
+// counts for it.
+async function thingsOfInfiniteMaps() {
+  const chunk = { data: Array(256).fill(1), height: 16, width: 16, x: -16, y: -16 };
+  const layer = tiles(1, { chunks: [chunk], height: 16, opacity: 0.5, startx: -16, starty: -16, width: 16 });
+  const float = (name, value) => [{ name, type: "float", value }];
+  const first = thing(1, { x: 10.5, y: 3, rotation: 0.25, properties: float("a", 0.1) });
+  const layers = [layer, things(2, first, thing(2, { x: 7, y: 3.75 }))];
+  const source = mapOf(layers, { infinite: true, properties: float("b", 0.2) });
+  const editor = await Editor.create();
+  const document = await editor.open(source);
+  const [one, two] = document.objects;
+  same([one.x, one.y, two.x, two.y], [266.5, 259, 263, 259.75]);
+  same([one.members.rotation, [...one.properties]], [0.25, [["a", 0.1]]]);
+  same([document.properties.get("b"), document.origin, document.layers.get(1).members.opacity], [0.2, [-16, -16], 0.5]);
+  one.move(Math.floor(one.x), 4);
+  two.move(263, Math.floor(two.y) + 1);
+  same([one.x, one.y, two.x, two.y], [266.5, 4, 263, 260]);
+  same(sorted(document.layers.get(2).members), sorted(document.outline().layers[1]));
+  editor.close();
+}
+
 // What is done until the bytes are there is not called saved.
 async function workWhileSaving() {
   const editor = await Editor.create();
@@ -277,5 +299,5 @@ async function namesOfDocuments() {
 
 export const MAP_CHECKS = [
   mapsThatNeedNothing, packedMaps, damagedData, bombs, mapsThatAreRefused, mapsWithFractions, infiniteMaps,
-  workWhileSaving, mapsOfClosedEditors, namesOfDocuments,
+  thingsOfInfiniteMaps,  workWhileSaving, mapsOfClosedEditors, namesOfDocuments,
 ];
