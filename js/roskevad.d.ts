@@ -1,9 +1,9 @@
 // SPDX-License-Identifier: MIT OR Apache-2.0
-import type { Document } from "./document.js";
+import type { Document, Layer } from "./document.js";
 
 export { Document, Layer, Layers, MapObject, Objects, Properties, Selection, Tileset, Tilesets } from "./document.js";
 export type {
-  LayerLike, Members, PropertyValue, Rows, Run, SelectionMode, Status, Step, Tile,
+  LayerLike, Members, ObjectLike, PropertyValue, Rows, Run, SelectionMode, Status, Step, Tile, TilesetLike,
 } from "./document.js";
 
 /** The version of this package. */
@@ -193,10 +193,10 @@ export class Editor {
    */
   origin(): [column: number, row: number];
   /**
-   * The cells of a rectangle of the tile layer with this id, row by row; null where no document is
-   * active, no tile layer has that id, or the rectangle leaves the map.
+   * The cells of a rectangle of a tile layer, or the one with this id, row by row; null where no document is
+   * active, there is no such tile layer, or the rectangle leaves the map.
    */
-  cells(layer: number, x: number, y: number, width: number, height: number): Uint32Array | null;
+  cells(layer: number | Layer, x: number, y: number, width: number, height: number): Uint32Array | null;
   /**
    * The id of the first layer of that name, in drawing order, groups and what stands in them too. Throws
    * RangeError where there is none.
