@@ -7,6 +7,7 @@ ghost use Rattle.session.specs.Words.{words_left, are_rows, choice_of, coordinat
 use crate::gids::Gids;
 use crate::limits::{MAX_DOCUMENT_NAME, MAX_FILE_NAME};
 use crate::text::Text;
+use crate::trail::{Expected, Trail};
 use crate::words::{
     are_texts_here, coordinate_before, cut, cut_at_bars, is_name_word, is_text_here, number_before,
 };
@@ -26,12 +27,13 @@ fn are_rows_of(width: u32, count: usize) -> bool
 
 /// The fields of a line that are still to be read, seen as its words.
 #[derive(Drop)]
-pub struct Fields<'a> {
+pub struct Fields<'a, T: Trail + Copy> {
+    trail: T,
     // What is left of the line, behind a space.
     rest: Option<&'a str>,
 }
 
-impl<'a> Model for Fields<'a> {
+impl<'a, T: Trail + Copy> Model for Fields<'a, T> {
     ghost use Rattle.std.specs.Prelude.{ℕ, List, ⊤};
     ghost use Rattle.std.specs.Coded.{coded_list, coded_ℕ};
     ghost use Rattle.session.specs.Words.{words_left};
@@ -45,19 +47,25 @@ impl<'a> Model for Fields<'a> {
     ghost invariant = { λ a. ⊤ };
 }
 
-impl<'a> Fields<'a> {
+impl<'a, T: Trail + Copy> Fields<'a, T> {
     /// The fields of what is left of a line.
-    pub fn new(rest: Option<&'a str>) -> Fields<'a>
+    pub fn new(rest: Option<&'a str>, trail: T) -> Fields<'a, T>
         ensures { result ≡ words_left rest.entry }
     {
-        Fields { rest }
+        Fields { trail, rest }
     }
 
-    /// A word.
-    pub fn word(&mut self) -> Result<&'a str, LineFault>
+    /// The trail as it stands.
+    pub fn trail(&self) -> T {
+        self.trail
+    }
+
+    /// A word, and what it is to be.
+    pub fn word(&mut self, expected: Expected) -> Result<&'a str, LineFault>
         ensures ok { IfOk result (λ word. self.old ≡ word.now ∷ self.new) }
         ensures err { IfErr result (λ fault. (fault ≡ BadWord) × (self.old ≡ [])) }
     {
+        self.trail.wants(expected);
         let Some(rest) = self.rest else {
             return Err(LineFault::BadWord);
         };
@@ -66,12 +74,13 @@ impl<'a> Fields<'a> {
         Ok(word)
     }
 
-    /// A number.
+    // A number, and what else it is to be.
     #[inline(always)]
     #[tactic(auto, unfolding(crate::specs::Grammar::word_at))]
-    pub fn number(&mut self) -> Result<u32, LineFault>
+    fn number_as(&mut self, expected: Expected) -> Result<u32, LineFault>
         ensures { Gives (λ x. (x, self.new)) result (word_at number_of self.old) }
     {
+        self.trail.wants(expected);
         let Some(rest) = self.rest else {
             return Err(LineFault::BadWord);
         };
@@ -82,11 +91,20 @@ impl<'a> Fields<'a> {
         Ok(number)
     }
 
+    /// A number.
+    #[inline(always)]
+    pub fn number(&mut self) -> Result<u32, LineFault>
+        ensures { Gives (λ x. (x, self.new)) result (word_at number_of self.old) }
+    {
+        self.number_as(Expected::Number)
+    }
+
     /// A coordinate.
     #[tactic(auto, unfolding(crate::specs::Grammar::word_at))]
     pub fn coordinate(&mut self) -> Result<i32, LineFault>
         ensures { Gives (λ x. (x, self.new)) result (word_at coordinate_of self.old) }
     {
+        self.trail.wants(Expected::Coordinate);
         let Some(rest) = self.rest else {
             return Err(LineFault::BadWord);
         };
@@ -102,7 +120,7 @@ impl<'a> Fields<'a> {
     fn rows(&mut self, width: u32) -> Result<Gids<'a>, LineFault>
         ensures { Gives (λ x. ((width, x), self.new)) result (rows_at width self.old) }
     {
-        let word = self.word()?;
+        let word = self.word(Expected::Tiles(width))?;
         let Some(values) = Gids::of_word(word) else {
             return Err(LineFault::BadWord);
         };
@@ -117,7 +135,10 @@ impl<'a> Fields<'a> {
     pub fn block(&mut self) -> Result<(u32, Gids<'a>), LineFault>
         ensures { Gives (λ x. (x, self.new)) result (block_at self.old) }
     {
-        let width = self.number()?;
+        let width = self.number_as(Expected::NumberWithin(MAX_SIDE))?;
+        if width == 0 || width > MAX_SIDE {
+            return Err(LineFault::BadWord);
+        }
         let values = self.rows(width)?;
         Ok((width, values))
     }
@@ -127,7 +148,7 @@ impl<'a> Fields<'a> {
     fn name(&mut self, limit: usize) -> Result<Text<'a>, LineFault>
         ensures { Gives (λ x. (x, self.new)) result (word_at (passing (is_name limit)) self.old) }
     {
-        let word = self.word()?;
+        let word = self.word(Expected::Name(limit))?;
         if !is_name_word(limit, word.as_bytes()) {
             return Err(LineFault::BadWord);
         }
@@ -154,7 +175,7 @@ impl<'a> Fields<'a> {
     pub fn choice(&mut self) -> Result<Option<Text<'a>>, LineFault>
         ensures { Gives (λ x. (x, self.new)) result (word_at choice_of self.old) }
     {
-        let word = self.word()?;
+        let word = self.word(Expected::Choice)?;
         if word == "-" {
             return Ok(None);
         }
@@ -168,6 +189,7 @@ impl<'a> Fields<'a> {
     pub fn text(&mut self) -> Result<Text<'a>, LineFault>
         ensures { Gives (λ x. x) result (last_text_at self.old) }
     {
+        self.trail.wants(Expected::Text);
         let Some(text) = self.rest else {
             return Err(LineFault::BadWord);
         };
@@ -177,16 +199,28 @@ impl<'a> Fields<'a> {
         Ok(Text::new(text))
     }
 
+    // Where the text in front of the bars can be one, the one behind them is wanted.
+    fn wants_action(&mut self, text: &str)
+        ensures { self.new ≡ self.old }
+    {
+        if is_text_here(text.as_bytes()) {
+            self.trail.wants(Expected::Bars);
+            self.trail.wants(Expected::Text);
+        }
+    }
+
     /// The text that is left, or, where it has bars, the one in front of the first of them and the one behind.
     #[tactic(auto, unfolding(crate::specs::Grammar::last_texts_at))]
     pub fn texts(&mut self) -> Result<(Text<'a>, Option<Text<'a>>), LineFault>
         ensures { Gives (λ x. x) result (last_texts_at self.old) }
     {
+        self.trail.wants(Expected::Text);
         let Some(rest) = self.rest else {
             return Err(LineFault::BadWord);
         };
         let (text, action) = cut_at_bars(rest);
         if !are_texts_here(text, action) {
+            self.wants_action(text);
             return Err(LineFault::BadWord);
         }
         match action {
@@ -200,6 +234,7 @@ impl<'a> Fields<'a> {
     pub fn end(&mut self) -> Result<(), LineFault>
         ensures { Gives (λ x. x) result (ends_at self.old) }
     {
+        self.trail.wants(Expected::End);
         match self.rest {
             Some(_) => Err(LineFault::BadWord),
             None => Ok(()),

@@ -5,6 +5,7 @@ ghost use Rattle.session.specs.Words.{layer_kind_of, yes_no_of};
 
 use crate::fields::{Fields, known};
 use crate::line::Line;
+use crate::trail::{Expected, Trail};
 use map_model::LayerKind;
 use refusals::LineFault;
 
@@ -31,15 +32,15 @@ fn yes_no(word: &str) -> Option<bool>
 }
 
 #[tactic(auto, unfolding(crate::specs::Grammar::word_at))]
-fn add_layer<'a>(fields: &mut Fields<'a>) -> Result<Line<'a>, LineFault>
+fn add_layer<'a, T: Trail + Copy>(fields: &mut Fields<'a, T>) -> Result<Line<'a>, LineFault>
     ensures { Gives (λ x. x) result (read add_layer_form fields.old) }
 {
-    let kind = known(layer_kind(fields.word()?))?;
+    let kind = known(layer_kind(fields.word(Expected::Kind)?))?;
     let name = fields.text()?;
     Ok(Line::AddLayer { kind, name })
 }
 
-fn remove_layer<'a>(fields: &mut Fields<'a>) -> Result<Line<'a>, LineFault>
+fn remove_layer<'a, T: Trail + Copy>(fields: &mut Fields<'a, T>) -> Result<Line<'a>, LineFault>
     ensures { Gives (λ x. x) result (read remove_layer_form fields.old) }
 {
     let layer = fields.number()?;
@@ -47,7 +48,7 @@ fn remove_layer<'a>(fields: &mut Fields<'a>) -> Result<Line<'a>, LineFault>
     Ok(Line::RemoveLayer { layer })
 }
 
-fn rename_layer<'a>(fields: &mut Fields<'a>) -> Result<Line<'a>, LineFault>
+fn rename_layer<'a, T: Trail + Copy>(fields: &mut Fields<'a, T>) -> Result<Line<'a>, LineFault>
     ensures { Gives (λ x. x) result (read rename_layer_form fields.old) }
 {
     let layer = fields.number()?;
@@ -56,16 +57,16 @@ fn rename_layer<'a>(fields: &mut Fields<'a>) -> Result<Line<'a>, LineFault>
 }
 
 #[tactic(auto, unfolding(crate::specs::Grammar::word_at))]
-fn show_layer<'a>(fields: &mut Fields<'a>) -> Result<Line<'a>, LineFault>
+fn show_layer<'a, T: Trail + Copy>(fields: &mut Fields<'a, T>) -> Result<Line<'a>, LineFault>
     ensures { Gives (λ x. x) result (read show_layer_form fields.old) }
 {
     let layer = fields.number()?;
-    let visible = known(yes_no(fields.word()?))?;
+    let visible = known(yes_no(fields.word(Expected::YesNo)?))?;
     fields.end()?;
     Ok(Line::ShowLayer { layer, visible })
 }
 
-fn move_layer<'a>(fields: &mut Fields<'a>) -> Result<Line<'a>, LineFault>
+fn move_layer<'a, T: Trail + Copy>(fields: &mut Fields<'a, T>) -> Result<Line<'a>, LineFault>
     ensures { Gives (λ x. x) result (read move_layer_form fields.old) }
 {
     let layer = fields.number()?;
@@ -75,10 +76,10 @@ fn move_layer<'a>(fields: &mut Fields<'a>) -> Result<Line<'a>, LineFault>
 }
 
 /// The line of layers that the words behind `layer` are.
-pub fn layer<'a>(fields: &mut Fields<'a>) -> Result<Line<'a>, LineFault>
+pub fn layer<'a, T: Trail + Copy>(fields: &mut Fields<'a, T>) -> Result<Line<'a>, LineFault>
     ensures { Gives (λ x. x) result (read (choose layer_lines BadWord) fields.old) }
 {
-    let action = fields.word()?;
+    let action = fields.word(Expected::Action)?;
     match action {
         "add" => add_layer(fields),
         "remove" => remove_layer(fields),

@@ -3,9 +3,10 @@ ghost use Rattle.session.specs.Grammar.{choose, object_lines, Gives, read, add_o
 
 use crate::fields::Fields;
 use crate::line::Line;
+use crate::trail::{Expected, Trail};
 use refusals::LineFault;
 
-fn add_object<'a>(fields: &mut Fields<'a>) -> Result<Line<'a>, LineFault>
+fn add_object<'a, T: Trail + Copy>(fields: &mut Fields<'a, T>) -> Result<Line<'a>, LineFault>
     ensures { Gives (λ x. x) result (read add_object_form fields.old) }
 {
     let layer = fields.number()?;
@@ -24,7 +25,10 @@ fn add_object<'a>(fields: &mut Fields<'a>) -> Result<Line<'a>, LineFault>
     })
 }
 
-fn move_object<'a>(follows: bool, fields: &mut Fields<'a>) -> Result<Line<'a>, LineFault>
+fn move_object<'a, T: Trail + Copy>(
+    follows: bool,
+    fields: &mut Fields<'a, T>,
+) -> Result<Line<'a>, LineFault>
     ensures { Gives (λ x. x) result (read (move_object_form follows) fields.old) }
 {
     let object = fields.number()?;
@@ -39,7 +43,7 @@ fn move_object<'a>(follows: bool, fields: &mut Fields<'a>) -> Result<Line<'a>, L
     })
 }
 
-fn resize_object<'a>(fields: &mut Fields<'a>) -> Result<Line<'a>, LineFault>
+fn resize_object<'a, T: Trail + Copy>(fields: &mut Fields<'a, T>) -> Result<Line<'a>, LineFault>
     ensures { Gives (λ x. x) result (read resize_object_form fields.old) }
 {
     let object = fields.number()?;
@@ -53,7 +57,7 @@ fn resize_object<'a>(fields: &mut Fields<'a>) -> Result<Line<'a>, LineFault>
     })
 }
 
-fn remove_object<'a>(fields: &mut Fields<'a>) -> Result<Line<'a>, LineFault>
+fn remove_object<'a, T: Trail + Copy>(fields: &mut Fields<'a, T>) -> Result<Line<'a>, LineFault>
     ensures { Gives (λ x. x) result (read remove_object_form fields.old) }
 {
     let object = fields.number()?;
@@ -63,10 +67,10 @@ fn remove_object<'a>(fields: &mut Fields<'a>) -> Result<Line<'a>, LineFault>
 
 /// The line of objects that the words behind `object` are. It has a frame of its own, as the rare commands have.
 #[inline(never)]
-pub fn object<'a>(fields: &mut Fields<'a>) -> Result<Line<'a>, LineFault>
+pub fn object<'a, T: Trail + Copy>(fields: &mut Fields<'a, T>) -> Result<Line<'a>, LineFault>
     ensures { Gives (λ x. x) result (read (choose object_lines BadWord) fields.old) }
 {
-    let action = fields.word()?;
+    let action = fields.word(Expected::Action)?;
     match action {
         "move" | "move+" => move_object(action == "move+", fields),
         "add" => add_object(fields),

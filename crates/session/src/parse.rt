@@ -13,11 +13,12 @@ use crate::object_lines::object;
 use crate::property_lines::property;
 use crate::select_lines::select;
 use crate::tileset_lines::tileset;
+use crate::trail::{Expected, NoTrail, Trail};
 use crate::words::cut;
 use refusals::LineFault;
 use tile_id::Gid;
 
-fn new<'a>(fields: &mut Fields<'a>) -> Result<Line<'a>, LineFault>
+fn new<'a, T: Trail + Copy>(fields: &mut Fields<'a, T>) -> Result<Line<'a>, LineFault>
     ensures { Gives (λ x. x) result (read new_form fields.old) }
 {
     let name = fields.document_name()?;
@@ -36,7 +37,7 @@ fn new<'a>(fields: &mut Fields<'a>) -> Result<Line<'a>, LineFault>
     })
 }
 
-fn open_file<'a>(fields: &mut Fields<'a>) -> Result<Line<'a>, LineFault>
+fn open_file<'a, T: Trail + Copy>(fields: &mut Fields<'a, T>) -> Result<Line<'a>, LineFault>
     ensures { Gives (λ x. x) result (read open_form fields.old) }
 {
     let name = fields.document_name()?;
@@ -45,7 +46,7 @@ fn open_file<'a>(fields: &mut Fields<'a>) -> Result<Line<'a>, LineFault>
     Ok(Line::Open { name, file })
 }
 
-fn save<'a>(fields: &mut Fields<'a>) -> Result<Line<'a>, LineFault>
+fn save<'a, T: Trail + Copy>(fields: &mut Fields<'a, T>) -> Result<Line<'a>, LineFault>
     ensures { Gives (λ x. x) result (read save_form fields.old) }
 {
     let file = fields.file_name()?;
@@ -53,7 +54,7 @@ fn save<'a>(fields: &mut Fields<'a>) -> Result<Line<'a>, LineFault>
     Ok(Line::Save { file })
 }
 
-fn close<'a>(fields: &mut Fields<'a>) -> Result<Line<'a>, LineFault>
+fn close<'a, T: Trail + Copy>(fields: &mut Fields<'a, T>) -> Result<Line<'a>, LineFault>
     ensures { Gives (λ x. x) result (read close_form fields.old) }
 {
     let name = fields.document_name()?;
@@ -61,7 +62,7 @@ fn close<'a>(fields: &mut Fields<'a>) -> Result<Line<'a>, LineFault>
     Ok(Line::Close { name })
 }
 
-fn discard<'a>(fields: &mut Fields<'a>) -> Result<Line<'a>, LineFault>
+fn discard<'a, T: Trail + Copy>(fields: &mut Fields<'a, T>) -> Result<Line<'a>, LineFault>
     ensures { Gives (λ x. x) result (read discard_form fields.old) }
 {
     let name = fields.document_name()?;
@@ -69,7 +70,7 @@ fn discard<'a>(fields: &mut Fields<'a>) -> Result<Line<'a>, LineFault>
     Ok(Line::Discard { name })
 }
 
-fn choose_document<'a>(fields: &mut Fields<'a>) -> Result<Line<'a>, LineFault>
+fn choose_document<'a, T: Trail + Copy>(fields: &mut Fields<'a, T>) -> Result<Line<'a>, LineFault>
     ensures { Gives (λ x. x) result (read use_form fields.old) }
 {
     let choice = fields.choice()?;
@@ -77,7 +78,10 @@ fn choose_document<'a>(fields: &mut Fields<'a>) -> Result<Line<'a>, LineFault>
     Ok(Line::Use { choice })
 }
 
-fn stamp<'a>(follows: bool, fields: &mut Fields<'a>) -> Result<Line<'a>, LineFault>
+fn stamp<'a, T: Trail + Copy>(
+    follows: bool,
+    fields: &mut Fields<'a, T>,
+) -> Result<Line<'a>, LineFault>
     ensures { Gives (λ x. x) result (read (stamp_form follows) fields.old) }
 {
     let layer = fields.number()?;
@@ -95,7 +99,10 @@ fn stamp<'a>(follows: bool, fields: &mut Fields<'a>) -> Result<Line<'a>, LineFau
     })
 }
 
-fn erase<'a>(follows: bool, fields: &mut Fields<'a>) -> Result<Line<'a>, LineFault>
+fn erase<'a, T: Trail + Copy>(
+    follows: bool,
+    fields: &mut Fields<'a, T>,
+) -> Result<Line<'a>, LineFault>
     ensures { Gives (λ x. x) result (read (erase_form follows) fields.old) }
 {
     let layer = fields.number()?;
@@ -114,7 +121,7 @@ fn erase<'a>(follows: bool, fields: &mut Fields<'a>) -> Result<Line<'a>, LineFau
     })
 }
 
-fn fill<'a>(fields: &mut Fields<'a>) -> Result<Line<'a>, LineFault>
+fn fill<'a, T: Trail + Copy>(fields: &mut Fields<'a, T>) -> Result<Line<'a>, LineFault>
     ensures { Gives (λ x. x) result (read fill_form fields.old) }
 {
     let layer = fields.number()?;
@@ -130,7 +137,7 @@ fn fill<'a>(fields: &mut Fields<'a>) -> Result<Line<'a>, LineFault>
     })
 }
 
-fn tile<'a>(fields: &mut Fields<'a>) -> Result<Line<'a>, LineFault>
+fn tile<'a, T: Trail + Copy>(fields: &mut Fields<'a, T>) -> Result<Line<'a>, LineFault>
     ensures { Gives (λ x. x) result (read tile_form fields.old) }
 {
     let layer = fields.number()?;
@@ -140,7 +147,7 @@ fn tile<'a>(fields: &mut Fields<'a>) -> Result<Line<'a>, LineFault>
     Ok(Line::Tile { layer, x, y })
 }
 
-fn resize<'a>(fields: &mut Fields<'a>) -> Result<Line<'a>, LineFault>
+fn resize<'a, T: Trail + Copy>(fields: &mut Fields<'a, T>) -> Result<Line<'a>, LineFault>
     ensures { Gives (λ x. x) result (read resize_form fields.old) }
 {
     let width = fields.number()?;
@@ -157,14 +164,17 @@ fn resize<'a>(fields: &mut Fields<'a>) -> Result<Line<'a>, LineFault>
 }
 
 // A line of one word.
-fn bare<'a>(line: Line<'a>, fields: &mut Fields<'a>) -> Result<Line<'a>, LineFault>
+fn bare<'a, T: Trail + Copy>(
+    line: Line<'a>,
+    fields: &mut Fields<'a, T>,
+) -> Result<Line<'a>, LineFault>
     ensures { Gives (λ x. x) result (read (Ends line.entry) fields.old) }
 {
     fields.end()?;
     Ok(line)
 }
 
-fn goto<'a>(fields: &mut Fields<'a>) -> Result<Line<'a>, LineFault>
+fn goto<'a, T: Trail + Copy>(fields: &mut Fields<'a, T>) -> Result<Line<'a>, LineFault>
     ensures { Gives (λ x. x) result (read goto_form fields.old) }
 {
     let index = fields.number()?;
@@ -172,14 +182,14 @@ fn goto<'a>(fields: &mut Fields<'a>) -> Result<Line<'a>, LineFault>
     Ok(Line::Goto { index })
 }
 
-fn begin<'a>(fields: &mut Fields<'a>) -> Result<Line<'a>, LineFault>
+fn begin<'a, T: Trail + Copy>(fields: &mut Fields<'a, T>) -> Result<Line<'a>, LineFault>
     ensures { Gives (λ x. x) result (read begin_form fields.old) }
 {
     let (text, action) = fields.texts()?;
     Ok(Line::Begin { text, action })
 }
 
-fn limit<'a>(fields: &mut Fields<'a>) -> Result<Line<'a>, LineFault>
+fn limit<'a, T: Trail + Copy>(fields: &mut Fields<'a, T>) -> Result<Line<'a>, LineFault>
     ensures { Gives (λ x. x) result (read limit_form fields.old) }
 {
     let limit = fields.number()?;
@@ -187,7 +197,7 @@ fn limit<'a>(fields: &mut Fields<'a>) -> Result<Line<'a>, LineFault>
     Ok(Line::Limit { limit })
 }
 
-fn step_text<'a>(fields: &mut Fields<'a>) -> Result<Line<'a>, LineFault>
+fn step_text<'a, T: Trail + Copy>(fields: &mut Fields<'a, T>) -> Result<Line<'a>, LineFault>
     ensures { Gives (λ x. x) result (read step_text_form fields.old) }
 {
     let number = fields.number()?;
@@ -198,7 +208,10 @@ fn step_text<'a>(fields: &mut Fields<'a>) -> Result<Line<'a>, LineFault>
 // A line of the commands that are not common. They have a frame of their own, since a function pays at its entry for all
 // that its arms hand on.
 #[inline(never)]
-fn rare_command<'a>(name: &str, fields: &mut Fields<'a>) -> Result<Line<'a>, LineFault>
+fn rare_command<'a, T: Trail + Copy>(
+    name: &str,
+    fields: &mut Fields<'a, T>,
+) -> Result<Line<'a>, LineFault>
     ensures { Gives (λ x. x) result (read (choose rare_commands UnknownCommand) (name.now ∷ fields.old)) }
 {
     match name {
@@ -226,7 +239,10 @@ fn rare_command<'a>(name: &str, fields: &mut Fields<'a>) -> Result<Line<'a>, Lin
     }
 }
 
-fn command<'a>(name: &str, fields: &mut Fields<'a>) -> Result<Line<'a>, LineFault>
+fn command<'a, T: Trail + Copy>(
+    name: &str,
+    fields: &mut Fields<'a, T>,
+) -> Result<Line<'a>, LineFault>
     ensures { Gives (λ x. x) result (read line_form (name.now ∷ fields.old)) }
 {
     // The words of most lines stand first, since they are compared one after the other.
@@ -280,8 +296,24 @@ fn text_of(bytes: &[u8]) -> Option<&str>
 /// The line that the bytes are, without a newline.
 // (inlined, since a line that is handed back is copied twice)
 #[inline(always)]
-#[tactic(auto, unfolding(crate::specs::Grammar::line_of))]
 pub fn parse_line(bytes: &[u8]) -> Result<Line<'_>, LineFault>
+    ensures value { Gives (λ x. x) result (line_of bytes.now) }
+    ensures says { IfOk result (Says bytes.now) }
+    ensures spelled { IfOk result CanBeSpelled }
+{
+    parse_line_along(bytes, &mut NoTrail)
+}
+
+/// What `parse_line` answers. The trail is told of each word that is wanted, from the first on.
+///
+/// After `UnknownCommand` and `BadWord` the word that was wanted last is the one at fault. It may be missing, or be one too many.
+/// Of a line that is too long, not UTF-8 or quiet nothing is told.
+#[inline(always)]
+#[tactic(auto, unfolding(crate::specs::Grammar::line_of))]
+pub fn parse_line_along<'a, T: Trail + Copy>(
+    bytes: &'a [u8],
+    trail: &mut T,
+) -> Result<Line<'a>, LineFault>
     ensures value { Gives (λ x. x) result (line_of bytes.now) }
     ensures says { IfOk result (Says bytes.now) }
     ensures spelled { IfOk result CanBeSpelled }
@@ -296,6 +328,9 @@ pub fn parse_line(bytes: &[u8]) -> Result<Line<'_>, LineFault>
         return Ok(Line::Quiet);
     }
     let (name, rest) = cut(text, b' ');
-    let mut fields = Fields::new(rest);
-    command(name, &mut fields)
+    trail.wants(Expected::Command);
+    let mut fields = Fields::new(rest, *trail);
+    let line = command(name, &mut fields);
+    *trail = fields.trail();
+    line
 }

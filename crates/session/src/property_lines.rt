@@ -11,6 +11,7 @@ use crate::fields::{Fields, known};
 use crate::limits::MAX_KEY;
 use crate::line::Line;
 use crate::text::Text;
+use crate::trail::{Expected, Trail};
 use crate::typed_value::TypedValue;
 use crate::words::{cut, number_before};
 use map_model::Owner;
@@ -115,16 +116,16 @@ fn owner(word: &str) -> Option<Owner>
 
 // A property's type and value, which are all that is left.
 #[tactic(auto, unfolding(crate::specs::Grammar::word_at))]
-fn typed_value<'a>(fields: &mut Fields<'a>) -> Result<TypedValue<'a>, LineFault>
+fn typed_value<'a, T: Trail + Copy>(fields: &mut Fields<'a, T>) -> Result<TypedValue<'a>, LineFault>
     ensures { (line : TypedValue → Line) → Gives line result (read (choose (value_types line) BadWord) fields.old) }
 {
-    let type_name = fields.word()?;
+    let type_name = fields.word(Expected::Type)?;
     let value = match type_name {
         "string" => return Ok(TypedValue::String(fields.text()?)),
         "file" => return Ok(TypedValue::File(fields.text()?)),
         "int" => TypedValue::Int(fields.coordinate()?),
-        "bool" => TypedValue::Bool(known(truth(fields.word()?))?),
-        "color" => TypedValue::Color(known(color(fields.word()?))?),
+        "bool" => TypedValue::Bool(known(truth(fields.word(Expected::Truth)?))?),
+        "color" => TypedValue::Color(known(color(fields.word(Expected::Color)?))?),
         "object" => TypedValue::Object(fields.number()?),
         _ => return Err(LineFault::BadWord),
     };
@@ -133,11 +134,11 @@ fn typed_value<'a>(fields: &mut Fields<'a>) -> Result<TypedValue<'a>, LineFault>
 }
 
 // The line that sets a property, from its type on.
-fn set_typed<'a>(
+fn set_typed<'a, T: Trail + Copy>(
     owner: Owner,
     name: Text<'a>,
     follows: bool,
-    fields: &mut Fields<'a>,
+    fields: &mut Fields<'a, T>,
 ) -> Result<Line<'a>, LineFault>
     ensures { Gives (λ x. x) result (read (choose (value_types (λ value. SetProperty owner name.entry value follows)) BadWord) fields.old) }
 {
@@ -153,29 +154,32 @@ fn set_typed<'a>(
 }
 
 #[tactic(auto, unfolding(crate::specs::Grammar::word_at))]
-fn set_property<'a>(follows: bool, fields: &mut Fields<'a>) -> Result<Line<'a>, LineFault>
+fn set_property<'a, T: Trail + Copy>(
+    follows: bool,
+    fields: &mut Fields<'a, T>,
+) -> Result<Line<'a>, LineFault>
     ensures { Gives (λ x. x) result (read (set_property_form follows) fields.old) }
 {
-    let owner = known(owner(fields.word()?))?;
-    let name = known(key(fields.word()?))?;
+    let owner = known(owner(fields.word(Expected::Owner)?))?;
+    let name = known(key(fields.word(Expected::Key)?))?;
     set_typed(owner, name, follows, fields)
 }
 
 #[tactic(auto, unfolding(crate::specs::Grammar::word_at))]
-fn remove_property<'a>(fields: &mut Fields<'a>) -> Result<Line<'a>, LineFault>
+fn remove_property<'a, T: Trail + Copy>(fields: &mut Fields<'a, T>) -> Result<Line<'a>, LineFault>
     ensures { Gives (λ x. x) result (read remove_property_form fields.old) }
 {
-    let owner = known(owner(fields.word()?))?;
-    let name = known(key(fields.word()?))?;
+    let owner = known(owner(fields.word(Expected::Owner)?))?;
+    let name = known(key(fields.word(Expected::Key)?))?;
     fields.end()?;
     Ok(Line::RemoveProperty { owner, name })
 }
 
 /// The line of properties that the words behind `prop` are.
-pub fn property<'a>(fields: &mut Fields<'a>) -> Result<Line<'a>, LineFault>
+pub fn property<'a, T: Trail + Copy>(fields: &mut Fields<'a, T>) -> Result<Line<'a>, LineFault>
     ensures { Gives (λ x. x) result (read (choose property_lines BadWord) fields.old) }
 {
-    let action = fields.word()?;
+    let action = fields.word(Expected::Action)?;
     match action {
         "set" => set_property(false, fields),
         "set+" => set_property(true, fields),

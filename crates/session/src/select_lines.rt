@@ -4,10 +4,14 @@ ghost use Rattle.session.specs.Grammar.{choose, select_lines, Ends, Gives, read,
 
 use crate::fields::Fields;
 use crate::line::Line;
+use crate::trail::{Expected, Trail};
 use map_model::SelectionMode;
 use refusals::LineFault;
 
-fn select_rectangle<'a>(mode: SelectionMode, fields: &mut Fields<'a>) -> Result<Line<'a>, LineFault>
+fn select_rectangle<'a, T: Trail + Copy>(
+    mode: SelectionMode,
+    fields: &mut Fields<'a, T>,
+) -> Result<Line<'a>, LineFault>
     ensures { Gives (λ x. x) result (read (select_form mode) fields.old) }
 {
     let x = fields.coordinate()?;
@@ -24,7 +28,7 @@ fn select_rectangle<'a>(mode: SelectionMode, fields: &mut Fields<'a>) -> Result<
     })
 }
 
-fn select_none<'a>(fields: &mut Fields<'a>) -> Result<Line<'a>, LineFault>
+fn select_none<'a, T: Trail + Copy>(fields: &mut Fields<'a, T>) -> Result<Line<'a>, LineFault>
     ensures { Gives (λ x. x) result (read (Ends SelectNone) fields.old) }
 {
     fields.end()?;
@@ -32,10 +36,10 @@ fn select_none<'a>(fields: &mut Fields<'a>) -> Result<Line<'a>, LineFault>
 }
 
 /// The line of selecting that the words behind `select` are.
-pub fn select<'a>(fields: &mut Fields<'a>) -> Result<Line<'a>, LineFault>
+pub fn select<'a, T: Trail + Copy>(fields: &mut Fields<'a, T>) -> Result<Line<'a>, LineFault>
     ensures { Gives (λ x. x) result (read (choose select_lines BadWord) fields.old) }
 {
-    let way = fields.word()?;
+    let way = fields.word(Expected::Action)?;
     match way {
         "replace" => select_rectangle(SelectionMode::Replace, fields),
         "add" => select_rectangle(SelectionMode::Add, fields),

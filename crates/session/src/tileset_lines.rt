@@ -3,9 +3,10 @@ ghost use Rattle.session.specs.Grammar.{choose, tileset_lines, Gives, read, add_
 
 use crate::fields::Fields;
 use crate::line::Line;
+use crate::trail::{Expected, Trail};
 use refusals::LineFault;
 
-fn add_tileset<'a>(fields: &mut Fields<'a>) -> Result<Line<'a>, LineFault>
+fn add_tileset<'a, T: Trail + Copy>(fields: &mut Fields<'a, T>) -> Result<Line<'a>, LineFault>
     ensures { Gives (λ x. x) result (read add_tileset_form fields.old) }
 {
     let first_id = fields.number()?;
@@ -13,7 +14,7 @@ fn add_tileset<'a>(fields: &mut Fields<'a>) -> Result<Line<'a>, LineFault>
     Ok(Line::AddTileset { first_id, source })
 }
 
-fn remove_tileset<'a>(fields: &mut Fields<'a>) -> Result<Line<'a>, LineFault>
+fn remove_tileset<'a, T: Trail + Copy>(fields: &mut Fields<'a, T>) -> Result<Line<'a>, LineFault>
     ensures { Gives (λ x. x) result (read remove_tileset_form fields.old) }
 {
     let first_id = fields.number()?;
@@ -22,10 +23,10 @@ fn remove_tileset<'a>(fields: &mut Fields<'a>) -> Result<Line<'a>, LineFault>
 }
 
 /// The line of tilesets that the words behind `tileset` are.
-pub fn tileset<'a>(fields: &mut Fields<'a>) -> Result<Line<'a>, LineFault>
+pub fn tileset<'a, T: Trail + Copy>(fields: &mut Fields<'a, T>) -> Result<Line<'a>, LineFault>
     ensures { Gives (λ x. x) result (read (choose tileset_lines BadWord) fields.old) }
 {
-    let action = fields.word()?;
+    let action = fields.word(Expected::Action)?;
     match action {
         "add" => add_tileset(fields),
         "remove" => remove_tileset(fields),
