@@ -3,3 +3,5 @@ pub mod Grammar
 pub mod Spelling
 pub mod TypedValues
 pub mod Replies
+pub mod Left
+pub mod Faults

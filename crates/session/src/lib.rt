@@ -14,14 +14,16 @@ mod select_lines;
 mod spelling;
 mod text;
 mod tileset_lines;
+mod trail;
 mod typed_value;
 mod words;
 
 pub use gids::{Gids, Values};
 pub use line::Line;
-pub use parse::parse_line;
+pub use parse::{parse_line, parse_line_along};
 pub use refusals::{LineFault, Refusal};
 pub use reply::{LocalTile, Reply};
 pub use spelling::{long_is_not_read, quiet_is_read, read_is_spelled, spelled_is_read};
 pub use text::{FileName, MapBytes, Text};
+pub use trail::{Expected, LastWanted, NoTrail, Trail};
 pub use typed_value::TypedValue;

@@ -5,6 +5,6 @@ use Rattle.session.proofs.Forms.{choose-append}
 use Rattle.session.proofs.parse.command.Goals as goal
 
 pub returns-in_default : goal.returns-in_default
-returns-in_default c =
+returns-in_default g c =
     let later = choose-append common_commands rare_commands UnknownCommand c.args.name.now c.args.fields.now (search rules) in
     subst (Gives (λ x. x) c.rare_command.result) (sym later) c.rare_command.ensures

@@ -5,4 +5,4 @@ use Rattle.session.proofs.Forms.{choose_none}
 use Rattle.session.proofs.parse.rare_command.Goals as goal
 
 pub returns-in_default : goal.returns-in_default
-returns-in_default c = choose_none rare_commands UnknownCommand c.args.name.now c.args.fields.now (search rules)
+returns-in_default g c = choose_none rare_commands UnknownCommand c.args.name.now c.args.fields.now (search rules)

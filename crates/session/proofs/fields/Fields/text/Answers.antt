@@ -7,16 +7,16 @@ use Rattle.session.proofs.fields.Fields.text.Goals as goal
 
 pub returns-in_default : goal.returns-in_default
 unfolding last_text_at
-returns-in_default c = ap last_text_at (sym c.self.view_is ∙ ap words_left c.in_default.is)
+returns-in_default g c = ap last_text_at (sym c.self.view_is ∙ ap words_left c.in_default.is)
 
 pub returns-then-not-is_text_here : goal.returns-then-not-is_text_here
-returns-then-not-is_text_here c =
+returns-then-not-is_text_here g c =
     let text = c.in-Some.text.now in
     let is = ap is_text (sym c.as_bytes.ensures.value) ∙ sym c.is_text_here.ensures ∙ c.if-not-is_text_here.true in
     ap last_text_at (sym c.self.view_is ∙ ap words_left c.in-Some.is) ∙ text_of_words text ∙ ap (λ b. cond b (Ok text) (Err BadWord)) is
 
 pub returns : goal.returns
-returns c =
+returns g c =
     let text = c.in-Some.text.now in
     let is = ap is_text (sym c.as_bytes.ensures.value) ∙ sym c.is_text_here.ensures ∙ c.if-not-is_text_here.false in
     ap last_text_at (sym c.self.view_is ∙ ap words_left c.in-Some.is) ∙ text_of_words text ∙ ap (λ b. cond b (Ok text) (Err BadWord)) is

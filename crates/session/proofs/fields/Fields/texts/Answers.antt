@@ -16,13 +16,13 @@ tested bytes prefix behind b f g is =
     ∙ ap (λ t. cond t (Ok (prefix, behind)) (Err BadWord)) is
 
 pub returns-then-not-are_texts_here : goal.returns-then-not-are_texts_here
-returns-then-not-are_texts_here c =
+returns-then-not-are_texts_here g c =
     ap last_texts_at (sym c.self.view_is ∙ ap words_left c.in-Some.is)
     ∙ tested c.in-Some.rest.now _ _ false c.cut_at_bars.ensures.prefix c.cut_at_bars.ensures.behind
     (sym c.are_texts_here.ensures ∙ c.if-not-are_texts_here.true)
 
 pub returns : goal.returns
-returns c =
+returns g c =
     let read =
     ap last_texts_at (sym c.self.view_is ∙ ap words_left c.in-Some.is)
     ∙ tested c.in-Some.rest.now _ _ true c.cut_at_bars.ensures.prefix c.cut_at_bars.ensures.behind

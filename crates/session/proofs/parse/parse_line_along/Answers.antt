@@ -5,17 +5,17 @@ use Rattle.session.specs.Words.{words}
 use Rattle.session.specs.Grammar.{read, line_form}
 use Rattle.session.proofs.FirstChecks.{checked, refused}
 use Rattle.session.proofs.Laws.{given_says, given_spelled}
-use Rattle.session.proofs.parse.parse_line.Goals as goal
+use Rattle.session.proofs.parse.parse_line_along.Goals as goal
 
 pub returns-then-is_quiet_line-clause-value : goal.returns-then-is_quiet_line-clause-value
-returns-then-is_quiet_line-clause-value c =
+returns-then-is_quiet_line-clause-value g c =
     let bytes = c.args.bytes.now in
     let short : length bytes ≤ MAX_LINE = omega (arith, c.if-bytes-gt-MAX_LINE.false) in
     checked bytes short c.in-Some.ensures.some.1 ∙ ap (λ b. cond b (Ok Quiet) (read line_form (words bytes)))
     (sym c.is_quiet_line.ensures ∙ c.if-is_quiet_line.true)
 
 pub returns-clause-value : goal.returns-clause-value
-returns-clause-value c =
+returns-clause-value g c =
     let bytes = c.args.bytes.now in
     let short : length bytes ≤ MAX_LINE = omega (arith, c.if-bytes-gt-MAX_LINE.false) in
     let e = checked bytes short c.in-Some.ensures.some.1 ∙ ap (λ b. cond b (Ok Quiet) (read line_form (words bytes)))
@@ -25,13 +25,13 @@ returns-clause-value c =
     rw e c.command.ensures
 
 pub returns-clause-says : goal.returns-clause-says
-returns-clause-says c = given_says c.args.bytes.now c.command.result (returns-clause-value c)
+returns-clause-says g c = given_says c.args.bytes.now c.command.result (returns-clause-value g c)
 
 pub returns-clause-spelled : goal.returns-clause-spelled
-returns-clause-spelled c = given_spelled c.args.bytes.now c.command.result (returns-clause-value c)
+returns-clause-spelled g c = given_spelled c.args.bytes.now c.command.result (returns-clause-value g c)
 
 pub returns-in_default-clause-value : goal.returns-in_default-clause-value
-returns-in_default-clause-value c =
+returns-in_default-clause-value g c =
     let bytes = c.args.bytes.now in
     let short : length bytes ≤ MAX_LINE = omega (arith, c.if-bytes-gt-MAX_LINE.false) in
     refused bytes short c.in_default.ensures.none
