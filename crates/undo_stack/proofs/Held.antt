@@ -19,10 +19,12 @@ use Rattle.undo_stack.specs.Held.{IsUnchangedAt, IsTakenInto}
 use Rattle.undo_stack.specs.Held.{MergesInto, MergesNestings, entry_nestings, IsSettledAt, IsDroppedAt}
 use Rattle.undo_stack.specs.Merging.{MergesChange, MergesSequence, HasTarget, left_of}
 use Rattle.undo_stack.specs.Nestings.{Nestings, nesting, nestings_cut, nestings_next_of}
-use Rattle.undo_stack.specs.Reporting.{TakesIn, EndsIn, IsReportedAt, last_entry, left_by, reports}
+use Rattle.undo_stack.specs.Reporting.{TakesIn, EndsIn, last_entry, left_by, reports}
 use Rattle.undo_stack.specs.Sound.{IsAtMost, IsTurnable, sequence_depth}
+use Rattle.undo_stack.specs.Told.{says_gone, says_merged, IsToldAt}
 use Rattle.undo_stack.specs.declared.entry.Entry.{Entry}
 use Rattle.undo_stack.specs.declared.limits.TheConstants.{MAX_DEPTH, MAX_LIMIT}
+use Rattle.undo_stack.specs.declared.pushed.Pushed.{Pushed}
 use Rattle.undo_stack.specs.declared.sequence.Sequence.{Sequence}
 use Rattle.undo_stack.proofs.Calm.{Bound, Live, live_as, bound_as, bound_moved, at_number, live_again, live_around, live_gone, live_either, live_moved}
 use Rattle.undo_stack.proofs.Calm.{live_stays}
@@ -246,23 +248,23 @@ module _ {C : Type 0} (f : C → Change) where
         let most : length q.entries.items ≤ q.index = omega arith in
         rw (take_all q.index q.entries.items most) at h.sound.turnable.down
 
-    told : reports f (target_in q) ≡ (entry_change f v).obsolete
-    told = ap (reports f) (last_entry-below q.entries.items v q.index some is (omega arith))
+    pub reports-target_in : reports f (target_in q) ≡ (entry_change f v).obsolete
+    reports-target_in = ap (reports f) (last_entry-below q.entries.items v q.index some is (omega arith))
 
     -- its nesting goes with it
     pub nestings_go : (entry_change f v).obsolete ≡ true
         → map nesting (take (q.index - 1) q.entries.items) ≡ left_of (reports f (target_in q)) (entry_nestings q)
-    nestings_go gone = rw (told, gone) (nestings-without_last q.entries.items v q.index some end is)
+    nestings_go gone = rw (reports-target_in, gone) (nestings-without_last q.entries.items v q.index some end is)
 
     pub nestings_stay : (entry_change f v).obsolete ≡ false → entry_nestings q ≡ left_of (reports f (target_in q)) (entry_nestings q)
-    nestings_stay kept = rw (told, kept) refl
+    nestings_stay kept = rw (reports-target_in, kept) refl
 
     pub stays : (d : DocumentParts) → (entry_change f v).obsolete ≡ false → IsHeldToLast f d q → IsSettledAt f d q q
     stays d kept h =
         let s = settles_stays (entry_change f) q.entries.items v q.index d some end is law kept (fits d h) in
         record {
           held = record { sound = h.sound; live = live_stays f q.entries.items v q.index some end is kept h.live; none_free = h.none_free };
-          settled = rw (told, kept) (settles_done f false d q q.entries.items q.index (sym end) (sym end) s);
+          settled = rw (reports-target_in, kept) (settles_done f false d q q.entries.items q.index (sym end) (sym end) s);
           depth = omega arith;
         }
 
@@ -282,7 +284,7 @@ module _ {C : Type 0} (f : C → Change) where
             live = rw k.entries (live_gone f es v q.index some end is h.live);
             none_free = none_free q p (take j es) j q.clean k (All-take (Bound f) j es) h.none_free;
           };
-          settled = rw (told, gone, seen q p (take j es) j q.clean k d) (settles_done f true d q (take j es) j (sym end) long s);
+          settled = rw (reports-target_in, gone, seen q p (take j es) j q.clean k d) (settles_done f true d q (take j es) j (sym end) long s);
           depth = rw k.entries flat;
         }
 
@@ -434,20 +436,25 @@ module _ {C : Type 0} (f : C → Change) where
         let onto = subst (λ (h : History). IsPushed h (step_named (f y).names e) n) same_base p in
         pushed_as (history_at f d q) (step_named (f y).names e) (step_of (f x) (current (history_at f d q))) n onto same_step
 
-    pub reported_at : (merged : Bool) (entry : Option (Entry C))
+    -- what is reported of it, and the answer p
+    pub told_at : (p : Pushed) (merged : Bool) (entry : Option (Entry C)) → says_merged p ≡ merged → says_gone p ≡ reports f entry
         → (merged ≡ true ↔ Merges (cut (history_at f ((f y).undone e) q)) (step_named (f y).names e)) → EndsIn merged f y e (target_in q) entry
         → Vanishes merged (reports f entry) (cut (history_at f ((f y).undone e) q)) (step_named (f y).names e)
         → n ≡ next_of merged (reports f entry) (step_named (f y).names e) (cut (history_at f ((f y).undone e) q))
         → (os : Nestings) → os ≡ nestings_next_of merged (reports f entry) q.limit (nestings_cut q.index (nestings_at q))
-        → IsReportedAt f x d (target_in q) (shape_at f d q) e (record { history = n; nestings = os })
-    reported_at merged entry where_merged ends where_gone next os nests = record {
-      command = y;
-      redone = r;
-      merged = merged;
-      merged_where = rw same_step (subst (λ (k : History). merged ≡ true ↔ Merges (cut k) (step_named (f y).names e)) same_base where_merged);
-      entry = entry;
-      ends = ends;
-      gone_where = rw same_step (subst (λ (k : History). Vanishes merged (reports f entry) (cut k) (step_named (f y).names e)) same_base where_gone);
-      next = rw same_step (subst (λ (k : History). n ≡ next_of merged (reports f entry) (step_named (f y).names e) (cut k)) same_base next);
-      nests = nests;
+        → IsToldAt f x d (target_in q) (shape_at f d q) e (record { history = n; nestings = os }) p
+    told_at p merged entry says_m says_g where_merged ends where_gone next os nests = record {
+      report = record {
+        command = y;
+        redone = r;
+        merged = merged;
+        merged_where = rw same_step (subst (λ (k : History). merged ≡ true ↔ Merges (cut k) (step_named (f y).names e)) same_base where_merged);
+        entry = entry;
+        ends = ends;
+        gone_where = rw same_step (subst (λ (k : History). Vanishes merged (reports f entry) (cut k) (step_named (f y).names e)) same_base where_gone);
+        next = rw same_step (subst (λ (k : History). n ≡ next_of merged (reports f entry) (step_named (f y).names e) (cut k)) same_base next);
+        nests = nests;
+      };
+      merged = says_m;
+      gone = says_g;
     }

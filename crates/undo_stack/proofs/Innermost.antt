@@ -19,25 +19,28 @@ use Rattle.undo_stack.specs.Entries.{entry_change, depth}
 use Rattle.undo_stack.specs.Lending.{innermost_of, innermost, with_innermost_of, with_innermost_at}
 use Rattle.undo_stack.specs.Held.{IsHeld, history_at, nestings_at, shape_at, target_in}
 use Rattle.undo_stack.specs.Nestings.{Nestings, Shape, nestings_cut, nestings_next_of}
-use Rattle.undo_stack.specs.Reporting.{IsReportedAt, reports}
-use Rattle.undo_stack.specs.Sound.{Inner, IsAtMost, start_of, sequence_depth, level_depth}
-use Rattle.undo_stack.specs.Stacks.{inner_of, inners, history, nestings, shape, AreHeld, AreReady, Holds, IsClosed, IsDone, IsReady, IsReported, target_entry}
+use Rattle.undo_stack.specs.Reporting.{reports}
+use Rattle.undo_stack.specs.Sound.{Inner, IsAtMost, opens, start_of, sequence_depth, level_depth}
+use Rattle.undo_stack.specs.Stacks.{inner_of, inners, history, nestings, shape, AreHeld, AreReady, Holds, IsClosed, IsDone, IsReady, IsTold, target_entry}
 use Rattle.undo_stack.specs.Stacks.{IsCalm}
 use Rattle.undo_stack.specs.Stacks.{LevelsAreLive}
+use Rattle.undo_stack.specs.Told.{IsFull, IsToldAt}
 use Rattle.undo_stack.specs.declared.entry.Entry.{Entry}
 use Rattle.undo_stack.specs.declared.level.Level.{Level}
 use Rattle.undo_stack.specs.declared.limits.TheConstants.{MAX_DEPTH, MAX_LIMIT}
+use Rattle.undo_stack.specs.declared.pushed.Pushed.{Pushed}
 use Rattle.undo_stack.specs.declared.sequence.Sequence.{Sequence}
 use Rattle.undo_stack.specs.declared.stack.Stack.{Stack}
 use Rattle.undo_stack.specs.declared.stack.sequences.Sequences.{Sequences}
 use Rattle.undo_stack.proofs.Joins.{length-without_last, length-led_to}
 use Rattle.undo_stack.proofs.Levels.{open_of, start_of-append, opens-append, innermost-append, innermost_of-append, AreHeld-pop, AreHeld-push}
 use Rattle.undo_stack.proofs.Levels.{AreReady-last, AreReady-pop, AreReady-push, level_depth-append, level_depth-closed, level_depth-deep}
-use Rattle.undo_stack.proofs.Levels.{level_depth-last, level_depth-without_last}
+use Rattle.undo_stack.proofs.Levels.{level_depth-last, level_depth-without_last, without_last-append}
 use Rattle.undo_stack.proofs.Held.{empty_held, marked_held}
 use Rattle.undo_stack.proofs.Macros.{ended_answer, ended_view}
 use Rattle.undo_stack.proofs.Pushes.{done_view, done_with}
 use Rattle.undo_stack.proofs.Sequences.{length-down, length-steps, take_last}
+use Rattle.undo_stack.proofs.Told.{IsFull-as}
 use Rattle.undo_stack.proofs.Views.{history_in}
 
 -- ---- histories
@@ -181,24 +184,29 @@ module _ (h : History) (os : List Open) (o : Open) where
       } in
       rw (sym same_current) pushed
 
-  -- and reports the same, where the nestings of the whole are next where those of the part are
-  reported_whole : {C : Type 0} (f : C → Change) (x : C) (d e : DocumentParts) (v : Option (Entry C)) (n : History) (xs ys os ps : Nestings)
+  -- and reports and tells the same, where the nestings of the whole are next where those of the part are
+  told_whole : {C : Type 0} (f : C → Change) (x : C) (d e : DocumentParts) (v : Option (Entry C)) (n : History) (xs ys os ps : Nestings) (p : Pushed)
       → ((merged gone : Bool) → ys ≡ nestings_next_of merged gone part.limit (nestings_cut part.position xs)
       → ps ≡ nestings_next_of merged gone whole.limit (nestings_cut whole.position os))
-      → IsReportedAt f x d v (shape_with part xs) e (shape_with n ys) → IsReportedAt f x d v (shape_with whole os) e (shape_with (whole_with n) ps)
-  reported_whole f x d e v n xs ys os ps next r =
+      → IsToldAt f x d v (shape_with part xs) e (shape_with n ys) p → IsToldAt f x d v (shape_with whole os) e (shape_with (whole_with n) ps) p
+  told_whole f x d e v n xs ys os ps p next told =
       let s = step_of (f x) (current part) in
+      let r = told.report in
       record {
-        command = r.command;
-        redone = r.redone;
-        merged = r.merged;
-        merged_where = rw (sym same_current)
-            ((λ is. (merges-levelled s).0 (r.merged_where.0 is)), (λ m. r.merged_where.1 ((merges-levelled s).1 m)));
-        entry = r.entry;
-        ends = r.ends;
-        gone_where = rw (sym same_current) (vanishes-levelled r.merged (reports f r.entry) s r.gone_where);
-        next = rw (sym same_current) (next_whole r.merged (reports f r.entry) s n r.next);
-        nests = next r.merged (reports f r.entry) r.nests;
+        report = record {
+          command = r.command;
+          redone = r.redone;
+          merged = r.merged;
+          merged_where = rw (sym same_current)
+              ((λ is. (merges-levelled s).0 (r.merged_where.0 is)), (λ m. r.merged_where.1 ((merges-levelled s).1 m)));
+          entry = r.entry;
+          ends = r.ends;
+          gone_where = rw (sym same_current) (vanishes-levelled r.merged (reports f r.entry) s r.gone_where);
+          next = rw (sym same_current) (next_whole r.merged (reports f r.entry) s n r.next);
+          nests = next r.merged (reports f r.entry) r.nests;
+        };
+        merged = told.merged;
+        gone = told.gone;
       }
 
 -- ---- a sequence of which all entries are done
@@ -481,27 +489,27 @@ module _ {C : Type 0} {f : C → Change} {s : Stack C} (h : Holds f s) {v : Leve
               (pushed_whole outer outer.levels inner (f x) n part_pushed)),
         )
 
-        reported_inside : NextLent f s v.sequence q t → IsReportedAt f x s.document (target_in v.sequence) (shape_at f s.document v.sequence) d (shape_at f d q)
-            → IsReported f x s t
-        reported_inside next r =
+        told_inside : (a : Pushed) → NextLent f s v.sequence q t
+            → IsToldAt f x s.document (target_in v.sequence) (shape_at f s.document v.sequence) d (shape_at f d q) a → IsTold f x a s t
+        told_inside a next r =
             let e = target_in v.sequence in
             let xs = nestings_at v.sequence in
             let ys = nestings_at q in
             let os = nestings s in
             let ps = nestings t in
-            let part = subst (λ (k : History). IsReportedAt f x s.document e (shape_with k xs) d (shape_with n ys)) level_row r in
+            let part = subst (λ (k : History). IsToldAt f x s.document e (shape_with k xs) d (shape_with n ys) a) level_row r in
             let new = outer_with (record inner { steps = n.steps }) in
             let position : v.sequence.index ≡ length inner.steps = ap (λ (k : History). k.position) level_row in
             let limit : v.sequence.limit ≡ 0 = ap (λ (k : History). k.limit) level_row in
             let up : (merged gone : Bool) → ys ≡ nestings_next_of merged gone 0 (nestings_cut (length inner.steps) xs)
             → ps ≡ nestings_next_of merged gone outer.limit (nestings_cut outer.position os) =
             λ merged gone is. next merged gone (rw (position, limit) is) in
-            subst (λ (k : History). IsReportedAt f x s.document (target_entry s) (shape_with k os) d (shape f t)) (sym old_view)
-            (subst (λ (k : History). IsReportedAt f x s.document (target_entry s) (shape_with (outer_with inner) os) d (shape_with k ps))
+            subst (λ (k : History). IsToldAt f x s.document (target_entry s) (shape_with k os) d (shape f t) a) (sym old_view)
+            (subst (λ (k : History). IsToldAt f x s.document (target_entry s) (shape_with (outer_with inner) os) d (shape_with k ps) a)
             (sym (landed_view n.steps lands))
-            (subst (λ (y : Sequence C). IsReportedAt f x s.document (target_in y) (shape_with (outer_with inner) os) d (shape_with new ps))
+            (subst (λ (y : Sequence C). IsToldAt f x s.document (target_in y) (shape_with (outer_with inner) os) d (shape_with new ps) a)
             (sym level_innermost)
-            (reported_whole outer outer.levels inner f x s.document d e n xs ys os ps up part)))
+            (told_whole outer outer.levels inner f x s.document d e n xs ys os ps a up part)))
 
     -- an entry of this step was added to the sequence, and so to the stack
     module _ (st : Step) (same : history_at f d q ≡ with_added st [] (history_at f s.document v.sequence)) where
@@ -585,23 +593,42 @@ module _ {C : Type 0} {f : C → Change} {s : Stack C} (h : Holds f s) where
           let is = level_innermost h last in
           pushed_inside h last d q held (rw is at less) x (part_onto v.sequence is))
 
-      -- and reports the same
-      abbrev ReportedOn : Sequence C → Type 0
-      ReportedOn y = IsReportedAt f x s.document (target_in y) (shape_at f s.document y) d (shape_at f d q)
+      -- and reports and tells the same
+      abbrev ToldOn : Pushed → Sequence C → Type 0
+      ToldOn a y = IsToldAt f x s.document (target_in y) (shape_at f s.document y) d (shape_at f d q) a
 
-      pub reported_led : NextLent f s (innermost s.sequences) q (led s d q) → ReportedOn (innermost s.sequences) → IsReported f x s (led s d q)
-      reported_led next r = by_place s q
-          (λ z. let t : Stack C = record s { document = d; sequences = z } in NextLent f s (innermost s.sequences) q t → IsReported f x s t)
+      pub told_led : (a : Pushed) → NextLent f s (innermost s.sequences) q (led s d q) → ToldOn a (innermost s.sequences) → IsTold f x a s (led s d q)
+      told_led a next r = by_place s q
+          (λ z. let t : Stack C = record s { document = d; sequences = z } in NextLent f s (innermost s.sequences) q t → IsTold f x a s t)
           (λ none next.
-          let onto : ReportedOn s.sequences.steps = rw none at r in
-          closed_shape f (λ k n. IsReportedAt f x s.document (target_entry s) k d n) s d q none (rw none onto))
+          let onto : ToldOn a s.sequences.steps = rw none at r in
+          closed_shape f (λ k n. IsToldAt f x s.document (target_entry s) k d n a) s d q none (rw none onto))
           (λ v at last next.
           let is = level_innermost h last in
           let t : Stack C = record s { document = d; sequences = record s.sequences { levels = with_item s.sequences.levels at (record v { sequence = q }) } }
           in
           let onto = subst (λ (y : Sequence C). NextLent f s y q t) is next in
-          reported_inside h last d q held (rw is at less) x (part_onto v.sequence is) onto (subst ReportedOn is r))
+          told_inside h last d q held (rw is at less) x (part_onto v.sequence is) a onto (subst (ToldOn a) is r))
           next
+
+-- with a level open no step that is added is one too many
+open-IsFull : (os : List Open) (o : Open) (h : History) → IsFull (os ++ o ∷ []) h → ⊥
+open-IsFull [] o h full = full
+open-IsFull (p ∷ os) o h full = full
+
+-- a step that is added to the innermost sequence is one too many exactly where one is that is added to the stack
+pub full_led : {C : Type 0} {f : C → Change} {s : Stack C} → Holds f s
+    → IsFull [] (history_at f s.document (innermost s.sequences)) ↔ IsFull (history f s).levels (history f s)
+full_led {C} {f} {s} h = by_place s (innermost s.sequences)
+    (λ _. IsFull [] (history_at f s.document (innermost s.sequences)) ↔ IsFull (history f s).levels (history f s))
+    (λ none. rw none ((λ full. full), (λ full. full)))
+    (λ v at last.
+    let none : (innermost s.sequences).limit ≡ 0 = ap (λ (q : Sequence C). q.limit) (level_innermost h last) ∙ (level_done h last).limit in (
+      (λ full. let some : 0 < (innermost s.sequences).limit = full.0 in absurd (omega (arith, some, none))),
+      (λ full.
+          let around = outer h last in
+          absurd (open-IsFull around.levels (inner h last) _ (subst (λ (k : History). IsFull k.levels k) (old_view h last) full))),
+    ))
 
 -- ---- a level opens behind the others, and the last one closes
 innermost_done : {C : Type 0} (f : C → Change) (q : Sequence C) (ls : List (Level C)) (d : DocumentParts) → 0 < length ls → AreHeld f ls d
@@ -691,6 +718,23 @@ module _ {C : Type 0} {f : C → Change} {s : Stack C} {l : Level C} {levels : V
       let same = e.closed.deep in
       let most = level_depth-closed (map inner_of ms) (inner_of v) (inner_of l) (inner_of (record v { sequence = q })) (omega arith) in
       omega arith
+
+  -- a step that is added to what is left is one too many exactly where it is so by the levels around
+  popped_levels : without_last (history f s).levels ≡ (history f (popped f s l levels)).levels
+  popped_levels =
+      let ms = map inner_of levels.items in
+      ap (λ (ls : List (Level C)). without_last (opens f (map inner_of ls) s.document)) e.items
+      ∙ ap (λ (ls : List (Inner C)). without_last (opens f ls s.document)) (map-append inner_of levels.items (l ∷ []))
+      ∙ ap without_last (opens-append f ms (inner_of l) s.document)
+      ∙ without_last-append (opens f ms (before (entry_change f) l.sequence.entries.items s.document)) (open_of f (inner_of l) s.document)
+
+  pub popped_full : (let n = history f (popped f s l levels) in IsFull n.levels n) ↔ (let h = history f s in IsFull (without_last h.levels) h)
+  popped_full =
+      let h = history f s in
+      let n = history f (popped f s l levels) in (
+        (λ full. IsFull-as (without_last h.levels) n h refl refl (subst (λ (ls : List Open). IsFull ls n) (sym popped_levels) full)),
+        (λ full. subst (λ (ls : List Open). IsFull ls n) popped_levels (IsFull-as (without_last h.levels) h n refl refl full)),
+      )
 
   -- the history that the end of the level leads to
   ended_so : (n : History)

@@ -19,4 +19,5 @@ pub mod Calm
 pub mod Reports
 pub mod Held
 mod Turned
+pub mod Told
 pub mod Innermost

@@ -18,9 +18,10 @@ pub both_ok : {A E : Type 0} (P Q R : A → Type 0) (r : Result A E) → ((u : A
 both_ok P Q R (Ok u) h p q = h u p q
 both_ok P Q R (Err e) h p q = tt
 
-pub all_ok : {A E : Type 0} (P Q S R : A → Type 0) (r : Result A E) → ((u : A) → P u → Q u → S u → R u) → IfOk r P → IfOk r Q → IfOk r S → IfOk r R
-all_ok P Q S R (Ok u) h p q s = h u p q s
-all_ok P Q S R (Err e) h p q s = tt
+pub five_ok : {A E : Type 0} (P Q S T U R : A → Type 0) (r : Result A E) → ((u : A) → P u → Q u → S u → T u → U u → R u)
+    → IfOk r P → IfOk r Q → IfOk r S → IfOk r T → IfOk r U → IfOk r R
+five_ok P Q S T U R (Ok u) h p q s t v = h u p q s t v
+five_ok P Q S T U R (Err e) h p q s t v = tt
 
 -- ---- a merge into the last entry of a sequence
 pub takes_in : {E C : Type 0} (f : C → Change) (c : C) (d : DocumentParts) (v w : Entry C) (xs ys : Option (Entry C)) (r : Result Bool E) → xs ≡ Some v

@@ -12,5 +12,6 @@ pub mod Sound
 pub mod Stacks
 pub mod Merging
 pub mod Reporting
+pub mod Told
 pub mod Held
 pub mod Lending

@@ -14,9 +14,11 @@ use Rattle.undo_stack.specs.Nestings.{Nestings, Shape, macros_of, nested, nestin
 use Rattle.undo_stack.specs.Reporting.{AreTurned, IsReportedAt}
 use Rattle.undo_stack.specs.Sequence.{before, FitsDown}
 use Rattle.undo_stack.specs.Sound.{Inner, history_of, level_depth, sequence_depth, start_of}
+use Rattle.undo_stack.specs.Told.{IsToldAt}
 use Rattle.undo_stack.specs.declared.entry.Entry.{Entry}
 use Rattle.undo_stack.specs.declared.level.Level.{Level}
 use Rattle.undo_stack.specs.declared.limits.TheConstants.{MAX_DEPTH}
+use Rattle.undo_stack.specs.declared.pushed.Pushed.{Pushed}
 use Rattle.undo_stack.specs.declared.sequence.Sequence.{Sequence}
 use Rattle.undo_stack.specs.declared.stack.Stack.{Stack}
 
@@ -96,6 +98,10 @@ target_entry s = target_in (innermost s.sequences)
 -- pushing the command x onto the stack s gave t, and the step is gone exactly where the entry that x ended in is obsolete
 abbrev pub IsReported : {C : Type 0} → (C → Change) → C → Stack C → Stack C → Type 0
 IsReported f x s t = IsReportedAt f x s.document (target_entry s) (shape f s) t.document (shape f t)
+
+-- so it is, and p tells of that whether the command is merged, and whether its step is gone
+abbrev pub IsTold : {C : Type 0} → (C → Change) → C → Pushed → Stack C → Stack C → Type 0
+IsTold f x p s t = IsToldAt f x s.document (target_entry s) (shape f s) t.document (shape f t) p
 
 -- turning the entries of the stack s up to the number i gave t, and the step of each is gone exactly where its command is free
 -- and reports, after its turn, that it is obsolete; each that stays keeps its nesting

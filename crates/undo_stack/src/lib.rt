@@ -7,8 +7,10 @@
 mod entry;
 mod level;
 pub mod limits;
+mod pushed;
 mod sequence;
 mod stack;
 
+pub use pushed::Pushed;
 pub use refusals::StackFault;
 pub use stack::Stack;

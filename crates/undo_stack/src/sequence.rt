@@ -1,4 +1,4 @@
-ghost use Rattle.std.specs.Prelude.{◌≡◌, ◌≤◌, ◌<◌, ◌+◌, ◌-◌, ◌++◌, ◌∷◌, [], length, take, drop, IfOk, IfErr, Some, false, max};
+ghost use Rattle.std.specs.Prelude.{◌≡◌, ◌↔◌, ◌≤◌, ◌<◌, ◌+◌, ◌-◌, ◌++◌, ◌∷◌, [], length, take, drop, IfOk, IfErr, Some, false, true, max};
 ghost use Rattle.std.specs.VecDeque.{deque_capacity};
 ghost use Rattle.map_model.specs.Document.{DocumentParts};
 ghost use Rattle.command_api.specs.Names.{is_free};
@@ -12,12 +12,14 @@ ghost use Rattle.undo_stack.specs.Held.{MergesInto, MergesNestings, IsSettledAt}
 ghost use Rattle.undo_stack.specs.Merging.{HasTarget, IsEntered, left_of};
 ghost use Rattle.undo_stack.specs.Nestings.{entered_nestings, within_limit, nesting};
 ghost use Rattle.undo_stack.specs.Reporting.{TakesIn, IsReportedAt, reports};
+ghost use Rattle.undo_stack.specs.Told.{says_gone, says_merged, IsToldAt, TellsDrop};
 ghost use Rattle.undo_stack.specs.Sound.{sequence_depth};
 ghost use Rattle.undo_stack.specs.declared.limits.TheConstants.{MAX_DEPTH};
 
 mod turning;
 
 use crate::entry::Entry;
+use crate::pushed::Pushed;
 use command_api::{Command, Offer};
 use map_model::Document;
 use std::alloc::{AllocError, Global};
@@ -76,15 +78,15 @@ impl<C: Command> Sequence<C> {
         *has_free = false;
     }
 
-    /// Makes the change of a command, and puts it in. Where there is no memory the command is dropped, and the sequence and the
-    /// document are as they were.
+    /// Makes the change of a command, and puts it in. Tells what it became. Where there is no memory the command is dropped, and
+    /// the sequence and the document are as they were.
     #[inline(always)]
     pub fn push(
         &mut self,
         alloc: Global,
         mut command: C,
         document: &mut Document,
-    ) -> Result<(), AllocError>
+    ) -> Result<Pushed, AllocError>
         requires held { IsHeld C.change document.old self.old }
         requires fits { (C.change command).fits_redo document.old }
         ensures held { IsHeld C.change document.new self.new }
@@ -95,6 +97,9 @@ impl<C: Command> Sequence<C> {
         ensures depth { sequence_depth self.new.entries.items ≤ sequence_depth self.old.entries.items }
         ensures reported { IfOk result (λ _. IsReportedAt C.change command document.old (target_in self.old)
             (shape_at C.change document.old self.old) document.new (shape_at C.change document.new self.new)) }
+        ensures told { IfOk result (λ p. IsToldAt C.change command document.old (target_in self.old)
+            (shape_at C.change document.old self.old) document.new (shape_at C.change document.new self.new) p) }
+        ensures dropped { IfOk result (λ p. TellsDrop p [] (history_at C.change document.old self.old)) }
         ensures unchanged { IfErr result (λ _. history_at C.change document.new self.new ≡ history_at C.change document.old self.old) }
         ensures kept { IfErr result (λ _. entry_nestings self.new ≡ entry_nestings self.old) }
     {
@@ -102,8 +107,8 @@ impl<C: Command> Sequence<C> {
         match self.merge(alloc, &command, document) {
             Ok(true) => {
                 drop(command);
-                self.settle();
-                Ok(())
+                let is_gone = self.settle();
+                Ok(Pushed::merged(is_gone))
             }
             Ok(false) => self.enter(command, document),
             Err(error) => {
@@ -182,23 +187,28 @@ impl<C: Command> Sequence<C> {
         Ok(true)
     }
 
-    // The target goes where it is obsolete.
-    fn settle(&mut self)
+    // The target goes where it is obsolete. Says whether it did.
+    fn settle(&mut self) -> bool
         requires some { 0 < self.old.index }
         requires at_end { self.old.index ≡ length self.old.entries.items }
         ensures settled { (d : DocumentParts) → IsHeldToLast C.change d self.old → HasTarget [] (history_at C.change d self.old)
             → IsSettledAt C.change d self.old self.new }
         ensures nests { entry_nestings self.new ≡ left_of (reports C.change (target_in self.old)) (entry_nestings self.old) }
+        ensures gone { result ≡ reports C.change (target_in self.old) }
     {
         let below = self.index - 1;
         if self.entries[below].obsolete() {
             self.entries.truncate(below);
             self.index = below;
+            true
+        } else {
+            false
         }
     }
 
-    // Puts a command, which led to the document and merges into nothing, in. Where there is no memory it is undone.
-    fn enter(&mut self, mut command: C, document: &mut Document) -> Result<(), AllocError>
+    // Puts a command, which led to the document and merges into nothing, in. Tells what it became. Where there is no memory it is
+    // undone.
+    fn enter(&mut self, mut command: C, document: &mut Document) -> Result<Pushed, AllocError>
         requires held { IsHeld C.change ((C.change command).undone document.old) self.old }
         requires fits { (C.change command).fits_undo document.old }
         ensures held { IsHeld C.change document.new self.new }
@@ -213,10 +223,13 @@ impl<C: Command> Sequence<C> {
         ensures nests { IfOk result (λ _. entry_nestings self.new
             ≡ entered_nestings (C.change command).obsolete self.old.limit (take self.old.index (entry_nestings self.old))) }
         ensures kept { IfErr result (λ _. entry_nestings self.new ≡ entry_nestings self.old) }
+        ensures merged { IfOk result (λ p. says_merged p ≡ false) }
+        ensures gone { IfOk result (λ p. says_gone p ≡ (C.change command).obsolete) }
+        ensures dropped { IfOk result (λ p. TellsDrop p [] (history_at C.change document.old self.old)) }
     {
         if command.obsolete() {
             self.cut();
-            return Ok(());
+            return Ok(Pushed::Nothing);
         }
         // The room is taken before the cut: a refused push keeps the steps above the index.
         if let Err(error) = self.take_room() {
@@ -224,8 +237,8 @@ impl<C: Command> Sequence<C> {
             return Err(error);
         }
         self.cut();
-        self.add(Entry::Command(command));
-        Ok(())
+        let is_dropped = self.add(Entry::Command(command));
+        Ok(Pushed::added(is_dropped))
     }
 
     /// Sees to it that there is room for an entry at the index once those above it are gone.
@@ -270,8 +283,8 @@ impl<C: Command> Sequence<C> {
     }
 
     /// Puts an entry, which led to the document, above the others, which are all done. The first one goes where that is one too
-    /// many.
-    pub fn add(&mut self, entry: Entry<C>)
+    /// many. Says whether it did.
+    pub fn add(&mut self, entry: Entry<C>) -> bool
         requires at_end { self.old.index ≡ length self.old.entries.items }
         requires count { 0 < self.old.limit → length self.old.entries.items ≤ self.old.limit }
         requires room { self.old.index < deque_capacity self.old.entries }
@@ -284,12 +297,15 @@ impl<C: Command> Sequence<C> {
         ensures added { (d : DocumentParts) → history_at C.change d self.new
             ≡ with_added (step_named (entry_change C.change entry).names d) [] (history_at C.change ((entry_change C.change entry).undone d) self.old) }
         ensures nests { entry_nestings self.new ≡ within_limit self.old.limit (entry_nestings self.old ++ nesting entry ∷ []) }
+        ensures dropped { result ≡ true ↔ (0 < self.old.limit) × (self.old.limit < self.old.index + 1) }
     {
         self.has_free = self.is_free_with(&entry);
         self.entries.push_back_reserved(entry);
         self.index += 1;
         if self.limit != 0 {
-            self.drop_surplus();
+            self.drop_surplus()
+        } else {
+            false
         }
     }
 
@@ -301,18 +317,22 @@ impl<C: Command> Sequence<C> {
         self.has_free || entry.is_free()
     }
 
-    // Where the entries are one more than the limit, the first one goes. All are done.
-    fn drop_surplus(&mut self)
+    // Where the entries are one more than the limit, the first one goes. All are done. Says whether it did.
+    fn drop_surplus(&mut self) -> bool
         requires limit { 0 < self.old.limit }
         requires at_end { self.old.index ≡ length self.old.entries.items }
         requires count { self.old.index ≤ self.old.limit + 1 }
-        ensures { let k = self.old.index - self.old.limit in
+        ensures left { let k = self.old.index - self.old.limit in
             Becomes self.old (drop k self.old.entries.items) (self.old.index - k) (lowered k self.old.clean) self.new }
+        ensures dropped { result ≡ true ↔ self.old.limit < self.old.index }
     {
         if self.index > self.limit {
             let _ = self.entries.pop_front();
             self.index -= 1;
             self.clean = one_lower(self.clean);
+            true
+        } else {
+            false
         }
     }
 }

@@ -1,17 +1,19 @@
 ghost use Rattle.std.specs.Prelude.{◌≡◌, ◌+◌, ◌-◌, ◌≤◌, ◌<◌, [], length, IfOk, IfErr, slice_get, option_copied};
 ghost use Rattle.undo_stack.specs.History.{new_history, current, count, is_clean};
-ghost use Rattle.undo_stack.specs.Pushing.{IsPushed, step_of};
+ghost use Rattle.undo_stack.specs.Pushing.{cut, next_of, step_of, IsPushed};
 ghost use Rattle.undo_stack.specs.Moving.{MarksClean, UnmarksClean, SetsLimit, Clears};
 ghost use Rattle.undo_stack.specs.Nestings.{no_nestings};
 ghost use Rattle.undo_stack.specs.Turning.{Undoes, Redoes, SetsIndex};
 ghost use Rattle.undo_stack.specs.Reading.{text_at, action_of, undo_text_of, redo_text_of};
-ghost use Rattle.undo_stack.specs.Stacks.{history, macros, nestings, Holds, IsCalm, IsReported, IsTurnReported};
+ghost use Rattle.undo_stack.specs.Stacks.{history, macros, nestings, Holds, IsCalm, IsReported, IsTold, IsTurnReported};
+ghost use Rattle.undo_stack.specs.Told.{says_gone, says_merged, TellsDrop};
 ghost use Rattle.undo_stack.specs.declared.limits.TheConstants.{MAX_LIMIT};
 
 mod actions;
 mod macros;
 mod sequences;
 
+use crate::pushed::Pushed;
 use crate::sequence::Sequence;
 use command_api::Command;
 use map_model::Document;
@@ -235,6 +237,34 @@ impl<C: Command> Stack<C> {
             (step_of (C.change command) (current (history C.change self.old)))
             (history C.change self.new)) }
         ensures reported { IfOk result (λ _. IsReported C.change command self.old self.new) }
+        ensures unchanged { IfErr result (λ _. history C.change self.new ≡ history C.change self.old) }
+        ensures kept { IfErr result (λ _. nestings self.new ≡ nestings self.old) }
+    {
+        match self.push_told(command) {
+            Ok(_) => Ok(()),
+            Err(error) => Err(error),
+        }
+    }
+
+    /// As `push`, and tells what the command became. With the history before it, the answer says what the history is now: the
+    /// first step is dropped exactly where the answer is `AddedAndDropped`.
+    ///
+    /// While a macro is open, `Merged` and `Gone` are about the innermost one's last entry, and no answer is `AddedAndDropped`.
+    #[inline(always)]
+    pub fn push_told(&mut self, command: C) -> Result<Pushed, AllocError>
+        requires sound { Holds C.change self.old }
+        requires fits { (C.change command).fits_redo (current (history C.change self.old)) }
+        ensures sound { Holds C.change self.new }
+        ensures pushed { IfOk result (λ _. IsPushed
+            (history C.change self.old)
+            (step_of (C.change command) (current (history C.change self.old)))
+            (history C.change self.new)) }
+        ensures reported { IfOk result (λ _. IsReported C.change command self.old self.new) }
+        ensures told { IfOk result (λ p. IsTold C.change command p self.old self.new) }
+        ensures next { IfOk result (λ p. history C.change self.new ≡ next_of (says_merged p) (says_gone p)
+            (step_of (C.change command) (current (history C.change self.old)))
+            (cut (history C.change self.old))) }
+        ensures dropped { IfOk result (λ p. let h = history C.change self.old in TellsDrop p h.levels h) }
         ensures unchanged { IfErr result (λ _. history C.change self.new ≡ history C.change self.old) }
         ensures kept { IfErr result (λ _. nestings self.new ≡ nestings self.old) }
     {

@@ -2,14 +2,16 @@
 ghost use Rattle.std.specs.Prelude.{◌≡◌, ◌<◌, length, IfOk, vec_len, vec_capacity};
 ghost use Rattle.std.specs.VecDeque.{deque_capacity};
 ghost use Rattle.undo_stack.specs.Macros.{Begins, Ends};
-ghost use Rattle.undo_stack.specs.Pushing.{cut};
+ghost use Rattle.undo_stack.specs.Pushing.{cut, without_last};
 ghost use Rattle.undo_stack.specs.Lending.{innermost};
 ghost use Rattle.undo_stack.specs.Nestings.{NestingsLead, nestings_begun, nestings_cut, nestings_ended};
 ghost use Rattle.undo_stack.specs.Stacks.{history, nestings, Holds, IsReady};
+ghost use Rattle.undo_stack.specs.Told.{answer_of, IsAdded, TellsDrop};
 
 use super::Stack;
 use crate::level::Level;
 use crate::limits::MAX_DEPTH;
+use crate::pushed::Pushed;
 use command_api::Command;
 use refusals::StackFault;
 use std::alloc::AllocError;
@@ -54,12 +56,30 @@ impl<C: Command> Stack<C> {
         ensures nests { NestingsLead result (nestings self.old)
             (nestings_ended (history C.change self.old).limit (nestings self.old)) (nestings self.new) }
     {
+        match self.end_macro_told() {
+            Ok(_) => Ok(()),
+            Err(fault) => Err(fault),
+        }
+    }
+
+    /// As `end_macro`, and tells what the macro became: `AddedAndDropped` where the first step is dropped, else `Added`, as always
+    /// where another macro is open still.
+    #[inline(always)]
+    pub fn end_macro_told(&mut self) -> Result<Pushed, StackFault>
+        requires { Holds C.change self.old }
+        ensures sound { Holds C.change self.new }
+        ensures step { Ends (history C.change self.old) (answer_of result) (history C.change self.new) }
+        ensures nests { NestingsLead (answer_of result) (nestings self.old)
+            (nestings_ended (history C.change self.old).limit (nestings self.old)) (nestings self.new) }
+        ensures added { IfOk result (λ p. IsAdded p) }
+        ensures dropped { IfOk result (λ p. let h = history C.change self.old in TellsDrop p (without_last h.levels) h) }
+    {
         let Some(level) = self.sequences.levels.pop() else {
             return Err(StackFault::NoMacroOpen);
         };
         let entry = level.into_entry();
-        self.sequences.innermost().add(entry);
-        Ok(())
+        let is_dropped = self.sequences.innermost().add(entry);
+        Ok(Pushed::added(is_dropped))
     }
 
     // Sees to it that there is room for a further level, and for what it becomes.

@@ -1,6 +1,6 @@
 use Rattle.std.proofs.Common.{◌∙◌, ap, map, sym, refl}
 use Rattle.undo_stack.specs.Nestings.{nesting}
-use Rattle.undo_stack.proofs.Held.{stays, goes, nestings_go, nestings_stay}
+use Rattle.undo_stack.proofs.Held.{stays, goes, nestings_go, nestings_stay, reports-target_in}
 use Rattle.undo_stack.proofs.sequence.Sequence.settle.Goals as goal
 
 pub returns-then-obsolete-clause-settled : goal.returns-then-obsolete-clause-settled
@@ -29,3 +29,17 @@ returns-else-obsolete-clause-nests g c =
     let r = c.requires in
     let e = c.obsolete.ensures in
     nestings_stay g.C.Command.change c.args.self.now c.index.result.now r.some r.at_end c.index.ensures e.law (sym e.answer ∙ c.if-obsolete.false)
+
+pub returns-then-obsolete-clause-gone : goal.returns-then-obsolete-clause-gone
+returns-then-obsolete-clause-gone g c =
+    let r = c.requires in
+    let e = c.obsolete.ensures in
+    let is = reports-target_in g.C.Command.change c.args.self.now c.index.result.now r.some r.at_end c.index.ensures e.law in
+    sym (is ∙ sym e.answer ∙ c.if-obsolete.true)
+
+pub returns-else-obsolete-clause-gone : goal.returns-else-obsolete-clause-gone
+returns-else-obsolete-clause-gone g c =
+    let r = c.requires in
+    let e = c.obsolete.ensures in
+    let is = reports-target_in g.C.Command.change c.args.self.now c.index.result.now r.some r.at_end c.index.ensures e.law in
+    sym (is ∙ sym e.answer ∙ c.if-obsolete.false)
