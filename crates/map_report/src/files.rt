@@ -1,9 +1,8 @@
 // The reports of files, one after the other.
 use crate::json_lines::{Outcome, line_of};
 use crate::listing::write_listing;
-use crate::output::Output;
-use crate::place::Place;
 use crate::refused::write_refusal;
+use map_faults::{Output, Place};
 use map_json::read_map_along;
 use std::alloc::Global;
 use std::fs;

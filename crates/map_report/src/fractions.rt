@@ -1,7 +1,5 @@
 // The fractions of a map that is refused for one: each with its place, and the layer or the object that has it.
-use crate::output::Output;
-use crate::place::Place;
-use crate::shown::write_short;
+use map_faults::{Output, Place, write_short};
 use map_json::{Segment, Trail};
 use serde_json::{Map, Value};
 use std::alloc::Global;

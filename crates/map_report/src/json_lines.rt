@@ -1,8 +1,7 @@
 // The line of JSON of a file: an object.
 use crate::json_listing::put_map;
 use crate::json_refusal::{put_no_memory, put_refusal, put_unread};
-use crate::members::Members;
-use crate::place::Place;
+use map_faults::{Members, Place};
 use map_json::MapFault;
 use map_model::Map;
 use std::alloc::{AllocError, Global};

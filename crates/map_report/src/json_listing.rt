@@ -1,7 +1,7 @@
 // What is in a map, as members of an object of JSON. A member has Tiled's name where Tiled has one.
-use crate::members::Members;
 use link_chain::Chain;
 use link_tree::LinkTree;
+use map_faults::Members;
 use map_model::limits::MAX_GROUPS;
 use map_model::{Body, Layer, MapParts, MapText, Object, PropValue, Property, Tileset, names};
 use serde_json::{Map, Number, Value};

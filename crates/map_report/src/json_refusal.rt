@@ -1,24 +1,12 @@
 // Why a file is refused, as an object of JSON: the code, its words, and the places of the fault.
 use crate::fractions::{Fractions, Owner, find_fractions, write_owner};
-use crate::json_fault::{LineColumn, place_of_fault};
-use crate::members::Members;
-use crate::output::Output;
-use crate::place::Place;
-use crate::refused::TOO_LONG;
+use map_faults::{LineColumn, Members, Output, Place, TOO_LONG, place_of_fault};
 use map_json::{MapFault, read_map_along};
 use refusals::{MapRefusal, Refusal, StoreFault};
 use serde_json::{Error, Value};
 use std::alloc::{AllocError, Global};
 use std::io::{self, ErrorKind};
 use tiled_maps::{Fault, LONGEST, set_aside};
-
-// Puts the code and the words of a refusal, which are told together.
-fn put_code(out: &mut Members, told: &str) {
-    let (code, words) = told.split_once(' ').unwrap_or(("0", told));
-    out.key("code");
-    out.u64(code.parse::<u64>().unwrap_or(0));
-    out.text("words", words);
-}
 
 // ---- places
 
@@ -120,7 +108,7 @@ fn put_places(alloc: Global, bytes: &[u8], refusal: MapRefusal, place: &Place, o
 
 // Puts the code, the words and the places of a refusal.
 fn put_refused(alloc: Global, bytes: &[u8], refusal: MapRefusal, place: &Place, out: &mut Members) {
-    put_code(out, refusal.words());
+    out.code(refusal.words());
     out.begin_list("places");
     put_places(alloc, bytes, refusal, place, out);
     out.end_array();
@@ -129,7 +117,7 @@ fn put_refused(alloc: Global, bytes: &[u8], refusal: MapRefusal, place: &Place, 
 // Puts a refusal that has no place, and why, where there is a reason in words.
 fn put_placeless(out: &mut Members, told: &str, reason: Option<&str>) {
     out.begin_object();
-    put_code(out, told);
+    out.code(told);
     out.begin_list("places");
     out.end_array();
     if let Some(reason) = reason {

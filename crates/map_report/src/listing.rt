@@ -1,8 +1,7 @@
 // What is in a map: a line for each thing, indented under what it belongs to.
-use crate::output::Output;
-use crate::shown::is_shown_plain;
 use link_chain::Chain;
 use link_tree::LinkTree;
+use map_faults::{Output, is_shown_plain};
 use map_model::limits::MAX_GROUPS;
 use map_model::{Body, Layer, MapParts, Object, PropValue, Property, Tileset};
 use std::io::Write;

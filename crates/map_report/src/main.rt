@@ -3,17 +3,12 @@
 
 mod files;
 mod fractions;
-mod json_fault;
 mod json_lines;
 mod json_listing;
 mod json_refusal;
 mod listing;
-mod members;
 mod options;
-mod output;
-mod place;
 mod refused;
-mod shown;
 mod table;
 
 use crate::files::report_files;

@@ -1,17 +1,12 @@
 // Why a map is refused: the code, its words, and the place of the fault.
 use crate::fractions::{Fractions, Owner, find_fractions, write_owner};
-use crate::json_fault::place_of_fault;
-use crate::output::Output;
-use crate::place::Place;
+use map_faults::{Output, Place, TOO_LONG, place_of_fault};
 use map_json::{MapFault, read_map_along};
 use refusals::{MapRefusal, Refusal};
 use serde_json::{Error, Value};
 use std::alloc::Global;
 use std::io::Write;
 use tiled_maps::{Fault, LONGEST, set_aside};
-
-/// Why a map can't be set aside, if its text would be longer than `LONGEST`.
-pub const TOO_LONG: &str = "set aside, it would be longer than 67,108,864 bytes";
 
 // Writes where a text ceases to be JSON, where there is memory to know it.
 fn write_line<W: Write>(alloc: Global, bytes: &[u8], error: &Error, out: &mut Output<'_, W>) {

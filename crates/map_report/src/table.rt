@@ -1,14 +1,16 @@
 // The table of texts: for each line of the input, what is read of a text.
 mod answers;
 mod asides;
+mod faults;
 mod report;
 mod texts;
 
-use crate::output::Output;
 use crate::table::answers::{write_answer, write_prefixes};
 use crate::table::asides::{write_put_back, write_set_aside};
+use crate::table::faults::write_fault;
 use crate::table::report::write_report;
 use crate::table::texts::Texts;
+use map_faults::Output;
 use std::alloc::Global;
 use std::fs;
 use std::io::{self, Read, Write};
@@ -47,6 +49,7 @@ fn write_asked_of<W: Write>(
         "prefixes" => write_prefixes(alloc, texts.get(name), out),
         "aside" => write_set_aside(alloc, texts.get(name), out),
         "back" => write_put_back(alloc, texts.get(name), out),
+        "fault" => write_fault(alloc, texts.get(name), out),
         "report" => write_report(alloc, texts.get(name), out),
         _ => {}
     }

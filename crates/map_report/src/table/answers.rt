@@ -1,6 +1,6 @@
 // What is read of a text: what is written for its map, or why there is none.
-use crate::output::Output;
 use crate::table::texts::Texts;
+use map_faults::Output;
 use map_json::{MapFault, read_map, write_map};
 use map_model::Map;
 use refusals::MapRefusal;

@@ -1,5 +1,5 @@
 // What a text becomes that is set aside, or put back.
-use crate::output::Output;
+use map_faults::Output;
 use std::alloc::Global;
 use std::io::Write;
 use tiled_maps::{Fault, put_back, set_aside};

@@ -1,9 +1,9 @@
 // What is in a map.
 use crate::listing::write_sizes;
-use crate::output::Output;
 use crate::table::answers::{answer_of, read_back};
 use link_chain::Chain;
 use link_tree::LinkTree;
+use map_faults::Output;
 use map_json::{read_map, write_map};
 use map_model::limits::MAX_GROUPS;
 use map_model::{Body, Encoding, Layer, Map, MapParts, Object, PropValue, Property, Tileset};

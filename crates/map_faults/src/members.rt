@@ -97,6 +97,14 @@ impl Members {
         self.string(text);
     }
 
+    /// The code and the words of a refusal, which are told together.
+    pub fn code(&mut self, told: &str) {
+        let (code, words) = told.split_once(' ').unwrap_or(("0", told));
+        self.key("code");
+        self.u64(code.parse::<u64>().unwrap_or(0));
+        self.text("words", words);
+    }
+
     /// A member that is a number.
     pub fn number(&mut self, name: &str, number: u32) {
         self.key(name);
@@ -116,6 +124,12 @@ impl Members {
             Some(number) => self.u64(u64::from(number)),
             None => self.null(),
         }
+    }
+
+    /// A member that is `null`.
+    pub fn nothing(&mut self, name: &str) {
+        self.key(name);
+        self.null();
     }
 
     /// A member that is true or false.

@@ -7,9 +7,9 @@ use serde_json::Value;
 use std::alloc::{AllocError, Global};
 use std::io::Write;
 
-// A step from a value to one in it, with a name of its own.
+/// A step from a value to one in it, with a name of its own.
 #[derive(Drop)]
-enum OwnSegment {
+pub enum OwnSegment {
     Member(String),
     Element(usize),
 }
@@ -51,36 +51,79 @@ impl Place {
         Ok(())
     }
 
-    // What stands here; none where the last member is absent.
-    fn value_in<'a>(&self, root: &'a Value) -> Option<&'a Value> {
+    /// Its steps from the root.
+    pub fn steps(&self) -> &[OwnSegment] {
+        self.steps.as_slice()
+    }
+
+    /// The first so many of its steps.
+    pub fn front(&self, count: usize) -> &[OwnSegment] {
+        let all = self.steps.as_slice();
+        &all[..count.min(all.len())]
+    }
+
+    /// Whether it is a member of this name of the root.
+    pub fn is_member_of_root(&self, name: &str) -> bool {
+        match self.steps.as_slice() {
+            [OwnSegment::Member(own)] => own.as_str() == name,
+            _ => false,
+        }
+    }
+
+    /// How many of its steps lead to something in a tree.
+    pub fn steps_in(&self, root: &Value) -> usize {
         let mut value = root;
-        for step in &self.steps {
+        for (at, step) in self.steps.iter().enumerate() {
+            match step_into(value, step) {
+                Some(inner) => value = inner,
+                None => return at,
+            }
+        }
+        self.steps.len()
+    }
+
+    /// What stands in a tree behind so many of its steps; none where the last one is absent.
+    pub fn value_behind<'a>(&self, count: usize, root: &'a Value) -> Option<&'a Value> {
+        let mut value = root;
+        for step in self.steps.iter().take(count) {
             value = step_into(value, step)?;
         }
         Some(value)
     }
 
-    /// Writes the steps and what stands here in a tree.
-    pub fn write<W: Write>(&self, root: &Value, out: &mut Output<'_, W>) {
-        if self.steps.is_empty() {
+    /// Writes so many of its steps in words.
+    pub fn write_steps<W: Write>(&self, count: usize, out: &mut Output<'_, W>) {
+        if count == 0 || self.steps.is_empty() {
             out.text("the root");
         }
-        for (at, step) in self.steps.iter().enumerate() {
+        for (at, step) in self.steps.iter().take(count).enumerate() {
             write_step(self.alloc, step, at == 0, out);
         }
-        write_value(self.alloc, self.value_in(root), out);
     }
 
-    /// Puts the steps as an array of JSON: the names of members, whole, and the indexes of elements.
-    pub fn put_path(&self, out: &mut Members) {
+    /// Writes its steps, and what stands here in a tree.
+    pub fn write<W: Write>(&self, root: &Value, out: &mut Output<'_, W>) {
+        let count = self.steps.len();
+        self.write_steps(count, out);
+        out.text(" is ");
+        write_value(self.alloc, self.value_behind(count, root), out);
+    }
+
+    /// Puts so many of its steps as an array of JSON: the names of members, whole, and the indexes of elements.
+    pub fn put_steps(&self, count: usize, out: &mut Members) {
         out.begin_array();
-        for step in &self.steps {
+        for step in self.steps.iter().take(count) {
             match step {
                 OwnSegment::Member(name) => out.string(name.as_str()),
                 OwnSegment::Element(at) => out.u64(*at as u64),
             }
         }
         out.end_array();
+    }
+
+    /// Puts all of its steps.
+    pub fn put_path(&self, out: &mut Members) {
+        self.put_steps(self.steps.len(), out);
     }
 }
 
@@ -126,16 +169,13 @@ fn write_step<W: Write>(alloc: Global, step: &OwnSegment, is_first: bool, out: &
     }
 }
 
-// Writes what stands at a place: a list or an object only by its kind.
-fn write_value<W: Write>(alloc: Global, value: Option<&Value>, out: &mut Output<'_, W>) {
+/// Writes what stands at a place: a list or an object only by its kind.
+pub fn write_value<W: Write>(alloc: Global, value: Option<&Value>, out: &mut Output<'_, W>) {
     match value {
-        None => out.text(" is absent"),
-        Some(Value::Array(elements)) => out.value(" is an array of length ", &elements.len()),
-        Some(Value::Object(_)) => out.text(" is an object"),
-        Some(Value::String(text)) => {
-            out.text(" is ");
-            write_short(alloc, text.as_str(), out);
-        }
-        Some(other) => out.value(" is ", other),
+        None => out.text("absent"),
+        Some(Value::Array(elements)) => out.value("an array of length ", &elements.len()),
+        Some(Value::Object(_)) => out.text("an object"),
+        Some(Value::String(text)) => write_short(alloc, text.as_str(), out),
+        Some(other) => out.value("", other),
     }
 }

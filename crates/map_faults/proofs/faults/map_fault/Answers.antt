@@ -1,0 +1,20 @@
+use Rattle.std.proofs.Common.{rules, ◌<◌, ℕ, List, length, IfOk, Result, Ok, Err, Option, Some, inr}
+use Rattle.map_faults.specs.Faults.{TellsFault, TellsNotGiven}
+use Rattle.map_faults.specs.declared.faults.ToldFault.{ToldFault}
+use Rattle.tiled_maps.specs.declared.text.TheConstants.{LONGEST}
+use Rattle.tiled_maps.specs.Texts.{SetsAside}
+use Rattle.tiled_store.specs.Stored.{IsRefused}
+use Rattle.map_faults.proofs.faults.map_fault.Goals as goal
+
+-- what is told of a file that a store refuses
+refused : {E : Type 0} → (bytes : List ℕ) (told : Result (Option ToldFault) E) → IsRefused bytes → IfOk told TellsNotGiven → IfOk told (TellsFault bytes)
+refused bytes (Ok told) why not = inr (why, not)
+refused bytes (Err e) why not = tt
+
+-- the text would be too long
+pub returns-in-Ok-Some : goal.returns-in-Ok-Some
+returns-in-Ok-Some c =
+    let text = c.in-Ok-Some.text in
+    let own : SetsAside c.args.bytes.now (Ok (Some text)) = search rules in
+    let long : LONGEST < length text.items = search rules in
+    refused c.args.bytes.now c.not_aside.result (inr (text, own, long)) c.not_aside.ensures

@@ -1,0 +1,23 @@
+//! Why a file is refused as a map, and where in it.
+#![tactic(auto)]
+
+mod faults;
+mod json_fault;
+mod lexemes;
+mod line_column;
+mod members;
+mod offsets;
+mod output;
+mod place;
+mod scan;
+mod shown;
+mod told;
+
+pub use faults::{ToldFault, map_fault};
+pub use json_fault::place_of_fault;
+pub use line_column::LineColumn;
+pub use members::Members;
+pub use output::Output;
+pub use place::Place;
+pub use shown::{is_shown_plain, write_short};
+pub use told::TOO_LONG;
