@@ -13,7 +13,7 @@
  *     under a lock. Two editors may be used at the same time. Both are tested, and not proved.
  *   - No call from a signal handler, nor from the forked child of a process that has threads.
  *   - Each pointer is to as many bytes as its length says. What a call writes to overlaps nothing else that it is given.
- *   - No null pointer for an editor or a run; none at all for the functions `roskevad_*`, also at length 0.
+ *   - No null pointer for an editor, a run, sizes or a status; none at all for the functions `roskevad_*`, also at length 0.
  *   - malloc, realloc and free are those of one allocator, which aligns to 16 bytes, and the stack has 256 KB left.
  *
  * Bytes come out to a buffer of the caller's: they stand at its front where all of them fit, and else the buffer is as it
@@ -94,6 +94,47 @@ typedef struct roskevad_lines_done {
     size_t has_room;   /* 1 where the reply to the last one stands in the buffer or it is quiet, and else 0 */
 } roskevad_lines_done;
 
+/* The kinds of a layer. */
+#define ROSKEVAD_TILES 1u
+#define ROSKEVAD_OBJECTS 2u
+#define ROSKEVAD_GROUP 3u
+#define ROSKEVAD_IMAGE 4u
+
+/* What has properties, and what is looked for by its name. */
+#define ROSKEVAD_MAP 1u
+#define ROSKEVAD_LAYER 2u
+#define ROSKEVAD_OBJECT 3u
+
+/* The sizes of a map, and how many layers and tilesets it has. */
+typedef struct roskevad_sizes {
+    uint32_t width;       /* in cells */
+    uint32_t height;
+    uint32_t tile_width;  /* in pixels */
+    uint32_t tile_height;
+    uint32_t next_layer;  /* the ids that the next layer and the next object get */
+    uint32_t next_object;
+    size_t layers;        /* those in groups and the groups among them */
+    size_t tilesets;
+} roskevad_sizes;
+
+/* A layer in the list of all layers. */
+typedef struct roskevad_layer_row {
+    uint32_t id;
+    uint32_t parent;     /* the id of its group, or 0 */
+    uint32_t kind;       /* ROSKEVAD_TILES, _OBJECTS, _GROUP or _IMAGE */
+    uint32_t is_visible; /* 1 or 0 */
+    size_t count;        /* of its objects, or of the layers in a group without those in groups in it; else 0 */
+} roskevad_layer_row;
+
+/* How a document stands, as `status` tells it of the active one. */
+typedef struct roskevad_status {
+    size_t index;     /* how many steps are done */
+    size_t count;     /* how many there are, an open macro among them */
+    size_t depth;     /* how many macros are open */
+    size_t is_clean;  /* 1 or 0 */
+    size_t is_active; /* 1 or 0 */
+} roskevad_status;
+
 /* ---- the library's own names; their pointers are never null */
 size_t roskevad_open(roskevad_editor *editor, size_t limit);
 size_t roskevad_step(roskevad_editor *editor, const uint8_t *line, size_t line_length, uint8_t *reply, size_t room);
@@ -113,9 +154,26 @@ size_t roskevad_next_layer_id(roskevad_editor *editor);
 size_t roskevad_next_object_id(roskevad_editor *editor);
 size_t roskevad_cells(roskevad_editor *editor, uint32_t layer, size_t x, size_t y, size_t width, size_t height, uint32_t *cells, size_t room);
 size_t roskevad_outline(roskevad_editor *editor, uint8_t *text, size_t room);
+size_t roskevad_sizes_of_map(roskevad_editor *editor, roskevad_sizes *sizes);
+size_t roskevad_layers(roskevad_editor *editor, roskevad_layer_row *rows, size_t room);
+size_t roskevad_object_ids(roskevad_editor *editor, uint32_t layer, uint32_t *ids, size_t room);
+size_t roskevad_tilesets(roskevad_editor *editor, uint32_t *first_ids, size_t room);
+size_t roskevad_object(roskevad_editor *editor, uint32_t id, uint8_t *text, size_t room);
+size_t roskevad_object_layer(roskevad_editor *editor, uint32_t id);
+size_t roskevad_layer(roskevad_editor *editor, uint32_t id, uint8_t *text, size_t room);
+size_t roskevad_tileset(roskevad_editor *editor, uint32_t first_id, uint8_t *text, size_t room);
+size_t roskevad_map_head(roskevad_editor *editor, uint8_t *text, size_t room);
+size_t roskevad_properties(roskevad_editor *editor, uint32_t owner, uint32_t id, uint8_t *text, size_t room);
+size_t roskevad_property(roskevad_editor *editor, uint32_t owner, uint32_t id, const uint8_t *name, size_t name_length, uint8_t *text, size_t room);
+size_t roskevad_find(roskevad_editor *editor, uint32_t subject, const uint8_t *name, size_t name_length);
+size_t roskevad_document_count(roskevad_editor *editor);
+size_t roskevad_document_name(roskevad_editor *editor, size_t at, uint8_t *name, size_t room);
+size_t roskevad_active(roskevad_editor *editor);
+size_t roskevad_status_of(roskevad_editor *editor, size_t at, roskevad_status *status);
 void roskevad_close(roskevad_editor *editor);
 size_t roskevad_set_aside(const uint8_t *bytes, size_t length, uint8_t *text, size_t room);
 size_t roskevad_put_back(const uint8_t *bytes, size_t length, uint8_t *text, size_t room);
+size_t roskevad_map_fault(const uint8_t *bytes, size_t length, uint8_t *text, size_t room);
 size_t roskevad_version(uint8_t *version, size_t room);
 
 /* ---- what to call */
@@ -256,6 +314,119 @@ static inline size_t roskevad_editor_outline(roskevad_editor *editor, char *text
     return roskevad_outline(editor, roskevad_room_at(text), room);
 }
 
+/* ---- what there is, one thing at a time. Numbers come as they are; what has members of its own comes as JSON, spelled as the map's
+ * text has it. All but the last four are about the active document, and answer ROSKEVAD_NONE where none is active, or where there is
+ * no such thing. A text, or a list, is made anew at each call: ROSKEVAD_NO_MEMORY where there is none for it. */
+
+/* The sizes of the map. ROSKEVAD_DONE, ROSKEVAD_NONE or ROSKEVAD_IS_CLOSED. It counts the layers, and costs no more. */
+static inline size_t roskevad_editor_sizes_of_map(roskevad_editor *editor, roskevad_sizes *sizes)
+{
+    return roskevad_sizes_of_map(editor, sizes);
+}
+
+/* All layers in drawing order, a group before those that stand in it; `room` counts rows. How many they are, ROSKEVAD_NONE,
+ * ROSKEVAD_NO_MEMORY or ROSKEVAD_IS_CLOSED. It costs a row a layer. */
+static inline size_t roskevad_editor_layers(roskevad_editor *editor, roskevad_layer_row *rows, size_t room)
+{
+    static roskevad_layer_row nothing;
+    return roskevad_layers(editor, rows ? rows : &nothing, room);
+}
+
+/* The ids of the objects of the object layer with this id, in order, or with 0 those of all layers, layer after layer in drawing order;
+ * `room` counts ids. How many they are, ROSKEVAD_NONE, ROSKEVAD_NO_MEMORY or ROSKEVAD_IS_CLOSED. It costs 4 bytes an object. */
+static inline size_t roskevad_editor_object_ids(roskevad_editor *editor, uint32_t layer, uint32_t *ids, size_t room)
+{
+    static uint32_t nothing;
+    return roskevad_object_ids(editor, layer, ids ? ids : &nothing, room);
+}
+
+/* The first ids of the tilesets, in order; `room` counts ids. How many they are, ROSKEVAD_NONE, ROSKEVAD_NO_MEMORY or
+ * ROSKEVAD_IS_CLOSED. */
+static inline size_t roskevad_editor_tilesets(roskevad_editor *editor, uint32_t *first_ids, size_t room)
+{
+    static uint32_t nothing;
+    return roskevad_tilesets(editor, first_ids ? first_ids : &nothing, room);
+}
+
+/* The text of the object with this id. Its size, ROSKEVAD_NONE, ROSKEVAD_NO_MEMORY or ROSKEVAD_IS_CLOSED. It costs as much as the
+ * text, and a search where the ids rise along the layer; else it walks to the object. */
+static inline size_t roskevad_editor_object(roskevad_editor *editor, uint32_t id, char *text, size_t room)
+{
+    return roskevad_object(editor, id, roskevad_room_at(text), room);
+}
+
+/* The id of the layer of the object with this id, ROSKEVAD_NONE or ROSKEVAD_IS_CLOSED. It costs what finding the object costs. */
+static inline size_t roskevad_editor_object_layer(roskevad_editor *editor, uint32_t id)
+{
+    return roskevad_object_layer(editor, id);
+}
+
+/* The text of the layer with this id without `objects`, `layers` and `data`, and without the layer's `width`, `height` and `encoding`.
+ * Its size, ROSKEVAD_NONE, ROSKEVAD_NO_MEMORY or ROSKEVAD_IS_CLOSED. It looks at no cell and no object. */
+static inline size_t roskevad_editor_layer(roskevad_editor *editor, uint32_t id, char *text, size_t room)
+{
+    return roskevad_layer(editor, id, roskevad_room_at(text), room);
+}
+
+/* The text of the tileset with this first id. Its size, ROSKEVAD_NONE, ROSKEVAD_NO_MEMORY or ROSKEVAD_IS_CLOSED. */
+static inline size_t roskevad_editor_tileset(roskevad_editor *editor, uint32_t first_id, char *text, size_t room)
+{
+    return roskevad_tileset(editor, first_id, roskevad_room_at(text), room);
+}
+
+/* The text of the map without `layers` and `tilesets`. Its size, ROSKEVAD_NONE, ROSKEVAD_NO_MEMORY or ROSKEVAD_IS_CLOSED. */
+static inline size_t roskevad_editor_map_head(roskevad_editor *editor, char *text, size_t room)
+{
+    return roskevad_map_head(editor, roskevad_room_at(text), room);
+}
+
+/* The array of the properties of an owner: ROSKEVAD_MAP, or the ROSKEVAD_LAYER or ROSKEVAD_OBJECT with this id. It is `[]` where the
+ * owner has none. Its size, ROSKEVAD_NONE, ROSKEVAD_NO_MEMORY or ROSKEVAD_IS_CLOSED. */
+static inline size_t roskevad_editor_properties(roskevad_editor *editor, uint32_t owner, uint32_t id, char *text, size_t room)
+{
+    return roskevad_properties(editor, owner, id, roskevad_room_at(text), room);
+}
+
+/* The property of this name of an owner. Its size, ROSKEVAD_NONE, ROSKEVAD_NO_MEMORY or ROSKEVAD_IS_CLOSED. It walks along the owner's
+ * properties. */
+static inline size_t roskevad_editor_property(roskevad_editor *editor, uint32_t owner, uint32_t id, const char *name, size_t name_length,
+                                              char *text, size_t room)
+{
+    return roskevad_property(editor, owner, id, roskevad_bytes_at(name), name_length, roskevad_room_at(text), room);
+}
+
+/* The id of the first ROSKEVAD_LAYER or ROSKEVAD_OBJECT of this name in drawing order, ROSKEVAD_NONE or ROSKEVAD_IS_CLOSED. It walks,
+ * and makes no text. An object that has no name is not found by an empty one. */
+static inline size_t roskevad_editor_find(roskevad_editor *editor, uint32_t subject, const char *name, size_t name_length)
+{
+    return roskevad_find(editor, subject, roskevad_bytes_at(name), name_length);
+}
+
+/* How many documents are open, or ROSKEVAD_IS_CLOSED. */
+static inline size_t roskevad_editor_document_count(roskevad_editor *editor)
+{
+    return roskevad_document_count(editor);
+}
+
+/* The name of the document at a place in order of opening, from 0. Its size, ROSKEVAD_NONE or ROSKEVAD_IS_CLOSED. */
+static inline size_t roskevad_editor_document_name(roskevad_editor *editor, size_t at, char *name, size_t room)
+{
+    return roskevad_document_name(editor, at, roskevad_room_at(name), room);
+}
+
+/* The place of the active document, from 0, ROSKEVAD_NONE or ROSKEVAD_IS_CLOSED. */
+static inline size_t roskevad_editor_active(roskevad_editor *editor)
+{
+    return roskevad_active(editor);
+}
+
+/* How the document at a place stands, from 0. No line is done, and none becomes active. ROSKEVAD_DONE, ROSKEVAD_NONE or
+ * ROSKEVAD_IS_CLOSED. */
+static inline size_t roskevad_editor_status_of(roskevad_editor *editor, size_t at, roskevad_status *status)
+{
+    return roskevad_status_of(editor, at, status);
+}
+
 /* Closes an editor, and gives back its memory. A closed one stays closed. */
 static inline void roskevad_editor_close(roskevad_editor *editor)
 {
@@ -279,6 +450,14 @@ static inline size_t roskevad_editor_set_aside(const void *bytes, size_t length,
 static inline size_t roskevad_editor_put_back(const void *bytes, size_t length, void *text, size_t room)
 {
     return roskevad_put_back(roskevad_bytes_at(bytes), length, roskevad_room_at(text), room);
+}
+
+/* Why the bytes of a file are refused as a map, and where: a text in JSON, whose members docs/library.md lists. The map is the one that
+ * `open` reads where `roskevad_editor_set_aside` has set aside what it can. The text's size, ROSKEVAD_NONE where that map is read, or
+ * ROSKEVAD_NO_MEMORY. No editor keeps the text, so a call with a larger buffer makes it anew. Most texts have fewer than 1,000 bytes. */
+static inline size_t roskevad_editor_map_fault(const void *bytes, size_t length, char *text, size_t room)
+{
+    return roskevad_map_fault(roskevad_bytes_at(bytes), length, roskevad_room_at(text), room);
 }
 
 /* The version of the library. Its size. */

@@ -23,7 +23,9 @@ import roskevad  # noqa: E402
 PACKAGES = ('nodejs', 'node-typescript')
 PYTHON, JAVASCRIPT = 0, 1
 # The calls of Python that stand for those of the table.
-SPECIAL = {'get': '__getitem__', 'has': '__contains__', 'size': '__len__', 'delete': '__delitem__', 'create': '__init__'}
+SPECIAL = {
+    'get': '__getitem__', 'has': '__contains__', 'size': '__len__', 'delete': '__delitem__', 'create': '__init__', 'value_of': '__int__',
+}
 
 
 def reference():
@@ -58,6 +60,17 @@ def test_pages_and_declarations():
         cases,
         lambda case: None if case.given.read_text() == case.wanted else 'run tools/reference',
     )
+
+
+def test_costs():
+    """Each name that has a cost is that of a call, and has one cost."""
+
+    def fault_of(case):
+        kind, costs = case.given
+        names = [name for each in costs.values() for name in each.split(' ')]
+        return unlike(sorted({*names}), sorted(names)) or unlike(set(), {*names} - {call.name for each, call in rows() if each == kind})
+
+    check_each([Case(kind, (kind, costs), None) for kind, costs in calls.COSTS.items()], fault_of)
 
 
 # ---- names and arguments

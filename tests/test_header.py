@@ -10,6 +10,8 @@ from lib.places import NATIVE, TOP
 
 HEADER = (TOP / 'include' / 'roskevad.h').read_text()
 USE = NATIVE / 'header_use.c'
+# The structs of whose fields the use reads each.
+READ = {'roskevad_sizes', 'roskevad_layer_row', 'roskevad_status'}
 BOTH = [
     '-Wall',
     '-Wextra',
@@ -68,5 +70,25 @@ def test_each_name_is_used():
         HEADER,
         re.MULTILINE,
     )
-    left = [name for pair in names for name in pair if name and name not in use]
+    left = [name for pair in names for name in pair if name and not is_used(name, use)]
     assert names and left == [], f'{USE.name} does not use {left}'
+
+
+def is_used(name, use):
+    return re.search(rf'\b{name}\b', use) is not None
+
+
+def test_each_struct_is_used():
+    """With all of its fields, where they are the caller's to read."""
+    use = USE.read_text()
+    structs = re.findall(
+        r'^typedef struct (\w+) \{\n(.*?)^\} \1;', HEADER, re.MULTILINE | re.DOTALL
+    )
+    left = [name for name, _ in structs if not is_used(name, use)]
+    left += [
+        f'{name}.{field}'
+        for name, fields in structs
+        for field in re.findall(r'^    \w+ (\w+);', fields, re.MULTILINE)
+        if name in READ and not re.search(rf'\.{field}\b', use)
+    ]
+    assert {name for name, _ in structs} >= READ and left == [], f'{USE.name} does not use {left}'

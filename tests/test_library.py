@@ -1,27 +1,55 @@
 # SPDX-License-Identifier: MIT OR Apache-2.0
 """Tries the library in `lib/`: the calls of Python and of C on their edges, on random bytes, and
 under the sanitizers of the C compiler; the examples in both languages, which make the same map; and
-the package's forms of lines, which are those of the program's help."""
+the package's forms of lines, which are those of the program's help. Compares the structs and the
+arguments that the package declares with the header."""
 import copy
+import ctypes
+import json
 import os
 import pickle
 import random
+import re
+import string
+import struct
 import subprocess
 import sys
 import tempfile
 import threading
 from pathlib import Path
 
-from lib.cases import passed, raised, unlike
+from lib.cases import Case, check_each, passed, raised, unlike
 from lib.forms import HELP, spread
-from lib.maps import layers_in, map_of, text_of, tiles
+from lib.maps import FLAGLESS, cells_of, group, layers_in, map_of, set_cells, text_of, tiles
 from lib.native import c_program
-from lib.places import EXAMPLES, EXAMPLE_MAPS, NATIVE, TOP
+from lib.places import EXAMPLES, EXAMPLE_MAPS, NATIVE, TOP, example_maps
 
 sys.path.insert(0, str(TOP / 'python'))
-from roskevad import Closed, Editor, Refused  # noqa: E402
+from roskevad import Closed, Editor, Refused, library  # noqa: E402
 from roskevad.forms import FORMS  # noqa: E402
 
+HEADER = (TOP / 'include' / 'roskevad.h').read_text()
+# What the package has for a struct of the header, and for a type.
+STRUCTS = {
+    'roskevad_editor': library.CEditor,
+    'roskevad_run': library.SelectionRun,
+    'roskevad_lines_done': library.LinesDone,
+    'roskevad_sizes': library.MapSizes,
+    'roskevad_status': library.DocumentStatus,
+}
+TYPES = {
+    'void *': ctypes.c_void_p,
+    'bool ': ctypes.c_bool,
+    'size_t ': ctypes.c_size_t,
+    'uint32_t ': ctypes.c_uint32,
+    # A buffer, or what is copied from one.
+    'uint8_t *': ctypes.c_void_p,
+    'uint32_t *': ctypes.c_void_p,
+    'const uint8_t *': ctypes.c_char_p,
+}
+# A struct that is taken out of bytes, some of its fields. A buffer of it has no type.
+ROW = 'roskevad_layer_row'
+LETTERS = {'uint32_t ': 'I', 'size_t ': 'N'}
 SANITIZED = ['-fsanitize=address,undefined', '-fno-sanitize-recover=all', '-g']
 
 
@@ -297,6 +325,107 @@ def test_examples_in_c_and_python():
         ran(c_program(EXAMPLES / 'fence.c', *SANITIZED), EXAMPLE_MAPS / 'layers.tmj', files[0])
         ran(sys.executable, EXAMPLES / 'fence.py', EXAMPLE_MAPS / 'layers.tmj', files[1])
         assert Path(files[0]).read_bytes() == Path(files[1]).read_bytes(), 'the maps differ'
+
+
+def run_of_example(program, *words):
+    """What a program in C prints that is right."""
+    done = subprocess.run([program, *words], capture_output=True, text=True)
+    assert done.returncode == 0, f'{words}: status {done.returncode}: {done.stderr[-2000:]}'
+    return done.stdout
+
+
+def drawn(tree):
+    """A map as the example draws it: the signs of the tiles that lie on top."""
+    signs = ['.'] * (tree['width'] * tree['height'])
+    for layer in shown_layers(tree['layers']):
+        for at, value in enumerate(cells_of(layer)):
+            if value:
+                tile = value % FLAGLESS
+                signs[at] = (string.digits + string.ascii_letters)[tile % 62]
+    rows = range(0, len(signs), tree['width'])
+    return ''.join(f'{"".join(signs[at : at + tree["width"]])}\n' for at in rows)
+
+
+def shown_layers(layers):
+    """The tile layers that are visible, with the groups that they stand in."""
+    for layer in layers:
+        if layer['visible'] and layer['type'] == 'group':
+            yield from shown_layers(layer['layers'])
+        elif layer['visible'] and layer['type'] == 'tilelayer':
+            yield layer
+
+
+def fault_of_drawing(case):
+    with tempfile.TemporaryDirectory() as folder:
+        path = Path(folder) / 'map.tmj'
+        path.write_bytes(text_of(case.given))
+        came = run_of_example(c_program(EXAMPLES / 'draw.c', *SANITIZED), path)
+    stamped = copy.deepcopy(case.given)
+    first = next(layer for layer in layers_in(stamped['layers']) if layer['id'] == 1)
+    cells = list(cells_of(first))
+    cells[:4] = [7] * 4
+    set_cells(first, cells)
+    return unlike(f'with a stamp:\n{drawn(stamped)}as it was:\n{drawn(case.given)}', came)
+
+
+def test_maps_that_the_example_draws():
+    """Layer over layer, without those that are hidden or stand in a hidden group."""
+    maps = {name: json.loads(example_maps()[name]) for name in ('layers.tmj', 'groups.tmj')}
+    above = tiles(9, 5, 2, data=[0, 0x80000000 + 61, 0, 0, 0, 62, 1, 0, 0, 0])
+    hidden = tiles(8, 5, 2, data=[9] * 10)
+    below = tiles(1, 5, 2, data=list(range(10)))
+    for name, inside in (
+        ('a layer above', [above]),
+        ('a hidden layer', [{**hidden, 'visible': False}, above]),
+        ('a hidden group', [group(7, above, group(6, hidden), visible=False)]),
+        ('a group in a group', [group(7, group(6, above))]),
+    ):
+        maps[name] = map_of(below, *inside, width=5, height=2, tilesets=[{'firstgid': 1, 'source': 'a'}])
+    check_each([Case(name, tree, None) for name, tree in maps.items()], fault_of_drawing)
+
+
+# ---- what the package declares
+
+
+def test_structs_of_the_package():
+    """They have the fields of the header's, in order."""
+    structs = dict(
+        re.findall(r'^typedef struct (\w+) \{\n(.*?)^\} \1;', HEADER, re.MULTILINE | re.DOTALL)
+    )
+    fault = unlike(sorted([*STRUCTS, ROW]), sorted(structs))
+    assert not fault, fault
+    fields_in = re.compile(r'^    (\w+ \*?)(\w+);', re.MULTILINE)
+    row = fields_in.findall(structs.pop(ROW))
+    filled = struct.pack(''.join(LETTERS[kind] for kind, _ in row), *range(len(row)))
+    read = library.LayerRow._make(library.LAYER_ROW.unpack(filled))._asdict()
+    wanted = {field: at for at, (_, field) in enumerate(row) if field in read}
+    fault = unlike(wanted, read)
+    assert not fault, f'{ROW}: {fault}'
+    for name, body in structs.items():
+        fields = fields_in.findall(body)
+        wanted = [(field, TYPES[kind]) for kind, field in fields]
+        fault = unlike(wanted, list(STRUCTS[name]._fields_))
+        assert not fault, f'{name}: {fault}'
+        passed()
+
+
+def test_arguments_of_the_package():
+    """Each call of the header has those of its types."""
+    types = {f'{name} *': ctypes.POINTER(kind) for name, kind in STRUCTS.items()}
+    types.update({**TYPES, f'{ROW} *': ctypes.c_void_p})
+    calls = re.findall(r'^(size_t|void) roskevad_(\w+)\(([^;{]*)\);', HEADER, re.MULTILINE)
+    given = {
+        name: (answer, [types[re.match(r'(.* \*?)\w+$', word)[1]] for word in words.split(', ')])
+        for answer, name, words in calls
+    }
+    fault = unlike(sorted(given), sorted(library._PARAMETERS))
+    assert not fault, fault
+    for name, (answer, wanted) in given.items():
+        call = getattr(library.LIBRARY, f'roskevad_{name}')
+        fault = unlike(wanted, list(call.argtypes))
+        assert not fault, f'{name}: {fault}'
+        assert call.restype == (None if answer == 'void' else ctypes.c_size_t), name
+        passed()
 
 
 # ---- forms

@@ -39,6 +39,31 @@ ARGUMENTS = {
 }
 
 
+#: What the time of calls grows with, by their classes, where that is more than the one thing that they are about: `answer` stands for
+#: what is given, changed or answered, and `map` for the whole map. All others have the cost 1.
+COSTS = {
+    'Editor': {
+        'answer': 'documents unsaved step step_bytes run_lines run_bytes put_file file files cells selection',
+        'map': 'new open close open_map save_map open_file save_file map outline object_id',
+    },
+    'Document': {
+        'answer': 'stamp erase fill selection select select_none steps undo redo goto clear stroke',
+        'map': 'resize map outline save save_bytes close discard',
+    },
+    'Layers': {'answer': 'find size walk'},
+    'Layer': {'answer; once map': 'members', 'answer': 'cells rows remove'},
+    'Objects': {'1; by a name map': 'get has', 'answer': 'size'},
+    'Properties': {'answer': 'size keys'},
+    'Tileset': {'map': 'remove'},
+    'Selection': {'answer': 'runs size'},
+}
+
+
+def cost_of(kind: str, call: 'Call') -> str:
+    """What the time of a call grows with."""
+    return next((cost for cost, names in COSTS.get(kind, {}).items() if call.name in names.split(' ')), '1')
+
+
 @dataclass(frozen=True)
 class Call:
     """A call, or a value that is read, and perhaps set, as an attribute."""
@@ -180,19 +205,21 @@ LAYERS = Kind('Layers', 'The layers in no group, or those in a group, as they ar
               'order; `walk` enters groups. A look-up finds a layer by its id, or the first of a name, in groups too.', [
     Call('get', 'key', 'The layer with an id, or the first of a name.', gives='Layer',
          raises={'key': ('document.layers["Roof"]', 'document.layers.get("Roof")')},
-         written=('layers[key]', 'layers.get(key)'), renamed='get'),
-    Call('has', 'key', 'Whether there is one with an id, or of a name, of any kind.', gives='bool', written=('key in layers', 'layers.has(key)')),
+         written=('layers[key]', 'layers.get(key)'), renamed='get', types={'key': 'LayerLike'}),
+    Call('has', 'key', 'Whether there is one with an id, or of a name, of any kind.', gives='bool', written=('key in layers', 'layers.has(key)'),
+         types={'key': 'LayerLike'}),
     Call('find', 'name, kind', 'The first of a name that is of a kind: tile, object, group or image; {None} where there is none.', gives='Layer?',
          raises={'value': 'document.layers.find("Walls", "wall")'}),
     value('size', 'int', 'How many there are, a group as one.', written=('len(layers)', 'layers.size')),
     Call('walk', '', 'Each layer in drawing order, a group before those in it.', gives='each Layer'),
-    Call('add', 'kind, name', 'Adds a layer, `tile` or `object`, in no group, over the others.', 'layer add tile|object NAME', 'int',
+    Call('add', 'kind, name', 'Adds a layer, `tile` or `object`, in no group, over the others, and gives it.', 'layer add tile|object NAME', 'Layer',
          {'type': 'document.layers.add("tile", 5)', 'value': 'document.layers.add("wall", "a")',
           'refused 40': 'many("layer add tile a", 253) and document.layers.add("tile", "a")'}),
 ])
 
 LAYER = Kind('Layer', 'A layer, by its id. Where it was removed, a call raises {Refused} 30.', [
     value('id', 'int', 'Its id.'),
+    Call('value_of', '', 'The same.', gives='int', written=('int(layer)', 'layer.valueOf()')),
     value('document', 'Document', 'The document that it belongs to.'),
     value('kind', 'str', 'Its kind: tile, object, group or image.'),
     value('name', 'str', 'Its name; set, it renames the layer.', line='layer rename LAYER NAME', is_set=True,
@@ -222,17 +249,20 @@ LAYER = Kind('Layer', 'A layer, by its id. Where it was removed, a call raises {
 
 OBJECTS = Kind('Objects', 'The objects of a layer, or of all layers, as they are at each call. A loop goes in drawing order.', [
     Call('get', 'key', 'The object with an id, or the first of a name.', gives='MapObject',
-         raises={'key': ('document.objects["key"]', 'document.objects.get("key")')}, written=('objects[key]', 'objects.get(key)'), renamed='get'),
-    Call('has', 'key', 'Whether there is one with an id, or of a name.', gives='bool', written=('key in objects', 'objects.has(key)')),
+         raises={'key': ('document.objects["key"]', 'document.objects.get("key")')}, written=('objects[key]', 'objects.get(key)'), renamed='get',
+         types={'key': 'ObjectLike'}),
+    Call('has', 'key', 'Whether there is one with an id, or of a name.', gives='bool', written=('key in objects', 'objects.has(key)'),
+         types={'key': 'ObjectLike'}),
     value('size', 'int', 'How many there are.', written=('len(objects)', 'objects.size')),
-    Call('add', 'name, x, y, width=0, height=0', 'Adds a rectangle to an object layer, last, in whole pixels; no line adds a point.',
-         'object add LAYER X Y WIDTH HEIGHT NAME', 'int',
+    Call('add', 'name, x, y, width=0, height=0', 'Adds a rectangle to an object layer, last, in whole pixels, and gives it; no line adds a point.',
+         'object add LAYER X Y WIDTH HEIGHT NAME', 'MapObject',
          {'type': 'document.layers{2}.objects.add(5, 0, 0)', 'value': 'document.objects.add("a", 0, 0)',
           'refused 31': 'document.layers{1}.objects.add("a", 0, 0)', 'refused 39': 'document.layers{2}.objects.add("a", 0, 0, 4294967295, 0)'}),
 ])
 
 OBJECT = Kind('MapObject', 'An object, by its id. Where it was removed, a call raises {Refused} 34.', [
     value('id', 'int', 'Its id.'),
+    Call('value_of', '', 'The same.', gives='int', written=('int(object)', 'object.valueOf()')),
     value('document', 'Document', 'The document that it belongs to.'),
     value('layer', 'Layer', 'The layer that it is in.'),
     value('name', 'str', 'Its name.'),
@@ -277,18 +307,20 @@ PROPERTIES = Kind('Properties', 'The properties of a map, a layer or an object, 
 TILESETS = Kind('Tilesets', 'The tilesets, as they are at each call. A loop goes in their order.', [
     Call('get', 'key', 'The tileset with a first id, or the first with a source, or, where the map has it in itself, a name.', gives='Tileset',
          raises={'key': ('document.tilesets["a.tsj"]', 'document.tilesets.get("a.tsj")')},
-         written=('tilesets[key]', 'tilesets.get(key)'), renamed='get'),
-    Call('has', 'key', 'Whether there is such a one.', gives='bool', written=('key in tilesets', 'tilesets.has(key)')),
+         written=('tilesets[key]', 'tilesets.get(key)'), renamed='get', types={'key': 'TilesetLike'}),
+    Call('has', 'key', 'Whether there is such a one.', gives='bool', written=('key in tilesets', 'tilesets.has(key)'),
+         types={'key': 'TilesetLike'}),
     value('first', 'Tileset?', 'The first in order; {None} where there is none.'),
     value('size', 'int', 'How many there are.', written=('len(tilesets)', 'tilesets.size')),
-    Call('add', 'first_id, source', 'Adds one, by the path of its file from the map\'s folder; its first id is above all tiles there.',
-         'tileset add FIRST SOURCE', 'int',
+    Call('add', 'first_id, source', 'Adds one, by the path of its file from the map\'s folder, and gives it; its first id is above all tiles there.',
+         'tileset add FIRST SOURCE', 'Tileset',
          {'type': 'document.tilesets.add("a", "a.tsj")', 'value': 'document.tilesets.add(33, "")',
           'refused 38': 'document.tilesets.add(1, "a.tsj")'}),
 ])
 
 TILESET = Kind('Tileset', 'A tileset, by its first id. Where it was removed, a call raises {Refused} 36.', [
     value('first_id', 'int', 'Its first id.'),
+    Call('value_of', '', 'The same.', gives='int', written=('int(tileset)', 'tileset.valueOf()')),
     value('source', 'str?', 'The path of its file; {None} where the map has it in itself.'),
     value('name', 'str?', 'Its name, where the map has it in itself. No file of a tileset is read.'),
     Call('value', 'local_id; flipped_horizontally=False, flipped_vertically=False, flipped_diagonally=False, turned=False',

@@ -4,6 +4,56 @@
 
 static roskevad_editor editor = ROSKEVAD_CLOSED;
 
+/* What the calls tell of one thing, and the fields of what they fill. */
+static size_t told_of_things(const char *name, char *room, size_t size)
+{
+    const size_t length = 6;
+    uint32_t ids[4] = {ROSKEVAD_TILES, ROSKEVAD_OBJECTS, ROSKEVAD_GROUP, ROSKEVAD_IMAGE};
+    roskevad_sizes sizes = {0, 0, 0, 0, 0, 0, 0, 0};
+    roskevad_layer_row rows[2] = {{0, 0, 0, 0, 0}, {0, 0, 0, 0, 0}};
+    roskevad_status status = {0, 0, 0, 0, 0};
+    size_t sum = roskevad_editor_sizes_of_map(&editor, &sizes);
+    sum += sizes.width + sizes.height + sizes.tile_width + sizes.tile_height + sizes.next_layer + sizes.next_object;
+    sum += sizes.layers + sizes.tilesets;
+    sum += roskevad_editor_layers(&editor, rows, 2) + roskevad_editor_layers(&editor, ROSKEVAD_NULL, 0);
+    sum += rows[1].id + rows[1].parent + rows[1].kind + rows[1].is_visible + rows[1].count;
+    sum += roskevad_editor_object_ids(&editor, 0, ids, 4) + roskevad_editor_object_ids(&editor, 2, ROSKEVAD_NULL, 0);
+    sum += roskevad_editor_tilesets(&editor, ids, 4) + roskevad_editor_tilesets(&editor, ROSKEVAD_NULL, 0);
+    sum += roskevad_editor_object(&editor, 1, room, size);
+    sum += roskevad_editor_object_layer(&editor, 1);
+    sum += roskevad_editor_layer(&editor, 1, room, size);
+    sum += roskevad_editor_tileset(&editor, 1, room, size);
+    sum += roskevad_editor_map_head(&editor, room, size);
+    sum += roskevad_editor_properties(&editor, ROSKEVAD_MAP, 0, room, size);
+    sum += roskevad_editor_property(&editor, ROSKEVAD_LAYER, 1, name, length, room, size);
+    sum += roskevad_editor_find(&editor, ROSKEVAD_OBJECT, name, length);
+    sum += roskevad_editor_document_count(&editor);
+    sum += roskevad_editor_document_name(&editor, 0, room, size);
+    sum += roskevad_editor_active(&editor);
+    sum += roskevad_editor_status_of(&editor, 0, &status);
+    return sum + status.index + status.count + status.depth + status.is_clean + status.is_active;
+}
+
+/* The same by the library's own names, whose pointers are never null. */
+static size_t told_by_own_names(const char *name, char *room, size_t size)
+{
+    const uint8_t *word = roskevad_bytes_at(name);
+    uint8_t *text = roskevad_room_at(room);
+    const size_t length = 6;
+    uint32_t ids[4] = {0, 0, 0, 0};
+    roskevad_sizes sizes = {0, 0, 0, 0, 0, 0, 0, 0};
+    roskevad_layer_row rows[2] = {{0, 0, 0, 0, 0}, {0, 0, 0, 0, 0}};
+    roskevad_status status = {0, 0, 0, 0, 0};
+    size_t sum = roskevad_sizes_of_map(&editor, &sizes);
+    sum += roskevad_layers(&editor, rows, 2) + roskevad_object_ids(&editor, 0, ids, 4) + roskevad_tilesets(&editor, ids, 4);
+    sum += roskevad_object(&editor, 1, text, size) + roskevad_object_layer(&editor, 1);
+    sum += roskevad_layer(&editor, 1, text, size) + roskevad_tileset(&editor, 1, text, size) + roskevad_map_head(&editor, text, size);
+    sum += roskevad_properties(&editor, ROSKEVAD_OBJECT, 1, text, size);
+    sum += roskevad_property(&editor, ROSKEVAD_OBJECT, 1, word, length, text, size) + roskevad_find(&editor, ROSKEVAD_LAYER, word, length);
+    sum += roskevad_document_count(&editor) + roskevad_document_name(&editor, 0, text, size) + roskevad_active(&editor);
+    return sum + roskevad_status_of(&editor, 0, &status) + sizes.width + rows[0].id + status.index;
+}
+
 int main(void)
 {
     const char line[] = "status";
@@ -33,8 +83,10 @@ int main(void)
     sum += roskevad_editor_next_object_id(&editor);
     sum += roskevad_editor_cells(&editor, 1, 0, 0, 2, 2, cells, 4);
     sum += roskevad_editor_outline(&editor, room, sizeof room);
+    sum += told_of_things(line, room, sizeof room) + told_by_own_names(line, room, sizeof room);
     sum += roskevad_editor_set_aside(line, sizeof line - 1, room, sizeof room);
     sum += roskevad_editor_put_back(ROSKEVAD_NULL, 0, ROSKEVAD_NULL, 0);
+    sum += roskevad_editor_map_fault(line, sizeof line - 1, room, sizeof room);
     sum += roskevad_editor_version(room, sizeof room);
     roskevad_editor_close(&editor);
     return sum == 0;

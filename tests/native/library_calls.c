@@ -34,6 +34,43 @@ static uint32_t random_number(void)
     return (uint32_t)(state >> 32);
 }
 
+/* What the calls about one thing of the active map answer where each has the same answer: that the editor is closed, or that none is
+ * active. All that they are given stays as it was. */
+static void check_no_thing(roskevad_editor *editor, size_t wanted)
+{
+    char room[4] = "abc";
+    uint32_t ids[2] = {7, 8};
+    roskevad_sizes sizes = {1, 2, 3, 4, 5, 6, 7, 8};
+    roskevad_layer_row row = {1, 2, 3, 4, 5};
+    WANT(roskevad_editor_sizes_of_map(editor, &sizes) == wanted && sizes.width == 1 && sizes.next_object == 6 && sizes.tilesets == 8);
+    WANT(roskevad_editor_layers(editor, &row, 1) == wanted && row.id == 1 && row.is_visible == 4 && row.count == 5);
+    WANT(roskevad_editor_layers(editor, NULL, 0) == wanted);
+    WANT(roskevad_editor_object_ids(editor, 0, ids, 2) == wanted && roskevad_editor_object_ids(editor, 1, NULL, 0) == wanted);
+    WANT(roskevad_editor_tilesets(editor, ids, 2) == wanted && roskevad_editor_tilesets(editor, NULL, 0) == wanted);
+    WANT(roskevad_editor_object(editor, 1, room, 4) == wanted && roskevad_editor_object_layer(editor, 1) == wanted);
+    WANT(roskevad_editor_layer(editor, 1, room, 4) == wanted && roskevad_editor_tileset(editor, 1, room, 4) == wanted);
+    WANT(roskevad_editor_map_head(editor, room, 4) == wanted && roskevad_editor_map_head(editor, NULL, 0) == wanted);
+    for (uint32_t kind = 0; kind <= ROSKEVAD_OBJECT + 1; kind++) {
+        WANT(roskevad_editor_properties(editor, kind, 1, room, 4) == wanted);
+        WANT(roskevad_editor_property(editor, kind, 1, "a", 1, room, 4) == wanted);
+        WANT(roskevad_editor_property(editor, kind, 1, "\377", 1, NULL, 0) == wanted);
+        WANT(roskevad_editor_find(editor, kind, "a", 1) == wanted && roskevad_editor_find(editor, kind, NULL, 0) == wanted);
+    }
+    WANT(memcmp(room, "abc", 4) == 0 && ids[0] == 7 && ids[1] == 8);
+}
+
+/* What is told of documents where there are none to tell of. */
+static void check_no_documents(roskevad_editor *editor, size_t count, size_t wanted)
+{
+    char room[4] = "abc";
+    roskevad_status status = {1, 2, 3, 4, 5};
+    WANT(roskevad_editor_document_count(editor) == count && roskevad_editor_active(editor) == wanted);
+    WANT(roskevad_editor_document_name(editor, 0, room, 4) == wanted && memcmp(room, "abc", 4) == 0);
+    WANT(roskevad_editor_document_name(editor, SIZE_MAX, NULL, 0) == wanted);
+    WANT(roskevad_editor_status_of(editor, 0, &status) == wanted && roskevad_editor_status_of(editor, SIZE_MAX, &status) == wanted);
+    WANT(status.index == 1 && status.count == 2 && status.depth == 3 && status.is_clean == 4 && status.is_active == 5);
+}
+
 /* What a closed editor answers. */
 static void check_closed(roskevad_editor *editor)
 {
@@ -59,6 +96,8 @@ static void check_closed(roskevad_editor *editor)
     WANT(roskevad_editor_cells(editor, 1, 0, 0, 1, 1, cells, 2) == ROSKEVAD_IS_CLOSED && cells[0] == 7 && cells[1] == 8);
     WANT(roskevad_editor_outline(editor, room, 4) == ROSKEVAD_IS_CLOSED);
     WANT(memcmp(room, "abc", 4) == 0);
+    check_no_thing(editor, ROSKEVAD_IS_CLOSED);
+    check_no_documents(editor, ROSKEVAD_IS_CLOSED, ROSKEVAD_IS_CLOSED);
     roskevad_editor_close(editor);
 }
 
@@ -93,6 +132,8 @@ static void check_edges(roskevad_editor *editor)
     WANT(roskevad_editor_next_layer_id(editor) == ROSKEVAD_NONE && roskevad_editor_next_object_id(editor) == ROSKEVAD_NONE);
     WANT(roskevad_editor_cells(editor, 1, 0, 0, 0, 0, NULL, 0) == ROSKEVAD_NONE);
     WANT(roskevad_editor_outline(editor, NULL, 0) == ROSKEVAD_NONE);
+    check_no_thing(editor, ROSKEVAD_NONE);
+    check_no_documents(editor, 0, ROSKEVAD_NONE);
     WANT(roskevad_editor_version(room, sizeof room) == strlen(ROSKEVAD_VERSION));
     WANT(memcmp(room, ROSKEVAD_VERSION, strlen(ROSKEVAD_VERSION)) == 0);
 }
@@ -153,6 +194,203 @@ static void check_names(roskevad_editor *editor)
     WANT(roskevad_editor_action_text(editor, SIZE_MAX, room, 64) == ROSKEVAD_NONE);
 }
 
+/* Things of a map, each as its text, or as that without what stands in it. */
+#define GROUND "\"id\":1,\"name\":\"Ground\",\"opacity\":1,\"type\":\"tilelayer\",\"visible\":true,"
+#define INSIDE "\"name\":\"Inside\",\"opacity\":1,\"type\":\"group\",\"visible\":false,\"x\":0,\"y\":0}"
+#define KIND "{\"name\":\"kind\",\"type\":\"string\",\"value\":\"rusty \\\"key\\\"\"}"
+#define COUNT "{\"name\":\"\303\274\",\"type\":\"int\",\"value\":-3}"
+#define DOORS_BEFORE "{\"draworder\":\"topdown\",\"id\":3,\"name\":\"Doors\","
+#define DOORS_BEHIND "\"opacity\":1,\"properties\":[" COUNT "," KIND "],\"type\":\"objectgroup\",\"visible\":true,\"x\":0,\"y\":0}"
+#define PLACED "\"rotation\":0,\"type\":\"\",\"visible\":true,\"width\":8,\"x\":0,\"y\":0}"
+#define KEY "{\"height\":8,\"id\":5,\"name\":\"key\",\"properties\":[" KIND "]," PLACED
+#define NAMELESS "{\"height\":8,\"id\":6," PLACED
+#define EMPTY_NAMED "{\"height\":8,\"id\":9,\"name\":\"\"," PLACED
+#define SKY "{\"id\":4,\"image\":\"sky.png\",\"name\":\"Sky\",\"opacity\":1,\"type\":\"imagelayer\",\"visible\":true,\"x\":0,\"y\":0}"
+#define FIRST_SET "{\"firstgid\":1,\"source\":\"a.tsj\"}"
+#define SECOND_SET "{\"firstgid\":9,\"source\":\"b.tsj\"}"
+#define HEAD_BEFORE "{\"height\":1,\"infinite\":false,"
+#define HEAD_BETWEEN "\"nextlayerid\":8,\"nextobjectid\":20,\"orientation\":\"orthogonal\",\"properties\":[" COUNT "],\"tileheight\":24,"
+#define HEAD_BEHIND "\"tilewidth\":16,\"type\":\"map\",\"version\":\"1.10\",\"width\":2}"
+static const char THINGS[] = HEAD_BEFORE "\"layers\":[{\"data\":\"AAAAAAAAAAA=\",\"encoding\":\"base64\",\"height\":1," GROUND
+    "\"width\":2,\"x\":0,\"y\":0},{\"id\":2,\"layers\":[" DOORS_BEFORE "\"objects\":[" KEY "," NAMELESS "," EMPTY_NAMED "]," DOORS_BEHIND
+    "," SKY "]," INSIDE "]," HEAD_BETWEEN "\"tilesets\":[" FIRST_SET "," SECOND_SET "]," HEAD_BEHIND;
+
+/* Steps a line that is accepted. */
+static void do_line(roskevad_editor *editor, const char *line)
+{
+    char room[64];
+    size_t size = roskevad_editor_step(editor, line, strlen(line), room, sizeof room);
+    WANT(size > 2 && size < sizeof room && memcmp(room, "no", 2) != 0);
+}
+
+/* A call that gives out this text: into no buffer, into one that is a byte too short, which stays as it was, and into one of its
+ * size. */
+#define WANT_TEXT(wanted, call, ...) do { \
+    char text[512]; \
+    size_t size = sizeof wanted - 1; \
+    memset(text, '~', sizeof text); \
+    WANT(call(__VA_ARGS__, NULL, 0) == size); \
+    WANT(call(__VA_ARGS__, text, size - 1) == size && text[0] == '~' && text[size - 1] == '~'); \
+    WANT(call(__VA_ARGS__, text, size) == size && memcmp(text, wanted, size) == 0 && text[size] == '~'); \
+} while (0)
+
+/* The texts of single things of that map. */
+static void check_texts(roskevad_editor *editor)
+{
+    char room[512] = "x";
+    WANT_TEXT(KEY, roskevad_editor_object, editor, 5);
+    WANT_TEXT(EMPTY_NAMED, roskevad_editor_object, editor, 9);
+    WANT_TEXT(NAMELESS, roskevad_editor_object, editor, 6);
+    WANT_TEXT("{" GROUND "\"x\":0,\"y\":0}", roskevad_editor_layer, editor, 1);
+    WANT_TEXT("{\"id\":2," INSIDE, roskevad_editor_layer, editor, 2);
+    WANT_TEXT(DOORS_BEFORE DOORS_BEHIND, roskevad_editor_layer, editor, 3);
+    WANT_TEXT(SKY, roskevad_editor_layer, editor, 4);
+    WANT_TEXT(FIRST_SET, roskevad_editor_tileset, editor, 1);
+    WANT_TEXT(SECOND_SET, roskevad_editor_tileset, editor, 9);
+    WANT_TEXT(HEAD_BEFORE HEAD_BETWEEN HEAD_BEHIND, roskevad_editor_map_head, editor);
+    WANT_TEXT("[" COUNT "]", roskevad_editor_properties, editor, ROSKEVAD_MAP, 77);
+    WANT_TEXT("[" COUNT "," KIND "]", roskevad_editor_properties, editor, ROSKEVAD_LAYER, 3);
+    WANT_TEXT("[" KIND "]", roskevad_editor_properties, editor, ROSKEVAD_OBJECT, 5);
+    WANT_TEXT("[]", roskevad_editor_properties, editor, ROSKEVAD_OBJECT, 6);
+    WANT_TEXT("[]", roskevad_editor_properties, editor, ROSKEVAD_LAYER, 4);
+    WANT_TEXT(KIND, roskevad_editor_property, editor, ROSKEVAD_LAYER, 3, "kind", 4);
+    WANT_TEXT(COUNT, roskevad_editor_property, editor, ROSKEVAD_LAYER, 3, "\303\274", 2);
+    WANT_TEXT(COUNT, roskevad_editor_property, editor, ROSKEVAD_MAP, 0, "\303\274", 2);
+    WANT_TEXT(KIND, roskevad_editor_property, editor, ROSKEVAD_OBJECT, 5, "kind", 4);
+    for (size_t id = 0; id <= 10; id++) {
+        WANT(id == 5 || id == 6 || id == 9 || roskevad_editor_object(editor, (uint32_t)id, room, sizeof room) == ROSKEVAD_NONE);
+        WANT((id >= 1 && id <= 4) || roskevad_editor_layer(editor, (uint32_t)id, room, sizeof room) == ROSKEVAD_NONE);
+        WANT(id == 1 || id == 9 || roskevad_editor_tileset(editor, (uint32_t)id, room, sizeof room) == ROSKEVAD_NONE);
+    }
+    WANT(roskevad_editor_object(editor, UINT32_MAX, NULL, 0) == ROSKEVAD_NONE && roskevad_editor_layer(editor, UINT32_MAX, NULL, 0) == ROSKEVAD_NONE);
+    WANT(roskevad_editor_tileset(editor, UINT32_MAX, NULL, 0) == ROSKEVAD_NONE && room[0] == 'x');
+}
+
+/* Owners, properties and names that are not there. */
+static void check_absent(roskevad_editor *editor)
+{
+    char room[512] = "x";
+    for (uint32_t id = 0; id < 10; id++) {
+        WANT(roskevad_editor_properties(editor, 0, id, room, sizeof room) == ROSKEVAD_NONE);
+        WANT(roskevad_editor_properties(editor, 4, id, room, sizeof room) == ROSKEVAD_NONE);
+        WANT(roskevad_editor_property(editor, 0, id, "kind", 4, room, sizeof room) == ROSKEVAD_NONE);
+        WANT(roskevad_editor_property(editor, 4, id, "kind", 4, room, sizeof room) == ROSKEVAD_NONE);
+    }
+    WANT(roskevad_editor_properties(editor, UINT32_MAX, 1, room, sizeof room) == ROSKEVAD_NONE);
+    WANT(roskevad_editor_properties(editor, ROSKEVAD_LAYER, 5, room, sizeof room) == ROSKEVAD_NONE);
+    WANT(roskevad_editor_properties(editor, ROSKEVAD_OBJECT, 3, room, sizeof room) == ROSKEVAD_NONE);
+    WANT(roskevad_editor_property(editor, ROSKEVAD_OBJECT, 3, "kind", 4, room, sizeof room) == ROSKEVAD_NONE);
+    WANT(roskevad_editor_property(editor, ROSKEVAD_OBJECT, 6, "kind", 4, room, sizeof room) == ROSKEVAD_NONE);
+    WANT(roskevad_editor_property(editor, ROSKEVAD_OBJECT, 5, "kin", 3, room, sizeof room) == ROSKEVAD_NONE);
+    WANT(roskevad_editor_property(editor, ROSKEVAD_OBJECT, 5, "kinds", 5, room, sizeof room) == ROSKEVAD_NONE);
+    WANT(roskevad_editor_property(editor, ROSKEVAD_OBJECT, 5, NULL, 0, room, sizeof room) == ROSKEVAD_NONE);
+    WANT(roskevad_editor_property(editor, ROSKEVAD_MAP, 0, "\303", 1, room, sizeof room) == ROSKEVAD_NONE);
+    WANT(roskevad_editor_property(editor, ROSKEVAD_MAP, 0, "\303\274\377", 3, room, sizeof room) == ROSKEVAD_NONE && room[0] == 'x');
+    WANT(roskevad_editor_find(editor, ROSKEVAD_LAYER, "Ground", 6) == 1 && roskevad_editor_find(editor, ROSKEVAD_LAYER, "Sky", 3) == 4);
+    WANT(roskevad_editor_find(editor, ROSKEVAD_OBJECT, "key", 3) == 5 && roskevad_editor_find(editor, ROSKEVAD_OBJECT, NULL, 0) == 9);
+    WANT(roskevad_editor_find(editor, ROSKEVAD_LAYER, NULL, 0) == ROSKEVAD_NONE);
+    WANT(roskevad_editor_find(editor, ROSKEVAD_OBJECT, "Doors", 5) == ROSKEVAD_NONE);
+    WANT(roskevad_editor_find(editor, ROSKEVAD_LAYER, "key", 3) == ROSKEVAD_NONE);
+    WANT(roskevad_editor_find(editor, ROSKEVAD_OBJECT, "\377", 1) == ROSKEVAD_NONE);
+    WANT(roskevad_editor_find(editor, ROSKEVAD_LAYER, "Sky\200", 4) == ROSKEVAD_NONE);
+    WANT(roskevad_editor_find(editor, 0, "Sky", 3) == ROSKEVAD_NONE && roskevad_editor_find(editor, ROSKEVAD_MAP, "Sky", 3) == ROSKEVAD_NONE);
+    WANT(roskevad_editor_find(editor, 4, "Sky", 3) == ROSKEVAD_NONE);
+}
+
+static bool is_row(roskevad_layer_row row, uint32_t id, uint32_t parent, uint32_t kind, uint32_t is_visible, size_t count)
+{
+    return row.id == id && row.parent == parent && row.kind == kind && row.is_visible == is_visible && row.count == count;
+}
+
+/* Numbers and lists of that map. */
+static void check_lists(roskevad_editor *editor)
+{
+    roskevad_sizes sizes;
+    roskevad_layer_row rows[5];
+    uint32_t ids[4] = {77, 77, 77, 77};
+    memset(rows, 0xff, sizeof rows);
+    WANT(roskevad_editor_sizes_of_map(editor, &sizes) == ROSKEVAD_DONE && sizes.width == 2 && sizes.height == 1 && sizes.tile_width == 16);
+    WANT(sizes.tile_height == 24 && sizes.next_layer == 8 && sizes.next_object == 20 && sizes.layers == 4 && sizes.tilesets == 2);
+    WANT(roskevad_editor_layers(editor, NULL, 0) == 4 && roskevad_editor_layers(editor, rows, 3) == 4);
+    WANT(rows[0].id == UINT32_MAX && rows[2].count == SIZE_MAX);
+    WANT(roskevad_editor_layers(editor, rows, 4) == 4 && rows[4].id == UINT32_MAX);
+    WANT(is_row(rows[0], 1, 0, ROSKEVAD_TILES, 1, 0) && is_row(rows[1], 2, 0, ROSKEVAD_GROUP, 0, 2));
+    WANT(is_row(rows[2], 3, 2, ROSKEVAD_OBJECTS, 1, 3) && is_row(rows[3], 4, 2, ROSKEVAD_IMAGE, 1, 0));
+    for (uint32_t layer = 0; layer <= 3; layer += 3) {
+        WANT(roskevad_editor_object_ids(editor, layer, NULL, 0) == 3 && roskevad_editor_object_ids(editor, layer, ids, 2) == 3 && ids[0] == 77);
+        WANT(roskevad_editor_object_ids(editor, layer, ids, 3) == 3 && ids[0] == 5 && ids[1] == 6 && ids[2] == 9 && ids[3] == 77);
+        ids[0] = 77;
+    }
+    WANT(roskevad_editor_object_ids(editor, 1, ids, 4) == ROSKEVAD_NONE && roskevad_editor_object_ids(editor, 2, ids, 4) == ROSKEVAD_NONE);
+    WANT(roskevad_editor_object_ids(editor, 4, ids, 4) == ROSKEVAD_NONE && roskevad_editor_object_ids(editor, 5, NULL, 0) == ROSKEVAD_NONE);
+    WANT(roskevad_editor_tilesets(editor, NULL, 0) == 2 && roskevad_editor_tilesets(editor, ids, 1) == 2 && ids[0] == 77);
+    WANT(roskevad_editor_tilesets(editor, ids, 2) == 2 && ids[0] == 1 && ids[1] == 9 && ids[2] == 9 && ids[3] == 77);
+    WANT(roskevad_editor_object_layer(editor, 5) == 3 && roskevad_editor_object_layer(editor, 9) == 3);
+    WANT(roskevad_editor_object_layer(editor, 0) == ROSKEVAD_NONE && roskevad_editor_object_layer(editor, 7) == ROSKEVAD_NONE);
+}
+
+/* Lists that are empty, and a text once edited. */
+static void check_edited(roskevad_editor *editor)
+{
+    uint32_t ids[1] = {77};
+    roskevad_sizes sizes;
+    do_line(editor, "layer add object Empty");
+    WANT(roskevad_editor_object_ids(editor, 8, NULL, 0) == 0 && roskevad_editor_object_ids(editor, 8, ids, 1) == 0 && ids[0] == 77);
+    WANT(roskevad_editor_sizes_of_map(editor, &sizes) == ROSKEVAD_DONE && sizes.layers == 5 && sizes.next_layer == 9);
+    do_line(editor, "prop remove object:5 kind");
+    WANT_TEXT("[]", roskevad_editor_properties, editor, ROSKEVAD_OBJECT, 5);
+    do_line(editor, "object remove 5");
+    WANT(roskevad_editor_object_layer(editor, 5) == ROSKEVAD_NONE && roskevad_editor_find(editor, ROSKEVAD_OBJECT, "key", 3) == ROSKEVAD_NONE);
+    do_line(editor, "goto 0");
+    WANT_TEXT(KEY, roskevad_editor_object, editor, 5);
+    WANT(roskevad_editor_object_ids(editor, 8, NULL, 0) == ROSKEVAD_NONE);
+}
+
+/* The open documents: `a`, and that map, which is active. */
+static void check_documents(roskevad_editor *editor)
+{
+    char room[8] = "xxxxxxx";
+    roskevad_status status = {9, 9, 9, 9, 9};
+    WANT(roskevad_editor_document_count(editor) == 2 && roskevad_editor_active(editor) == 1);
+    WANT(roskevad_editor_document_name(editor, 1, NULL, 0) == 6 && roskevad_editor_document_name(editor, 1, room, 5) == 6 && room[0] == 'x');
+    WANT(roskevad_editor_document_name(editor, 1, room, 6) == 6 && memcmp(room, "thingsx", 7) == 0);
+    WANT(roskevad_editor_document_name(editor, 0, room, 1) == 1 && memcmp(room, "ahingsx", 7) == 0);
+    for (size_t at = 2; at != 1; at = at == 2 ? SIZE_MAX : 1) {
+        WANT(roskevad_editor_document_name(editor, at, room, 8) == ROSKEVAD_NONE && room[0] == 'a');
+        WANT(roskevad_editor_status_of(editor, at, &status) == ROSKEVAD_NONE && status.index == 9 && status.is_active == 9);
+    }
+    WANT(roskevad_editor_status_of(editor, 1, &status) == ROSKEVAD_DONE && status.index == 0 && status.count == 3);
+    WANT(status.depth == 0 && status.is_clean == 1 && status.is_active == 1);
+    do_line(editor, "use a");
+    do_line(editor, "begin M");
+    do_line(editor, "begin N");
+    do_line(editor, "use things");
+    /* The last reply stays, and no other document becomes active. */
+    WANT(roskevad_editor_status_of(editor, 0, &status) == ROSKEVAD_DONE && status.depth == 2 && status.is_clean == 0 && status.is_active == 0);
+    WANT(roskevad_editor_document_name(editor, 0, room, 8) == 1 && roskevad_editor_active(editor) == 1);
+    WANT_TEXT("ok 0/3 clean 0", roskevad_editor_reply, editor);
+    do_line(editor, "use -");
+    WANT(roskevad_editor_active(editor) == ROSKEVAD_NONE && roskevad_editor_document_count(editor) == 2);
+    WANT(roskevad_editor_status_of(editor, 1, &status) == ROSKEVAD_DONE && status.count == 3 && status.is_active == 0);
+    check_no_thing(editor, ROSKEVAD_NONE);
+    do_line(editor, "use a");
+    WANT(roskevad_editor_active(editor) == 0);
+    do_line(editor, "end");
+    do_line(editor, "end");
+}
+
+/* What there is in a map that is opened beside others, one thing at a time. */
+static void check_things(roskevad_editor *editor)
+{
+    WANT(roskevad_editor_put_file(editor, "things.tmj", 10, THINGS, sizeof THINGS - 1) == ROSKEVAD_DONE);
+    do_line(editor, "open things things.tmj");
+    check_texts(editor);
+    check_absent(editor);
+    check_lists(editor);
+    check_edited(editor);
+    check_documents(editor);
+}
+
 /* What is made of a text by a call without a editor, with a buffer that is one byte too short and with one that is not. */
 static void check_made(size_t (*make)(const void *, size_t, void *, size_t), const char *given, const char *wanted)
 {
@@ -205,6 +443,24 @@ static void check_asides(void)
     check_unmade(roskevad_editor_set_aside, strcat(large, "]}"), ROSKEVAD_TOO_LARGE);
 }
 
+#define SIDES "\"height\":1,\"tileheight\":1,\"tilewidth\":1,\"type\":\"map\",\"width\":1"
+#define NO_NEXT_ID                                                                                                                        \
+    "{\"code\":62,\"words\":\"member missing\",\"why\":null,\"path\":[\"nextlayerid\"],\"exact\":true,\"shown\":\"absent\","            \
+    "\"text\":\"nextlayerid is absent\",\"line\":1,\"column\":1}"
+
+/* Why maps are refused, and where. */
+static void check_map_faults(void)
+{
+    static const char GIVEN[] = "{" SIDES "}", READ[] = "{" SIDES ",\"layers\":[],\"nextlayerid\":1,\"nextobjectid\":1,\"tilesets\":[]}";
+    char room[512];
+    size_t size = strlen(NO_NEXT_ID);
+    memset(room, 'x', sizeof room);
+    WANT(roskevad_editor_map_fault(GIVEN, sizeof GIVEN - 1, room, size - 1) == size && room[0] == 'x');
+    WANT(roskevad_editor_map_fault(GIVEN, sizeof GIVEN - 1, room, size) == size && memcmp(room, NO_NEXT_ID, size) == 0 && room[size] == 'x');
+    WANT(roskevad_editor_map_fault(READ, sizeof READ - 1, room, sizeof room) == ROSKEVAD_NONE && room[size] == 'x');
+    WANT(roskevad_editor_map_fault(NULL, 0, NULL, 0) < ROSKEVAD_NO_MEMORY);
+}
+
 /* Lines of which one is refused, on a editor with no document. */
 static void check_lines(roskevad_editor *editor)
 {
@@ -242,10 +498,12 @@ static void run_random(size_t lines)
     check_closed(&editor);
     check_edges(&editor);
     check_asides();
+    check_map_faults();
     check_lines(&editor);
     check_told(&editor);
     check_cells(&editor);
     check_names(&editor);
+    check_things(&editor);
     for (size_t at = 0; at < lines; at++) {
         size_t size = at % 100 == 0 ? random_number() % 70000 : random_number() % 300;
         size_t room = random_number() % 80;
@@ -312,6 +570,58 @@ static void show_outline(roskevad_editor *editor)
     WANT(size < sizeof text && fwrite(text, 1, size, stdout) == size);
 }
 
+/* A call that fills a room of this type, made again where there was no memory for it. What it has filled is printed. */
+#define SHOW_AT_LAST(type, call, ...) do { \
+    type filled[512]; \
+    memset(filled, '~', sizeof filled); \
+    size_t count = call(__VA_ARGS__, filled, sizeof filled / sizeof *filled); \
+    if (count == ROSKEVAD_NO_MEMORY) { \
+        WANT(memcmp(filled, "~~~~~~~~", sizeof *filled) == 0); \
+        count = call(__VA_ARGS__, filled, sizeof filled / sizeof *filled); \
+    } \
+    WANT(count <= sizeof filled / sizeof *filled && fwrite(filled, sizeof *filled, count, stdout) == count); \
+} while (0)
+
+/* Layers, whose rows are longer than the mark that is looked for. */
+static size_t ids_of_layers(roskevad_editor *editor, uint32_t *ids, size_t room)
+{
+    roskevad_layer_row rows[64];
+    WANT(room >= 64);
+    size_t count = roskevad_editor_layers(editor, rows, 64);
+    for (size_t at = 0; count <= 64 && at < count; at++)
+        ids[at] = rows[at].id;
+    return count;
+}
+
+/* What there is in the active document's map, one thing at a time. */
+static void show_things(roskevad_editor *editor)
+{
+    SHOW_AT_LAST(uint32_t, ids_of_layers, editor);
+    SHOW_AT_LAST(uint32_t, roskevad_editor_object_ids, editor, 0);
+    SHOW_AT_LAST(uint32_t, roskevad_editor_object_ids, editor, 2);
+    SHOW_AT_LAST(uint32_t, roskevad_editor_tilesets, editor);
+    SHOW_AT_LAST(char, roskevad_editor_object, editor, 1);
+    SHOW_AT_LAST(char, roskevad_editor_layer, editor, 2);
+    SHOW_AT_LAST(char, roskevad_editor_tileset, editor, 1);
+    SHOW_AT_LAST(char, roskevad_editor_map_head, editor);
+    SHOW_AT_LAST(char, roskevad_editor_properties, editor, ROSKEVAD_LAYER, 2);
+    SHOW_AT_LAST(char, roskevad_editor_property, editor, ROSKEVAD_LAYER, 2, "kind", 4);
+    SHOW_AT_LAST(char, roskevad_editor_properties, editor, ROSKEVAD_MAP, 0);
+}
+
+/* Numbers and documents, for which no memory is wanted. */
+static void see_numbers(roskevad_editor *editor)
+{
+    char name[8];
+    roskevad_sizes sizes;
+    roskevad_status status;
+    WANT(roskevad_editor_sizes_of_map(editor, &sizes) == ROSKEVAD_DONE && sizes.width == 4 && sizes.layers == 2);
+    WANT(roskevad_editor_find(editor, ROSKEVAD_LAYER, "Doors", 5) == 2 && roskevad_editor_find(editor, ROSKEVAD_OBJECT, "key", 3) == 1);
+    WANT(roskevad_editor_object_layer(editor, 1) == 2 && roskevad_editor_document_count(editor) == 2);
+    WANT(roskevad_editor_active(editor) == 1 && roskevad_editor_document_name(editor, 1, name, 8) == 4 && memcmp(name, "town", 4) == 0);
+    WANT(roskevad_editor_status_of(editor, 0, &status) == ROSKEVAD_DONE && !status.is_active);
+}
+
 /* The text that a call makes, asked for again where there was no memory for it. Its size. */
 static size_t made_at_last(size_t (*make)(const void *, size_t, void *, size_t), const char *given, size_t length, char *text, size_t room)
 {
@@ -325,9 +635,19 @@ static size_t made_at_last(size_t (*make)(const void *, size_t, void *, size_t),
     return size;
 }
 
-/* Sets aside an infinite map with a fraction, and puts it back. */
+/* What is told of a map that is refused. */
+static size_t told_of_map(const void *bytes, size_t length, void *text, size_t room)
+{
+    return roskevad_editor_map_fault(bytes, length, text, room);
+}
+
+/* Sets aside an infinite map with a fraction, and puts it back, and asks why two are refused. */
 static void turn_aside(void)
 {
+    static const char NO_TYPE[] = INFINITE("{\"chunks\":[" CHUNK("") "],\"opacity\":0.5}"), NO_JSON[] = "{\"a\":[1e2,2}";
+    char told[512];
+    made_at_last(told_of_map, NO_TYPE, sizeof NO_TYPE - 1, told, sizeof told);
+    made_at_last(told_of_map, NO_JSON, sizeof NO_JSON - 1, told, sizeof told);
     static const char GIVEN[] = INFINITE("{\"chunks\":[" CHUNK("") "],\"opacity\":0.5}");
     char aside[1024], back[1024];
     size_t size = made_at_last(roskevad_editor_set_aside, GIVEN, sizeof GIVEN - 1, aside, sizeof aside);
@@ -364,6 +684,8 @@ static void run_script(void)
         step_at_last(&editor, SCRIPT[at]);
     show_outline(&editor);
     run_at_last(&editor, MANY_LINES + 1);
+    show_things(&editor);
+    see_numbers(&editor);
     char bytes[4096];
     size_t size = roskevad_editor_file(&editor, "town.tmj", 8, bytes, sizeof bytes);
     WANT(size < sizeof bytes && fwrite(bytes, 1, size, stdout) == size);

@@ -1,5 +1,6 @@
 pub mod Buffers
 pub mod Counts
+pub mod Lookups
 pub mod ManyLines
 pub mod Parts
 pub mod Rectangles

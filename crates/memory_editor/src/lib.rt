@@ -2,10 +2,12 @@
 #![tactic(auto)]
 
 mod lines_done;
+mod lookups;
 mod many_lines;
 mod memory_editor;
 mod rectangle;
 
 pub use lines_done::LinesDone;
+pub use lookups::Status;
 pub use memory_editor::MemoryEditor;
 pub use rectangle::Rectangle;

@@ -15,11 +15,11 @@ use undo_stack::Stack;
 /// A caller sees the machine that the editor stands for, the files, and the reply to the last line.
 #[derive(Drop)]
 pub struct MemoryEditor {
-    editor: Editor<Edit>,
+    pub(crate) editor: Editor<Edit>,
     store: MemoryStore,
     // The reply to the last line, where it had one.
     reply: Option<Reply>,
-    alloc: Global,
+    pub(crate) alloc: Global,
 }
 
 impl Model for MemoryEditor {
@@ -145,7 +145,7 @@ impl MemoryEditor {
     }
 
     // The map of the active document.
-    fn active_map(&self) -> Option<&Map>
+    pub(crate) fn active_map(&self) -> Option<&Map>
         ensures { option_copied result ≡ active_map self.now.machine }
     {
         match self.active() {

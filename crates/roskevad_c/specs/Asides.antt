@@ -1,9 +1,11 @@
--- What is answered for the text of a map that is set aside or put back.
-use Rattle.std.specs.Prelude.{◌≡◌, ℕ, List, length, Result, Ok, Err, Option, Some, None, Vec}
+-- What is answered for the text of a map that is set aside or put back, and for what is told of one that is refused.
+use Rattle.std.specs.Prelude.{◌≡◌, ◌⊎◌, ℕ, List, length, Result, Ok, Err, Option, Some, None, Vec}
 use Rattle.std.specs.Global.{Global}
 use Rattle.tiled_maps.specs.declared.fault.Fault.{Fault}
 use Rattle.tiled_maps.specs.declared.fault.Fault.TheVariants.{Memory, NotJson, NameTaken, TooManyFractions, TooDeep, BadChunk, Overlap, TooLarge, Unlike}
 use Rattle.tiled_maps.specs.Texts.{SetsAside, PutsBack}
+use Rattle.map_faults.specs.Faults.{TellsFault}
+use Rattle.map_faults.specs.declared.faults.ToldFault.{ToldFault}
 use Rattle.memory_editor.specs.Buffers.{written}
 use Rattle.roskevad_c.specs.declared.answers.TheConstants.{NONE, NO_MEMORY, NOT_JSON, NAME_TAKEN, TOO_DEEP, BAD_CHUNK, OVERLAP, TOO_LARGE, UNLIKE}
 use Rattle.roskevad_c.specs.declared.answers.TheConstants.{TOO_MANY_FRACTIONS}
@@ -40,3 +42,13 @@ TellsAside bytes answer old new =
 abbrev pub TellsBack : List ℕ → ℕ → List ℕ → List ℕ → Type 0
 TellsBack bytes answer old new =
     (made : Result (Option (Vec ℕ Global)) Fault) × PutsBack bytes made × (answer ≡ made_size made) × (new ≡ made_bytes made old)
+
+-- what is told of a file is copied, or there is no fault to tell of
+abbrev pub GivesFault : Option ToldFault → ℕ → List ℕ → List ℕ → Type 0
+GivesFault None answer old new = (answer ≡ NONE) × (new ≡ old)
+GivesFault (Some told) answer old new = (answer ≡ length told.text.items) × (new ≡ written told.text.items old)
+
+-- what `map_fault` tells of the bytes of a file, or there was no memory for it
+abbrev pub TellsMapFault : List ℕ → ℕ → List ℕ → List ℕ → Type 0
+TellsMapFault bytes answer old new =
+    ((told : Option ToldFault) × TellsFault bytes told × GivesFault told answer old new) ⊎ ((answer ≡ NO_MEMORY) × (new ≡ old))

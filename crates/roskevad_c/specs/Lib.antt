@@ -2,3 +2,4 @@ pub mod Answers
 pub mod Asides
 pub mod Counts
 pub mod Held
+pub mod Things

@@ -1,12 +1,14 @@
-// What is answered for the text of a map that is set aside or put back.
-ghost use Rattle.std.specs.Prelude.{◌≡◌};
-ghost use Rattle.roskevad_c.specs.Asides.{number_of, made_size, made_bytes};
+// What is answered for the text of a map that is set aside or put back, and for what is told of one that is refused.
+ghost use Rattle.std.specs.Prelude.{◌≡◌, IfErr, IfOk};
+ghost use Rattle.roskevad_c.specs.Asides.{number_of, made_size, made_bytes, GivesFault};
 
 use crate::answers::{
     BAD_CHUNK, NAME_TAKEN, NO_MEMORY, NONE, NOT_JSON, OVERLAP, TOO_DEEP, TOO_LARGE,
     TOO_MANY_FRACTIONS, UNLIKE,
 };
 use crate::copies::copy_text;
+use map_faults::ToldFault;
+use std::alloc::AllocError;
 use tiled_maps::Fault;
 
 fn number_of(fault: Fault) -> usize
@@ -35,5 +37,18 @@ pub fn copy_made(made: Result<Option<Vec<u8>>, Fault>, buffer: &mut [u8]) -> usi
         Ok(Some(text)) => copy_text(text.as_slice(), buffer),
         Ok(None) => NONE,
         Err(fault) => number_of(fault),
+    }
+}
+
+/// Copies what is told of a fault where the buffer has room for all of it, and gives its size, `NONE` where there is no fault, or
+/// `NO_MEMORY`.
+pub fn copy_fault(told: Result<Option<ToldFault>, AllocError>, buffer: &mut [u8]) -> usize
+    ensures told { IfOk told (λ t. GivesFault t result buffer.old buffer.new) }
+    ensures memory { IfErr told (λ e. (result ≡ NO_MEMORY) × (buffer.new ≡ buffer.old)) }
+{
+    match told {
+        Ok(Some(fault)) => copy_text(fault.text.as_slice(), buffer),
+        Ok(None) => NONE,
+        Err(_) => NO_MEMORY,
     }
 }

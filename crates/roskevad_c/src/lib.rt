@@ -1,6 +1,6 @@
 //! The editor for C: an editor in memory, behind a type that C can hold.
 //!
-//! Each call but the last three takes an editor, which C keeps and never looks into. A call that gives bytes copies them to the
+//! Each call but the last four takes an editor, which C keeps and never looks into. A call that gives bytes copies them to the
 //! front of a buffer where the buffer has room for all of them, and else leaves the buffer as it was; it answers how many
 //! there are. What stands in place of a length or a number is one of the constants at the end of the numbers.
 #![tactic(auto)]
@@ -11,9 +11,12 @@ mod c_editor;
 mod copies;
 mod done_counts;
 mod held;
+mod lookups;
 mod names;
 mod parts;
 mod runs;
+mod things;
+mod told;
 
 ghost use Rattle.std.specs.Prelude.{◌≡◌, nat_le, None, Some, codes, length, slice_get, if◌then◌else◌};
 ghost use Rattle.std.specs.FinMap.{keys, len};
@@ -22,16 +25,17 @@ ghost use Rattle.undo_stack.specs.declared.limits.TheConstants.{MAX_LIMIT};
 ghost use Rattle.document_lines.specs.Machine.{active_of};
 ghost use Rattle.memory_editor.specs.Buffers.{filled};
 ghost use Rattle.memory_editor.specs.Parts.{active_map, clean_index_of, has_step};
-ghost use Rattle.roskevad_c.specs.Asides.{TellsAside, TellsBack};
+ghost use Rattle.roskevad_c.specs.Asides.{TellsAside, TellsBack, TellsMapFault};
 ghost use Rattle.roskevad_c.specs.Answers.{action_at, cells_at, file_in, is_there, last_reply, macro_number_at, size_of, told_bytes, told_number, told_size, with_file, without, RunsManyLines, Opens, Puts, Steps, TellsCount, TellsOfStep, TellsOutline, TellsRun};
 
 use crate::answers::{BAD_NAME, CLOSED, DONE, NO_MEMORY, NONE, TOO_GREAT};
-use crate::asides::copy_made;
+use crate::asides::{copy_fault, copy_made};
 use crate::c_editor::CEditor;
 use crate::copies::{copy_bytes, copy_outline, copy_reply};
 use crate::done_counts::DoneCounts;
 use crate::names::spelled;
 use crate::runs::SelectionRun;
+use map_faults::map_fault;
 use memory_editor::{MemoryEditor, Rectangle};
 use std::alloc::Global;
 use tiled_maps::{put_back, set_aside};
@@ -435,6 +439,15 @@ pub extern "C" fn roskevad_put_back(alloc: Global, bytes: &[u8], text: &mut [u8]
     ensures { TellsBack bytes.now result text.old text.new }
 {
     copy_made(put_back(alloc, bytes), text)
+}
+
+/// Copies what `map_faults::map_fault` tells of the bytes of a file: why it is refused as a map, and where, as an object of JSON. Answers
+/// its size, `NONE` where the map is read, or `NO_MEMORY`. The text is made anew at each call.
+#[unsafe(no_mangle)]
+pub extern "C" fn roskevad_map_fault(alloc: Global, bytes: &[u8], text: &mut [u8]) -> usize
+    ensures { TellsMapFault bytes.now result text.old text.new }
+{
+    copy_fault(map_fault(alloc, bytes), text)
 }
 
 /// Copies the version of the library, and answers its size.

@@ -1,12 +1,13 @@
 -- Documents by name, and by their numbers: what changing, adding or taking out one of them leaves.
-use Rattle.std.proofs.Common.{◌≡◌, ℕ, zero, suc, List, [], ◌∷◌, ◌++◌, remove, slice_get, Option, Some, None, refl, ap, arith}
+use Rattle.std.proofs.Common.{◌≡◌, ◌<◌, ℕ, zero, suc, List, [], ◌∷◌, ◌++◌, length, remove, slice_get, position, Option, Some, None, IfSome, refl, ap, arith}
 use Rattle.std.proofs.lemmas.Bool.Decides.{nat_tests}
 use Rattle.std.proofs.lemmas.Grind.{elements}
 use Rattle.std.proofs.lemmas.Option.{gets}
 use Rattle.std.proofs.lemmas.Slice.Eq.{bytes_eq-Decides}
 use Rattle.std.specs.Option.{option_map}
 use Rattle.undo_stack.specs.History.{History}
-use Rattle.undo_group.specs.Groups.{OpenDocument, GroupParts, IsGroup, IsNew, AreDistinct, history_named, active_history, removed, without, with_history}
+use Rattle.undo_group.specs.Groups.{OpenDocument, GroupParts, IsGroup, IsNew, AreDistinct, history_named, active_history, active_place, is_active}
+use Rattle.undo_group.specs.Groups.{removed, without, with_history}
 use Rattle.undo_group.specs.Groups.{with_active}
 use Rattle.undo_group.specs.Stacks.{group_at, number_without}
 
@@ -51,6 +52,27 @@ same_number (x ∷ ds) (suc i) (suc j) d e distinct at there same = ap suc (same
 -- the document at the active number is the active one
 pub active_history-at : (ds : List OpenDocument) (i : ℕ) → AreDistinct ds → active_history (group_at ds (Some i)) ≡ option_map (λ d. d.history) (slice_get ds i)
 active_history-at ds i distinct = grind (arith, history_named-at ds i)
+
+-- the active number is the active place
+active_place-found : (ds : List OpenDocument) (i : ℕ) (d : OpenDocument) → AreDistinct ds → slice_get ds i ≡ Some d
+    → position (is_active (Some d.name)) ds ≡ Some i
+active_place-found [] i d distinct at = absurd cc
+active_place-found (e ∷ ds) zero d distinct at = grind (arith, bytes_eq-Decides)
+active_place-found (e ∷ ds) (suc i) d distinct at =
+    grind (arith, active_place-found ds i d distinct.1, history_named-at ds i d distinct.1, bytes_eq-Decides)
+
+active_place-none : (ds : List OpenDocument) → position (is_active None) ds ≡ None
+active_place-none [] = refl
+active_place-none (d ∷ ds) = grind (arith, active_place-none ds)
+
+pub active_place-at : (ds : List OpenDocument) (number : Option ℕ) → AreDistinct ds → IfSome number (λ i. i < length ds)
+    → active_place (group_at ds number) ≡ number
+active_place-at ds None distinct within = active_place-none ds
+active_place-at ds (Some i) distinct within = by_document (slice_get ds i) refl
+  where
+    by_document : (o : Option OpenDocument) → slice_get ds i ≡ o → active_place (group_at ds (Some i)) ≡ Some i
+    by_document None none = absurd (grind (arith, gets, within))
+    by_document (Some d) at = rw at (active_place-found ds i d distinct at)
 
 pub IsGroup-at : (ds : List OpenDocument) (number : Option ℕ) → AreDistinct ds → IsGroup (group_at ds number)
 IsGroup-at ds None distinct = record { distinct = distinct; active = tt }

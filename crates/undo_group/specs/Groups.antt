@@ -1,5 +1,5 @@
 -- Groups: open documents with their histories, in order of opening, of which at most one is active.
-use Rattle.std.specs.Prelude.{◌≡◌, ℕ, List, [], ◌∷◌, ◌++◌, map, Bool, true, not, Option, Some, None, IsSome, IfSome, filter, if◌then◌else◌}
+use Rattle.std.specs.Prelude.{◌≡◌, ℕ, List, [], ◌∷◌, ◌++◌, map, position, Bool, false, true, not, Option, Some, None, IsSome, IfSome, filter, if◌then◌else◌}
 use Rattle.std.specs.Str.{bytes_eq}
 use Rattle.undo_stack.specs.History.{History}
 
@@ -25,6 +25,15 @@ active_among (Some name) ds = history_named name ds
 
 abbrev pub active_history : GroupParts → Option History
 active_history g = active_among g.active g.documents
+
+-- whether a document has the active name
+abbrev pub is_active : Option (List ℕ) → OpenDocument → Bool
+is_active None d = false
+is_active (Some name) d = bytes_eq name d.name
+
+-- the place of the active document, where the first one has 0
+abbrev pub active_place : GroupParts → Option ℕ
+active_place g = position (is_active g.active) g.documents
 
 -- no document has this name
 abbrev pub IsNew : List ℕ → List OpenDocument → Type 0

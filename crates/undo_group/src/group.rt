@@ -1,10 +1,10 @@
-ghost use Rattle.std.specs.Prelude.{◌≡◌, [], ◌∷◌, ◌++◌, map, IsSome, IfOk, IfErr, IfSome, IsSomeAnd, OnSome, OnOk, Some};
+ghost use Rattle.std.specs.Prelude.{◌≡◌, [], ◌∷◌, ◌++◌, map, length, slice_get, IsSome, IfOk, IfErr, IfSome, IsSomeAnd, OnSome, OnOk, Some};
 ghost use Rattle.std.specs.Borrow.{sem};
 ghost use Rattle.std.specs.Option.{option_map, option_copied};
 ghost use Rattle.undo_stack.specs.History.{is_clean};
 ghost use Rattle.undo_stack.specs.Reading.{undo_text_of, redo_text_of};
 ghost use Rattle.undo_stack.specs.Stacks.{history, Holds};
-ghost use Rattle.undo_group.specs.Groups.{history_named, active_history, text_of_active, is_clean_active, IsNew, IsGroup, empty_group, added, removed, chosen};
+ghost use Rattle.undo_group.specs.Groups.{history_named, active_history, active_place, text_of_active, is_clean_active, IsNew, IsGroup, empty_group, added, removed, chosen};
 ghost use Rattle.undo_group.specs.Lending.{LendsActive};
 ghost use Rattle.undo_group.specs.Stacks.{group_of, named, number_without, stack_at, stacks_of, AreHeld, IsNotAdded, IsTakenOut};
 
@@ -211,6 +211,43 @@ impl<C: Command> Group<C> {
         ensures held { IfSome result (λ stack. Holds C.change stack.now) }
     {
         self.stacks.get(name)
+    }
+
+    /// How many documents are open.
+    pub fn count(&self) -> usize
+        requires { AreHeld C.change self.now }
+        ensures { result ≡ length (group_of C.change self.now).documents }
+    {
+        self.stacks.len()
+    }
+
+    /// The name of the document at a place in the order of opening, where the first one has 0. `None` past the last one.
+    pub fn name_at(&self, place: usize) -> Option<&str>
+        requires { AreHeld C.change self.now }
+        ensures { option_copied result ≡ option_map (λ d. d.name) (slice_get (group_of C.change self.now).documents place) }
+    {
+        let (name, _) = self.stacks.get_index(place)?;
+        Some(name.as_str())
+    }
+
+    /// The stack of the document at a place, and `None` past the last one.
+    pub fn stack_at(&self, place: usize) -> Option<&Stack<C>>
+        requires { AreHeld C.change self.now }
+        ensures placed { option_map (λ stack. history C.change stack.now) result ≡ option_map (λ d. d.history) (slice_get (group_of C.change self.now).documents place) }
+        ensures held { IfSome result (λ stack. Holds C.change stack.now) }
+    {
+        let (_, stack) = self.stacks.get_index(place)?;
+        Some(stack)
+    }
+
+    /// The place of the active document, and `None` where none is active.
+    pub fn active_place(&self) -> Option<usize>
+        requires { AreHeld C.change self.now }
+        ensures { result ≡ active_place (group_of C.change self.now) }
+    {
+        // (the proof has from here that no two names are equal)
+        let _count = self.stacks.len();
+        self.active
     }
 
     /// The names of the open documents, in order of opening.

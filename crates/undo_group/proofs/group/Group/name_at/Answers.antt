@@ -1,0 +1,6 @@
+use Rattle.std.proofs.Common.{arith}
+use Rattle.std.proofs.lemmas.Option.{slice_get-map}
+use Rattle.undo_group.proofs.group.Group.name_at.Goals as goal
+
+pub returns : goal.returns
+returns g c = grind (arith, slice_get-map)
