@@ -25,9 +25,9 @@ def add_spawn_point(document: Document) -> None:
     x, y = document.width * across // 2, document.height * document.tile_height // 2
     with document.macro('Spawn point', action='add a spawn point'):
         layer = document.layers.add('object', LAYER)
-        spawn = document.layers[layer].objects.add(NAME, x, y)
-        document.objects[spawn].properties['facing'] = 'south'
-        document.objects[spawn].properties['team'] = 1
+        spawn = layer.objects.add(NAME, x, y)
+        spawn.properties['facing'] = 'south'
+        spawn.properties['team'] = 1
 
 
 def change(editor: Editor, paths: list[Path]) -> list[str]:

@@ -18,7 +18,11 @@ const CELL_BYTES = 4;
 const PIECE = 4_096;
 const decoder = new TextDecoder("utf-8", { ignoreBOM: true, fatal: true });
 
-/** Why a map is not unpacked or packed: a number of docs/refusals.md, and the reason in words. */
+const STORE_FAILED = 51;
+const COMPRESSED = 65;
+const BAD_DATA = 66;
+
+/** Why a map is not unpacked or packed, or a layer stays packed: a number of docs/refusals.md, and the reason in words. */
 export class Unpackable extends Error {
   constructor(code, why) {
     super(why);
@@ -28,28 +32,32 @@ export class Unpackable extends Error {
 
 /**
  * The bytes of a map with its layers unpacked, each of which notes how it was packed; the same bytes
- * where none is. A layer stays as it is where the host cannot unpack it: `why` has the reason then, else
- * null. Throws Unpackable.
+ * where none is. A layer stays as it is where the host cannot unpack it, or its data are damaged: `left` has
+ * it then, as { path, members, code, why }, where the code is the one that its map is refused with, if it is a
+ * tile layer. Throws Unpackable.
  */
 export async function unpackLayers(bytes) {
   const text = textThatMayHavePacked(bytes);
   if (text === null) {
-    return { bytes, why: null };
+    return { bytes, left: [] };
   }
   const { map, layers } = mapAndLayers(text);
-  if (layers.some((layer) => layer.has(NOTE))) {
-    throw new Unpackable(51, NOTE_TAKEN);
+  if (layers.some(({ members }) => members.has(NOTE))) {
+    throw new Unpackable(STORE_FAILED, NOTE_TAKEN);
   }
-  const compressions = layers.map(compressionOf);
-  const why = whyNot(compressions.find((compression) => compression && whyNot(compression)));
   const budget = { rest: MAX_FILE_BYTES };
-  const edits = [];
-  for (const [at, layer] of layers.entries()) {
-    if (compressions[at] && !whyNot(compressions[at])) {
-      edits.push(...(await unpackedLayer(layer, compressions[at], cellsOf(map), budget)));
+  const [edits, left] = [[], []];
+  for (const { path, members } of layers) {
+    try {
+      edits.push(...(await unpackedLayer(members, cellsOf(map), budget)));
+    } catch (fault) {
+      if (!(fault instanceof Unpackable) || fault.code === STORE_FAILED) {
+        throw fault;
+      }
+      left.push({ path, members, code: fault.code, why: fault.why });
     }
   }
-  return { bytes: edits.length > 0 ? new TextEncoder().encode(edited(text, edits)) : bytes, why };
+  return { bytes: edits.length > 0 ? new TextEncoder().encode(edited(text, edits)) : bytes, left };
 }
 
 /** The bytes of a map with those layers packed that note how; the same bytes where none does. */
@@ -59,8 +67,8 @@ export async function packLayers(bytes) {
     return bytes;
   }
   const edits = [];
-  for (const layer of mapAndLayers(text).layers) {
-    edits.push(...(await packedLayer(layer)));
+  for (const { members } of mapAndLayers(text).layers) {
+    edits.push(...(await packedLayer(members)));
   }
   return new TextEncoder().encode(edited(text, edits));
 }
@@ -84,9 +92,6 @@ function compressionOf(layer) {
 
 // Why the host cannot unpack that, or null.
 function whyNot(compression) {
-  if (!compression) {
-    return null;
-  }
   if (!FORMATS.has(compression)) {
     return compression === "zstd" ? "JavaScript has no Zstandard" : `there is no compression ${compression}`;
   }
@@ -111,7 +116,15 @@ function* holdersOf(layer, cells) {
   }
 }
 
-async function unpackedLayer(layer, compression, cells, budget) {
+async function unpackedLayer(layer, cells, budget) {
+  const compression = compressionOf(layer);
+  if (compression === null) {
+    return [];
+  }
+  const why = whyNot(compression);
+  if (why !== null) {
+    throw new Unpackable(COMPRESSED, why);
+  }
   const name = layer.get("compression");
   const edits = [new Edit(name.start, name.end, `"","${NOTE}":"${compression}"`)];
   for (const [holder, count] of holdersOf(layer, cells)) {
@@ -151,12 +164,12 @@ function dataEdit(holder, bytes) {
 async function unpackedData(data, size, budget) {
   budget.rest -= base64Size(size);
   if (budget.rest < 0) {
-    throw new Unpackable(51, TOO_LONG);
+    throw new Unpackable(STORE_FAILED, TOO_LONG);
   }
   const bytes = bytesOfBase64(data);
   const came = bytes && (await inflated(bytes, size));
   if (!came || came.length !== size || !(await endsThere(bytes, size))) {
-    throw new Unpackable(66, "the data of a layer does not unpack to 4 bytes a cell");
+    throw new Unpackable(BAD_DATA, "the data of a layer does not unpack to 4 bytes a cell");
   }
   return came;
 }

@@ -4,6 +4,10 @@ import type { Editor } from "./roskevad.js";
 
 /** A layer, its id, or the name of the first one of that name. */
 export type LayerLike = number | string | Layer;
+/** An object, its id, or the name of the first one of that name. */
+export type ObjectLike = number | string | MapObject;
+/** A tileset, its first id, or the source or the name of the first one that has it. */
+export type TilesetLike = number | string | Tileset;
 /** Rows of values: nested arrays, typed arrays or other iterables. */
 export type Rows = Iterable<Iterable<number>>;
 /** How a rectangle and the selection become the new one. */
@@ -182,9 +186,9 @@ export class Document {
 export class Layers {
   private constructor();
   /** The layer with an id, or the first of a name. Throws RangeError. */
-  get(key: number | string): Layer;
+  get(key: LayerLike): Layer;
   /** Whether there is one with an id, or of a name, of any kind. */
-  has(key: number | string): boolean;
+  has(key: LayerLike): boolean;
   /**
    * The first of a name that is of a kind: tile, object, group or image; null where there is none.
    * Throws RangeError.
@@ -195,10 +199,10 @@ export class Layers {
   /** Each layer in drawing order, a group before those in it. */
   walk(): IterableIterator<Layer>;
   /**
-   * Adds a layer, `tile` or `object`, in no group, over the others. Throws TypeError, RangeError,
-   * Refused (40).
+   * Adds a layer, `tile` or `object`, in no group, over the others, and gives it. Throws
+   * TypeError, RangeError, Refused (40).
    */
-  add(kind: string, name: string): number;
+  add(kind: string, name: string): Layer;
   [Symbol.iterator](): IterableIterator<Layer>;
 }
 
@@ -209,6 +213,8 @@ export class Layer {
   private constructor();
   /** Its id. */
   readonly id: number;
+  /** The same. */
+  valueOf(): number;
   /** The document that it belongs to. */
   readonly document: Document;
   /** Its kind: tile, object, group or image. */
@@ -256,16 +262,16 @@ export class Layer {
 export class Objects {
   private constructor();
   /** The object with an id, or the first of a name. Throws RangeError. */
-  get(key: number | string): MapObject;
+  get(key: ObjectLike): MapObject;
   /** Whether there is one with an id, or of a name. */
-  has(key: number | string): boolean;
+  has(key: ObjectLike): boolean;
   /** How many there are. */
   readonly size: number;
   /**
-   * Adds a rectangle to an object layer, last, in whole pixels; no line adds a point. Throws
-   * TypeError, RangeError, Refused (31, 39).
+   * Adds a rectangle to an object layer, last, in whole pixels, and gives it; no line adds a
+   * point. Throws TypeError, RangeError, Refused (31, 39).
    */
-  add(name: string, x: number, y: number, width?: number, height?: number): number;
+  add(name: string, x: number, y: number, width?: number, height?: number): MapObject;
   [Symbol.iterator](): IterableIterator<MapObject>;
 }
 
@@ -276,6 +282,8 @@ export class MapObject {
   private constructor();
   /** Its id. */
   readonly id: number;
+  /** The same. */
+  valueOf(): number;
   /** The document that it belongs to. */
   readonly document: Document;
   /** The layer that it is in. */
@@ -349,18 +357,18 @@ export class Tilesets {
    * The tileset with a first id, or the first with a source, or, where the map has it in itself, a
    * name. Throws RangeError.
    */
-  get(key: number | string): Tileset;
+  get(key: TilesetLike): Tileset;
   /** Whether there is such a one. */
-  has(key: number | string): boolean;
+  has(key: TilesetLike): boolean;
   /** The first in order; null where there is none. */
   readonly first: Tileset | null;
   /** How many there are. */
   readonly size: number;
   /**
-   * Adds one, by the path of its file from the map's folder; its first id is above all tiles
-   * there. Throws TypeError, RangeError, Refused (38).
+   * Adds one, by the path of its file from the map's folder, and gives it; its first id is above
+   * all tiles there. Throws TypeError, RangeError, Refused (38).
    */
-  add(firstId: number, source: string): number;
+  add(firstId: number, source: string): Tileset;
   [Symbol.iterator](): IterableIterator<Tileset>;
 }
 
@@ -371,6 +379,8 @@ export class Tileset {
   private constructor();
   /** Its first id. */
   readonly firstId: number;
+  /** The same. */
+  valueOf(): number;
   /** The path of its file; null where the map has it in itself. */
   readonly source: string | null;
   /** Its name, where the map has it in itself. No file of a tileset is read. */

@@ -4,17 +4,19 @@ import { Closed, Refused } from "./faults.js";
 import { MAX_COORDINATE } from "./limits.js";
 import { Properties } from "./properties.js";
 import { doubtful, partsOf, rowsOf } from "./rows.js";
-import { Outline } from "./outline.js";
 import { Selection } from "./selection.js";
+import { drawn, noteOf, restored } from "./tiled_maps.js";
 import { Tilesets } from "./tilesets.js";
-import { Layer, Layers, Objects } from "./views.js";
+import { Layer, Layers, Objects, missing } from "./views.js";
 import * as words from "./words.js";
 
 const MODES = ["replace", "add", "subtract", "intersect"];
 // A place past every map: a stamp there changes nothing.
 const NOWHERE = `${MAX_COORDINATE} ${MAX_COORDINATE}`;
 const TEXT = "text ";
-const STATUS = /^ok (\d+)\/(\d+) (clean|dirty) (\d+)$/;
+// The numbers of 32 bits of the sizes of a map and of a row of its layers.
+const SIZES_NUMBERS = 10;
+const ROW_NUMBERS = 6;
 
 /**
  * A document of an editor: a map, its selection and its steps.
@@ -31,6 +33,10 @@ export class Document {
     this._name = name;
     this._isClosed = false;
     this._stroke = null;
+    // What its map says of how it was made finite, once that was asked for.
+    this._note = null;
+    // How the cells of its tile layers are written in its file, by their ids, once that was asked for.
+    this._encodings = new Map();
     // So that a name that it has not is never set silently.
     Object.preventExtensions(this);
   }
@@ -43,7 +49,9 @@ export class Document {
     }
     // What a broken module has told is no answer any more.
     if (this._editor._activeHandle !== this || this._editor._module.isBroken) {
-      this._editor.step(`use ${this._name}`);
+      if (this._editor._activeName() !== this._name) {
+        this._editor.step(`use ${this._name}`);
+      }
       this._editor._activeHandle = this;
     }
   }
@@ -64,27 +72,90 @@ export class Document {
     return kind === "layer" ? this._editor.lastLayerId() : this._editor.lastObjectId();
   }
 
-  _look(answer) {
-    this._enter();
-    return answer(this._outlineNow());
-  }
-
-  _outlineNow() {
-    const outline = this._editor._keptOutline;
-    if (outline !== null && outline.document === this._name) {
-      return outline;
-    }
-    this._editor._keptOutline = new Outline(this._name, this._editor.outline());
-    return this._editor._keptOutline;
-  }
-
-  // What `_look` gives, for a text of the document: no document becomes active, and nothing is thrown.
-  _peek(answer) {
+  // What work gives, for a text of the document: no document becomes active, and nothing is thrown.
+  _peek(work) {
     try {
-      return this._editor._restored(() => this._look(answer));
+      return this._editor._restored(() => {
+        this._enter();
+        return work();
+      });
     } catch {
       return null;
     }
+  }
+
+  // ---- what is there, one thing at a time
+
+  // What a call of the library says of a thing, with all put back that was set aside; null where there is none.
+  _read(name, ...given) {
+    this._enter();
+    const value = this._editor._parsed(name, ...given);
+    return value !== null && this._editor._hasSetAside ? restored(value, this._noteNow()) : value;
+  }
+
+  // The same of a thing that has a name, which stands behind the other words.
+  _readNamed(name, call, ...given) {
+    // A line that is said within would take the name's place.
+    this._enter();
+    return this._editor._module.given(name, (at, size) => this._read(call, ...given, at, size));
+  }
+
+  _noteNow() {
+    this._note ??= noteOf(this._editor._parsed("map_head"));
+    return this._note;
+  }
+
+  // How the cells of a tile layer are written in its file; undefined where as numbers. No edit changes that, and
+  // the outline has it of all layers: it is read once.
+  _encodingOf(layer) {
+    if (!this._encodings.has(layer)) {
+      this._enter();
+      for (const { id, encoding } of drawn(JSON.parse(this._editor._outlineText("members")).layers)) {
+        this._encodings.set(id, encoding);
+      }
+    }
+    return this._encodings.get(layer);
+  }
+
+  get _sizes() {
+    this._enter();
+    const editor = this._editor;
+    const numbers = editor._module.numbers(SIZES_NUMBERS, (to) => editor._call("sizes_of_map", to));
+    const [width, height, tileWidth, tileHeight, , , , , tilesets] = numbers;
+    return { width, height, tileWidth, tileHeight, tilesets };
+  }
+
+  // All layers, in drawing order, a group before those in it.
+  get _layerRows() {
+    this._enter();
+    const numbers = this._editor._numbers(ROW_NUMBERS, "layers");
+    return Array.from({ length: numbers.length / ROW_NUMBERS }, (_, at) => {
+      const [id, parent, kind] = numbers.subarray(at * ROW_NUMBERS);
+      return { id, parent, kind };
+    });
+  }
+
+  // The ids that a call of the library lists.
+  _ids(name, ...given) {
+    this._enter();
+    return [...(this._editor._numbers(1, name, ...given) ?? [])];
+  }
+
+  // How many items a call of the library would copy, or what it answers; null where there are none.
+  _count(name, ...given) {
+    this._enter();
+    return this._editor._count(name, ...given);
+  }
+
+  _number(name, ...given) {
+    this._enter();
+    return this._editor._number(name, ...given);
+  }
+
+  // The id of the first layer or object of a name; null where there is none.
+  _find(subject, name) {
+    this._enter();
+    return this._editor._find(subject, name);
   }
 
   // ---- what it is
@@ -102,23 +173,23 @@ export class Document {
   }
 
   get width() {
-    return this._look((outline) => outline.tree.width);
+    return this._sizes.width;
   }
 
   get height() {
-    return this._look((outline) => outline.tree.height);
+    return this._sizes.height;
   }
 
   get tileWidth() {
-    return this._look((outline) => outline.tree.tilewidth);
+    return this._sizes.tileWidth;
   }
 
   get tileHeight() {
-    return this._look((outline) => outline.tree.tileheight);
+    return this._sizes.tileHeight;
   }
 
   get orientation() {
-    return this._look((outline) => outline.tree.orientation);
+    return this._read("map_head").orientation;
   }
 
   get origin() {
@@ -135,7 +206,7 @@ export class Document {
   }
 
   get properties() {
-    return new Properties(this, "map", (outline) => outline.tree);
+    return new Properties(this);
   }
 
   get tilesets() {
@@ -155,10 +226,7 @@ export class Document {
   // ---- its steps
 
   get status() {
-    const [, index, count, state, depth] = STATUS.exec(this._say("status"));
-    return Object.freeze({
-      index: Number(index), count: Number(count), clean: state === "clean", depth: Number(depth),
-    });
+    return this._editor._statusOf(this._number("active"));
   }
 
   get steps() {
@@ -289,20 +357,21 @@ export class Document {
       // Where paints have taken each other back, their step is gone.
       stroke.hasStep = this.status.index >= index;
     } else {
-      const before = this._cellsWithin(area);
+      const inside = this._onMap(area);
+      const before = this._editor.cells(...inside);
       this._say(`${word} ${rest}`);
-      const after = this._cellsWithin(area);
+      const after = this._editor.cells(...inside);
       stroke.hasStep = before !== null && before.some((value, at) => value !== after[at]);
     }
   }
 
-  // The cells of a rectangle as far as it is on the map.
-  _cellsWithin({ layer, left, top, width, height }) {
-    const { tree } = this._look((outline) => outline);
+  // A rectangle of cells as far as it is on the map: its layer, its corner and its size.
+  _onMap({ layer, left, top, width, height }) {
+    const sizes = this._sizes;
     const [x, y] = [Math.max(left, 0), Math.max(top, 0)];
-    const right = Math.min(left + width, tree.width);
-    const bottom = Math.min(top + height, tree.height);
-    return this._editor.cells(layer, x, y, Math.max(right - x, 0), Math.max(bottom - y, 0));
+    const right = Math.min(left + width, sizes.width);
+    const bottom = Math.min(top + height, sizes.height);
+    return [layer, x, y, Math.max(right - x, 0), Math.max(bottom - y, 0)];
   }
 
   erase(layer, x, y, width, height, { merge = false } = {}) {
@@ -324,22 +393,26 @@ export class Document {
       }
       return layer.id;
     }
-    return typeof layer === "string" ? this.layers.get(layer).id : words.number(layer, "the id of a layer");
+    if (typeof layer !== "string") {
+      return words.number(layer, "the id of a layer");
+    }
+    const id = this._find("layer", layer);
+    if (id === null) {
+      throw missing("layer", layer);
+    }
+    return id;
   }
 
   // The width and the cells of a rectangle of a tile layer.
   _cellsOf(layer, x, y, width, height) {
-    const { tree, members } = this._look((outline) => ({ tree: outline.tree, members: layer._has(outline) }));
-    const asked = `Layer ${layer.id}: cells ${x}, ${y}, ${width}, ${height}`;
-    if (members.type !== "tilelayer") {
-      throw new Refused(31, "layer of another kind", asked);
-    }
     const [left, top] = [words.coordinate(x, "x"), words.coordinate(y, "y")];
-    const wide = width === null ? tree.width - left : words.coordinate(width, "a width");
-    const high = height === null ? tree.height - top : words.coordinate(height, "a height");
+    const sizes = this._sizes;
+    const wide = width === null ? sizes.width - left : words.coordinate(width, "a width");
+    const high = height === null ? sizes.height - top : words.coordinate(height, "a height");
     const cells = this._editor.cells(layer.id, left, top, wide, high);
     if (cells === null) {
-      throw new Refused(32, "outside the map", asked);
+      const [code, why] = layer._now.type === "tilelayer" ? [32, "outside the map"] : [31, "layer of another kind"];
+      throw new Refused(code, why, `Layer ${layer.id}: cells ${x}, ${y}, ${width}, ${height}`);
     }
     return { wide, cells };
   }
@@ -386,7 +459,7 @@ export class Document {
     if (this._isClosed) {
       return `Document ${this._name}, closed`;
     }
-    const standing = this._peek(({ tree }) => `, ${tree.width} by ${tree.height}, ${this._say("status").slice(3)}`);
+    const standing = this._peek(() => `, ${this.width} by ${this.height}, ${this._say("status").slice(3)}`);
     return `Document ${this._name}${standing ?? ""}`;
   }
 

@@ -9,15 +9,21 @@ import { formsOf } from "./forms.js";
  * no command, or is not as its command has it, `forms` are the forms to write it in. Where it was one of
  * many lines, `place` is its place among them, from 0, and `replies` are those to the lines before it,
  * which are done. `line` of a call is the call, as `open(data, "town")`, and it has no forms; where the map
- * could not be set aside or unpacked, `why` has the reason in words.
+ * could not be set aside or unpacked, `why` has the reason in words. Where a map was read and refused,
+ * `placeInMap` tells where in its file.
  */
 export class Refused extends Error {
-  constructor(code, words, line, place = null, replies = [], { isCall = false, why = null } = {}) {
+  constructor(code, words, line, place = null, replies = [], { isCall = false, why = null, placeInMap = null } = {}) {
     const forms = !isCall && (code === 3 || code === 4) ? formsOf(line) : [];
-    const more = why === null ? forms : [why, ...forms];
-    super([`${code} ${words}: ${line.slice(0, 200)}`, ...more].join("\n  "));
-    Object.assign(this, { name: "Refused", code, words, line, forms, place, replies, why });
+    const more = [placeInMap && wordsOfPlace(placeInMap), why].filter((each) => each !== null);
+    super([`${code} ${words}: ${line.slice(0, 200)}`, ...more, ...forms].join("\n  "));
+    Object.assign(this, { name: "Refused", code, words, line, forms, place, replies, why, placeInMap });
   }
+}
+
+/** The place of a fault in words, with its line where that is known. */
+export function wordsOfPlace({ path, text, line, column }) {
+  return path === null || line === null ? text : `${text} (line ${line}, column ${column})`;
 }
 
 /** The editor, or the document, was closed. */

@@ -41,6 +41,13 @@ export class Part {
     Object.assign(this, { text, start, end, nameStart, nameEnd });
   }
 
+  /** The line and the column where it begins, from 1 and in bytes. */
+  get lineColumn() {
+    const front = this.text.slice(0, this.start);
+    const line = front.slice(front.lastIndexOf("\n") + 1);
+    return { line: front.split("\n").length, column: new TextEncoder().encode(line).length + 1 };
+  }
+
   /** The value of a text, a number, true, false or null; undefined of an object, an array and what is no JSON. */
   get value() {
     const source = this.text.slice(this.start, this.end);
@@ -76,8 +83,8 @@ export class Part {
 }
 
 /**
- * The members of a map, and those of each of its layers, also in groups; of no layer where they are too many,
- * or the text is cut short. No part of the text is gone through twice.
+ * The members of a map, and each of its layers, also in groups, as { path, members }, with the way to it; no
+ * layer where they are too many, or the text is cut short. No part of the text is gone through twice.
  */
 export function mapAndLayers(text) {
   const walk = new Walk(text);
@@ -94,26 +101,28 @@ class Walk {
   constructor(text) {
     this.layers = [];
     this._text = text;
-    this._depth = 0;
+    // The way to the layer that the walk is in.
+    this._path = [];
   }
 
   // Where a member of the map or of a layer ends; layers in it are read.
   member(name, start) {
-    if (name !== "layers" || this._text[start] !== "[" || this._depth === MOST_DEEP) {
+    const around = this._path;
+    if (name !== "layers" || this._text[start] !== "[" || around.length === 2 * MOST_DEEP) {
       return endOf(this._text, start);
     }
-    this._depth += 1;
-    const end = readEntries(this._text, start, (at) => this._layer(at));
-    this._depth -= 1;
+    const end = readEntries(this._text, start, (at, index) => this._layer(at, [...around, "layers", index]));
+    this._path = around;
     return end;
   }
 
-  _layer(start) {
+  _layer(start, path) {
     if (this._text[start] !== "{") {
       return endOf(this._text, start);
     }
+    this._path = path;
     const { found, end } = readMembers(this._text, start, (name, at) => this.member(name, at));
-    this.layers.push(found);
+    this.layers.push({ path, members: found });
     return this.layers.length <= MOST_LAYERS ? end : null;
   }
 }
@@ -149,11 +158,11 @@ function nameAt(text, start, end) {
   return name.includes("\\") ? new Part(text, start, end).value : name;
 }
 
-// Where the array that stands here ends; null where it does not. A function says where an entry ends.
+// Where the array that stands here ends; null where it does not. A function says where the entry of an index ends.
 function readEntries(text, start, endOfEntry) {
   let at = behindSpace(text, start + 1);
-  while (at < text.length && text[at] !== "]") {
-    const end = endOfEntry(at);
+  for (let index = 0; at < text.length && text[at] !== "]"; index++) {
+    const end = endOfEntry(at, index);
     if (end === null) {
       return null;
     }

@@ -12,6 +12,10 @@ export const NONE = 2 ** 32 - 1;
 export const CLOSED = NONE - 1;
 export const NO_MEMORY = NONE - 2;
 export const BAD_NAME = NONE - 4;
+/** The numbers of what has properties, and of what is found by a name. */
+export const OWNERS = { map: 1, layer: 2, object: 3 };
+/** The kinds of layers by their numbers. */
+export const KINDS = { 1: "tile", 2: "object", 3: "group", 4: "image" };
 const NOT_JSON = NONE - 5;
 // Why a map is not set aside, or put back: what the calls answer, and the words of the program.
 const ASIDE_FAULTS = new Map([
@@ -227,6 +231,15 @@ export class Module {
     });
   }
 
+  /** What the library tells of the first fault of the bytes of a file; null where their map is read. Throws NoMemory. */
+  mapFault(given) {
+    const text = this.holding(given.length, (at) => {
+      this.bytes().set(given, at);
+      return this.copyText((to, room) => this.calls.map_fault(at, given.length, to, room));
+    });
+    return text === null ? null : JSON.parse(text);
+  }
+
   /**
    * Does lines that stand at a place, and hands their replies on, each with a newline; these bytes stay
    * until the next call. It may end behind any line: the answer tells how many lines and bytes are done,
@@ -243,6 +256,17 @@ export class Module {
       take(withNewline(this.copyBytes((to, room) => reply(editor, to, room))));
     }
     return { lines, bytes, isRefused: isRefused === 1 };
+  }
+
+  /** How many items a call would copy; null where there are none. Throws NoMemory. */
+  count(call) {
+    return this.number(call(this._reply, 0));
+  }
+
+  /** So many numbers of 32 bits that a call writes; null where it writes none. */
+  numbers(count, call) {
+    const has = this.number(call(this._reply)) !== null;
+    return has ? new Uint32Array(this._memory.buffer, this._reply, count).slice() : null;
   }
 
   /** What a call answers, where that is a number, and null where there is none. Throws NoMemory. */

@@ -1,11 +1,7 @@
 // SPDX-License-Identifier: MIT OR Apache-2.0
 // The properties of a map, a layer or an object.
+import { OWNERS } from "./module.js";
 import * as words from "./words.js";
-
-/** The value of a class has members of its own. */
-function copied(value) {
-  return typeof value === "object" ? JSON.parse(JSON.stringify(value)) : value;
-}
 
 /**
  * The properties of a map, a layer or an object, by their names, as a Map has them. A value that is set
@@ -13,48 +9,67 @@ function copied(value) {
  * a MapObject, an object.
  */
 export class Properties {
-  constructor(document, owner, members) {
+  constructor(document, kind = "map", thing = null) {
     this._document = document;
-    this._owner = owner;
-    this._members = members;
+    this._thing = thing;
+    // What has them, in the words of lines and in the numbers of the library.
+    this._owner = thing === null ? kind : `${kind}:${thing.id}`;
+    this._place = [OWNERS[kind], thing === null ? 0 : thing.id];
     Object.freeze(this);
   }
 
+  // All of them. Throws Refused where what has them was removed.
   get _all() {
-    const listed = this._document._look((outline) => this._members(outline).properties ?? []);
-    return new Map(listed.map((each) => [each.name, each]));
+    const listed = this._document._read("properties", ...this._place);
+    if (listed === null) {
+      throw this._thing._missing();
+    }
+    return listed;
+  }
+
+  // The one of a name; null where there is none.
+  _named(key) {
+    if (!words.isWhole(key)) {
+      return null;
+    }
+    return this._document._readNamed(key, "property", ...this._place);
+  }
+
+  // The same. Throws Refused where what has them was removed.
+  _one(key) {
+    return this._named(key) ?? (this._all, null);
   }
 
   /** The number of properties. */
   get size() {
-    return this._all.size;
+    return this._all.length;
   }
 
   /** The value of the property of a name; undefined where there is none. */
   get(key) {
-    return copied(this._all.get(key)?.value);
+    return this._one(key)?.value;
   }
 
   /** Whether there is a property of a name. */
   has(key) {
-    return this._all.has(key);
+    return this._one(key) !== null;
   }
 
   /** The names, in order. */
   keys() {
-    return this._all.keys();
+    return this._all.map((each) => each.name).values();
   }
 
   *[Symbol.iterator]() {
-    for (const { name, value } of this._all.values()) {
-      yield [name, copied(value)];
+    for (const { name, value } of this._all) {
+      yield [name, value];
     }
   }
 
   /** The type of the property of a name. Throws RangeError where there is none. */
   typeOf(key) {
-    const members = this._all.get(key);
-    if (members === undefined) {
+    const members = this._one(key);
+    if (members === null) {
       throw new RangeError(`there is no property ${JSON.stringify(key)}`);
     }
     return members.type ?? "string";
@@ -69,8 +84,8 @@ export class Properties {
   }
 
   _kindFor(name, value) {
-    const members = this._all.get(name);
-    return members === undefined ? words.typeOf(name, value) : members.type ?? "string";
+    const members = this._named(name);
+    return members === null ? words.typeOf(name, value) : members.type ?? "string";
   }
 
   /** Removes the property of a name, and says whether there was one. */
@@ -87,7 +102,7 @@ export class Properties {
   }
 
   [Symbol.for("nodejs.util.inspect.custom")]() {
-    const listed = this._document._peek((outline) => this._members(outline).properties ?? []) ?? [];
+    const listed = this._document._peek(() => this._all) ?? [];
     return `<${this}: ${JSON.stringify(Object.fromEntries(listed.map((each) => [each.name, each.value])))}>`;
   }
 }

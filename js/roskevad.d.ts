@@ -1,9 +1,9 @@
 // SPDX-License-Identifier: MIT OR Apache-2.0
-import type { Document } from "./document.js";
+import type { Document, Layer } from "./document.js";
 
 export { Document, Layer, Layers, MapObject, Objects, Properties, Selection, Tileset, Tilesets } from "./document.js";
 export type {
-  LayerLike, Members, PropertyValue, Rows, Run, SelectionMode, Status, Step, Tile,
+  LayerLike, Members, ObjectLike, PropertyValue, Rows, Run, SelectionMode, Status, Step, Tile, TilesetLike,
 } from "./document.js";
 
 /** The version of this package. */
@@ -22,7 +22,7 @@ export function formsOf(line: string): string[];
 export class Refused extends Error {
   constructor(
     code: number, words: string, line: string, place?: number | null, replies?: string[],
-    more?: { isCall?: boolean; why?: string | null },
+    more?: { isCall?: boolean; why?: string | null; placeInMap?: MapPlace | null },
   );
   /** The number of the refusal: docs/refusals.md lists them. */
   readonly code: number;
@@ -38,6 +38,23 @@ export class Refused extends Error {
   readonly replies: readonly string[];
   /** Of `open`: why the map is not set aside or not unpacked, in words; else null. */
   readonly why: string | null;
+  /** Of `open`, where the map is read and refused: where in its file; else null. */
+  readonly placeInMap: MapPlace | null;
+}
+
+/** Where in a file a map has its fault. */
+export interface MapPlace {
+  /** The way from the root to it: names of members and indexes of entries; null where the file is no JSON. */
+  readonly path: readonly (string | number)[] | null;
+  /** Whether the fault is there, and not somewhere in what stands there. */
+  readonly isExact: boolean;
+  /** What stands there, short, as `an array of length 3`; null where the file is no JSON. */
+  readonly shown: string | null;
+  /** The place in words, with what stands there, as `layers[0].id is absent`. */
+  readonly text: string;
+  /** Where it begins in the file, from 1 and in bytes; null where layers of the map were unpacked. */
+  readonly line: number | null;
+  readonly column: number | null;
 }
 
 /**
@@ -193,10 +210,10 @@ export class Editor {
    */
   origin(): [column: number, row: number];
   /**
-   * The cells of a rectangle of the tile layer with this id, row by row; null where no document is
-   * active, no tile layer has that id, or the rectangle leaves the map.
+   * The cells of a rectangle of a tile layer, or the one with this id, row by row; null where no document is
+   * active, there is no such tile layer, or the rectangle leaves the map.
    */
-  cells(layer: number, x: number, y: number, width: number, height: number): Uint32Array | null;
+  cells(layer: number | Layer, x: number, y: number, width: number, height: number): Uint32Array | null;
   /**
    * The id of the first layer of that name, in drawing order, groups and what stands in them too. Throws
    * RangeError where there is none.

@@ -3,14 +3,15 @@
 //
 //   const editor = await Editor.create({ limit: 0 });
 //   editor.step("new town 4 3 16 16 town.tsj");
-import { originOf, restored } from "./tiled_maps.js";
+import { noteOf, originOf, restored } from "./tiled_maps.js";
 import { joined } from "./bytes.js";
 import { Document } from "./document.js";
 import { Closed, NoMemory, Refused } from "./faults.js";
 import { MAX_LIMIT } from "./limits.js";
-import { BAD_NAME, DONE, Module, NONE, bytesOf, textOf } from "./module.js";
+import { faultOfFile, faultOfNoJson, isOfMap } from "./map_faults.js";
+import { BAD_NAME, DONE, Module, NONE, OWNERS, bytesOf, textOf } from "./module.js";
 import { Unpackable, packLayers, unpackLayers } from "./compressed_layers.js";
-import { drawn } from "./outline.js";
+import { Layer } from "./views.js";
 import * as words from "./words.js";
 
 export { Document } from "./document.js";
@@ -27,20 +28,11 @@ export { Layer, Layers, MapObject, Objects } from "./views.js";
 const SPARE = 65536;
 // The largest outline for which there is room before its size is known.
 const LONGEST_GUESS = 16 * 1024 * 1024;
-// What `show` begins with, and two refusals.
+// What `show` begins with, and a refusal.
 const MAP = "map ";
 const STORE_FAILED = 51;
-const COMPRESSED = 65;
 // The bytes of a refusal are fewer.
 const LONGEST_REFUSAL = 200;
-// Lines that leave the outline of each open document as it is: questions, edits of cells and of the selection,
-// with a `+` too, and what is about steps and saves. The outline has no cells, no selection and no steps.
-// Undo, redo and goto may change it; an `open` does not, but where something is set aside for it outlines are
-// read otherwise from then on.
-const KEEPING = new RegExp(
-  "^(?:stamp|erase|fill |select |tile |show|text |status|undotext|redotext|list|clean|dirty|clear|limit |begin |end|"
-  + "save |use |new )",
-);
 // Lines that may make another document active.
 const ACTIVATION = /^(?:use|new|open|close|discard) /;
 // A line that closes a document, and one that has no reply.
@@ -50,7 +42,9 @@ const REFUSAL = /^no (\d+) (.*)$/s;
 // The bytes of the library's own handle of an editor, and of a run of the selection.
 const EDITOR_BYTES = 16;
 const RUN_BYTES = 12;
-const CELL_BYTES = 4;
+// The numbers of 32 bits of a document's status.
+const STATUS_NUMBERS = 10;
+const NUMBER_BYTES = 4;
 // The characters of lines that are handed on at once.
 const PART = 20_000;
 
@@ -70,12 +64,11 @@ export class Editor {
       throw new RangeError(`a limit is from 0 to ${MAX_LIMIT}: ${limit}`);
     }
     this._module = module;
-    // The open documents that were handed out, by their names; the outline of one that nothing has changed
-    // since, and the one that a call has made active and that no line has changed since, where there are such.
+    // The open documents that were handed out, by their names; and the one that is known to be active, while no
+    // line has changed that.
     this._handles = new Map();
     // The names of those that are being opened.
     this._opening = new Set();
-    this._keptOutline = null;
     this._activeHandle = null;
     // About how many bytes an outline has: as many as the last one, or as the file that was opened.
     this._outlineSize = 0;
@@ -100,7 +93,7 @@ export class Editor {
   /** Gives back its memory. Twice is harmless. */
   close() {
     const [module, cEditor] = [this._module, this._cEditor];
-    Object.assign(this, { _cEditor: 0, _keptOutline: null, _activeHandle: null });
+    Object.assign(this, { _cEditor: 0, _activeHandle: null });
     if (cEditor !== 0 && !module.isBroken) {
       module.calls.close(cEditor);
       module.giveBack(cEditor);
@@ -124,7 +117,7 @@ export class Editor {
   /** Does what a line asks for, and gives the reply, "" where the line is quiet. Throws Refused. */
   step(line) {
     const [call, again] = this._callsFor(line);
-    this._dropOutdated(line);
+    this._noteActivation(line);
     const reply = this._module.copyText(call, again) ?? "";
     this._forgetIfClosed(line, reply);
     const refusal = reply.startsWith("no ") && REFUSAL.exec(reply);
@@ -141,7 +134,7 @@ export class Editor {
   stepBytes(line) {
     const [call, again] = this._callsFor(line);
     const text = this._handles.size > 0 ? textOf(bytesOf(line)) : "";
-    this._dropOutdated(text);
+    this._noteActivation(text);
     const reply = this._module.copyBytes(call, again);
     if (reply !== null) {
       this._forgetIfClosed(text, textOf(reply.subarray(0, 3)));
@@ -170,7 +163,7 @@ export class Editor {
     if (lines.some((line) => line.includes("\n"))) {
       throw new RangeError("a line has no newline in it");
     }
-    lines.forEach((line) => this._dropOutdated(line));
+    lines.forEach((line) => this._noteActivation(line));
     const replies = [];
     const take = (bytes) => replies.push(...textOf(bytes).split("\n").slice(0, -1));
     let done = 0;
@@ -194,7 +187,7 @@ export class Editor {
    */
   runBytes(session) {
     const parts = [];
-    Object.assign(this, { _keptOutline: null, _activeHandle: null });
+    this._activeHandle = null;
     this._run(session, false, (bytes) => parts.push(bytes.slice()));
     const all = joined(parts);
     this._forgetClosedBySession(session, all);
@@ -271,10 +264,30 @@ export class Editor {
   async _opened(name, data, call) {
     this._open();
     const given = bytesOf(data);
-    const { bytes, why } = await withCode(call, unpackLayers(given));
-    const text = this._made("set_aside", bytes, call);
+    const unpacked = await this._unpacked(given, call);
+    const text = this._made("set_aside", unpacked.bytes, call);
     this._hasSetAside ||= text !== given;
-    return this._openBytes(name, text, call, why);
+    try {
+      return this._openBytes(name, text, call);
+    } catch (fault) {
+      if (fault instanceof Refused && isOfMap(fault.code)) {
+        throw refusedFile(faultOfFile(this._module, fault, given, unpacked), call);
+      }
+      throw fault;
+    }
+  }
+
+  // What is unpacked of a file. Throws Refused with the call.
+  async _unpacked(given, call) {
+    try {
+      return await unpackLayers(given);
+    } catch (fault) {
+      if (fault instanceof Unpackable) {
+        const first = faultOfNoJson(this._module, given);
+        throw first ? refusedFile(first, call) : refusedCall(fault.code, "store failed", call, fault.why);
+      }
+      throw fault;
+    }
   }
 
   /**
@@ -303,12 +316,11 @@ export class Editor {
   }
 
   // The reply to a line that a call says. Throws Refused with the call.
-  _replyTo(line, call, why = null) {
+  _replyTo(line, call) {
     const reply = this.stepBytes(line);
     const refusal = REFUSAL.exec(textOf(reply.subarray(0, LONGEST_REFUSAL)));
     if (refusal) {
-      const code = Number(refusal[1]);
-      throw refusedCall(code, refusal[2], call, code === COMPRESSED ? why : null);
+      throw refusedCall(Number(refusal[1]), refusal[2], call);
     }
     return reply;
   }
@@ -323,14 +335,14 @@ export class Editor {
   }
 
   // Opens bytes, which stand among the files under a free name meanwhile.
-  _openBytes(document, bytes, call, why) {
+  _openBytes(document, bytes, call) {
     const taken = new Set(this.files());
     const names = Array.from({ length: taken.size + 1 }, (_, at) => `roskevad${at}.tmj`);
     const name = names.find((each) => !taken.has(each));
     this.putFile(name, bytes);
     this._outlineSize = Math.min(bytes.length, LONGEST_GUESS);
     try {
-      return textOf(this._replyTo(`open ${document} ${name}`, call, why));
+      return textOf(this._replyTo(`open ${document} ${name}`, call));
     } finally {
       if (!this._module.isBroken) {
         this.removeFile(name);
@@ -340,8 +352,8 @@ export class Editor {
 
   // The name of the active document, or "-".
   _activeName() {
-    const names = this.step("list").split(" ");
-    return names.find((name) => name.startsWith("*"))?.slice(1) ?? "-";
+    const at = this._number("active");
+    return at === null ? "-" : this._nameAt(at);
   }
 
   // Leaves no index of a document clean, if it is still there.
@@ -373,8 +385,11 @@ export class Editor {
    * [0, 0] of a map that was not infinite. Throws Refused.
    */
   origin() {
-    const tree = JSON.parse(this._outlineText("origin()"));
-    return this._hasSetAside ? originOf(tree) : [0, 0];
+    const head = this._parsed("map_head");
+    if (head === null) {
+      throw noDocument("origin()");
+    }
+    return this._hasSetAside ? originOf(noteOf(head)) : [0, 0];
   }
 
   _outlineText(asked) {
@@ -390,20 +405,19 @@ export class Editor {
   // The tree of a text, in which nothing is set aside.
   _tree(text) {
     const tree = JSON.parse(text);
-    return this._hasSetAside ? restored(tree) : tree;
+    return this._hasSetAside ? restored(tree, noteOf(tree)) : tree;
   }
 
   /**
-   * The cells of a rectangle of the tile layer with this id, row by row; null where no document is
-   * active, no tile layer has that id, or the rectangle leaves the map.
+   * The cells of a rectangle of a tile layer, or the one with this id, row by row; null where no document is
+   * active, there is no such tile layer, or the rectangle leaves the map.
    */
   cells(layer, x, y, width, height) {
-    if (![layer, x, y, width, height].every(isCount)) {
+    const id = layer instanceof Layer ? layer.id : layer;
+    if (![id, x, y, width, height].every(isCount)) {
       return null;
     }
-    const call = (to, room) => this._call("cells", layer, x, y, width, height, to, room);
-    const bytes = this._module.copyBytes(call, call, CELL_BYTES);
-    return bytes && new Uint32Array(bytes.buffer);
+    return this._numbers(1, "cells", id, x, y, width, height);
   }
 
   /**
@@ -411,13 +425,29 @@ export class Editor {
    * RangeError where there is none.
    */
   layerId(name) {
-    return idOf(drawn(this.outline().layers), name);
+    return this._firstId("layer", name);
   }
 
   /** The id of the first object of that name, in drawing order. Throws RangeError where there is none. */
   objectId(name) {
-    const layers = [...drawn(this.outline().layers)];
-    return idOf(layers.flatMap((layer) => layer.objects ?? []), name);
+    return this._firstId("object", name);
+  }
+
+  _firstId(subject, name) {
+    const id = this._find(subject, name);
+    if (id === null) {
+      const isNone = this._number("active") === null;
+      throw isNone ? noDocument(`${subject}Id()`) : new RangeError(`nothing has the name ${name}`);
+    }
+    return id;
+  }
+
+  // The id of the first layer or object of a name; null where there is none.
+  _find(subject, name) {
+    if (!words.isWhole(name)) {
+      return null;
+    }
+    return this._module.given(name, (at, size) => this._number("find", OWNERS[subject], at, size));
   }
 
   /** The id of the layer that was added last: the next id less one. Throws Refused. */
@@ -514,7 +544,8 @@ export class Editor {
   /** The active document; null where none is. Set, it makes a document active, or none. */
   get active() {
     const name = this._activeName();
-    return name === "-" ? null : this._handle(name);
+    this._activeHandle = name === "-" ? null : this._handle(name);
+    return this._activeHandle;
   }
 
   set active(document) {
@@ -528,7 +559,18 @@ export class Editor {
   }
 
   _names() {
-    return this.step("list").split(" ").slice(1).map((name) => name.replace("*", ""));
+    return Array.from({ length: this._call("document_count") }, (_, at) => this._nameAt(at));
+  }
+
+  _nameAt(at) {
+    return this._module.copyText((to, room) => this._call("document_name", at, to, room));
+  }
+
+  // How the document at a place stands.
+  _statusOf(at) {
+    const numbers = this._module.numbers(STATUS_NUMBERS, (to) => this._call("status_of", at, to));
+    const [index, , count, , depth, , isClean] = numbers;
+    return Object.freeze({ index, count, clean: isClean === 1, depth });
   }
 
   // What work gives, with the same document active behind it.
@@ -537,7 +579,10 @@ export class Editor {
     try {
       return work();
     } finally {
-      this.step(`use ${active}`);
+      if (this._activeName() !== active) {
+        this.step(`use ${active}`);
+        this._activeHandle = this._handles.get(active) ?? null;
+      }
     }
   }
 
@@ -549,11 +594,8 @@ export class Editor {
     return this._handles.get(name);
   }
 
-  // Drops what is known of documents and a line may change, before it is done.
-  _dropOutdated(line) {
-    if (this._handles.size > 0 && !KEEPING.test(line)) {
-      this._keptOutline = null;
-    }
+  // Notes that a line may make another document active, before it is done.
+  _noteActivation(line) {
     if (this._handles.size > 0 && ACTIVATION.test(line)) {
       this._activeHandle = null;
     }
@@ -585,6 +627,24 @@ export class Editor {
       const lines = textOf(bytesOf(session)).split("\n").filter((line) => !QUIET.test(line));
       this._forgetClosed(lines.filter((_, at) => answers[at]?.startsWith("ok ")));
     }
+  }
+
+  // What a call says of a thing in JSON; null where there is no such thing.
+  _parsed(name, ...words) {
+    const text = this._module.copyText((to, room) => this._call(name, ...words, to, room));
+    return text === null ? null : JSON.parse(text);
+  }
+
+  // The numbers of 32 bits that a call copies, which counts items of so many; null where there are none.
+  _numbers(each, name, ...words) {
+    const call = (to, room) => this._call(name, ...words, to, room);
+    const bytes = this._module.copyBytes(call, call, each * NUMBER_BYTES);
+    return bytes && new Uint32Array(bytes.buffer);
+  }
+
+  // How many items a call would copy; null where there are none.
+  _count(name, ...words) {
+    return this._module.count((to, room) => this._call(name, ...words, to, room));
   }
 
   // The number that a call answers, or null.
@@ -619,26 +679,9 @@ function refusedCall(code, words, call, why = null) {
   return new Refused(code, words, call, null, [], { isCall: true, why });
 }
 
-// What work on a packed map gives. Throws Refused with the call.
-async function withCode(call, work) {
-  try {
-    return await work;
-  } catch (fault) {
-    if (fault instanceof Unpackable) {
-      const words = fault.code === STORE_FAILED ? "store failed" : "bad data";
-      throw refusedCall(fault.code, words, call, fault.why);
-    }
-    throw fault;
-  }
-}
-
-function idOf(parts, name) {
-  for (const part of parts) {
-    if (part.name === name) {
-      return part.id;
-    }
-  }
-  throw new RangeError(`nothing has the name ${name}`);
+// A file that is read and refused, as map_faults.js tells it.
+function refusedFile({ code, words, why, placeInMap }, call) {
+  return new Refused(code, words, call, null, [], { isCall: true, why, placeInMap });
 }
 
 /** Whether a value is a number from 0 that a call can be given. */

@@ -7,26 +7,15 @@ const RESERVED = "roskevad";
 const MOVED = [["x", "movedx"], ["y", "movedy"], ["width", null], ["height", null]];
 const HALF = 2 ** 32;
 
-/** The tree of a map in which fractions are numbers again, and no note is left. The tree itself is changed. */
-export function restored(tree) {
-  return restoredValue(tree, infiniteNote(tree));
-}
-
-/** The column and the row of an infinite map where the corner of the finite one lies; [0, 0] of any other. */
-export function originOf(tree) {
-  const { x = 0, y = 0 } = infiniteNote(tree);
-  return [x, y];
-}
-
-function infiniteNote(tree) {
-  return tree[RESERVED]?.infinite ?? {};
-}
-
-function restoredValue(value, note) {
+/**
+ * The tree of a map, or of a thing of it, in which fractions are numbers again, and no note is left. The tree
+ * itself is changed. `note` is that of the map.
+ */
+export function restored(value, note) {
   if (Array.isArray(value)) {
     for (let at = 0; at < value.length; at++) {
       if (typeof value[at] === "object") {
-        value[at] = restoredValue(value[at], note);
+        value[at] = restored(value[at], note);
       }
     }
     return value;
@@ -34,9 +23,31 @@ function restoredValue(value, note) {
   return value !== null && typeof value === "object" ? restoredMembers(value, note) : value;
 }
 
+/** The layers in drawing order, those that stand in a group behind it. */
+export function* drawn(layers) {
+  for (const layer of layers) {
+    yield layer;
+    // A layer of another kind may have any member of that name.
+    yield* drawn(layer.type === "group" ? layer.layers : []);
+  }
+}
+
+/**
+ * What the tree of a map, or its head, says of how an infinite map was made finite; nothing of any other map.
+ * No edit changes it.
+ */
+export function noteOf(tree) {
+  return tree[RESERVED]?.infinite ?? {};
+}
+
+/** The column and the row of an infinite map where the corner of the finite one lies; [0, 0] of any other. */
+export function originOf({ x = 0, y = 0 }) {
+  return [x, y];
+}
+
 function restoredMembers(members, note) {
   for (const [name, value] of Object.entries(members)) {
-    const exact = restoredValue(value, note);
+    const exact = restored(value, note);
     if (exact !== value) {
       put(members, name, exact);
     }

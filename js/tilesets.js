@@ -25,8 +25,8 @@ export class Tileset {
   }
 
   get _members() {
-    const members = this._document._look((outline) => outline.tilesets.get(this.firstId));
-    if (members === undefined) {
+    const members = this._document._read("tileset", this.firstId);
+    if (members === null) {
       throw new Refused(36, "no such tileset", this.toString());
     }
     return members;
@@ -57,6 +57,11 @@ export class Tileset {
     this._document._edit(`tileset remove ${this.firstId}`);
   }
 
+  /** Its first id. */
+  valueOf() {
+    return this.firstId;
+  }
+
   toString() {
     return `Tileset ${this.firstId} of ${this._document.name}`;
   }
@@ -67,9 +72,10 @@ export class Tileset {
 }
 
 /** The tile that a value, which is not 0, stands for. */
-export function tileOf(document, outline, value) {
+export function tileOf(document, value) {
   const base = (value & BASE) >>> 0;
-  const first = outline.tilesetOf(base);
+  const firsts = document._ids("tilesets").filter((each) => each <= base);
+  const first = firsts.length > 0 ? Math.max(...firsts) : null;
   const flips = Object.entries(FLAGS).map(([name, bit]) => [name, (value & bit) !== 0]);
   return Object.freeze({
     value,
@@ -87,14 +93,14 @@ export class Tilesets {
   }
 
   *[Symbol.iterator]() {
-    for (const first of this._document._look((outline) => [...outline.tilesets.keys()])) {
+    for (const first of this._document._ids("tilesets")) {
       yield new Tileset(this._document, first);
     }
   }
 
   /** The number of tilesets. */
   get size() {
-    return this._document._look((outline) => outline.tilesets.size);
+    return this._document._sizes.tilesets;
   }
 
   /** The first one in order; null where the map has none. */
@@ -103,21 +109,27 @@ export class Tilesets {
     return first;
   }
 
+  // The first id of what a key stands for; null where there is no such tileset.
   _found(key) {
-    return this._document._look((outline) => {
-      if (typeof key === "number") {
-        return outline.tilesets.has(key) ? key : null;
-      }
-      const found = [...outline.tilesets.values()].find((each) => (each.source ?? each.name) === key);
-      return found?.firstgid ?? null;
-    });
+    const document = this._document;
+    if (key instanceof Tileset) {
+      return key._document === document ? this._found(key.firstId) : null;
+    }
+    if (typeof key === "number") {
+      return words.isId(key) && document._count("tileset", key) !== null ? key : null;
+    }
+    const named = (first) => {
+      const members = document._read("tileset", first);
+      return (members.source ?? members.name) === key;
+    };
+    return document._ids("tilesets").find(named) ?? null;
   }
 
   /** The tileset with a first id, or the first with a source or a name. Throws RangeError. */
   get(key) {
     const first = this._found(key);
     if (first === null) {
-      throw new RangeError(`there is no tileset ${JSON.stringify(key)}`);
+      throw new RangeError(`there is no tileset ${words.quoted(key)}`);
     }
     return new Tileset(this._document, first);
   }
@@ -127,10 +139,10 @@ export class Tilesets {
     return this._found(key) !== null;
   }
 
-  /** Adds a tileset by the path of its file from the folder of the map, last, and gives its first id. */
+  /** Adds a tileset by the path of its file from the folder of the map, last, and gives it. */
   add(firstId, source) {
     const first = words.number(firstId, "the first id of a tileset");
     this._document._edit(`tileset add ${first} ${words.text(source, "the source of a tileset")}`);
-    return first;
+    return new Tileset(this._document, first);
   }
 }

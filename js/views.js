@@ -1,13 +1,13 @@
 // SPDX-License-Identifier: MIT OR Apache-2.0
 // The layers of a document, and their objects, as they are at each call.
 import { Refused } from "./faults.js";
+import { KINDS } from "./module.js";
 import { Properties } from "./properties.js";
-import { drawn } from "./outline.js";
 import { tileOf } from "./tilesets.js";
 import * as words from "./words.js";
 
 // The kinds of layers, by the words of Tiled's files, and those that a line adds.
-const KINDS = { tilelayer: "tile", objectgroup: "object", group: "group", imagelayer: "image" };
+const TYPES = { tilelayer: "tile", objectgroup: "object", group: "group", imagelayer: "image" };
 const ADDED = ["tile", "object"];
 const INSPECT = Symbol.for("nodejs.util.inspect.custom");
 
@@ -25,13 +25,14 @@ class View {
     return this._document;
   }
 
-  /** All that the map's file says of it, without cells: a copy. */
+  /** All that the map says of it, without cells: a copy. */
   get members() {
-    return JSON.parse(JSON.stringify(this._members));
+    return this._now;
   }
 
-  get _members() {
-    return this._document._look((outline) => this._has(outline));
+  /** Its id. */
+  valueOf() {
+    return this.id;
   }
 
   [INSPECT]() {
@@ -48,60 +49,65 @@ export class MapObject extends View {
     return this.id;
   }
 
-  _has(outline) {
-    const members = outline.objects.get(this.id);
-    if (members === undefined) {
-      throw new Refused(34, "no such object", `MapObject ${this.id}`);
+  get _now() {
+    const members = this._document._read("object", this.id);
+    if (members === null) {
+      throw this._missing();
     }
     return members;
   }
 
+  _missing() {
+    return new Refused(34, "no such object", `MapObject ${this.id}`);
+  }
+
   get layer() {
-    const id = this._document._look((outline) => [this._has(outline), outline.layerOf.get(this.id)][1]);
+    const id = this._document._number("object_layer", this.id);
+    if (id === null) {
+      throw this._missing();
+    }
     return new Layer(this._document, id);
   }
 
   get name() {
-    return this._members.name;
+    return this._now.name;
   }
 
   get type() {
-    return this._members.type ?? "";
+    return this._now.type ?? "";
   }
 
   get isPoint() {
-    return this._members.point === true;
+    return this._now.point === true;
   }
 
   get x() {
-    return this._members.x;
+    return this._now.x;
   }
 
   get y() {
-    return this._members.y;
+    return this._now.y;
   }
 
   get width() {
-    return this._members.width;
+    return this._now.width;
   }
 
   get height() {
-    return this._members.height;
+    return this._now.height;
   }
 
   get visible() {
-    return this._members.visible;
+    return this._now.visible;
   }
 
   get tile() {
-    return this._document._look((outline) => {
-      const { gid } = this._has(outline);
-      return gid ? tileOf(this._document, outline, gid) : null;
-    });
+    const { gid } = this._now;
+    return gid ? tileOf(this._document, gid) : null;
   }
 
   get properties() {
-    return new Properties(this._document, `object:${this.id}`, (outline) => this._has(outline));
+    return new Properties(this._document, "object", this);
   }
 
   move(x, y, { merge = false } = {}) {
@@ -119,7 +125,7 @@ export class MapObject extends View {
   }
 
   toString() {
-    const members = this._document._peek((outline) => this._has(outline));
+    const members = this._document._peek(() => this._now);
     return members ? `MapObject ${this.id} ${members.name} at ${members.x}, ${members.y}` : `MapObject ${this.id}`;
   }
 }
@@ -138,14 +144,14 @@ for (const [name, why] of Object.entries(NOT_SET)) {
   Object.defineProperty(MapObject.prototype, name, { get, set });
 }
 
-/** The part with an id, or the first of a name; null where there is none. */
-function foundIn(parts, key) {
-  const found = parts.find((each) => (typeof key === "number" ? each.id : each.name) === key);
-  return found?.id ?? null;
+/** The first of these layers or objects that has a name: each is looked at. Null where there is none. */
+function firstNamed(document, subject, ids, name) {
+  return ids.find((id) => document._read(subject, id).name === name) ?? null;
 }
 
-function missing(kind, key) {
-  return new RangeError(`there is no ${kind} ${JSON.stringify(key)}`);
+/** What is thrown where there is nothing that a key stands for. */
+export function missing(kind, key) {
+  return new RangeError(`there is no ${kind} ${words.quoted(key)}`);
 }
 
 /** The objects of a layer, or of a whole document: in drawing order, by id or by name. */
@@ -156,24 +162,40 @@ export class Objects {
     Object.freeze(this);
   }
 
-  get _all() {
-    return this._document._look((outline) =>
-      this._layer === null ? [...outline.objects.values()] : outline.layers.get(this._layer)?.objects ?? [],
-    );
+  get _ids() {
+    return this._document._ids("object_ids", this._layer ?? 0);
   }
 
   *[Symbol.iterator]() {
-    for (const { id } of this._all) {
+    for (const id of this._ids) {
       yield new MapObject(this._document, id);
     }
   }
 
   get size() {
-    return this._all.length;
+    return this._document._count("object_ids", this._layer ?? 0) ?? 0;
+  }
+
+  // The id of what a key stands for; null where there is no such object here.
+  _found(key) {
+    if (key instanceof MapObject) {
+      return key.document === this._document ? this._found(key.id) : null;
+    }
+    if (typeof key === "string") {
+      const id = this._document._find("object", key);
+      const isHere = id === null || this._layer === null || this._has(id);
+      return isHere ? id : firstNamed(this._document, "object", this._ids, key);
+    }
+    return words.isId(key) && this._has(key) ? key : null;
+  }
+
+  _has(id) {
+    const layer = this._document._number("object_layer", id);
+    return layer !== null && (this._layer === null || this._layer === layer);
   }
 
   get(key) {
-    const id = foundIn(this._all, key);
+    const id = this._found(key);
     if (id === null) {
       throw missing("object", key);
     }
@@ -181,7 +203,7 @@ export class Objects {
   }
 
   has(key) {
-    return foundIn(this._all, key) !== null;
+    return this._found(key) !== null;
   }
 
   add(name, x, y, width = 0, height = 0) {
@@ -191,7 +213,8 @@ export class Objects {
     const where = `${words.coordinate(x, "x")} ${words.coordinate(y, "y")}`;
     const size = `${words.number(width, "a width")} ${words.number(height, "a height")}`;
     const said = words.text(name, "the name of an object");
-    return this._document._add("object", `object add ${this._layer} ${where} ${size} ${said}`);
+    const id = this._document._add("object", `object add ${this._layer} ${where} ${size} ${said}`);
+    return new MapObject(this._document, id);
   }
 }
 
@@ -200,20 +223,39 @@ export class Objects {
  * call throws Refused, 30.
  */
 export class Layer extends View {
-  _has(outline) {
-    const members = outline.layers.get(this.id);
-    if (members === undefined) {
-      throw new Refused(30, "no such layer", `Layer ${this.id}`);
+  // What the map says of it, without what is in it.
+  get _now() {
+    const members = this._document._read("layer", this.id);
+    if (members === null) {
+      throw this._missing();
+    }
+    return members;
+  }
+
+  _missing() {
+    return new Refused(30, "no such layer", `Layer ${this.id}`);
+  }
+
+  get members() {
+    const [members, document] = [this._now, this._document];
+    if (members.type === "tilelayer") {
+      const { width, height } = document._sizes;
+      const encoding = document._encodingOf(this.id);
+      Object.assign(members, { width, height }, encoding === undefined ? {} : { encoding });
+    } else if (members.type === "objectgroup") {
+      members.objects = document._ids("object_ids", this.id).map((id) => document._read("object", id));
+    } else if (members.type === "group") {
+      members.layers = this.layers._below.map(({ id }) => new Layer(document, id).members);
     }
     return members;
   }
 
   get kind() {
-    return KINDS[this._members.type];
+    return TYPES[this._now.type];
   }
 
   get name() {
-    return this._members.name;
+    return this._now.name;
   }
 
   set name(name) {
@@ -221,7 +263,7 @@ export class Layer extends View {
   }
 
   get visible() {
-    return this._members.visible;
+    return this._now.visible;
   }
 
   set visible(visible) {
@@ -237,7 +279,7 @@ export class Layer extends View {
   }
 
   get properties() {
-    return new Properties(this._document, `layer:${this.id}`, (outline) => this._has(outline));
+    return new Properties(this._document, "layer", this);
   }
 
   cells(x = 0, y = 0, width = null, height = null) {
@@ -253,7 +295,7 @@ export class Layer extends View {
 
   tile(x, y) {
     const [value] = this._document._cellsOf(this, x, y, 1, 1).cells;
-    return value === 0 ? null : this._document._look((outline) => tileOf(this._document, outline, value));
+    return value === 0 ? null : tileOf(this._document, value);
   }
 
   move(place) {
@@ -265,8 +307,8 @@ export class Layer extends View {
   }
 
   toString() {
-    const members = this._document._peek((outline) => this._has(outline));
-    return members ? `Layer ${this.id} ${KINDS[members.type]} ${members.name}` : `Layer ${this.id}`;
+    const members = this._document._peek(() => this._now);
+    return members ? `Layer ${this.id} ${TYPES[members.type]} ${members.name}` : `Layer ${this.id}`;
   }
 }
 
@@ -278,13 +320,22 @@ export class Layers {
     Object.freeze(this);
   }
 
+  // All of them, with those in groups. Throws Refused where the group was removed.
+  get _walked() {
+    const rows = this._document._layerRows;
+    if (this._group === null) {
+      return rows;
+    }
+    if (!rows.some((row) => row.id === this._group)) {
+      throw new Refused(30, "no such layer", `Layers of ${this._group}`);
+    }
+    const groups = new Set([this._group]);
+    return rows.filter((row) => groups.has(row.parent) && groups.add(row.id));
+  }
+
+  // Those that stand in no other group.
   get _below() {
-    return this._document._look((outline) => {
-      if (this._group !== null && !outline.layers.has(this._group)) {
-        throw new Refused(30, "no such layer", `Layers of ${this._group}`);
-      }
-      return outline.below(this._group);
-    });
+    return this._walked.filter((row) => row.parent === (this._group ?? 0));
   }
 
   *[Symbol.iterator]() {
@@ -294,7 +345,7 @@ export class Layers {
   }
 
   *walk() {
-    for (const { id } of [...drawn(this._below)]) {
+    for (const { id } of this._walked) {
       yield new Layer(this._document, id);
     }
   }
@@ -303,8 +354,27 @@ export class Layers {
     return this._below.length;
   }
 
+  // The id of what a key stands for; null where there is no such layer here.
+  _found(key) {
+    if (key instanceof Layer) {
+      return key.document === this._document ? this._found(key.id) : null;
+    }
+    if (typeof key === "string") {
+      const id = this._document._find("layer", key);
+      const isHere = id === null || this._group === null || this._has(id);
+      return isHere ? id : firstNamed(this._document, "layer", this._walked.map((row) => row.id), key);
+    }
+    return words.isId(key) && this._has(key) ? key : null;
+  }
+
+  _has(id) {
+    return this._group === null
+      ? this._document._count("layer", id) !== null
+      : this._walked.some((row) => row.id === id);
+  }
+
   get(key) {
-    const id = foundIn([...drawn(this._below)], key);
+    const id = this._found(key);
     if (id === null) {
       throw missing("layer", key);
     }
@@ -312,13 +382,15 @@ export class Layers {
   }
 
   has(key) {
-    return foundIn([...drawn(this._below)], key) !== null;
+    return this._found(key) !== null;
   }
 
   find(name, kind) {
     const said = words.oneOf(kind, Object.values(KINDS), "the kind of a layer");
-    const found = [...drawn(this._below)].find((each) => each.name === name && KINDS[each.type] === said);
-    return found === undefined ? null : new Layer(this._document, found.id);
+    const first = this._document._find("layer", name);
+    const ids = this._walked.filter((row) => KINDS[row.kind] === said).map((row) => row.id);
+    const id = first === null || ids.includes(first) ? first : firstNamed(this._document, "layer", ids, name);
+    return id === null ? null : new Layer(this._document, id);
   }
 
   add(kind, name) {
@@ -326,6 +398,7 @@ export class Layers {
       throw new RangeError("no line adds a layer to a group: document.layers.add(..)");
     }
     const said = words.oneOf(kind, ADDED, "the kind of a layer that is added");
-    return this._document._add("layer", `layer add ${said} ${words.text(name, "the name of a layer")}`);
+    const id = this._document._add("layer", `layer add ${said} ${words.text(name, "the name of a layer")}`);
+    return new Layer(this._document, id);
   }
 }

@@ -20,8 +20,18 @@ function shown(word) {
 }
 
 /** A value as a fault quotes it. */
-function quoted(value) {
+export function quoted(value) {
   return typeof value === "string" ? shown(value) : String(value).slice(0, SHOWN);
+}
+
+/** Whether a value is a text without half of a character: what has a name in a map may have it. */
+export function isWhole(word) {
+  return typeof word === "string" && !HALF.test(word);
+}
+
+/** Whether a value is a number that can be an id. */
+export function isId(value) {
+  return Number.isInteger(value) && value >= 0 && value <= MAX_NUMBER;
 }
 
 /** A text that a line can have. Throws TypeError where it is none, RangeError where no line can say it. */

@@ -18,10 +18,11 @@ import threading
 from pathlib import Path
 
 from lib.cases import Case, check_each, raised, unlike
+from lib.maps import group, map_of, packed, text_of, things, tiles
 from lib.places import EXAMPLE_MAPS, TOP
 
 sys.path.insert(0, str(TOP / 'python'))
-from roskevad import Closed, Editor, Refused, library  # noqa: E402
+from roskevad import Closed, Editor, Refused, Status, library  # noqa: E402
 from roskevad.forms import FORMS  # noqa: E402
 from roskevad.library import LIBRARY  # noqa: E402
 
@@ -208,25 +209,96 @@ class Calls:
             setattr(LIBRARY, f'roskevad_{name}', function)
 
 
+def with_objects(editor):
+    """A document with 1,000 objects."""
+    document = editor.new('a', 100, 100, 16, 16, 'a.tsj')
+    things = document.layers.add('object', 'Things')
+    editor.run_lines(f'object add {things.id} {at} 0 8 8 thing' for at in range(1000))
+    return document
+
+
 def test_loops_of_stamps():
-    """Stamps by the name of a layer, and strokes, on a map of 1,000 objects: the outline is asked for once, and each stamp is one line,
-    in a stroke with what tells whether it is a step."""
+    """Stamps by the name of a layer, and strokes, on a map of 1,000 objects: each is a look-up of the name and one line, in a stroke
+    with what tells whether it is a step."""
     with Editor() as editor:
-        document = editor.new('a', 100, 100, 16, 16, 'a.tsj')
-        things = document.layers.add('object', 'Things')
-        editor.run_lines(f'object add {things} {at} 0 8 8 thing' for at in range(1000))
+        document = with_objects(editor)
         with Calls(editor) as calls:
             for at in range(1000):
                 document.stamp('Tile Layer 1', at % 100, at // 100, [[5]])
-        # Once more, with room for it.
-        see({'outline': 2, 'step': 1000}, dict(+calls.counts))
+        see({'find': 1000, 'step': 1000}, dict(+calls.counts))
         with Calls(editor) as calls:
             for at in range(100):
                 with document.stroke():
                     document.stamp('Tile Layer 1', at, 20, [[6]])
                     document.stamp('Tile Layer 1', at, 21, [[6]])
-        see({'step': 400, 'cells': 400}, dict(+calls.counts))
+        see({'find': 200, 'sizes_of_map': 100, 'step': 200, 'cells': 400, 'active': 200, 'status_of': 200}, dict(+calls.counts))
         see(1100 + 1001, document.status.count)
+
+
+def test_loops_of_objects():
+    """Objects that are moved, that get properties, that are added and looked up, on a map of 1,000: each is a few calls, and none
+    reads the whole map."""
+    with Editor() as editor:
+        document = with_objects(editor)
+        with Calls(editor) as calls:
+            for each in document.objects:
+                each.move(int(each.x) + 1, int(each.y))
+        see({'object_ids': 1, 'object': 2000, 'step': 1000}, dict(+calls.counts))
+        with Calls(editor) as calls:
+            for each in document.objects:
+                each.properties['team'] = 1
+        see({'object_ids': 1, 'property': 1000, 'step': 1000}, dict(+calls.counts))
+        with Calls(editor) as calls:
+            for at in range(1000):
+                document.layers['Things'].objects.add('door', at, 9).properties['open'] = True
+        see({'find': 1000, 'next_object_id': 1000, 'property': 1000, 'step': 2000}, dict(+calls.counts))
+        with Calls(editor) as calls:
+            found = [document.objects[at] for at in range(1, 1001)] + [document.objects['door'] for _ in range(1000)]
+        see({'object_layer': 1000, 'find': 1000}, dict(+calls.counts))
+        see(({1001}, 5001), ({each.id for each in found[1000:]}, document.status.count))
+
+
+def test_what_needs_no_document():
+    """How documents stand is read without making one active."""
+    with Editor() as editor:
+        first, second = made(editor), made(editor, 'b')
+        first.stamp(1, 0, 0, [[5]])
+        with Calls(editor) as calls:
+            see((['a'], ['a', 'b'], first), (editor.unsaved(), list(editor.documents), editor.active))
+        see({'document_count', 'document_name', 'status_of', 'active'}, {*+calls.counts})
+        with Calls(editor) as calls:
+            see(Status(0, 0, True, 0), second.status)
+        see({'active': 2, 'document_name': 1, 'step': 1, 'status_of': 1}, dict(+calls.counts))
+        # What tells of a document says `use` where another one is active, and behind it once more.
+        for document, count in ((second, 1), (first, 3), (second, 1)):
+            with Calls(editor) as calls:
+                repr(document)
+            see((count, second), (calls.counts['step'], editor.active))
+
+
+def test_how_cells_are_written():
+    """A tile layer whose cells are in base64 in the file says so, also where it was removed and is there again. The outline, which
+    tells it, is read once, and once more where a layer is new."""
+    with Editor() as editor:
+        layers = [tiles(number, data=packed([number, 0]), encoding='base64') for number in (1, 4)]
+        document = editor.open(text_of(map_of(layers[0], tiles(2, layers=[5]), group(3, layers[1]), things(5, layers=None))))
+
+        def written():
+            with Calls(editor) as calls:
+                members = {layer.id: layer.members for layer in document.layers.walk() if layer.kind == 'tile'}
+            return {number: each.get('encoding') for number, each in members.items()}, calls.counts['outline']
+
+        document.layers[4].remove()
+        added = document.layers.add('tile', 'Added').id
+        base64 = {1: 'base64', 2: None}
+        see(({**base64, added: None}, 1), written())
+        see(({**base64, added: None}, 0), written())
+        document.goto(0)
+        see(({**base64, 4: 'base64'}, 1), written())
+        document.goto(2)
+        document.layers.add('tile', 'Another')
+        see(({**base64, added: None, added + 1: None}, 1), written())
+        see(document.outline()['layers'], [layer.members for layer in document.layers])
 
 
 # Lines of each form, with a number by chance.
@@ -237,8 +309,8 @@ prop remove map k#;tileset add 10# t.tsj;tileset remove 10#;undo;redo;goto #;cle
 redotext;text #;list;use other;use town;use -;save s.tmj;new n# 2 2 8 8 n.tsj;close n#;discard n#;open o# s.tmj;discard o#;# a comment;"""
 
 
-def test_what_is_known_holds():
-    """Behind each line, done in each way, what calls know of their map is what the library tells."""
+def test_what_is_read_is_what_is_there():
+    """Behind each line, done in each way, what is read of a map thing by thing is what its outline tells."""
     numbers = random.Random(7)
     lines = [line.strip() for line in FORMS_BY_CHANCE.replace('\n', ';').split(';')]
     words = {line.split(' ')[0].rstrip('+') for line in lines}
@@ -253,8 +325,42 @@ def test_what_is_known_holds():
                 with contextlib.suppress(Refused):
                     getattr(editor, way)({'step': line, 'step_bytes': line.encode(), 'run_lines': [line]}[way])
                 document = numbers.choice((town, other))
-                known = document._look(lambda outline: outline.tree)
-                assert known == document.outline() and f'*{document.name}' in editor.step('list'), (way, line)
+                whole = {layer['id']: layer for layer in document.outline()['layers']}
+                read = {layer.id: layer.members for layer in document.layers}
+                assert read == whole and f'*{document.name}' in editor.step('list'), (way, line)
+
+
+def test_names_in_groups_and_layers():
+    """A look-up in a group or a layer finds what stands in it, also where another one of that name stands before it."""
+    with Editor() as editor:
+        town = editor.open(TOWN)
+        smithy, places = town.layers['Smithy'].layers, town.layers['Places'].objects
+        see((4, 8, 8), (town.layers['Walls'].id, smithy['Walls'].id, smithy.find('Walls', 'tile').id))
+        see((['Walls', 'Furniture'], 2), ([each.name for each in smithy], len(smithy)))
+        see((True, True, False, False, False), tuple(key in smithy for key in ('Walls', 8, 4, 'Roof', town.layers[4])))
+        see((None, None), (smithy.find('Walls', 'object'), town.layers.find('Roof', 'group')))
+        raised(KeyError, places.__getitem__, 'key')
+        key = places.add('key', 0, 0)
+        see((key, 4, False), (places['key'], town.objects['key'].id, 4 in places))
+        see([each['name'] for each in town.layers['Houses'].members['layers']], [each.name for each in town.layers['Houses'].layers])
+
+
+def test_what_was_removed():
+    """It is refused by its code, whatever is asked of it."""
+    with Editor() as editor:
+        town = editor.open(TOWN)
+        group, key, tileset = town.layers['Smithy'], town.objects['key'], town.tilesets.add(99, 'b.tsj')
+        for thing in (group, key, tileset):
+            thing.remove()
+        rows = [
+            (30, lambda: list(group.layers)), (30, lambda: group.layers['Walls']), (30, lambda: group.members), (30, lambda: group.properties['a']),
+            (34, lambda: key.x), (34, lambda: key.layer), (34, lambda: key.tile), (34, lambda: 'a' in key.properties),
+            (34, lambda: len(key.properties)), (34, lambda: key.properties.set('a', 1)), (36, lambda: tileset.source),
+        ]
+        for code, call in rows:
+            see(code, raised(Refused, call).code)
+        see((False, False, False), (group in town.layers, key in town.objects, tileset in town.tilesets))
+        see([], list(town.layers[1].objects))
 
 
 # ---- what falls in between
@@ -422,6 +528,11 @@ def test_views_are_equal_by_what_they_show():
         see(True, town.layers[1] != other.layers[1] and other.layers[1] not in town.layers)
         see(1, len({town.objects['key'], town.objects[4]}))
         raised(ValueError, town.stamp, other.layers[1], 0, 0, [[1]])
+        see((1, 4, 1), (int(town.layers['Ground']), int(town.objects['key']), int(town.tilesets[1])))
+        for listed, key in ((town.layers, 'Ground'), (town.objects, 'key'), (town.tilesets, 1)):
+            thing = listed[key]
+            see((True, thing, True), (thing in listed, listed[thing], int(thing) in listed))
+            raised(KeyError, getattr(other, type(listed).__name__.lower()).__getitem__, thing)
         see(town.layers[1].cells().tolist(), [value for row in town.layers[1].rows() for value in row])
         cells = town.layers[1].cells()
         raised(TypeError, cells.__setitem__, 0, 1)

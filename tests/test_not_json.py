@@ -1,8 +1,7 @@
 # SPDX-License-Identifier: MIT OR Apache-2.0
 """Reports texts that are no JSON by the program `map_report`, and compares the line and the column.
-In a text, a number or a word they must be those of the first byte that no JSON could have there;
-where the file ends too early, those of its last byte; at a number that is too great, those of its
-first byte."""
+They must be those of the first byte that no JSON could have there; where the file ends too early,
+those of its last byte; at a number that is too great, those of its first byte."""
 from lib.cases import CORES, check_each
 from lib.refusals import refusal
 from test_reports import fault_of, report
@@ -80,10 +79,9 @@ BEGINNINGS = [
     b'0',
     b'1.5',
 ]
-# Whole files, each with its place. Where a second place stands, the reader may have come to what
-# is behind the fault, a bracket, a comma or a colon.
+# Whole files, each with its place.
 FILES = [
-    (b'{\n  "height": ]\n}', (2, 13), (3, 1)),
+    (b'{\n  "height": ]\n}', (2, 13)),
     (b'{"a":1', (1, 6)),
     (b'', (1, 1)),
     (b' ', (1, 1)),
@@ -94,17 +92,17 @@ FILES = [
     (b'[01,"\xff"]', (1, 6)),
     (b'["\xed\xa0\x80"]', (1, 3)),
     (b'\xff', (1, 1)),
-    (b'<?xml version="1.0"?>\n<map/>', (1, 1), (1, 2)),
-    (b'[' * 200, (1, 128), (1, 129)),
+    (b'<?xml version="1.0"?>\n<map/>', (1, 1)),
+    (b'[' * 200, (1, 128)),
     (b'\xef\xbb\xbf{}', (1, 1)),
     (b'[1 2]', (1, 4)),
     (b'{"a":1}\n{}', (2, 1)),
     (b'["a" "b\n"]', (1, 6)),
     (b'[1\n01]', (2, 1)),
-    (b'{1:2}', (1, 2), (1, 3)),
+    (b'{1:2}', (1, 2)),
     (b'{01:2}', (1, 2)),
     (b'{a:2}', (1, 2)),
-    (b'{"a"}', (1, 5), (1, 6)),
+    (b'{"a"}', (1, 5)),
     (b'{"a":1,}', (1, 8)),
     (b'{"a":1\n', (1, 7)),
     (b'[1,\n', (1, 4)),
@@ -115,6 +113,17 @@ FILES = [
     ('["ä", "ö", 01]'.encode(), (1, 15)),
     (b'{"a\n', (1, 4)),
     (b'{"a\r\n', (1, 4)),
+    (b'{"a":[1,2},\n"b":3}', (1, 10)),
+    (b'{"a":{"b":1],\n\n"c":2}', (1, 12)),
+    (b'[[1,2],{"a":[}]', (1, 14)),
+    (b'{"a" 1,\n"b":2}', (1, 6)),
+    (b'{"a":1,,\n"b":2}', (1, 8)),
+    (b'{"a":1 "b":2}', (1, 8)),
+    (b'[1}', (1, 3)),
+    (b'[1]]', (1, 4)),
+    (b'}', (1, 1)),
+    (b'[1,]', (1, 4)),
+    (b'{"a":1e400}]', (1, 6)),
 ]
 
 

@@ -32,7 +32,7 @@ KINDS = ('build_wheel', 'build_editable', 'build_sdist')
 SCRIPT = '''
 from pathlib import Path
 from typing import Any, Optional
-from roskevad import Closed, Document, Editor, Layer, Refused, Run, Status, Tile, document_name
+from roskevad import Closed, Document, Editor, Layer, MapObject, Refused, Run, Status, Tile, document_name
 def run(path: Path) -> Optional[int]:
     with Editor(limit=5, folder='.') as editor:
         reply: str = editor.open_file(path)
@@ -56,7 +56,8 @@ def drawn(editor: Editor, path: Path) -> Status:
     with document.macro('A', action='a'), document.stroke():
         document.erase('Ground', 0, 0, 1, 1)
     document.properties['author'] = 'me'
-    key: int = layer.objects.add('key', 0, 0)
+    key: MapObject = layer.objects.add('key', 0, 0)
+    number: int = int(key) + int(document.objects[key]) + document.layers[layer].id
     tile: Optional[Tile] = layer.tile(0, 0)
     runs: tuple[Run, ...] = document.selection.runs
     values: list[int] = layer.cells().tolist()
@@ -66,7 +67,7 @@ def drawn(editor: Editor, path: Path) -> Status:
     document.save()
     with other:
         other.save(Path('a.tmj'))
-    print(key, tile, runs, values, (0, 0) in document.selection, editor.documents['a'], path in document.layers)
+    print(key, number, tile, runs, values, (0, 0) in document.selection, editor.documents['a'], path in document.layers)
     return document.status
 '''
 

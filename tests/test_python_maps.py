@@ -181,6 +181,62 @@ def test_origins():
     passed(4)
 
 
+# ---- things that are read alone
+
+
+def test_things_of_infinite_maps():
+    """What was set aside is put back in a thing that is read alone: what its map says of how it was made finite counts for it."""
+    chunk = {'x': -16, 'y': -16, 'width': 16, 'height': 16, 'data': [1] * 256}
+    layer = tiles(1, 16, 16, chunks=[chunk], startx=-16, starty=-16, opacity=0.5)
+    del layer['data']
+    tree = new_map(16, 16, 16, 16, 'town.tsj')
+    objects = [thing(1, x=10.5, y=3, rotation=0.25, properties=[property_of('a', 'float', 0.1)]), thing(2, x=7, y=3.75)]
+    tree.update(layers=[layer, things(2, *objects)], nextlayerid=3, nextobjectid=3, infinite=True)
+    tree['properties'] = [property_of('b', 'float', 0.2)]
+    with Editor() as editor:
+        document = editor.open(json.dumps(tree).encode())
+        first, second = document.objects
+        came = first.x, first.y, first.members['rotation'], dict(first.properties), second.x, second.y, document.properties['b']
+        fault = unlike((266.5, 259, 0.25, {'a': 0.1}, 263, 259.75, 0.2), came) or unlike((-16, -16), document.origin)
+        assert not fault, fault
+        assert document.layers[1].members['opacity'] == 0.5
+        first.move(int(first.x), 4)
+        second.move(263, int(second.y) + 1)
+        fault = unlike((266.5, 4, 263, 260), (first.x, first.y, second.x, second.y))
+        assert not fault, fault
+    passed(3)
+
+
+def drawn(layers):
+    for layer in layers:
+        yield layer
+        yield from drawn(layer.get('layers', ()))
+
+
+def fault_of_things(case):
+    """How what is read alone is another piece than that of the whole, or None."""
+    chosen = random.Random(f'{SEED} {case.given}')
+    with Editor() as editor:
+        document = editor.open(json.dumps(some_map(chosen)).encode())
+        edit_by_chance(editor, chosen)
+        tree = document.outline()
+        layers = list(drawn(tree['layers']))
+        objects = [each for layer in layers for each in layer.get('objects', ())]
+        owners = {document: tree, **{document.layers[each['id']]: each for each in layers}, **{document.objects[each['id']]: each for each in objects}}
+        wanted = [{each['name']: each['value'] for each in members.get('properties', ())} for members in owners.values()]
+        return (
+            unlike(layers, [each.members for each in document.layers.walk()])
+            or unlike(objects, [each.members for each in document.objects])
+            or unlike(wanted, [dict(owner.properties) for owner in owners])
+            or unlike([each['firstgid'] for each in tree['tilesets']], [each.first_id for each in document.tilesets])
+            or unlike((tree['width'], tree['tileheight']), (document.width, document.tile_height))
+        )
+
+
+def test_things_of_random_maps():
+    check_each([Case(f'map {number}', number, None) for number in range(RUNS)], fault_of_things, CORES)
+
+
 # ---- what is refused
 
 

@@ -11,12 +11,13 @@ from .editor import Editor
 from .faults import Closed, Refused
 from .views import Layer, Layers, MapObject, Objects
 from .library import VERSION as __version__
+from .map_faults import MapPlace
 from .names import document_name
 from .properties import Properties
 from .selection import Run, Selection
 from .tilesets import Tile, Tileset, Tilesets
 
 __all__ = [
-    'Closed', 'Document', 'Editor', 'Layer', 'Layers', 'MapObject', 'Objects', 'Properties', 'Refused', 'Run', 'Selection', 'Status',
-    'Step', 'Tile', 'Tileset', 'Tilesets', '__version__', 'document_name',
+    'Closed', 'Document', 'Editor', 'Layer', 'Layers', 'MapObject', 'MapPlace', 'Objects', 'Properties', 'Refused', 'Run', 'Selection',
+    'Status', 'Step', 'Tile', 'Tileset', 'Tilesets', '__version__', 'document_name',
 ]

@@ -54,7 +54,7 @@ def reply_to(editor: Editor, line: str) -> str:
             return editor.save_file(rest)
         return editor.step(line)
     except Refused as refusal:
-        more = refusal.forms if refusal.why is None else (refusal.why,)
+        more = [each for each in (refusal.place_in_map, refusal.why) if each is not None] or refusal.forms
         return '\n'.join([f'no {refusal.code} {refusal.words}', *(f'  {each}' for each in more)])
     except MemoryError:
         return 'no 90 no memory'

@@ -11,13 +11,14 @@ import base64
 import binascii
 from typing import Any, Iterator, NamedTuple, Optional
 
-from .json_scanner import NOTE, Edit, Members, edited, map_and_layers
+from .json_scanner import NOTE, Edit, Members, Path, edited, map_and_layers
 from .compressions import pack, unpack, why_not
 from .limits import MAX_CELLS, MAX_FILE_BYTES
 
 _NOTE_TAKEN = f'a layer has a member of the reserved name "{NOTE}"'
 _TOO_LONG = f'unpacked, its layers have more than {MAX_FILE_BYTES:,} bytes'
-_BAD_DATA = 'the data of a layer does not unpack to 4 bytes a cell'
+#: Why a layer is not unpacked whose data are damaged.
+BAD_DATA = 'the data of a layer does not unpack to 4 bytes a cell'
 _NO_SPACE = str.maketrans('', '', ' \t\r\n')
 _CELL_BYTES = 4
 
@@ -31,28 +32,45 @@ class Unpackable(Exception):
         self.why = why
 
 
+class PackedLayer(NamedTuple):
+    """A layer that stays packed."""
+
+    #: Its members.
+    members: Members
+    #: How its map is refused where it is a tile layer, and why, in words: 65 where it can't be unpacked here, 66 where its data do
+    #: not unpack to four bytes a cell.
+    code: int
+    why: str
+
+
 class UnpackedMap(NamedTuple):
     """A map that is unpacked as far as it can be."""
 
-    #: Its bytes: the same, where no layer is packed.
+    #: Its bytes: the same, where nothing was unpacked.
     data: bytes
-    #: Why a layer stays as it is, in words; `None` where none is packed any more.
-    why: Optional[str]
+    #: The layers that stay packed, by the ways to them.
+    left: dict[Path, PackedLayer]
 
 
 def unpack_layers(data: bytes) -> UnpackedMap:
-    """A map with its layers unpacked. Raises Unpackable: 51 where a layer has the member of a note, or they are too many bytes; 66
-    where data do not unpack to four bytes a cell. Nothing is unpacked any further."""
+    """A map with its layers unpacked, each to four bytes a cell and no further. Raises Unpackable, 51, where a layer has the member
+    of a note, or they are too many bytes."""
     text = _text_of(data) if b'compression"' in data or b'\\u' in data else None
     if text is None:
-        return UnpackedMap(data, None)
+        return UnpackedMap(data, {})
     members, layers = map_and_layers(text)
-    if any(NOTE in layer for layer in layers):
+    if any(NOTE in layer for layer in layers.values()):
         raise Unpackable(51, _NOTE_TAKEN)
-    why = next(filter(None, (why_not(compression) for compression in map(_compression_of, layers) if compression)), None)
     unpacker = _Unpacker(_cells_of(members))
-    edits = [edit for layer in layers for edit in unpacker.edits(layer)]
-    return UnpackedMap(edited(text, edits).encode() if edits else data, why)
+    edits, left = [], {}
+    for path, layer in layers.items():
+        try:
+            edits += list(unpacker.edits(layer))
+        except Unpackable as fault:
+            if fault.code == 51:
+                raise
+            left[path] = PackedLayer(layer, fault.code, fault.why)
+    return UnpackedMap(edited(text, edits).encode() if edits else data, left)
 
 
 def pack_layers(data: bytes) -> bytes:
@@ -63,7 +81,7 @@ def pack_layers(data: bytes) -> bytes:
     members, layers = map_and_layers(text)
     stated = _value_of(members, 'compressionlevel')
     level = stated if type(stated) is int else -1
-    return edited(text, [edit for layer in layers for edit in _edits_to_pack(layer, level)]).encode()
+    return edited(text, [edit for layer in layers.values() for edit in _edits_to_pack(layer, level)]).encode()
 
 
 def _text_of(data: bytes) -> Optional[str]:
@@ -110,10 +128,13 @@ class _Unpacker:
         self._rest = MAX_FILE_BYTES
 
     def edits(self, layer: Members) -> Iterator[Edit]:
-        """What changes in the text of a layer."""
+        """What changes in the text of a layer. Raises Unpackable where it stays packed, and where layers are too many bytes."""
         compression = _compression_of(layer)
-        if compression is None or why_not(compression):
+        if compression is None:
             return
+        why = why_not(compression)
+        if why is not None:
+            raise Unpackable(65, why)
         named = layer['compression']
         yield Edit(named.start, named.end, f'"","{NOTE}":"{compression}"')
         for holder, cells in _holders_of(layer, self._cells):
@@ -129,7 +150,7 @@ class _Unpacker:
             raise Unpackable(51, _TOO_LONG)
         found = unpack(compression, _decoded(data) or b'', size)
         if found is None:
-            raise Unpackable(66, _BAD_DATA)
+            raise Unpackable(66, BAD_DATA)
         return found
 
 

@@ -5,7 +5,6 @@ import inspect
 import json
 import logging
 import os
-from array import array
 from dataclasses import dataclass
 from pathlib import Path
 from types import TracebackType
@@ -13,14 +12,14 @@ from typing import TYPE_CHECKING, Any, Callable, ContextManager, Iterator, Named
 
 from . import words
 from .faults import Closed, Refused
-from .views import Layer, Layers, Objects
-from .library import NONE, SelectionRun
+from .library import LAYER_ROW, LayerRow, MapSizes, SelectionRun
 from .limits import MAX_COORDINATE
 from .properties import Properties
 from .rows import Part, doubtful, parts_of, rows_of
-from .outline import Members, Outline
 from .selection import Run, Selection
+from .tiled_maps import Members, drawn, note_of, restored
 from .tilesets import Tilesets
+from .views import Layer, Layers, Objects
 
 if TYPE_CHECKING:
     from .editor import Editor
@@ -79,7 +78,7 @@ class Document:
     """
 
     # So that a name that it has not is never set silently.
-    __slots__ = '_editor', '_name', '_is_closed', '_stroke', '_path'
+    __slots__ = '_editor', '_name', '_is_closed', '_stroke', '_path', '_note', '_encodings'
 
     def __init__(self, editor: 'Editor', name: str):
         """Editors make it: `new`, `open` and `documents` give it."""
@@ -88,6 +87,10 @@ class Document:
         self._is_closed = False
         self._stroke: Optional[_Stroke] = None
         self._path: Optional[Path] = None
+        # What its map says of how it was made finite, once that was asked for.
+        self._note: Optional[Members] = None
+        # How the cells of its tile layers are written in its file, by their ids, once that was asked for.
+        self._encodings: dict[int, Optional[str]] = {}
 
     # ---- what each call does
     def _do(self, work: Callable[[], _Answer]) -> _Answer:
@@ -103,8 +106,9 @@ class Document:
         if self._is_closed:
             raise Closed(f'the document {self._name} is closed')
         if self._editor._active_handle is not self:
-            line = f'use {self._name}'
-            self._editor._reply_to(line, line)
+            if self._editor._active_name() != self._name:
+                line = f'use {self._name}'
+                self._editor._reply_to(line, line)
             self._editor._active_handle = self
 
     def _say(self, line: str) -> str:
@@ -126,31 +130,56 @@ class Document:
 
         return self._do(work)
 
-    def _outline_now(self) -> Outline:
-        """The outline of the map, in a turn."""
-        outline = self._editor._kept_outline
-        if outline is None or outline.document != self._name:
-            outline = self._editor._kept_outline = Outline(self._name, self._editor._outline_tree('outline()'))
-        return outline
-
-    def _look(self, answer: Callable[[Outline], _Answer]) -> _Answer:
-        return self._do(lambda: answer(self._outline_now()))
-
-    def _peek(self, answer: Callable[[Outline], _Answer]) -> Optional[_Answer]:
-        """The same for a `repr`, which makes no document active, and raises nothing."""
+    def _peek(self, answer: Callable[[], _Answer]) -> Optional[_Answer]:
+        """What `_do` gives, for a `repr`: no document becomes active, and nothing is raised."""
 
         def entered() -> _Answer:
             self._enter()
-            return answer(self._outline_now())
+            return answer()
 
         with contextlib.suppress(Exception):
             return self._editor._in_turn(lambda: self._editor._restored(entered))
         return None
 
+    # ---- what is there, in a turn, one thing at a time
+    def _read(self, name: str, *words: Any) -> Any:
+        """What a call of the library says of a thing, with all put back that was set aside; None where there is no such thing."""
+        text = self._editor._copy_bytes(name, *words)
+        if text is None:
+            return None
+        value = json.loads(text)
+        return restored(value, self._note_now()) if self._editor._has_set_aside else value
+
+    def _note_now(self) -> Members:
+        if self._note is None:
+            self._note = note_of(json.loads(self._editor._copy_bytes('map_head') or b'{}'))
+        return self._note
+
+    def _encoding_of(self, layer: int) -> Optional[str]:
+        """How the cells of a tile layer are written in its file, in a turn; None where as numbers. No edit changes that, and the outline
+        has it of all layers: it is read once."""
+        if layer not in self._encodings:
+            outline = json.loads(self._editor._copied('outline', 'members'))
+            self._encodings.update({each['id']: each.get('encoding') for each in drawn(outline['layers'])})
+        return self._encodings.get(layer)
+
+    def _sizes(self) -> MapSizes:
+        sizes = MapSizes()
+        self._editor._call('sizes_of_map', sizes)
+        return sizes
+
+    def _layer_rows(self) -> list[LayerRow]:
+        """All layers, in drawing order, a group before those in it."""
+        rows = self._editor._copy_bytes('layers', unit=LAYER_ROW.size) or b''
+        return list(map(LayerRow._make, LAYER_ROW.iter_unpack(rows)))
+
+    def _ids(self, name: str, *words: int) -> list[int]:
+        """The ids that a call of the library lists."""
+        return memoryview(self._editor._copy_bytes(name, *words, unit=4) or b'').cast('I').tolist()
+
     def _status_now(self) -> Status:
-        _, steps, state, depth = self._say('status').split(' ')
-        index, count = steps.split('/')
-        return Status(int(index), int(count), state == 'clean', int(depth))
+        status = self._editor._status_of(self._editor._call('active'))
+        return Status(status.index, status.count, status.is_clean == 1, status.depth)
 
     def _close(self) -> None:
         self._is_closed = True
@@ -179,27 +208,27 @@ class Document:
     @property
     def width(self) -> int:
         """The width of the map in cells."""
-        return self._look(lambda outline: int(outline.tree['width']))
+        return self._do(lambda: int(self._sizes().width))
 
     @property
     def height(self) -> int:
         """The height of the map in cells."""
-        return self._look(lambda outline: int(outline.tree['height']))
+        return self._do(lambda: int(self._sizes().height))
 
     @property
     def tile_width(self) -> int:
         """The width of a cell in pixels."""
-        return self._look(lambda outline: int(outline.tree['tilewidth']))
+        return self._do(lambda: int(self._sizes().tile_width))
 
     @property
     def tile_height(self) -> int:
         """The height of a cell in pixels."""
-        return self._look(lambda outline: int(outline.tree['tileheight']))
+        return self._do(lambda: int(self._sizes().tile_height))
 
     @property
     def orientation(self) -> str:
         """How the cells lie, in the words of Tiled's files: orthogonal, isometric, staggered or hexagonal."""
-        return self._look(lambda outline: str(outline.tree['orientation']))
+        return self._do(lambda: str(self._read('map_head')['orientation']))
 
     @property
     def origin(self) -> tuple[int, int]:
@@ -219,7 +248,7 @@ class Document:
     @property
     def properties(self) -> Properties:
         """The properties of the map, a live view."""
-        return Properties(self, 'map', lambda outline: outline.tree)
+        return Properties(self)
 
     @property
     def tilesets(self) -> Tilesets:
@@ -232,7 +261,7 @@ class Document:
 
     def outline(self) -> Members:
         """The same without the cells: a copy."""
-        return self._do(lambda: self._editor._outline_tree('outline()'))
+        return self._do(lambda: self._editor._tree(self._editor._copied('outline', 'outline()')))
 
     # ---- its steps
     @property
@@ -264,8 +293,7 @@ class Document:
     @property
     def clean_index(self) -> Optional[int]:
         """The index that counts as saved; None where there is none any more."""
-        index = self._do(lambda: self._editor._call('clean_index'))
-        return None if index == NONE else index
+        return self._do(lambda: self._editor._number('clean_index'))
 
     def undo(self) -> None:
         """Undoes the step below the index. Raises Refused: 21 where there is none."""
@@ -377,16 +405,17 @@ class Document:
             # Where paints have taken each other back, their step is gone.
             stroke.has_step = self._status_now().index >= index
         else:
-            before = self._cells_within(area)
+            inside = self._on_map(area)
+            before = self._editor._cells(*inside)
             self._say(f'{word} {said}')
-            stroke.has_step = self._cells_within(area) != before
+            stroke.has_step = self._editor._cells(*inside) != before
 
-    def _cells_within(self, area: _Area) -> 'Optional[array[int]]':
-        """The cells of a rectangle as far as it is on the map."""
-        tree = self._outline_now().tree
+    def _on_map(self, area: _Area) -> _Area:
+        """A rectangle of cells as far as it is on the map."""
+        sizes = self._sizes()
         left, top = max(area.x, 0), max(area.y, 0)
-        right, bottom = min(area.x + area.width, tree['width']), min(area.y + area.height, tree['height'])
-        return self._editor._cells(area.layer, left, top, max(right - left, 0), max(bottom - top, 0))
+        right, bottom = min(area.x + area.width, sizes.width), min(area.y + area.height, sizes.height)
+        return _Area(area.layer, left, top, max(right - left, 0), max(bottom - top, 0))
 
     def erase(self, layer: LayerLike, x: int, y: int, width: int, height: int, merge: bool = False) -> None:
         """Empties a rectangle of cells of a tile layer; with `merge` it is one step with an erase of the same layer before it.
@@ -408,7 +437,7 @@ class Document:
                 raise ValueError(f'{layer!r} is no layer of {self._name!r}')
             return layer.id
         if isinstance(layer, str):
-            found = next((id for id, each in self._outline_now().layers.items() if each['name'] == layer), None)
+            found = self._editor._find('layer', layer)
             if found is None:
                 raise KeyError(layer)
             return found
@@ -422,14 +451,13 @@ class Document:
             raise Refused(code, what, f'Layer {layer.id}: cells {left}, {top}, {width}, {height}', forms=())
 
         def work() -> tuple[int, memoryview]:
-            outline = self._outline_now()
-            if layer._has(outline)['type'] != 'tilelayer':
-                refuse(31, 'layer of another kind')
-            wide = outline.tree['width'] - left if width is None else words.coordinate(width, 'a width')
-            high = outline.tree['height'] - top if height is None else words.coordinate(height, 'a height')
+            sizes = self._sizes()
+            wide = sizes.width - left if width is None else words.coordinate(width, 'a width')
+            high = sizes.height - top if height is None else words.coordinate(height, 'a height')
             cells = self._editor._cells(layer.id, left, top, wide, high)
             if cells is None:
-                refuse(32, 'outside the map')
+                is_tiles = layer._now()['type'] == 'tilelayer'
+                refuse(*((32, 'outside the map') if is_tiles else (31, 'layer of another kind')))
             return wide, memoryview(cells.tobytes()).cast('I')
 
         return self._do(work)
@@ -513,5 +541,10 @@ class Document:
     def __repr__(self) -> str:
         if self._is_closed:
             return f'<Document {self._name!r}, closed>'
-        standing = self._peek(lambda outline: f'{outline.tree["width"]} by {outline.tree["height"]}, {self._say("status")[len("ok "):]}')
-        return f'<Document {self._name!r}>' if standing is None else f'<Document {self._name!r}, {standing}>'
+
+        def standing() -> str:
+            sizes, status = self._sizes(), self._say('status')[len('ok '):]
+            return f'{sizes.width} by {sizes.height}, {status}'
+
+        described = self._peek(standing)
+        return f'<Document {self._name!r}>' if described is None else f'<Document {self._name!r}, {described}>'

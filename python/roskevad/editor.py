@@ -15,15 +15,17 @@ from pathlib import Path
 from typing import TYPE_CHECKING, Any, Callable, ContextManager, Iterable, Iterator, NoReturn, Optional, Protocol, TypeVar, Union, cast
 
 from . import library, words
+from .compressed_layers import UnpackedMap
 from .document import Document
 from .faults import Closed, Refused
-from .library import LIBRARY, CEditor, LinesDone, SelectionRun
+from .library import LIBRARY, OWNERS, CEditor, DocumentStatus, LinesDone, SelectionRun
 from .limits import MAX_FILE_BYTES, MAX_LIMIT
+from .map_faults import refused_map
 from .names import document_name
-from .outline import Outline, drawn
 from .rooms import Room
 from .saving import Saving
-from .tiled_maps import origin_of, put_back, restored, set_aside
+from .tiled_maps import Members, note_of, origin_of, put_back, restored, set_aside
+from .views import Layer
 
 if TYPE_CHECKING:
     from _typeshed import ReadableBuffer
@@ -84,13 +86,6 @@ _Answer = TypeVar('_Answer')
 # What lines that close a document begin with, and those that may make another one active.
 _CLOSINGS = b'close ', b'discard '
 _ACTIVATIONS = b'use ', b'new ', b'open ', *_CLOSINGS
-# What the lines begin with that leave the outline of each open document as it is: questions, edits of cells and of the selection, with a
-# `+` too, and what is about steps and saves. The outline has no cells, no selection and no steps. Undo, redo and goto may change it; an
-# `open` does not, but where something is set aside for it outlines are read otherwise from then on.
-_KEEPINGS = (
-    b'stamp', b'erase', b'fill ', b'select ', b'tile ', b'show', b'text ', b'status', b'undotext', b'redotext', b'list', b'clean', b'dirty',
-    b'clear', b'limit ', b'begin ', b'end', b'save ', b'use ', b'new ',
-)
 
 
 def _turn(method: _Method) -> _Method:
@@ -138,10 +133,8 @@ class Editor:
         self._unsettled: Optional[_Unsettled] = None
         # Whether a save has failed: then what is read of a file need not be what the disk has, and is compared no more.
         self._has_failed = False
-        # The open documents that were handed out, by their names; the outline of one that nothing has changed since, and the one that a
-        # call has made active and that no line has changed since, where there are such.
+        # The open documents that were handed out, by their names; and the one that a call has made active, while no line has changed that.
         self._handles: dict[str, Document] = {}
-        self._kept_outline: Optional[Outline] = None
         self._active_handle: Optional[Document] = None
         # Whether anything of a map was set aside or unpacked. Until then maps are saved as the editor holds them.
         self._has_set_aside = False
@@ -178,7 +171,7 @@ class Editor:
 
     @_turn
     def _close(self) -> None:
-        self._kept_outline = self._active_handle = None
+        self._active_handle = None
         LIBRARY.roskevad_close(self._c_editor)
 
     def _settle(self) -> None:
@@ -196,21 +189,30 @@ class Editor:
             raise MemoryError
         return answer
 
-    def _copy_bytes(self, name: str, *words: Any) -> Optional[bytes]:
-        """The bytes that a call gives out, where it has them at each time that it is called."""
-        size = self._call(name, *words, self._room.at, self._room.size)
-        if size == library.NONE:
+    def _copy_bytes(self, name: str, *words: Any, unit: int = 1) -> Optional[bytes]:
+        """The bytes that a call gives out, where it has them at each time that it is called. It counts items of `unit` bytes."""
+        count = self._call(name, *words, self._room.at, self._room.size // unit)
+        if count == library.NONE:
             return None
-        if size > self._room.size:
-            self._room = Room(size)
-            self._call('reply' if name == 'step' else name, *(() if name == 'step' else words), self._room.at, size)
-        copied: bytes = self._room.bytes[:size]
+        if count > self._room.size // unit:
+            self._room = Room(count * unit)
+            self._call('reply' if name == 'step' else name, *(() if name == 'step' else words), self._room.at, count)
+        copied: bytes = self._room.bytes[:count * unit]
         return copied
+
+    def _number(self, name: str, *words: Any) -> Optional[int]:
+        """The number that a call answers; `None` where there is none."""
+        answer = self._call(name, *words)
+        return None if answer == library.NONE else answer
+
+    def _count(self, name: str, *words: Any) -> Optional[int]:
+        """How many items a call would copy; `None` where there are none to copy."""
+        return self._number(name, *words, self._room.at, 0)
 
     def _reply_to(self, line: str, call: str) -> bytes:
         """The reply to a line that a call makes. Raises Refused with the call."""
         data = _bytes_of(line)
-        self._drop_outdated(data)
+        self._note_activation(data)
         reply = self._copy_bytes('step', data, len(data)) or b''
         refusal = _REFUSAL.fullmatch(reply.decode()) if reply.startswith(b'no ') else None
         if refusal:
@@ -233,7 +235,7 @@ class Editor:
                     if self._unsettled is not None:
                         self._settle()
                     if self._handles:
-                        self._drop_outdated(data)
+                        self._note_activation(data)
                     room = self._room
                     size = _STEP(self._at, data, len(data), room.at, room.size)
                     reply: Optional[bytes] = room.bytes[:size] if size <= room.size else self._long(size)
@@ -265,7 +267,7 @@ class Editor:
                     if self._unsettled is not None:
                         self._settle()
                     if self._handles:
-                        self._drop_outdated(data)
+                        self._note_activation(data)
                     room = self._room
                     size = _STEP(self._at, data, len(data), room.at, room.size)
                     reply: bytes = room.bytes[:size] if size <= room.size else self._long(size) or b''
@@ -306,7 +308,7 @@ class Editor:
         count, done = 0, LinesDone()
         replies: list[str] = []
         for word in words if self._handles else ():
-            self._drop_outdated(word)
+            self._note_activation(word)
         try:
             while data:
                 count += self._call('run_lines', data, len(data), 1, self._room.at, self._room.size, done)
@@ -360,7 +362,7 @@ class Editor:
         """Opens a document of that name with a map that is given as the bytes of a file, in a bytes-like object; with `all_maps`
         any map that Tiled saves as JSON, as `open_file` does. Raises Refused."""
         given, call = _data_of(data, 'open_map'), f'open_map({name!r})'
-        return self._open_any(name, given, call) if all_maps else self._open(name, given, call)
+        return self._open_any(name, given, call) if all_maps else self._open_text(name, given, given, UnpackedMap(given, {}), call)
 
     @_turn
     def save_map(self, *, all_maps: bool = False) -> bytes:
@@ -382,21 +384,24 @@ class Editor:
         """A map that the editor holds, with what was set aside put back, and packed as it was."""
         return put_back(data, call) if self._has_set_aside else data
 
-    def _tree(self, text: bytes) -> dict[str, Any]:
+    def _tree(self, text: bytes) -> Members:
         """The tree of a map that the editor holds, in which nothing is set aside."""
-        tree: dict[str, Any] = json.loads(text)
-        return restored(tree) if self._has_set_aside else tree
+        tree: Members = json.loads(text)
+        return cast(Members, restored(tree, note_of(tree))) if self._has_set_aside else tree
 
     def _open_any(self, document: str, data: bytes, call: str) -> str:
         """Opens a document with any map that Tiled saves as JSON: layers are unpacked, and what the format refuses is set aside."""
-        text, why = set_aside(data, call)
+        text, unpacked = set_aside(data, call)
         self._has_set_aside = self._has_set_aside or text is not data
+        return self._open_text(document, text, data, unpacked, call)
+
+    def _open_text(self, document: str, text: bytes, data: bytes, unpacked: UnpackedMap, call: str) -> str:
+        """Opens a document with the text of a map. Where it is refused the place is looked for in the file, which has other bytes
+        where it was unpacked."""
         try:
             return self._open(document, text, call)
         except Refused as refusal:
-            if refusal.code == 65 and why is not None:
-                raise Refused(65, refusal.words, call, forms=(), why=why) from None
-            raise
+            raise refused_map(refusal, data, unpacked, call) from None
 
     def _open(self, document: str, data: Optional[bytes], call: str) -> str:
         """Opens a document with these bytes, which stand in the store under a free name meanwhile."""
@@ -411,7 +416,7 @@ class Editor:
 
     def _has(self, name: str) -> bool:
         word = _bytes_of(name)
-        return self._call('file', word, len(word), self._room.at, 0) != library.NONE
+        return self._count('file', word, len(word)) is not None
 
     # ---- maps of a folder
     @_turn
@@ -457,10 +462,10 @@ class Editor:
 
     def _refuse_save(self, call: str) -> None:
         """Raises what a `save` would be refused with before it writes."""
-        state = self._reply_to('status', call)
-        if state == b'ok none clean':
-            raise Refused(10, 'no active document', call, forms=())
-        if not state.endswith(b' 0'):
+        at = self._number('active')
+        if at is None:
+            raise _none_active(call)
+        if self._status_of(at).depth > 0:
             raise Refused(20, 'macro open', call, forms=())
 
     def _mark_clean(self) -> None:
@@ -475,7 +480,7 @@ class Editor:
     @_turn
     def outline(self) -> dict[str, Any]:
         """The active document's map as `map` gives it, without the member `data` of tile layers. Raises Refused."""
-        return self._outline_tree('outline()')
+        return self._tree(self._copied('outline', 'outline()'))
 
     @property
     @_turn
@@ -485,30 +490,28 @@ class Editor:
         return self._origin()
 
     def _origin(self) -> tuple[int, int]:
-        tree = json.loads(self._outline_text('origin'))
-        return origin_of(tree) if self._has_set_aside else (0, 0)
+        head = self._copied('map_head', 'origin')
+        return origin_of(note_of(json.loads(head))) if self._has_set_aside else (0, 0)
 
-    def _outline_tree(self, call: str) -> dict[str, Any]:
-        return self._tree(self._outline_text(call))
-
-    def _outline_text(self, call: str) -> bytes:
-        text = self._copy_bytes('outline')
+    def _copied(self, name: str, call: str) -> bytes:
+        """The text that a call of the library gives of the active document. Raises Refused, with the caller's own call."""
+        text = self._copy_bytes(name)
         if text is None:
-            raise Refused(10, 'no active document', call, forms=())
+            raise _none_active(call)
         return text
 
     @_turn
-    def cells(self, layer: int, x: int, y: int, width: int, height: int) -> 'Optional[array[int]]':
-        """The values of the cells of a rectangle, row by row, in the tile layer with this id of the active document; `None` where
-        none is active, it has no tile layer with that id, or the rectangle leaves the map."""
-        return self._cells(layer, x, y, width, height)
+    def cells(self, layer: Union[int, Layer], x: int, y: int, width: int, height: int) -> 'Optional[array[int]]':
+        """The values of the cells of a rectangle, row by row, in a tile layer of the active document, or the one with this id; `None`
+        where none is active, it has no such tile layer, or the rectangle leaves the map."""
+        return self._cells(layer.id if isinstance(layer, Layer) else layer, x, y, width, height)
 
     def _cells(self, layer: int, x: int, y: int, width: int, height: int) -> 'Optional[array[int]]':
         where = layer, x, y, width, height
         if min(where) < 0 or layer >= 2**32 or max(where) >= 2**64:
             return None
-        count = self._call('cells', *where, self._room.at, 0)
-        if count == library.NONE:
+        count = self._count('cells', *where)
+        if count is None:
             return None
         values = array('I', bytes(4 * count))
         self._call('cells', *where, values.buffer_info()[0] if values else self._room.at, count)
@@ -517,13 +520,25 @@ class Editor:
     @_turn
     def layer_id(self, name: str) -> int:
         """The id of the first layer of that name, in drawing order, groups and what stands in them too. Raises KeyError where there is none."""
-        return _id_of(drawn(self._outline_tree(f'layer_id({name!r})')['layers']), name)
+        return self._first_id('layer', name)
 
     @_turn
     def object_id(self, name: str) -> int:
         """The id of the first object of that name, in drawing order. Raises KeyError where there is none."""
-        layers = drawn(self._outline_tree(f'object_id({name!r})')['layers'])
-        return _id_of((each for layer in layers for each in layer.get('objects', ())), name)
+        return self._first_id('object', name)
+
+    def _first_id(self, subject: str, name: str) -> int:
+        found = self._find(subject, name)
+        if found is None:
+            if self._number('active') is None:
+                raise _none_active(f'{subject}_id({name!r})')
+            raise KeyError(name)
+        return found
+
+    def _find(self, subject: str, name: str) -> Optional[int]:
+        """The id of the first layer or object of a name; `None` where there is none."""
+        word = words.looked_up(name)
+        return self._number('find', OWNERS[subject], word, len(word))
 
     @_turn
     def last_layer_id(self) -> int:
@@ -536,9 +551,9 @@ class Editor:
         return self._next_id('object') - 1
 
     def _next_id(self, kind: str) -> int:
-        answer = self._call(f'next_{kind}_id')
-        if answer == library.NONE:
-            raise Refused(10, 'no active document', f'last_{kind}_id()', forms=())
+        answer = self._number(f'next_{kind}_id')
+        if answer is None:
+            raise _none_active(f'last_{kind}_id()')
         return answer
 
     @_turn
@@ -554,14 +569,13 @@ class Editor:
     @_turn
     def clean_index(self) -> Optional[int]:
         """The index at which the active document counts as clean; `None` where that was lost or none is active."""
-        answer = self._call('clean_index')
-        return None if answer == library.NONE else answer
+        return self._number('clean_index')
 
     @_turn
     def is_macro(self, at: int) -> Optional[bool]:
         """Whether the step at this place of the active document, from 0, is a macro; `None` where there is none."""
-        answer = self._call('is_macro', at)
-        return None if answer == library.NONE else answer == 1
+        answer = self._number('is_macro', at)
+        return None if answer is None else answer == 1
 
     @_turn
     def action_text(self, at: int) -> Optional[str]:
@@ -573,12 +587,13 @@ class Editor:
     @_turn
     def unsaved(self) -> list[str]:
         """The names of the open documents that are not clean, in order of opening."""
-        # No line tells it of a document that is not active, so each is made the active one for a moment.
-        return self._restored(lambda: list(filter(self._is_dirty, self._names())))
+        return [name for at, name in enumerate(self._names()) if not self._status_of(at).is_clean]
 
-    def _is_dirty(self, document: str) -> bool:
-        self._reply_to(f'use {document}', 'unsaved()')
-        return self._reply_to('status', 'unsaved()').split(b' ')[2] == b'dirty'
+    def _status_of(self, at: int) -> DocumentStatus:
+        """How the document at a place stands."""
+        status = DocumentStatus()
+        self._call('status_of', at, status)
+        return status
 
     # ---- documents, in the words of their callers
     @property
@@ -662,12 +677,15 @@ class Editor:
 
     def _names(self) -> list[str]:
         """The names of the open documents, in order of opening."""
-        return [name.lstrip('*') for name in self._reply_to('list', 'list').decode().split(' ')[1:]]
+        return [self._name_at(at) for at in range(self._call('document_count'))]
+
+    def _name_at(self, at: int) -> str:
+        return (self._copy_bytes('document_name', at) or b'').decode()
 
     def _active_name(self) -> str:
         """The name of the active document, `-` where none is."""
-        names = self._reply_to('list', 'list').decode().split(' ')[1:]
-        return next((name[1:] for name in names if name.startswith('*')), '-')
+        at = self._number('active')
+        return '-' if at is None else self._name_at(at)
 
     def _restored(self, work: Callable[[], _Answer]) -> _Answer:
         """Has work done, and makes the document active again that is active before it."""
@@ -684,10 +702,8 @@ class Editor:
             self._handles[name]._path = path
         return self._handles[name]
 
-    def _drop_outdated(self, line: bytes) -> None:
-        """Drops what is known of documents and a line may change, before it is done."""
-        if not line.startswith(_KEEPINGS):
-            self._kept_outline = None
+    def _note_activation(self, line: bytes) -> None:
+        """Notes that a line may make another document active, before it is done."""
         if line.startswith(_ACTIVATIONS):
             self._active_handle = None
 
@@ -733,7 +749,10 @@ class _ActiveDocument:
         self._document = document
 
     def settle(self) -> None:
-        self._editor._reply_to(f'use {self._document}', 'unsaved()')
+        if self._editor._active_name() != self._document:
+            line = f'use {self._document}'
+            self._editor._reply_to(line, line)
+            self._editor._active_handle = self._editor._handles.get(self._document)
 
 
 def _failed(call: str) -> Refused:
@@ -747,11 +766,8 @@ def _refused(reply: str, word: bytes, place: int, replies: list[str]) -> Refused
     return Refused(int(refusal[1]), refusal[2], word.decode('utf-8', 'surrogateescape'), place, replies)
 
 
-def _id_of(parts: Iterable[dict[str, Any]], name: str) -> int:
-    for part in parts:
-        if part['name'] == name:
-            return int(part['id'])
-    raise KeyError(name)
+def _none_active(call: str) -> Refused:
+    return Refused(10, 'no active document', call, forms=())
 
 
 def _read(path: Path) -> tuple[Optional[bytes], Optional[OSError]]:

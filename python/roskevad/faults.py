@@ -1,8 +1,11 @@
 # SPDX-License-Identifier: MIT OR Apache-2.0
 """What an editor raises."""
-from typing import Iterable, Optional
+from typing import TYPE_CHECKING, Iterable, Optional
 
 from .forms import forms_of
+
+if TYPE_CHECKING:
+    from .map_faults import MapPlace
 
 
 class Refused(Exception):
@@ -11,12 +14,13 @@ class Refused(Exception):
     `code` is the number of the refusal, `words` what it says, and `line` what the caller wrote: a line, as `undo`, or a call,
     as `save_file('a.tmj')`. Where a line is of no command, or is not as its command has it, `forms` are the forms to write it
     in; a call has none. Where it was one of many lines, `place` is its place among them, from 0, and `replies` are those to the
-    lines before it, which are done. `why` says of a map why it is not set aside, put back or unpacked, if that is so.
+    lines before it, which are done. `why` says of a map why it is not set aside, put back or unpacked, if that is so. Where a map
+    is read and refused, `place_in_map` tells where in its file.
     """
 
     def __init__(
         self, code: int, words: str, line: str, place: Optional[int] = None, replies: Iterable[str] = (),
-        forms: Optional[tuple[str, ...]] = None, why: Optional[str] = None,
+        forms: Optional[tuple[str, ...]] = None, why: Optional[str] = None, place_in_map: 'Optional[MapPlace]' = None,
     ):
         self.code = code
         self.words = words
@@ -25,8 +29,9 @@ class Refused(Exception):
         self.replies = list(replies)
         self.forms = forms if forms is not None else forms_of(line) if code in (3, 4) else ()
         self.why = why
+        self.place_in_map = place_in_map
         # An exception is copied and pickled by its arguments, and so it goes from one process to another.
-        super().__init__(code, words, line, place, self.replies, self.forms, why)
+        super().__init__(code, words, line, place, self.replies, self.forms, why, place_in_map)
 
     def _of(self, call: str) -> 'Refused':
         """The same refusal of another call."""
@@ -34,8 +39,8 @@ class Refused(Exception):
         return Refused(code, words, call, *more)
 
     def __str__(self) -> str:
-        more = self.forms if self.why is None else (self.why, *self.forms)
-        return '\n  '.join([f'{self.code} {self.words}: {self.line[:200]}', *more])
+        more = [str(each) for each in (self.place_in_map, self.why) if each is not None]
+        return '\n  '.join([f'{self.code} {self.words}: {self.line[:200]}', *more, *self.forms])
 
 
 class Closed(Exception):

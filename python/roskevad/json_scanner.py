@@ -3,7 +3,7 @@
 digit. A text that is no JSON has no layers; the library refuses it."""
 import json
 import re
-from typing import Any, Callable, Iterator, NamedTuple, Optional
+from typing import Any, Callable, Iterator, NamedTuple, Optional, Union
 
 #: The member of a layer that notes how it was packed, while it is unpacked.
 NOTE = 'roskevad_compression'
@@ -46,6 +46,11 @@ class Part(NamedTuple):
     name_start: int = 0
     name_end: int = 0
 
+    def line_column(self) -> tuple[int, int]:
+        """The line and the column where it begins, from 1 and in bytes."""
+        front = self.text[:self.start].encode()
+        return front.count(b'\n') + 1, len(front) - front.rfind(b'\n')
+
     def value(self) -> Any:
         """The value of a text, a number, true, false or null; `None` of an object and an array."""
         if self.text[self.start] in '{[':
@@ -77,52 +82,60 @@ class Part(NamedTuple):
 
 #: The members of an object, by their names.
 Members = dict[str, Part]
+#: The way from the root to a value: names of members and indexes of entries.
+Path = tuple[Union[str, int], ...]
 
 
-def map_and_layers(text: str) -> tuple[Members, list[Members]]:
-    """The members of a map, and those of each of its layers, also in groups; of no layer where they are too many, or the text is
-    cut short. No part of the text is gone through twice."""
+def map_and_layers(text: str) -> tuple[Members, dict[Path, Members]]:
+    """The members of a map, and those of each of its layers, also in groups, by the ways to them; of no layer where they are too
+    many, or the text is cut short. No part of the text is gone through twice."""
     walk = _Walk(text)
     start = _behind_space(text, 0)
     if text[start:start + 1] != '{':
-        return {}, []
+        return {}, {}
     members, end = _read_members(text, start, walk.end_of_member)
-    return members, walk.layers if end is not None else []
+    return members, walk.layers if end is not None else {}
 
 
 class _Walk:
     """A walk through the layers of a map, and through the groups among them."""
 
     def __init__(self, text: str):
-        self.layers: list[Members] = []
+        self.layers: dict[Path, Members] = {}
         self._text = text
-        self._depth = 0
+        # The ways to the arrays of layers that the walk is in, each from the one around it, with the index of the layer.
+        self._path: Path = ()
+        self._count = 0
 
     def end_of_member(self, name: str, start: int) -> Optional[int]:
         """Where a member of the map or of a layer ends. Layers in it are read."""
-        if name != 'layers' or self._text[start:start + 1] != '[' or self._depth == _MOST_DEEP:
+        if name != 'layers' or self._text[start:start + 1] != '[' or len(self._path) == 2 * _MOST_DEEP:
             return _end_of(self._text, start)
-        self._depth += 1
+        around = self._path
         end = self._end_of_layers(start)
-        self._depth -= 1
+        self._path = around
         return end
 
     def _end_of_layers(self, start: int) -> Optional[int]:
-        text = self._text
+        text, around = self._text, self._path
         at = _behind_space(text, start + 1)
+        index = 0
         while text[at:at + 1] not in (']', ''):
+            self._path = (*around, 'layers', index)
             end = self._end_of_layer(at)
             if end is None:
                 return None
             at = _behind_comma(text, end)
+            index += 1
         return at + 1 if at < len(text) else None
 
     def _end_of_layer(self, start: int) -> Optional[int]:
         if self._text[start] != '{':
             return _end_of(self._text, start)
         members, end = _read_members(self._text, start, self.end_of_member)
-        self.layers.append(members)
-        return end if len(self.layers) <= _MOST_LAYERS else None
+        self._count += 1
+        self.layers[self._path] = members
+        return end if self._count <= _MOST_LAYERS else None
 
 
 def _read_members(

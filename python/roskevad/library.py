@@ -1,7 +1,9 @@
 # SPDX-License-Identifier: MIT OR Apache-2.0
 """Loads the library, and declares its functions."""
 import ctypes
+import struct
 from pathlib import Path
+from typing import NamedTuple
 
 #: The version of this package, which that of the library must be.
 VERSION = '0.3.0'
@@ -46,8 +48,39 @@ class LinesDone(ctypes.Structure):
     ]
 
 
+class MapSizes(ctypes.Structure):
+    """`roskevad_sizes`, the sizes of a map, and how many layers and tilesets it has."""
+
+    _fields_ = [
+        *((name, ctypes.c_uint32) for name in ('width', 'height', 'tile_width', 'tile_height', 'next_layer', 'next_object')),
+        *((name, ctypes.c_size_t) for name in ('layers', 'tilesets')),
+    ]
+
+
+class DocumentStatus(ctypes.Structure):
+    """`roskevad_status`, how a document stands."""
+
+    _fields_ = [(name, ctypes.c_size_t) for name in ('index', 'count', 'depth', 'is_clean', 'is_active')]
+
+
+class LayerRow(NamedTuple):
+    """What is read of a `roskevad_layer_row`, a layer in the list of all layers. The parent of one in no group is 0."""
+
+    id: int
+    parent: int
+    kind: int
+
+
+#: How a row lies in memory: behind these three, whether it is visible, and a count.
+LAYER_ROW = struct.Struct('=3I4x8x')
+#: The numbers of what has properties, and of what is found by a name.
+OWNERS = {'map': 1, 'layer': 2, 'object': 3}
+#: The kinds of layers by their numbers.
+KINDS = {1: 'tile', 2: 'object', 3: 'group', 4: 'image'}
+
+
 _SIZE, _EDITOR, _BYTES = ctypes.c_size_t, ctypes.POINTER(CEditor), ctypes.c_char_p
-_ROOM = ctypes.c_void_p
+_ROOM, _ID = ctypes.c_void_p, ctypes.c_uint32
 _PARAMETERS = {
     'open': [_EDITOR, _SIZE],
     'step': [_EDITOR, _BYTES, _SIZE, _ROOM, _SIZE],
@@ -65,11 +98,28 @@ _PARAMETERS = {
     'action_text': [_EDITOR, _SIZE, _ROOM, _SIZE],
     'next_layer_id': [_EDITOR],
     'next_object_id': [_EDITOR],
-    'cells': [_EDITOR, ctypes.c_uint32, _SIZE, _SIZE, _SIZE, _SIZE, _ROOM, _SIZE],
+    'cells': [_EDITOR, _ID, _SIZE, _SIZE, _SIZE, _SIZE, _ROOM, _SIZE],
     'outline': [_EDITOR, _ROOM, _SIZE],
+    'sizes_of_map': [_EDITOR, ctypes.POINTER(MapSizes)],
+    'layers': [_EDITOR, _ROOM, _SIZE],
+    'object_ids': [_EDITOR, _ID, _ROOM, _SIZE],
+    'tilesets': [_EDITOR, _ROOM, _SIZE],
+    'object': [_EDITOR, _ID, _ROOM, _SIZE],
+    'object_layer': [_EDITOR, _ID],
+    'layer': [_EDITOR, _ID, _ROOM, _SIZE],
+    'tileset': [_EDITOR, _ID, _ROOM, _SIZE],
+    'map_head': [_EDITOR, _ROOM, _SIZE],
+    'properties': [_EDITOR, ctypes.c_uint32, _ID, _ROOM, _SIZE],
+    'property': [_EDITOR, ctypes.c_uint32, _ID, _BYTES, _SIZE, _ROOM, _SIZE],
+    'find': [_EDITOR, ctypes.c_uint32, _BYTES, _SIZE],
+    'document_count': [_EDITOR],
+    'document_name': [_EDITOR, _SIZE, _ROOM, _SIZE],
+    'active': [_EDITOR],
+    'status_of': [_EDITOR, _SIZE, ctypes.POINTER(DocumentStatus)],
     'close': [_EDITOR],
     'set_aside': [_BYTES, _SIZE, _ROOM, _SIZE],
     'put_back': [_BYTES, _SIZE, _ROOM, _SIZE],
+    'map_fault': [_BYTES, _SIZE, _ROOM, _SIZE],
     'version': [_ROOM, _SIZE],
 }
 

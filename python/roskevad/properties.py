@@ -1,13 +1,14 @@
 # SPDX-License-Identifier: MIT OR Apache-2.0
 """The properties of a map, a layer or an object."""
-import copy
-from typing import TYPE_CHECKING, Any, Callable, Iterator, MutableMapping, Optional
+from typing import TYPE_CHECKING, Any, Iterator, MutableMapping, Optional, Union, cast
 
 from . import words
-from .outline import Members, Outline
+from .library import OWNERS
+from .tiled_maps import Members
 
 if TYPE_CHECKING:
     from .document import Document
+    from .views import Layer, MapObject
 
 
 class Properties(MutableMapping[str, Any]):
@@ -15,19 +16,47 @@ class Properties(MutableMapping[str, Any]):
     that is there; the first value of a name sets a string, an int, a bool or, for a MapObject, an object. `set` names another
     type."""
 
-    __slots__ = '_document', '_owner', '_members'
+    __slots__ = '_document', '_thing', '_owner', '_place'
 
-    def __init__(self, document: 'Document', owner: str, members: Callable[[Outline], Members]):
+    def __init__(self, document: 'Document', kind: str = 'map', thing: "Optional[Union[Layer, MapObject]]" = None):
         self._document = document
-        self._owner = owner
-        self._members = members
+        self._thing = thing
+        # What has them, in the words of lines and in the numbers of the library.
+        self._owner = kind if thing is None else f'{kind}:{thing.id}'
+        self._place = OWNERS[kind], 0 if thing is None else thing.id
 
-    def _all(self) -> dict[str, Members]:
-        return self._document._look(lambda outline: {each['name']: each for each in self._members(outline).get('properties', ())})
+    def _now(self) -> list[Members]:
+        """All of them, in a turn. Raises Refused where what has them was removed."""
+        listed: Optional[list[Members]] = self._document._read('properties', *self._place)
+        if listed is None and self._thing is not None:
+            raise self._thing._missing()
+        return listed or []
+
+    def _one_now(self, key: object) -> Optional[Members]:
+        """The one of a name, in a turn; None where there is none."""
+        name = words.looked_up(key)
+        return cast(Optional[Members], self._document._read('property', *self._place, name, len(name)))
+
+    def _one(self, key: object) -> Optional[Members]:
+        """The same. Raises Refused where what has them was removed."""
+
+        def work() -> Optional[Members]:
+            found = self._one_now(key)
+            if found is None:
+                self._now()
+            return found
+
+        return self._document._do(work)
+
+    def _there(self, key: str) -> Members:
+        found = self._one(key)
+        if found is None:
+            raise KeyError(key)
+        return found
 
     def __getitem__(self, key: str) -> Any:
         """The value of the property of a name. Raises KeyError where there is none."""
-        return _value_of(self._all()[key])
+        return _value_of(self._there(key))
 
     def __setitem__(self, key: str, value: Any) -> None:
         """Sets a property, of the type that is there. Raises as `set` does."""
@@ -35,44 +64,46 @@ class Properties(MutableMapping[str, Any]):
 
     def __delitem__(self, key: str) -> None:
         """Removes the property of a name. Raises KeyError where there is none, ValueError where no line can say its name."""
-        if key not in self._all():
-            raise KeyError(key)
+        self._there(key)
         self._document._edit(f'prop remove {self._owner} {words.key(key)}')
 
     def __iter__(self) -> Iterator[str]:
-        return iter(list(self._all()))
+        return iter([each['name'] for each in self._document._do(self._now)])
 
     def __len__(self) -> int:
-        return len(self._all())
+        return len(self._document._do(self._now))
 
     def __contains__(self, key: object) -> bool:
-        return key in self._all()
+        return self._one(key) is not None
 
     def type_of(self, key: str) -> str:
         """The type of the property of a name, as Tiled has it: string, int, float, bool, color, file, object or class. Raises
         KeyError where there is none."""
-        return str(self._all()[key].get('type', 'string'))
+        return str(self._there(key).get('type', 'string'))
 
     def set(self, key: str, value: Any, type: Optional[str] = None, merge: bool = False) -> None:
         """Sets a property: of this type, or else of the type that is there, or else of the value's own. With `merge` it is one
         step with a setting of the same property before it. Raises TypeError where that type takes no such value; ValueError for
         what no line can say, as a float, an empty text or a name with a space; Refused."""
         name = words.key(key)
-        if type is not None:
-            kind = words.one_of(type, words.TYPES, 'the type of a property')
-        else:
-            there = self._all().get(name)
-            kind = str(there.get('type', 'string')) if there else words.type_of(name, value)
-        self._document._edit(f'prop set{"+" if merge else ""} {self._owner} {name} {words.setting(name, value, kind)}')
+        named = None if type is None else words.one_of(type, words.TYPES, 'the type of a property')
+
+        def work() -> None:
+            kind = named or self._type_for(name, value)
+            self._document._say(f'prop set{"+" if merge else ""} {self._owner} {name} {words.setting(name, value, kind)}')
+
+        self._document._do(work)
+
+    def _type_for(self, name: str, value: Any) -> str:
+        """The type that a value is set with, in a turn."""
+        there = self._one_now(name)
+        return words.type_of(name, value) if there is None else str(there.get('type', 'string'))
 
     def __repr__(self) -> str:
-        all_ = self._document._peek(lambda outline: {each['name']: _value_of(each) for each in self._members(outline).get('properties', ())})
+        all_ = self._document._peek(lambda: {each['name']: _value_of(each) for each in self._now()})
         return f'<Properties of {self._owner}>' if all_ is None else f'Properties({all_})'
 
 
 def _value_of(members: Members) -> Any:
     value = members['value']
-    if members.get('type') == 'float':
-        return float(value)
-    # The value of a class has members of its own.
-    return copy.deepcopy(value)
+    return float(value) if members.get('type') == 'float' else value

@@ -2,13 +2,14 @@
 """What the editor's format refuses of a map is set aside before it is read, and put back when it is saved."""
 import math
 import struct
-from typing import Any, Optional
+from typing import Any, Iterable, Iterator
 
 from . import library
 from .faults import Refused
 from .library import LIBRARY
-from .compressed_layers import Unpackable, pack_layers, unpack_layers
+from .compressed_layers import Unpackable, UnpackedMap, pack_layers, unpack_layers
 from .limits import MAX_FILE_BYTES
+from .map_faults import refused_as_no_json
 from .rooms import Room
 
 # The name under which it stands, in the map, in layers and objects.
@@ -27,17 +28,19 @@ _FAULTS = {
 }
 # The longest text that is made, as in the program.
 _TOO_LONG = f'set aside or put back, it would be longer than {MAX_FILE_BYTES:,} bytes'
-_WORDS = {51: 'store failed', 66: 'bad data'}
+_STORE_FAILED, _WORDS = 51, 'store failed'
+#: The members of a map, or of a thing of it.
+Members = dict[str, Any]
 
 
-def set_aside(data: bytes, call: str) -> tuple[bytes, Optional[str]]:
-    """The text of a map that `open` can read, where it can; and why a layer stays packed, in words. Raises Refused, with the call:
-    51 and 66."""
+def set_aside(data: bytes, call: str) -> tuple[bytes, UnpackedMap]:
+    """The text of a map that `open` can read, where it can; and what was unpacked for it. Raises Refused, with the call: 51, and 60
+    where the bytes are no JSON besides."""
     try:
-        found = unpack_layers(data)
+        unpacked = unpack_layers(data)
     except Unpackable as fault:
-        raise _refused(fault, call) from None
-    return _made('set_aside', found.data, call), found.why
+        raise refused_as_no_json(data, call) or _refused(fault, call) from None
+    return _made('set_aside', unpacked.data, call), unpacked
 
 
 def put_back(data: bytes, call: str) -> bytes:
@@ -49,7 +52,7 @@ def put_back(data: bytes, call: str) -> bytes:
 
 
 def _refused(fault: Unpackable, call: str) -> Refused:
-    return Refused(fault.code, _WORDS[fault.code], call, forms=(), why=fault.why)
+    return Refused(_STORE_FAILED, _WORDS, call, forms=(), why=fault.why)
 
 
 def _made(name: str, data: bytes, call: str) -> bytes:
@@ -66,36 +69,20 @@ def _made(name: str, data: bytes, call: str) -> bytes:
     if size in (library.NONE, library.NOT_JSON):
         return data
     if size > MAX_FILE_BYTES:
-        raise Refused(51, _WORDS[51], call, forms=(), why=_FAULTS.get(size, _TOO_LONG))
+        raise Refused(_STORE_FAILED, _WORDS, call, forms=(), why=_FAULTS.get(size, _TOO_LONG))
     text: bytes = room.bytes[:size]
     return text
 
 
 # ---- trees
-def restored(tree: dict[str, Any]) -> dict[str, Any]:
-    """The tree of a map in which fractions are numbers again, and no note is left. It stays finite."""
-    found: dict[str, Any] = _restored(tree, _infinite_note(tree))
-    return found
-
-
-def origin_of(tree: dict[str, Any]) -> tuple[int, int]:
-    """The column and the row of an infinite map where the corner of the finite one lies; 0 and 0 of any other map."""
-    note = _infinite_note(tree)
-    return note.get('x', 0), note.get('y', 0)
-
-
-def _infinite_note(tree: dict[str, Any]) -> dict[str, Any]:
-    notes = tree.get(_RESERVED)
-    note = notes.get('infinite') if isinstance(notes, dict) else None
-    return note if isinstance(note, dict) else {}
-
-
-def _restored(value: Any, note: dict[str, Any]) -> Any:
-    if isinstance(value, list):
-        return [_restored(each, note) if isinstance(each, (dict, list)) else each for each in value]
-    if not isinstance(value, dict):
-        return value
-    members = {name: _restored(member, note) for name, member in value.items()}
+def restored(tree: Any, note: Members) -> Any:
+    """The tree of a map, or of a thing of it, in which fractions are numbers again, and no note is left. It stays finite. `note` is that
+    of the map."""
+    if isinstance(tree, list):
+        return [restored(each, note) if isinstance(each, (dict, list)) else each for each in tree]
+    if not isinstance(tree, dict):
+        return tree
+    members = {name: restored(member, note) for name, member in tree.items()}
     notes = members.get(_RESERVED)
     if isinstance(notes, list) and len(members) == 1:
         return _number_of(notes, members)
@@ -105,7 +92,27 @@ def _restored(value: Any, note: dict[str, Any]) -> Any:
     return members
 
 
-def _number_of(halves: list[Any], members: dict[str, Any]) -> Any:
+def drawn(layers: Iterable[Members]) -> Iterator[Members]:
+    """The layers in drawing order, those that stand in a group behind it."""
+    for layer in layers:
+        yield layer
+        # A layer of another kind may have any member of that name.
+        yield from drawn(layer['layers'] if layer['type'] == 'group' else ())
+
+
+def note_of(tree: Members) -> Members:
+    """What the tree of a map, or its head, says of how an infinite map was made finite; nothing of any other map. No edit changes it."""
+    notes = tree.get(_RESERVED)
+    note = notes.get('infinite') if isinstance(notes, dict) else None
+    return note if isinstance(note, dict) else {}
+
+
+def origin_of(note: Members) -> tuple[int, int]:
+    """The column and the row of an infinite map where the corner of the finite one lies; 0 and 0 of any other map."""
+    return note.get('x', 0), note.get('y', 0)
+
+
+def _number_of(halves: list[Any], members: Members) -> Any:
     """The number that an object of nothing but the halves of its bits stands for, else the object."""
     if len(halves) < 2 or not all(type(half) is int and 0 <= half < 2**32 for half in halves[:2]):
         return members
@@ -113,7 +120,7 @@ def _number_of(halves: list[Any], members: dict[str, Any]) -> Any:
     return number if math.isfinite(number) else members
 
 
-def _exact(members: dict[str, Any], notes: dict[str, Any], note: dict[str, Any]) -> dict[str, float]:
+def _exact(members: Members, notes: Members, note: Members) -> dict[str, float]:
     """The coordinates of an object that are noted and that no edit has changed. An object of an infinite map was moved."""
     exact = {}
     for name, moved in _MOVED.items():

@@ -1,17 +1,22 @@
 # SPDX-License-Identifier: MIT OR Apache-2.0
 """The tilesets of a document, and the tiles of its cells."""
-from typing import TYPE_CHECKING, Iterator, NamedTuple, Optional, Union
+from typing import TYPE_CHECKING, Iterator, NamedTuple, Optional, Union, cast
 
 from . import words
 from .faults import Refused
 from .rows import BASE
-from .outline import Members, Outline
+from .tiled_maps import Members
 
 if TYPE_CHECKING:
     from .document import Document
 
 # The flags of a value, as Tiled has them.
 _HORIZONTALLY, _VERTICALLY, _DIAGONALLY, _TURNED = 0x8000_0000, 0x4000_0000, 0x2000_0000, 0x1000_0000
+
+
+def is_id(key: object) -> bool:
+    """Whether a key is a number that can be an id."""
+    return isinstance(key, int) and 0 <= key < 2**32
 
 
 class Tileset:
@@ -30,12 +35,14 @@ class Tileset:
         return self._first_id
 
     def _members(self) -> Members:
-        return self._document._look(self._find)
-
-    def _find(self, outline: Outline) -> Members:
-        if self.first_id not in outline.tilesets:
+        members = self._document._do(lambda: cast(Optional[Members], self._document._read('tileset', self.first_id)))
+        if members is None:
             raise Refused(36, 'no such tileset', repr(self), forms=())
-        return outline.tilesets[self.first_id]
+        return members
+
+    def __int__(self) -> int:
+        """Its first id."""
+        return self._first_id
 
     @property
     def source(self) -> Optional[str]:
@@ -91,10 +98,10 @@ class Tile(NamedTuple):
     turned: bool
 
 
-def tile_of(document: 'Document', outline: Outline, value: int) -> Tile:
-    """The tile that a value, which is not 0, stands for."""
+def tile_of(document: 'Document', value: int) -> Tile:
+    """The tile that a value, which is not 0, stands for, in a turn."""
     base = value & BASE
-    first = outline.tileset_of(base)
+    first = max((first for first in document._ids('tilesets') if first <= base), default=None)
     flags = [value & bit != 0 for bit in _FLAGS]
     tileset = None if first is None else Tileset(document, first)
     return Tile(value, tileset, None if first is None else base - first, *flags)
@@ -109,12 +116,15 @@ class Tilesets:
     def __init__(self, document: 'Document'):
         self._document = document
 
+    def _firsts(self) -> list[int]:
+        return self._document._do(lambda: self._document._ids('tilesets'))
+
     def __iter__(self) -> Iterator[Tileset]:
         """Each tileset, in order."""
-        return iter([Tileset(self._document, first) for first in self._document._look(lambda outline: list(outline.tilesets))])
+        return iter([Tileset(self._document, first) for first in self._firsts()])
 
     def __len__(self) -> int:
-        return self._document._look(lambda outline: len(outline.tilesets))
+        return self._document._do(lambda: int(self._document._sizes().tilesets))
 
     @property
     def first(self) -> Optional[Tileset]:
@@ -122,32 +132,36 @@ class Tilesets:
         return next(iter(self), None)
 
     def _found(self, key: object) -> Optional[int]:
-        def find(outline: Outline) -> Optional[int]:
-            if isinstance(key, int):
-                return key if key in outline.tilesets else None
-            names = ((first, each.get('source', each.get('name'))) for first, each in outline.tilesets.items())
-            return next((first for first, name in names if name == key), None)
+        """The first id of what a key stands for, in a turn; None where there is no such tileset."""
+        document = self._document
+        if isinstance(key, Tileset):
+            return self._found(key.first_id) if key._document is document else None
+        if isinstance(key, int):
+            return key if is_id(key) and document._editor._count('tileset', key) is not None else None
+        for first in document._ids('tilesets'):
+            members = document._read('tileset', first)
+            if members.get('source', members.get('name')) == key:
+                return first
+        return None
 
-        return self._document._look(find)
-
-    def __getitem__(self, key: Union[int, str]) -> Tileset:
+    def __getitem__(self, key: Union[int, str, Tileset]) -> Tileset:
         """The tileset with a first id, or the first with a source or a name. Raises KeyError where there is none."""
-        first = self._found(key)
+        first = self._document._do(lambda: self._found(key))
         if first is None:
             raise KeyError(key)
         return Tileset(self._document, first)
 
     def __contains__(self, key: object) -> bool:
         """Whether there is a tileset with a first id, a source or a name."""
-        return key in list(self) if isinstance(key, Tileset) else self._found(key) is not None
+        return self._document._do(lambda: self._found(key)) is not None
 
-    def add(self, first_id: int, source: str) -> int:
-        """Adds a tileset by the path of its file from the folder of the map, last, and gives its first id. That must be above
-        those of all tiles there: the greatest first id plus the number of tiles of that tileset. Raises TypeError, ValueError;
-        Refused: 38 where it is not above the other first ids."""
+    def add(self, first_id: int, source: str) -> Tileset:
+        """Adds a tileset by the path of its file from the folder of the map, last, and gives it. Its first id must be above those of
+        all tiles there: the greatest first id plus the number of tiles of that tileset. Raises TypeError, ValueError; Refused: 38
+        where it is not above the other first ids."""
         first = words.number(first_id, 'the first id of a tileset')
         self._document._edit(f'tileset add {first} {words.text(source, "the source of a tileset")}')
-        return first
+        return Tileset(self._document, first)
 
     def __repr__(self) -> str:
         return f'<Tilesets of {self._document.name!r}>'

@@ -1,20 +1,20 @@
 # SPDX-License-Identifier: MIT OR Apache-2.0
 """The layers of a document, and their objects."""
-import json
 from typing import TYPE_CHECKING, Any, Callable, Iterator, Optional, TypeVar, Union, cast
 
 from . import words
 from .faults import Refused
+from .library import KINDS, LayerRow
 from .properties import Properties
-from .outline import Members, Outline, drawn
-from .tilesets import Tile, tile_of
+from .tiled_maps import Members
+from .tilesets import Tile, is_id, tile_of
 
 if TYPE_CHECKING:
     from .document import Document
 
 _Answer = TypeVar('_Answer')
 #: The kinds of layers, by the words of Tiled's files.
-KINDS = {'tilelayer': 'tile', 'objectgroup': 'object', 'group': 'group', 'imagelayer': 'image'}
+TYPES = {'tilelayer': 'tile', 'objectgroup': 'object', 'group': 'group', 'imagelayer': 'image'}
 #: The kinds of layers that a line adds.
 ADDED = ('tile', 'object')
 
@@ -24,23 +24,24 @@ class _View:
 
     # So that a name that it has not is never set silently.
     __slots__ = '_document', '_id'
-    _code, _words = 30, 'no such layer'
+    _subject, _code, _words = 'layer', 30, 'no such layer'
 
     def __init__(self, document: 'Document', id: int):
         self._document = document
         self._id = id
 
-    def _find(self, outline: Outline) -> Members:
-        raise NotImplementedError
+    def _now(self) -> Members:
+        """What the map says of it, in a turn; of a layer without what is in it. Raises Refused."""
+        members: Optional[Members] = self._document._read(self._subject, self._id)
+        if members is None:
+            raise self._missing()
+        return members
 
-    def _has(self, outline: Outline) -> Members:
-        try:
-            return self._find(outline)
-        except KeyError:
-            raise Refused(self._code, self._words, f'{type(self).__name__} {self.id}', forms=()) from None
+    def _missing(self) -> Refused:
+        return Refused(self._code, self._words, f'{type(self).__name__} {self.id}', forms=())
 
     def _look(self, answer: Callable[[Members], _Answer]) -> _Answer:
-        return self._document._look(lambda outline: answer(self._has(outline)))
+        return self._document._do(lambda: answer(self._now()))
 
     @property
     def id(self) -> int:
@@ -54,9 +55,15 @@ class _View:
 
     @property
     def members(self) -> Members:
-        """All that the map's file says of it, without cells: a copy. Raises Refused where it was removed."""
-        members: Members = json.loads(self._look(json.dumps))
-        return members
+        """All that the map says of it, without cells: a copy. Raises Refused where it was removed."""
+        return self._document._do(self._whole)
+
+    def _whole(self) -> Members:
+        return self._now()
+
+    def __int__(self) -> int:
+        """Its id."""
+        return self._id
 
     def __eq__(self, other: object) -> bool:
         return type(other) is type(self) and isinstance(other, _View) and (self._document, self.id) == (other._document, other.id)
@@ -70,19 +77,19 @@ class MapObject(_View):
     34. Places and sizes are in pixels."""
 
     __slots__ = '_object_id',
-    _code, _words = 34, 'no such object'
+    _subject, _code, _words = 'object', 34, 'no such object'
 
     def __init__(self, document: 'Document', id: int):
         super().__init__(document, id)
         self._object_id = id
 
-    def _find(self, outline: Outline) -> Members:
-        return outline.objects[self.id].members
-
     @property
     def layer(self) -> 'Layer':
         """The layer that it is in. Raises Refused."""
-        return Layer(self._document, self._document._look(lambda outline: (self._has(outline), outline.objects[self.id].layer)[1]))
+        id = self._document._do(lambda: self._document._editor._number('object_layer', self.id))
+        if id is None:
+            raise self._missing()
+        return Layer(self._document, id)
 
     @property
     def name(self) -> str:
@@ -131,16 +138,16 @@ class MapObject(_View):
     def tile(self) -> Optional[Tile]:
         """Its tile, where it is one; else None. Raises Refused."""
 
-        def find(outline: Outline) -> Optional[Tile]:
-            value = self._has(outline).get('gid', 0)
-            return tile_of(self._document, outline, value) if value else None
+        def find(members: Members) -> Optional[Tile]:
+            value = members.get('gid', 0)
+            return tile_of(self._document, value) if value else None
 
-        return self._document._look(find)
+        return self._look(find)
 
     @property
     def properties(self) -> Properties:
         """Its properties, a live view."""
-        return Properties(self._document, f'object:{self.id}', self._has)
+        return Properties(self._document, 'object', self)
 
     def move(self, x: int, y: int, merge: bool = False) -> None:
         """Moves it to a place in pixels; with `merge` as one step with a move of it before. Raises TypeError, ValueError; Refused."""
@@ -157,7 +164,7 @@ class MapObject(_View):
         self._document._edit(f'object remove {self.id}')
 
     def __repr__(self) -> str:
-        described = self._document._peek(lambda outline: '{name!r} at {x}, {y}'.format(**self._find(outline)))
+        described = self._document._peek(lambda: '{name!r} at {x}, {y}'.format(**self._now()))
         return f'<MapObject {self.id} {described or "of " + repr(self._document.name)}>'
 
 
@@ -171,48 +178,60 @@ class Objects:
         self._document = document
         self._layer = layer
 
-    def _all(self, outline: Outline) -> dict[int, Members]:
-        return {id: each.members for id, each in outline.objects.items() if self._layer in (None, each.layer)}
+    def _ids(self) -> list[int]:
+        """The ids of all, in a turn."""
+        return self._document._ids('object_ids', self._layer or 0)
 
     def __iter__(self) -> Iterator[MapObject]:
         """Each object, in drawing order."""
-        return iter([MapObject(self._document, id) for id in self._document._look(self._all)])
+        return iter([MapObject(self._document, id) for id in self._document._do(self._ids)])
 
     def __len__(self) -> int:
-        return len(self._document._look(self._all))
+        return self._document._do(lambda: self._document._editor._count('object_ids', self._layer or 0)) or 0
 
     def _found(self, key: object) -> Optional[int]:
-        return self._document._look(lambda outline: _found_in(self._all(outline), key))
+        """The id of what a key stands for, in a turn; None where there is no such object here."""
+        document = self._document
+        if isinstance(key, MapObject):
+            return self._found(key.id) if key.document is document else None
+        if isinstance(key, str):
+            id = document._editor._find('object', key)
+            is_here = id is None or self._layer is None or self._has(id)
+            return id if is_here else _first_named(document, 'object', self._ids(), key)
+        return cast(int, key) if is_id(key) and self._has(cast(int, key)) else None
 
-    def __getitem__(self, key: Union[int, str]) -> MapObject:
+    def _has(self, id: int) -> bool:
+        layer = self._document._editor._number('object_layer', id)
+        return layer is not None and self._layer in (None, layer)
+
+    def __getitem__(self, key: Union[int, str, MapObject]) -> MapObject:
         """The object with an id, or the first of a name. Raises KeyError where there is none."""
-        id = self._found(key)
+        id = self._document._do(lambda: self._found(key))
         if id is None:
             raise KeyError(key)
         return MapObject(self._document, id)
 
     def __contains__(self, key: object) -> bool:
         """Whether there is an object with an id, or of a name."""
-        return key in list(self) if isinstance(key, MapObject) else self._found(key) is not None
+        return self._document._do(lambda: self._found(key)) is not None
 
-    def add(self, name: str, x: int, y: int, width: int = 0, height: int = 0) -> int:
-        """Adds an object to this layer, last, at a place and of a size in pixels, and gives its id. Raises TypeError; ValueError,
-        also for the objects of a whole document; Refused: 31 where the layer is no object layer."""
+    def add(self, name: str, x: int, y: int, width: int = 0, height: int = 0) -> MapObject:
+        """Adds an object to this layer, last, at a place and of a size in pixels, and gives it. Raises TypeError; ValueError, also
+        for the objects of a whole document; Refused: 31 where the layer is no object layer."""
         if self._layer is None:
             raise ValueError('an object is added to a layer: document.layers[..].objects.add(..)')
         where = f'{words.coordinate(x, "x")} {words.coordinate(y, "y")}'
         size = f'{words.number(width, "a width")} {words.number(height, "a height")}'
-        return self._document._add('object', f'object add {self._layer} {where} {size} {words.text(name, "the name of an object")}')
+        line = f'object add {self._layer} {where} {size} {words.text(name, "the name of an object")}'
+        return MapObject(self._document, self._document._add('object', line))
 
     def __repr__(self) -> str:
         return f'<Objects of {"all layers" if self._layer is None else f"layer {self._layer}"} of {self._document.name!r}>'
 
 
-def _found_in(parts: dict[int, Members], key: object) -> Optional[int]:
-    """The id of the part with an id, or of the first of a name."""
-    if isinstance(key, str):
-        return next((id for id, each in parts.items() if each['name'] == key), None)
-    return key if isinstance(key, int) and key in parts else None
+def _first_named(document: 'Document', subject: str, ids: list[int], name: str) -> Optional[int]:
+    """The first of these layers or objects that has a name, in a turn: each is looked at."""
+    return next((id for id in ids if document._read(subject, id).get('name') == name), None)
 
 
 class Layer(_View):
@@ -221,13 +240,21 @@ class Layer(_View):
 
     __slots__ = ()
 
-    def _find(self, outline: Outline) -> Members:
-        return outline.layers[self.id]
+    def _whole(self) -> Members:
+        members = self._now()
+        if members['type'] == 'tilelayer':
+            sizes, encoding = self._document._sizes(), self._document._encoding_of(self.id)
+            members.update(width=sizes.width, height=sizes.height, **({} if encoding is None else {'encoding': encoding}))
+        elif members['type'] == 'objectgroup':
+            members['objects'] = [self._document._read('object', id) for id in self._document._ids('object_ids', self.id)]
+        elif members['type'] == 'group':
+            members['layers'] = [Layer(self._document, row.id)._whole() for row in self.layers._below()]
+        return members
 
     @property
     def kind(self) -> str:
         """Its kind: tile, object, group or image. Raises Refused."""
-        return self._look(lambda members: KINDS[members['type']])
+        return self._look(lambda members: TYPES[members['type']])
 
     @property
     def name(self) -> str:
@@ -260,7 +287,7 @@ class Layer(_View):
     @property
     def properties(self) -> Properties:
         """Its properties, a live view."""
-        return Properties(self._document, f'layer:{self.id}', self._has)
+        return Properties(self._document, 'layer', self)
 
     def cells(self, x: int = 0, y: int = 0, width: Optional[int] = None, height: Optional[int] = None) -> memoryview:
         """The values of the cells of a rectangle, row by row, read-only and of 32 bits; without a size, up to the map's right and
@@ -277,7 +304,7 @@ class Layer(_View):
         """The tile of a cell; None where the cell is empty. Raises TypeError, ValueError; Refused: 31 where it is no tile layer, 32
         outside the map."""
         value = self._document._cells_of(self, x, y, 1, 1)[1][0]
-        return self._document._look(lambda outline: tile_of(self._document, outline, value)) if value else None
+        return self._document._do(lambda: tile_of(self._document, value)) if value else None
 
     def move(self, place: int) -> None:
         """Moves it to a place among the layers beside it, from 0, which is drawn first. Raises TypeError, ValueError; Refused."""
@@ -288,7 +315,7 @@ class Layer(_View):
         self._document._edit(f'layer remove {self.id}')
 
     def __repr__(self) -> str:
-        described = self._document._peek(lambda outline: '{1} {0[name]!r}'.format(self._find(outline), KINDS[self._find(outline)['type']]))
+        described = self._document._peek(lambda: '{1} {0[name]!r}'.format(self._now(), TYPES[self._now()['type']]))
         return f'<Layer {self.id} {described or "of " + repr(self._document.name)}>'
 
 
@@ -302,60 +329,83 @@ class Layers:
         self._document = document
         self._group = group
 
-    def _all(self, outline: Outline) -> dict[int, Members]:
-        return {each['id']: each for each in drawn(self._below(outline))}
+    def _walked(self) -> list[LayerRow]:
+        """All of them, with those in groups, in a turn. Raises Refused where the group was removed."""
+        rows = self._document._layer_rows()
+        if self._group is None:
+            return rows
+        if self._group not in [row.id for row in rows]:
+            raise Refused(30, 'no such layer', f'Layers of {self._group}', forms=())
+        groups, found = {self._group}, []
+        for row in rows:
+            if row.parent in groups:
+                groups.add(row.id)
+                found.append(row)
+        return found
 
-    def _below(self, outline: Outline) -> list[Members]:
-        try:
-            return outline.below(self._group)
-        except KeyError:
-            raise Refused(30, 'no such layer', repr(self), forms=()) from None
+    def _below(self) -> list[LayerRow]:
+        """Those that stand in no other group, in a turn."""
+        return [row for row in self._walked() if row.parent == (self._group or 0)]
 
     def __iter__(self) -> Iterator[Layer]:
         """Each layer, in drawing order; a group is one, and `walk` enters it."""
-        return iter(self._document._look(lambda outline: [Layer(self._document, each['id']) for each in self._below(outline)]))
+        return iter([Layer(self._document, row.id) for row in self._document._do(self._below)])
 
     def walk(self) -> Iterator[Layer]:
         """Each layer, in drawing order, a group before those in it."""
-        return iter([Layer(self._document, id) for id in self._document._look(self._all)])
+        return iter([Layer(self._document, row.id) for row in self._document._do(self._walked)])
 
     def __len__(self) -> int:
-        return len(self._document._look(self._below))
+        return len(self._document._do(self._below))
 
     def _found(self, key: object) -> Optional[int]:
-        return self._document._look(lambda outline: _found_in(self._all(outline), key))
+        """The id of what a key stands for, in a turn; None where there is no such layer here."""
+        document = self._document
+        if isinstance(key, Layer):
+            return self._found(key.id) if key.document is document else None
+        if isinstance(key, str):
+            id = document._editor._find('layer', key)
+            is_here = id is None or self._group is None or self._has(id)
+            return id if is_here else _first_named(document, 'layer', [row.id for row in self._walked()], key)
+        return cast(int, key) if is_id(key) and self._has(cast(int, key)) else None
 
-    def __getitem__(self, key: Union[int, str]) -> Layer:
+    def _has(self, id: int) -> bool:
+        if self._group is None:
+            return self._document._editor._count('layer', id) is not None
+        return id in [row.id for row in self._walked()]
+
+    def __getitem__(self, key: Union[int, str, Layer]) -> Layer:
         """The layer with an id, or the first of a name, in groups too. Raises KeyError where there is none."""
-        id = self._found(key)
+        id = self._document._do(lambda: self._found(key))
         if id is None:
             raise KeyError(key)
         return Layer(self._document, id)
 
     def __contains__(self, key: object) -> bool:
         """Whether there is a layer with an id, or of a name and of any kind, in groups too."""
-        return self._found(key.id if isinstance(key, Layer) and key.document is self._document else key) is not None
+        return self._document._do(lambda: self._found(key)) is not None
 
     def find(self, name: str, kind: str) -> Optional[Layer]:
         """The first layer of a name that is of a kind: tile, object, group or image; in groups too. None where there is none. Raises
         ValueError for another kind."""
         said = words.one_of(kind, tuple(KINDS.values()), 'the kind of a layer')
 
-        def find(outline: Outline) -> Optional[int]:
-            found = (id for id, each in self._all(outline).items() if (each['name'], KINDS[each['type']]) == (name, said))
-            return next(found, None)
+        def find() -> Optional[int]:
+            first = self._document._editor._find('layer', name)
+            ids = [row.id for row in self._walked() if KINDS[row.kind] == said]
+            return first if first is None or first in ids else _first_named(self._document, 'layer', ids, name)
 
-        id = self._document._look(find)
+        id = self._document._do(find)
         return None if id is None else Layer(self._document, id)
 
-    def add(self, kind: str, name: str) -> int:
-        """Adds a layer, tile or object, in no group, last, which is drawn over the others, and gives its id. Raises TypeError;
+    def add(self, kind: str, name: str) -> Layer:
+        """Adds a layer, tile or object, in no group, last, which is drawn over the others, and gives it. Raises TypeError;
         ValueError, also for the layers of a group; Refused."""
         if self._group is not None:
             raise ValueError('no line adds a layer to a group: document.layers.add(..)')
         said = words.one_of(kind, ADDED, 'the kind of a layer that is added')
-        return self._document._add('layer', f'layer add {said} {words.text(name, "the name of a layer")}')
+        return Layer(self._document, self._document._add('layer', f'layer add {said} {words.text(name, "the name of a layer")}'))
 
     def __repr__(self) -> str:
-        described: Any = self._document._peek(lambda outline: [each['name'] for each in self._below(outline)])
+        described: Any = self._document._peek(lambda: [self._document._read('layer', row.id)['name'] for row in self._below()])
         return f'<Layers of {self._document.name!r}: {described}>'

@@ -47,6 +47,11 @@ def key(word: object) -> str:
     return said
 
 
+def looked_up(name: object) -> bytes:
+    """The bytes of a name that something is looked up by: those of no name, where it is no text."""
+    return name.encode('utf-8', 'surrogatepass') if isinstance(name, str) else b'\xff'
+
+
 def macro(words: object, action: Optional[object]) -> str:
     """Both texts of a macro, as the line `begin` has them. Raises as `text` does, and ValueError where they would be divided at
     another place."""

@@ -22,6 +22,7 @@ COMMANDS = {
     'pyflakes3': 'pyflakes3',
     'shellcheck': 'shellcheck',
     'tiled': 'tiled',
+    'valgrind': 'valgrind',
 }
 # The module that this interpreter has with each package.
 MODULES = {'python3-venv': 'ensurepip'}

@@ -15,7 +15,7 @@ function argumentsOf(call) {
 }
 
 function membersOf(kind) {
-  const members = {};
+  const members = Object.create(null);
   for (let each = kind.prototype; each !== Object.prototype; each = Object.getPrototypeOf(each)) {
     for (const [name, { value, get, set }] of Object.entries(Object.getOwnPropertyDescriptors(each))) {
       if (!name.startsWith("_") && !["constructor", "toString"].includes(name) && !(name in members)) {

@@ -25,9 +25,8 @@ async function drawnDocuments() {
   same(town instanceof Document, true);
   const depth = await town.macro("Fence", async (document) => {
     document.stamp("Tile Layer 1", 0, 0, [[5, 6], Uint32Array.of(7, 2147483656)]);
-    const things = document.layers.add("object", "Things");
-    const key = document.layers.get(things).objects.add("key", 16, 8);
-    document.objects.get(key).properties.set("door", document.objects.get("key"));
+    const key = document.layers.add("object", "Things").objects.add("key", 16, 8);
+    key.properties.set("door", document.objects.get("key"));
     await Promise.resolve();
     return document.status.depth;
   }, { action: "draw a fence" });
@@ -72,7 +71,7 @@ async function propertiesOfOtherTypes() {
 async function points() {
   const editor = await Editor.create();
   const made = editor.new("made", 4, 3, 16, 16, "town.tsj");
-  const { objects } = made.layers.get(made.layers.add("object", "Things"));
+  const { objects } = made.layers.add("object", "Things");
   objects.add("spawn", 8, 8);
   objects.add("rectangle", 8, 8);
   const tree = made.map();
@@ -104,8 +103,7 @@ async function callsThatRefusalsName() {
 async function namesThatAreNotThere() {
   const editor = await Editor.create();
   const town = editor.new("town", 4, 3, 16, 16, "town.tsj");
-  const things = town.layers.get(town.layers.add("object", "Things")).objects;
-  const key = town.objects.get(things.add("key", 16, 8));
+  const key = town.layers.add("object", "Things").objects.add("key", 16, 8);
   const rows = [
     [town, "tilewidth"], [town.layers, "a"], [town.layers.get(1), "opacity"], [town.layers.get(1), "id"], [town.objects, "a"],
     [key, "point"], [key, "type"], [key, "isPoint"], [key, "x"], [town.properties, "author"], [town.tilesets, "a"],
@@ -121,6 +119,11 @@ async function namesThatAreNotThere() {
   });
   same(message, "type of an object is not set as a value: no line changes it");
   editor.close();
+}
+
+// The members of a thing in the order of their names.
+function sorted(members) {
+  return Object.fromEntries(Object.keys(members).sort().map((name) => [name, members[name]]));
 }
 
 // The calls of the library that some work makes for an editor, by their names.
@@ -142,20 +145,25 @@ function countedCalls(editor, work) {
   return counts;
 }
 
-// Stamps by the name of a layer, and strokes, on a map of 1,000 objects: the outline is asked for once, and each
-// stamp is one line, in a stroke with what tells whether it is a step.
-async function loopsOfStamps() {
+// An editor with a document of 1,000 objects.
+async function withObjects() {
   const editor = await Editor.create();
   const document = editor.new("a", 100, 100, 16, 16, "a.tsj");
-  const things = document.layers.add("object", "Things");
-  editor.runLines(Array.from({ length: 1000 }, (_, at) => `object add ${things} ${at} 0 8 8 thing`));
+  const { id } = document.layers.add("object", "Things");
+  editor.runLines(Array.from({ length: 1000 }, (_, at) => `object add ${id} ${at} 0 8 8 thing`));
+  return { editor, document };
+}
+
+// Stamps by the name of a layer, and strokes, on a map of 1,000 objects: each is a look-up of the name and one
+// line, in a stroke with what tells whether it is a step.
+async function loopsOfStamps() {
+  const { editor, document } = await withObjects();
   const stamps = countedCalls(editor, () => {
     for (let at = 0; at < 1000; at++) {
       document.stamp("Tile Layer 1", at % 100, Math.floor(at / 100), [[5]]);
     }
   });
-  // Once more, with room for it.
-  same([stamps.outline <= 2, stamps.step, Object.keys(stamps).sort()], [true, 1000, ["outline", "step"]]);
+  same(stamps, { find: 1000, step: 1000 });
   const strokes = countedCalls(editor, () => {
     for (let at = 0; at < 100; at++) {
       document.stroke(() => {
@@ -164,12 +172,110 @@ async function loopsOfStamps() {
       });
     }
   });
-  same([strokes.step, strokes.outline ?? 0, document.status.count], [400, 0, 2101]);
+  same(strokes, { find: 200, sizes_of_map: 100, cells: 200, step: 200, active: 200, status_of: 200 });
+  same(document.status.count, 2101);
   editor.close();
 }
 
-// Behind each line, done in each way, what calls know of their map is what the library tells.
-async function knownOutlines() {
+// Objects that are moved, that get properties, that are added and looked up, on a map of 1,000: each is a few
+// calls, and none reads the whole map.
+async function loopsOfObjects() {
+  const { editor, document } = await withObjects();
+  const moves = countedCalls(editor, () => {
+    for (const each of document.objects) {
+      each.move(each.x + 1, each.y);
+    }
+  });
+  same(moves, { object_ids: 1, object: 2000, step: 1000 });
+  const settings = countedCalls(editor, () => {
+    for (const each of document.objects) {
+      each.properties.set("team", 1);
+    }
+  });
+  same(settings, { object_ids: 1, property: 1000, step: 1000 });
+  const additions = countedCalls(editor, () => {
+    for (let at = 0; at < 1000; at++) {
+      document.layers.get("Things").objects.add("door", at, 9).properties.set("open", true);
+    }
+  });
+  same(additions, { find: 1000, step: 2000, next_object_id: 1000, property: 1000 });
+  const found = [];
+  const lookUps = countedCalls(editor, () => {
+    for (let at = 1; at <= 1000; at++) {
+      found.push(document.objects.get(at).id, document.objects.get("door").id);
+    }
+  });
+  same(lookUps, { object_layer: 1000, find: 1000 });
+  same([found.length, found[0], found[1], document.status.count], [2000, 1, 1001, 5001]);
+  editor.close();
+}
+
+// What tells of a document says `use` where another one is active, and behind it once more.
+async function textsOfDocuments() {
+  const editor = await Editor.create();
+  const [first, second] = ["first", "second"].map((name) => editor.new(name, 4, 3, 16, 16, "town.tsj"));
+  for (const [document, steps] of [[second, 1], [first, 3], [second, 1]]) {
+    same(countedCalls(editor, () => document.toString()).step, steps);
+    same(editor.active === second, true);
+  }
+  editor.close();
+}
+
+// A thing stands for its id, and its id for it.
+async function thingsAndIds() {
+  const editor = await Editor.create();
+  const [town, other] = ["town", "other"].map((name) => editor.new(name, 4, 3, 16, 16, "town.tsj"));
+  const layer = town.layers.add("object", "Things");
+  const [object, tileset] = [layer.objects.add("key", 16, 8), town.tilesets.add(33, "walls.tsj")];
+  same([layer, object, tileset].map(Number), [2, 1, 33]);
+  same([layer.id, object.id, tileset.firstId, town.layers.get(2) > 1], [2, 1, 33, true]);
+  const rows = [
+    [town.layers, other.layers, layer], [town.objects, other.objects, object], [town.tilesets, other.tilesets, tileset],
+  ];
+  for (const [things, others, thing] of rows) {
+    same([things.has(thing), Number(things.get(thing)), others.has(thing)], [true, Number(thing), false]);
+    thrown(RangeError, () => others.get(thing));
+  }
+  town.layers.get(1).name = "Ground";
+  town.stamp("Ground", 0, 0, [[33]]);
+  editor.active = town;
+  same([...editor.cells(town.layers.get(1), 0, 0, 2, 1)], [33, 0]);
+  // An object that another layer has is found by its name in its own.
+  const more = town.layers.add("object", "More");
+  const second = more.objects.add("key", 0, 0);
+  same([Number(more.objects.get("key")), more.objects.has(object), layer.objects.size], [second.id, false, 1]);
+  editor.close();
+}
+
+// A look-up in a group finds what stands in it, also where another one of that name stands before it. What was
+// removed is refused by its code.
+async function groupsAndRemovals() {
+  const editor = await Editor.create();
+  const made = editor.new("made", 4, 3, 16, 16, "town.tsj");
+  const tree = made.map();
+  const [tiles] = tree.layers;
+  const group = (id, ...layers) => ({ id, layers, name: `Group ${id}`, opacity: 1, type: "group", visible: true, x: 0, y: 0 });
+  const layers = [group(2, { ...tiles, id: 3, name: "Walls" }), group(4, { ...tiles, id: 5, name: "Walls" })];
+  const town = await editor.open(JSON.stringify({ ...tree, layers, nextlayerid: 6 }));
+  const second = town.layers.get("Group 4");
+  same([town.layers.get("Walls").id, second.layers.get("Walls").id, second.layers.find("Walls", "tile").id], [3, 5, 5]);
+  same([second.layers.has(3), second.layers.has("Walls"), second.layers.size, town.layers.size], [false, true, 1, 2]);
+  same([[...town.layers.walk()].map(Number), second.members.layers[0].name], [[2, 3, 4, 5], "Walls"]);
+  const key = town.layers.add("object", "Things").objects.add("key", 0, 0);
+  const tileset = town.tilesets.add(99, "b.tsj");
+  [second, key, tileset].forEach((thing) => thing.remove());
+  const rows = [
+    [30, () => [...second.layers]], [30, () => second.layers.get("Walls")], [30, () => second.members],
+    [30, () => second.properties.get("a")], [34, () => key.x], [34, () => key.layer], [34, () => key.properties.has("a")],
+    [34, () => key.properties.set("a", 1)], [36, () => tileset.source],
+  ];
+  same(rows.map(([, call]) => thrown(Refused, call).code), rows.map(([code]) => code));
+  same([town.layers.has(second), town.objects.has(key), town.tilesets.has(tileset)], [false, false, false]);
+  editor.close();
+}
+
+// Behind each line, done in each way, what is read of a map thing by thing is what its outline tells.
+async function readThings() {
   const lines = [
     "stamp 1 0 0 1 5", "layer add tile L", "erase+ 1 0 0 1 1", "layer rename 1 N", "fill 1 0 0 6", "undo", "select none", "redo",
     "use other", "resize 5 4 0 0", "use town", "prop set map k int 1", "begin A", "object add 3 0 0 1 1 o", "end", "goto 0",
@@ -194,8 +300,8 @@ async function knownOutlines() {
         same(fault instanceof Refused, true);
       }
       for (const document of at % 3 === 0 ? documents : [documents[at % 2]]) {
-        const known = document._look((outline) => outline.tree);
-        same([known, editor.active === document], [document.outline(), true]);
+        const read = [...document.layers].map((layer) => sorted(layer.members));
+        same([read, editor.active === document], [document.outline().layers.map(sorted), true]);
       }
     }
     editor.close();
@@ -205,5 +311,5 @@ async function knownOutlines() {
 
 export const DOCUMENT_CHECKS = [
   drawnDocuments, savedDocuments, propertiesOfOtherTypes, points, callsThatRefusalsName,
-  namesThatAreNotThere, loopsOfStamps, knownOutlines,
+  namesThatAreNotThere, loopsOfStamps, loopsOfObjects, textsOfDocuments, thingsAndIds, groupsAndRemovals, readThings,
 ];

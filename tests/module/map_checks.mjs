@@ -159,6 +159,27 @@ async function mapsThatAreRefused() {
   editor.close();
 }
 
+// Where in its file a map is refused.
+async function placesInMaps() {
+  const editor = await Editor.create();
+  const damaged = packedMap("abc", "zlib");
+  const rows = [
+    ['{"type":"map",\n"width":"a"}', 63, ["width"], '"a"', 'width is "a"', 2, 9],
+    ['{"type":"map"}', 62, ["width"], "absent", "width is absent", 1, 1],
+    ["[1,\n2", 60, null, null, "line 2, column 1", 2, 1],
+    [damaged, 66, ["layers", 0, "data"], '"abc"', 'layers[0].data is "abc"', 1, damaged.indexOf('"abc"') + 1],
+  ];
+  for (const [text, code, path, shown, words, line, column] of rows) {
+    const fault = await refusedLater(editor.openMap("m", text));
+    same([fault.code, fault.placeInMap], [code, { path, isExact: true, shown, text: words, line, column }]);
+    const told = path === null ? words : `${words} (line ${line}, column ${column})`;
+    same(fault.message.split("\n")[1], `  ${told}`);
+  }
+  const later = await refusedLater(editor.saveMap());
+  same(later.placeInMap, null);
+  editor.close();
+}
+
 function fractions() {
   const door = thing(1, { x: 10.5, y: -0.25, width: 3.75, height: 8, rotation: 1e300 });
   const line = thing(2, { polyline: [{ x: 0, y: 1.5 }], x: 5e-324, y: 7 });
@@ -209,6 +230,46 @@ async function infiniteMaps() {
   same([...(await unpacked(bytesOf(data), "zlib"))], [5, 0, 0, 0, 6, 0, 0, 0]);
   saved.layers[0].chunks[0].data = chunk.data;
   same(sorted(saved), sorted(JSON.parse(source)));
+  editor.close();
+}
+
+// What was set aside is put back in a thing that is read alone: what its map says of how it was made finite
+// counts for it.
+async function thingsOfInfiniteMaps() {
+  const chunk = { data: Array(256).fill(1), height: 16, width: 16, x: -16, y: -16 };
+  const layer = tiles(1, { chunks: [chunk], height: 16, opacity: 0.5, startx: -16, starty: -16, width: 16 });
+  const float = (name, value) => [{ name, type: "float", value }];
+  const first = thing(1, { x: 10.5, y: 3, rotation: 0.25, properties: float("a", 0.1) });
+  const layers = [layer, things(2, first, thing(2, { x: 7, y: 3.75 }))];
+  const source = mapOf(layers, { infinite: true, properties: float("b", 0.2) });
+  const editor = await Editor.create();
+  const document = await editor.open(source);
+  const [one, two] = document.objects;
+  same([one.x, one.y, two.x, two.y], [266.5, 259, 263, 259.75]);
+  same([one.members.rotation, [...one.properties]], [0.25, [["a", 0.1]]]);
+  same([document.properties.get("b"), document.origin, document.layers.get(1).members.opacity], [0.2, [-16, -16], 0.5]);
+  one.move(Math.floor(one.x), 4);
+  two.move(263, Math.floor(two.y) + 1);
+  same([one.x, one.y, two.x, two.y], [266.5, 4, 263, 260]);
+  same(sorted(document.layers.get(2).members), sorted(document.outline().layers[1]));
+  editor.close();
+}
+
+// A tile layer whose cells are in base64 in the file says so, also where it was removed and is there again; one
+// that is added has numbers.
+async function encodingsOfLayers() {
+  const written = (id) => tiles(id, { data: base64(new Uint8Array(CELLS.buffer)), encoding: "base64", height: HEIGHT, width: WIDTH });
+  const plain = tiles(2, { data: [...CELLS], height: HEIGHT, layers: [5], width: WIDTH });
+  const group = { id: 3, layers: [written(4)], name: "Group", opacity: 1, type: "group", visible: true, x: 0, y: 0 };
+  const editor = await Editor.create();
+  const document = await editor.open(mapOf([written(1), plain, group]));
+  const encodings = () => [...document.layers.walk()].map(({ id, members }) => [id, members.encoding ?? null]);
+  document.layers.get(4).remove();
+  const { id } = document.layers.add("tile", "Added");
+  same(encodings(), [[1, "base64"], [2, null], [3, null], [id, null]]);
+  document.goto(0);
+  same(encodings(), [[1, "base64"], [2, null], [3, null], [4, "base64"]]);
+  same([...document.layers].map(({ members }) => sorted(members)), document.outline().layers.map(sorted));
   editor.close();
 }
 
@@ -277,5 +338,5 @@ async function namesOfDocuments() {
 
 export const MAP_CHECKS = [
   mapsThatNeedNothing, packedMaps, damagedData, bombs, mapsThatAreRefused, mapsWithFractions, infiniteMaps,
-  workWhileSaving, mapsOfClosedEditors, namesOfDocuments,
+  thingsOfInfiniteMaps, encodingsOfLayers, workWhileSaving, mapsOfClosedEditors, namesOfDocuments, placesInMaps,
 ];

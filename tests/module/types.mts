@@ -36,7 +36,9 @@ async function used(bytes: Uint8Array): Promise<void> {
   const made: Document = editor.new("a", 4, 3, 16, 16, "a.tsj");
   const ground: Layer = town.layers.get("Ground");
   town.stamp(ground, 0, 0, [[1, 2], Uint32Array.of(3, 4)], { merge: true });
-  const given: number = town.macro("A", (document) => document.layers.add("tile", "B"), { action: "a" });
+  const given: Layer = town.macro("A", (document) => document.layers.add("tile", "B"), { action: "a" });
+  const id: number = given.valueOf() + town.objects.get(1).id;
+  const same: Layer = town.layers.get(given);
   const later: Promise<void> = town.stroke(async () => undefined);
   town.select(0, 0, 1, 1, { mode: "add" });
   town.properties.set("author", "me", { type: "file" });
@@ -54,7 +56,7 @@ async function used(bytes: Uint8Array): Promise<void> {
   const written: Uint8Array = await town.saveBytes();
   const walls: Layer | null = town.layers.find("Walls", "tile");
   const isPoint: boolean = town.objects.get(1).isPoint;
-  void [given, later, tile, run.length, status.depth, written, walls, isPoint, town.tilesets.first?.firstId];
+  void [given, id, same, later, tile, run.length, status.depth, written, walls, isPoint, town.tilesets.first?.firstId];
   // @ts-expect-error: a mode is one of four
   town.select(0, 0, 1, 1, { mode: "cut" });
   // @ts-expect-error: an index is only read
