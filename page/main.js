@@ -99,6 +99,7 @@ class Page {
     panel.onTilesets = () => this.showTilesets().catch(fault => console.warn(fault));
     editor.addEventListener("map", () => (this.showing = this.showMap()));
     editor.addEventListener("cells", ({ detail }) => view.refresh(detail));
+    editor.addEventListener("objects", ({ detail }) => this.showObjects(detail));
     editor.addEventListener("selection", () => overlay.redraw());
     editor.addEventListener("state", () => this.showState());
     bench.addEventListener("free", () => this.showState());
@@ -144,6 +145,15 @@ class Page {
     const words = kept?.stamp ? whyKept : why;
     // What is said of the lines that have led here comes first.
     if (words) await this.editor.during(new Promise(done => setTimeout(() => done(this.bench.say(words)))));
+  }
+
+  // Objects of the map have changed, each from what it was before.
+  showObjects(changes) {
+    const all = changes.flatMap(({ object, before, layer }) => [{ object: before, layer }, { object, layer }]);
+    this.view.redrawThings(all);
+    this.overlay.redrawObjects(all);
+    this.objects.showObjects(changes);
+    this.properties.show();
   }
 
   // Resolves when the map that was taken last is drawn, with its tilesets. A window that is not seen draws nothing.

@@ -1,21 +1,48 @@
 # SPDX-License-Identifier: MIT OR Apache-2.0
 """Measures how long the page takes in Chromium on a map of eight layers of 1,024 by 1,024 cells: from
-the hand, or from the key, to the picture, and how much of that is its work; a stamp of a whole layer takes as few lines as have room for
-it, and is one step. docs/speed.md has what it measures on a machine that does nothing else; here it may take
-longer, and is tried several times."""
+the hand, or from the key, to the picture, and how much of that is its work; a stamp of a whole layer
+takes as few lines as have room for it, and is one step. And how long it works on an arrow key that moves
+one of 4,000 objects. docs/speed.md has what it measures on a machine that does nothing else; here it may
+take longer, and is tried several times."""
 import json
 
 from page.bench import Bench, standing, take_tile
 from page.browser import Keys
+from page.many_objects import crates
 
 NEEDS_BROWSER = True
 ALONE = True
 # The most that the browser may measure, in milliseconds: docs/speed.md has what it measures on a
 # machine that does nothing else.
-STROKE, TURN, STAMP = 16, 50, 1500
+STROKE, TURN, STAMP, NUDGE = 16, 50, 1500, 30
 # How much longer it may take here, and how often it is tried: other steps may take the processors.
 SLACK, TRIES = 4, 5
 LAYERS, SIDE = 8, 1024
+OBJECTS = 4000
+# Presses an arrow key some times, and gives how long the page has worked on each: at the key, in the next frame, and on its painting.
+PRESSES = '''
+const [times, done] = arguments;
+const press = () => new Promise(came => {
+  let begun;
+  requestAnimationFrame(() => (begun = performance.now()));
+  const before = performance.now();
+  document.body.dispatchEvent(new KeyboardEvent("keydown", {key: "ArrowRight", bubbles: true, cancelable: true}));
+  const behind = performance.now();
+  requestAnimationFrame(() => {
+    const painted = new MessageChannel();
+    painted.port1.onmessage = () => came(behind - before + performance.now() - begun);
+    painted.port2.postMessage(null);
+  });
+});
+(async () => {
+  const all = [];
+  for (let at = 0; at < times; at++) {
+    all.push(await press());
+    await roskevad.editor.telling;
+    await new Promise(go => setTimeout(go, 50));
+  }
+  done(all.sort((one, other) => one - other));
+})();'''
 
 
 def large_map(folder):
@@ -113,3 +140,20 @@ def large_stamp(page):
     last = next(at for at in range(len(lines) - 1, -1, -1) if lines[at][0] == 'stamp 1')
     lines = lines[last:]
     assert all(line[0] == 'stamp+ ' and 60_000 < line[1] <= 65_535 for line in lines[1:-1]) and len(lines) < 60, lines
+
+
+def test_one_of_many_objects():
+    """An arrow key on one of 4,000 objects."""
+    bench = Bench(empty=True, has_log=False)
+    with bench as page:
+        number = crates(bench.folder, OBJECTS)[OBJECTS // 2]
+        page.choose_files(bench.folder / 'crates.tmj', *bench.folder.glob('*.ts?'))
+        page.js('roskevad.objects.choose(arguments[0])', number)
+        page.settle()
+        page.driver.set_script_timeout(60)
+        for _ in range(TRIES):
+            times = page.driver.execute_async_script(PRESSES, 20)
+            quick = times[len(times) // 4]
+            if quick <= NUDGE:
+                break
+        assert quick <= NUDGE * 2 and standing(page)[0] == 1, times

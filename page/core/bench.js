@@ -49,7 +49,7 @@ export class Bench extends EventTarget {
     const { active } = this.editor.openDocuments;
     if (active !== this.document || !this.map?.object(this.objectId)) this.objectId = null;
     this.document = active;
-    this.overlay.chosen = this.objectId;
+    this.overlay.choose(this.objectId);
     this.tell("chosen");
   }
 
@@ -64,7 +64,6 @@ export class Bench extends EventTarget {
     if (id !== null) this.layerId = this.map.object(id).layer.id;
     this.settle();
     this.tell("object chosen");
-    this.overlay.redraw();
   }
 
   // The object that is chosen, with its layer; null where there is none.

@@ -1,6 +1,6 @@
 // SPDX-License-Identifier: MIT OR Apache-2.0
 // The map as the page knows it: its outline, and its cells where they are asked for.
-import { LAYER, MAP, OddMembers, titleOfLayer } from "../files/members.js";
+import { LAYER, MAP, OBJECT, OddMembers, titleOfLayer, titleOfObject } from "../files/members.js";
 import { projectionOf } from "../view/projections.js";
 import { bothTints, partsOfColour } from "../view/tints.js";
 
@@ -33,8 +33,19 @@ function flattened(layers, odd) {
     const layer = layerOf(...left.pop(), odd);
     found.push(layer);
     if (layer.type === "group") put(layer.data.layers ?? [], layer);
+    // They stand in the list.
+    delete layer.data.layers;
   }
   return found;
+}
+
+// Where each object of the layers stands, by its id: [layer, place].
+function placesIn(layers) {
+  const places = new Map();
+  for (const layer of layers) {
+    (layer.data.objects ?? []).forEach(({ id }, place) => places.has(id) || places.set(id, [layer, place]));
+  }
+  return places;
 }
 
 export class MapModel {
@@ -42,13 +53,15 @@ export class MapModel {
   constructor(outline, cells) {
     // The members that are of another kind than Tiled writes.
     this.odd = new OddMembers();
-    const data = this.data = MAP.take(outline, this.odd, "the map");
+    const { layers, ...data } = MAP.take(outline, this.odd, "the map");
+    this.data = data;
     this.cells = cells;
     this.width = data.width;
     this.height = data.height;
     this.tileWidth = data.tilewidth;
     this.tileHeight = data.tileheight;
-    this.layers = flattened(data.layers, this.odd);
+    this.layers = flattened(layers, this.odd);
+    this.places = placesIn(this.layers);
     this.projection = projectionOf(this);
     this.isHexagonal = data.orientation === "hexagonal";
     this.runs = [];
@@ -60,11 +73,22 @@ export class MapModel {
   }
 
   object(id) {
-    for (const layer of this.layers) {
-      const object = layer.data.objects?.find(each => each.id === id);
-      if (object) return { object, layer };
-    }
-    return null;
+    const [layer, place] = this.places.get(id) ?? [];
+    return layer ? { object: layer.data.objects[place], layer } : null;
+  }
+
+  // Takes what an object of a layer has by now, and gives it with what it was: { object, before, layer }. null where only the whole outline
+  // tells how the map stands: where the object is new, is in another layer or has another text, or where some member is odd, of which there
+  // is a count.
+  replace(members, layerId) {
+    const [layer, place] = this.places.get(members.id) ?? [];
+    if (layer?.id !== layerId) return null;
+    const odd = new OddMembers();
+    const [object, before] = [OBJECT.take(members, odd, titleOfObject(members)), layer.data.objects[place]];
+    const isOdd = this.odd.count || this.odd.isCut || odd.count || odd.isCut;
+    if (isOdd || object.text?.text !== before.text?.text) return null;
+    layer.data.objects[place] = object;
+    return { object, before, layer };
   }
 
   // Takes the runs of a selection: [row, first column, number of cells].

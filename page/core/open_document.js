@@ -3,7 +3,7 @@
 //
 // Who waits for something of a document (a save, a question, a reload) holds this, and never its name: of two documents that had one name
 // behind one another each has its own life. What comes back for a life that is over changes nothing.
-import { PaintedSteps } from "./painted_steps.js";
+import { StepParts } from "./step_parts.js";
 import { StepSubjects } from "./step_subjects.js";
 
 export class OpenDocument {
@@ -16,8 +16,8 @@ export class OpenDocument {
     this.sent = [];
     // The saves of it that are under way, each as what it ends with.
     this.saves = new Set();
-    // Where its steps have painted, and what they are about.
-    this.painted = new PaintedSteps(hasLimit);
+    // What its steps have changed, and what they are about.
+    this.parts = new StepParts(hasLimit);
     this.subjects = new StepSubjects(hasLimit);
   }
 

@@ -25,8 +25,8 @@ export class OpenDocuments {
     return this.document?.file ?? null;
   }
 
-  get paintedNow() {
-    return this.document?.painted ?? null;
+  get partsNow() {
+    return this.document?.parts ?? null;
   }
 
   fileOf(name) {
@@ -55,7 +55,7 @@ export class OpenDocuments {
     const [word, name, source] = [wordOf(line), ...line.split(" ").slice(1)];
     if (isAboutDocuments(line)) this.noteDocument(word, name, line, instead);
     else this.document?.lines.push(line);
-    this.paintedNow?.note(line, reply);
+    this.partsNow?.note(line, reply);
     this.document?.subjects.note(line, reply, gesture);
     // A journal that has begun anew has maps of no file, too.
     if (file && file.path !== null) this.document.file = { path: file.path, word: source, mark: { hash: file.hash, size: file.size, time: file.time } };

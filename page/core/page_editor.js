@@ -46,6 +46,7 @@ class NotReplaced extends Error {}
 
 // Events:
 //   map        the active map is another one, or its outline is
+//   objects    objects of the map have changed, and nothing else of its outline; the detail has what each is and was: { object, before, layer }
 //   cells      cells have changed otherwise than by a stroke of the hand; the detail is the part in which alone, or null
 //   selection  the selection has changed
 //   done       lines were done; the detail is the stroke whose edits they are, or null
@@ -166,7 +167,7 @@ export class PageEditor extends EventTarget {
     let reply;
     let changes;
     try {
-      changes = changesOf(this.editor, line, this.openDocuments.paintedNow);
+      changes = changesOf(this.editor, line, this.openDocuments.partsNow);
       reply = this.isHeld(line) ? "no 13 unsaved changes" : replyOf(this.editor, line);
     } catch (fault) {
       this.break(fault);
@@ -207,16 +208,18 @@ export class PageEditor extends EventTarget {
 
   // Takes what the lines have changed.
   settle(stroke = null) {
-    const { outline, cells, selection, part } = this.changed;
+    const { outline, cells, selection, objects, part } = this.changed;
     const { isUnshown } = this;
     this.changed = NOTHING;
-    if (outline) this.takeMap();
+    const replaced = outline ? null : this.takeObjects(objects);
+    if (!replaced) this.takeMap();
     else if (selection) this.takeSelection();
     if (this.listed.length) this.tell("lines", this.listed.splice(0));
     this.tell("done", stroke);
-    const isOther = outline || this.isUnshown !== isUnshown;
+    const isOther = !replaced || this.isUnshown !== isUnshown;
     if (isOther) this.tell("map");
     else if (cells) this.tell("cells", part);
+    if (replaced?.length && !isOther) this.tell("objects", replaced);
     if (selection && !isOther) this.tell("selection");
     this.tellSoon();
   }
@@ -231,6 +234,20 @@ export class PageEditor extends EventTarget {
       this.unshow(fault);
     }
     if (was && !this.isUnshown) this.tell("unshown");
+  }
+
+  // Takes the objects with these ids, each read alone, and gives what has come of them. null where the whole map is to be read.
+  takeObjects(ids) {
+    if (!ids.size) return [];
+    if (!this.map) return null;
+    try {
+      const { objects } = this.editor.active;
+      const replaced = [...ids].map(id => objects.get(id)).map(({ members, layer }) => this.map.replace(members, layer.id));
+      return replaced.every(each => each) ? replaced : null;
+    } catch {
+      // What is wrong comes out again where the whole map is read.
+      return null;
+    }
   }
 
   takeSelection() {
@@ -322,7 +339,7 @@ export class PageEditor extends EventTarget {
 
   notOpened(line, name, path, why) {
     replyOf(this.editor, `discard ${name}`);
-    replyOf(this.editor, `use ${this.openDocuments.active ?? "-"}`);
+    this.enter(this.openDocuments.active);
     this.tell("unopened", { path, why });
     return this.failed(line, "no 51 store failed", `${path} cannot be shown: ${why}.`);
   }
@@ -511,7 +528,7 @@ export class PageEditor extends EventTarget {
   }
 
   step(at) {
-    const subject = this.openDocuments.document?.subjects.of(at) ?? null;
+    const subject = this.openDocuments.document?.subjects.at(at) ?? null;
     return { text: replyOf(this.editor, `text ${at}`).slice("text ".length), isMacro: this.editor.isMacro(at) !== false, subject };
   }
 
@@ -520,14 +537,19 @@ export class PageEditor extends EventTarget {
   documents() {
     const { active, order: names } = this.openDocuments;
     const all = names.map(name => {
-      if (name !== active || names.length > 1) this.editor.step(`use ${name}`);
+      this.enter(name);
       const { index, count, isClean, depth } = this.stand();
       const path = this.openDocuments.fileOf(name)?.path ?? null;
       const isWriting = this.isWriting(name);
       return { name, isActive: name === active, isClean: isClean && !isWriting, isWriting, index, count, depth, path };
     });
-    if (names.length > 1 || active === null) this.editor.step(`use ${active ?? "-"}`);
+    this.enter(active);
     return all;
+  }
+
+  // Makes a document the active one of the editor, where it is not, without a line of the session; null for none.
+  enter(name) {
+    if ((this.editor.active?.name ?? null) !== name) this.editor.step(`use ${name ?? "-"}`);
   }
 
   // What the journal tells of the documents, for who finds it later.
@@ -606,14 +628,14 @@ export class PageEditor extends EventTarget {
   // The documents with their files, and with promises of the bytes of their maps.
   mapsNow() {
     const maps = this.documents().map(({ name, isClean, depth }) => {
-      this.editor.step(`use ${name}`);
+      this.enter(name);
       for (let level = 0; level < depth; level++) this.editor.step("end");
       const bytes = this.editor.saveMap();
       // That marks the map as saved.
       if (!isClean) this.editor.step("dirty");
       return { name, isClean, file: this.openDocuments.fileOf(name), bytes };
     });
-    this.editor.step(`use ${this.openDocuments.active ?? "-"}`);
+    this.enter(this.openDocuments.active);
     return maps;
   }
 

@@ -2,6 +2,7 @@
 // The replies of an editor to lines, whatever they are.
 import { NoMemory, Refused } from "../../js/roskevad.js";
 import { isQuiet } from "./line_kinds.js";
+import { wordsOfFault } from "./map_refusals.js";
 
 // What the journal has as the reply to a save, whose bytes are reckoned later.
 export const SAVED = "saved";
@@ -25,12 +26,12 @@ export function replyOf(editor, line) {
   }
 }
 
-// The reply to `open` of an editor, and why the map was refused, where that is known.
+// The reply to `open` of an editor, and why and where the map was refused, where that is known.
 export async function opened(editor, name, bytes) {
   try {
     return [await editor.openMap(name, bytes), null];
   } catch (fault) {
-    if (fault instanceof Refused) return [`no ${fault.code} ${fault.words}`, fault.why];
+    if (fault instanceof Refused) return [`no ${fault.code} ${fault.words}`, wordsOfFault(fault)];
     if (fault instanceof NoMemory) return ["no 90 no memory", null];
     throw fault;
   }

@@ -1,6 +1,7 @@
 // SPDX-License-Identifier: MIT OR Apache-2.0
 // Tells why a map would be refused, before it is opened: in a module of its own, which goes with the list of maps.
 import { Editor, Refused } from "../../js/roskevad.js";
+import { placeOfFault } from "../core/map_refusals.js";
 import { loadModule } from "../core/own_module.js";
 
 export class MapProbe {
@@ -24,7 +25,8 @@ export class MapProbe {
       return { words: "", isRefused: false, found: await use(editor) };
     } catch (fault) {
       if (!(fault instanceof Refused)) throw fault;
-      return { words: `${fault.words} (${fault.code})${fault.why ? `: ${fault.why}` : ""}`, isRefused: true };
+      const place = placeOfFault(fault);
+      return { words: `${fault.words} (${fault.code})${place && `: ${place}`}`, isRefused: true };
     } finally {
       if (!this.module.isBroken) editor.close();
     }

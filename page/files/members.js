@@ -129,16 +129,18 @@ const OF_TEXT = record({
   halign: oneOf("left", "center", "right", "justify"), valign: oneOf("top", "center", "bottom"),
 });
 
-const OBJECT = record({
+export const OBJECT = record({
   id: WHOLE, name: NAME, type: NAME, class: NAME, x: PLACE, y: PLACE, width: LENGTH, height: LENGTH, rotation: NUMBER, visible: BOOL, gid: WHOLE,
   ellipse: BOOL, point: BOOL, polygon: inside(POINTS), polyline: inside(POINTS), text: inside(OF_TEXT), template: PATH, properties: PROPERTIES,
 });
+
+export const titleOfObject = object => `the object ${WHOLE.take(object.id) ?? "?"}`;
 
 // The layers of a group stand there as they are: who goes through them reads each of them.
 export const LAYER = record({
   id: WHOLE, name: NAME, type: oneOf("tilelayer", "objectgroup", "imagelayer", "group"), visible: BOOL, locked: BOOL, opacity: NUMBER,
   offsetx: NUMBER, offsety: NUMBER, tintcolor: COLOUR, parallaxx: NUMBER, parallaxy: NUMBER, mode: NAME, color: COLOUR,
-  draworder: oneOf("topdown", "index"), objects: listOf(OBJECT, each => `the object ${WHOLE.take(each.id) ?? "?"}`), image: PATH,
+  draworder: oneOf("topdown", "index"), objects: listOf(OBJECT, titleOfObject), image: PATH,
   transparentcolor: COLOUR, repeatx: BOOL, repeaty: BOOL, layers: LIST, properties: PROPERTIES,
 });
 

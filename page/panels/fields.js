@@ -26,7 +26,8 @@ class TypedField {
 
   // Shows a value that the map has; but what was typed over the old one stays.
   update(value) {
-    if (value !== this.value && !this.isTyped) this.put(value);
+    if (value === this.value) return;
+    if (!this.isTyped) this.put(value);
     else this.value = this.input.defaultValue = value;
   }
 

@@ -32,14 +32,18 @@ export class LayerPanel {
   // ---- what is shown
   // Rows stay where they are: a double click is two clicks at one row.
   show() {
-    const layers = this.bench.map?.layers ?? [];
-    if (this.shown !== this.bench.layerId) this.unfoldChosen();
+    const { map, layerId } = this.bench;
+    // The layers of a model stay as they are.
+    if (this.shownMap === map && this.shown === layerId) return;
+    this.shownMap = map;
+    const layers = map?.layers ?? [];
+    if (this.shown !== layerId) this.unfoldChosen();
     this.listed = this.inOrder(layers, null);
     putRows(this.list, this.listed.map(layer => this.row(layer)));
     for (const id of this.rows.keys()) if (!layers.some(layer => layer.id === id)) this.rows.delete(id);
     // Once all that stands around the list has its size.
-    if (this.shown !== this.bench.layerId) requestAnimationFrame(() => this.list.querySelector(".now")?.scrollIntoView({ block: "nearest" }));
-    this.shown = this.bench.layerId;
+    if (this.shown !== layerId) requestAnimationFrame(() => this.list.querySelector(".now")?.scrollIntoView({ block: "nearest" }));
+    this.shown = layerId;
   }
 
   // The layers of one group as they are listed, with those in them.
@@ -98,6 +102,7 @@ export class LayerPanel {
 
   fold(id) {
     if (!this.folded.delete(id)) this.folded.add(id);
+    this.shownMap = null;
     this.show();
     this.bench.tell("layout");
   }

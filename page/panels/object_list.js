@@ -66,6 +66,12 @@ export class ObjectList {
     for (const row of this.list.children) row.classList.toggle("now", Number(row.dataset.object) === this.bench.objectId);
   }
 
+  // Shows objects that have changed. As a rule their rows say of each what they said before.
+  showObjects(changes) {
+    const saidOf = (object, layer) => JSON.stringify(this.entryOf(object, layer));
+    if (changes.some(({ object, before, layer }) => saidOf(object, layer) !== saidOf(before, layer))) this.show();
+  }
+
   // As many rows as the list has: the layers with their objects.
   rowsOf(found) {
     const rows = [];

@@ -2,6 +2,7 @@
 // The steps of the active document: those that were made, each with what it is about, the present place, the clean mark, and those that
 // were undone.
 import { button, byId, element } from "./dom.js";
+import { putRows } from "./list_rows.js";
 
 const MORE = 1000;
 
@@ -11,6 +12,8 @@ export class StepPanel {
     this.editor = bench.editor;
     // The names that layers and objects have, or had before they were removed, by their documents.
     this.names = new Map();
+    // The rows that stand there, by what they show.
+    this.rows = new Map();
   }
 
   // What a layer or an object is called, or was before the last line.
@@ -25,17 +28,33 @@ export class StepPanel {
     const { state } = this.editor;
     const list = byId("steps");
     if (!state.active) {
+      this.rows.clear();
       list.replaceChildren();
       return;
     }
     this.keepNames(state.active);
-    const rows = state.steps.map((step, at) => this.row(state.firstStep + at + 1, this.wordsOf(step), step.isMacro));
-    if (state.firstStep === 0) rows.unshift(this.row(0, "(as it began)", false));
-    else rows.unshift(this.more(`${state.firstStep} earlier steps ..`));
-    const later = state.count - state.firstStep - state.steps.length;
-    if (later > 0) rows.push(this.more(`${later} later steps ..`));
-    list.replaceChildren(...rows);
-    list.querySelector(".now")?.scrollIntoView({ block: "nearest" });
+    const { steps, firstStep, count } = state;
+    const later = count - firstStep - steps.length;
+    const wanted = [
+      firstStep === 0 ? { place: 0, text: "(as it began)", isMacro: false } : { text: `${firstStep} earlier steps ..` },
+      ...steps.map((step, at) => ({ place: firstStep + at + 1, text: this.wordsOf(step), isMacro: step.isMacro })),
+      ...(later > 0 ? [{ text: `${later} later steps ..` }] : []),
+    ];
+    this.putRows(list, wanted);
+    const now = list.querySelector(".now");
+    if (now !== this.now) now?.scrollIntoView({ block: "nearest" });
+    this.now = now;
+  }
+
+  // Puts rows into the list. One that would show the same stays.
+  putRows(list, wanted) {
+    const rows = new Map(wanted.map(each => {
+      const shown = each.place === undefined ? each : { ...each, ...this.looksOf(each) };
+      const key = JSON.stringify(shown);
+      return [key, this.rows.get(key) ?? (each.place === undefined ? this.more(each.text) : this.row(shown))];
+    }));
+    this.rows = rows;
+    putRows(list, [...rows.values()]);
   }
 
   keepNames(document) {
@@ -63,17 +82,22 @@ export class StepPanel {
     return object ? objects?.get(object) || `object ${object}` : name;
   }
 
-  row(place, text, isMacro) {
+  // How a step stands: among those that are done, whether it is an open macro, and whether it is saved.
+  looksOf({ place }) {
     const { index, cleanIndex, count, depth, file, isWriting } = this.editor.state;
     const saved = place !== cleanIndex ? "" : isWriting ? "is being saved" : file === null ? "" : "saved";
     const isOpen = depth > 0 && place === count;
+    return { saved, isOpen, isNow: place === index, isUndone: place > index && !isOpen };
+  }
+
+  row({ place, text, isMacro, saved, isOpen, isNow, isUndone }) {
     const row = element("li", { data: { place }, onclick: () => this.bench.act([`goto ${place}`]) },
       element("span", { className: "number", textContent: place }),
       element("span", { className: "name", textContent: text, title: text }),
       element("span", { className: "kind", textContent: isOpen ? "open macro" : isMacro ? "macro" : "" }),
       element("span", { className: "clean", textContent: saved }));
-    row.classList.toggle("now", place === index);
-    row.classList.toggle("undone", place > index && !isOpen);
+    row.classList.toggle("now", isNow);
+    row.classList.toggle("undone", isUndone);
     return row;
   }
 

@@ -17,7 +17,8 @@ export class ObjectTool {
     // A run of arrow keys is one step, up to the next line that is not of it.
     this.run = null;
     bench.editor.addEventListener("done", () => this.isNudging || (this.run = null));
-    bench.addEventListener("tool", () => bench.overlay.redraw());
+    // The tool shows which one is chosen.
+    bench.addEventListener("tool", () => bench.chosenObject && bench.overlay.redrawObjects([bench.chosenObject]));
   }
 
   // ---- the hand
@@ -54,7 +55,6 @@ export class ObjectTool {
     if (!drag.isMoved && this.bench.barsObjects(drag.layer, drag.handle ? "resized" : "moved")) return this.cancel();
     drag.isMoved = true;
     this.bench.overlay.dragged = { id: drag.object.id, ...this.goal(place, event) };
-    this.bench.overlay.redraw();
   }
 
   async up(place, event) {
@@ -62,14 +62,12 @@ export class ObjectTool {
     this.drag = null;
     if (drag?.isMoved) await this.send(drag.object, this.goal(place, event, drag));
     bench.overlay.dragged = null;
-    bench.overlay.redraw();
   }
 
   // Ends a drag, which then does nothing.
   cancel() {
     this.drag = null;
     this.bench.overlay.dragged = null;
-    this.bench.overlay.redraw();
   }
 
   // Where the object goes, or how large it is: with Ctrl on the grid.

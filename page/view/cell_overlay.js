@@ -1,6 +1,8 @@
 // SPDX-License-Identifier: MIT OR Apache-2.0
 // Draws over the cells of a map: the grid, the selection, and what the hand is about to do.
 
+// How far aside of a box of the screen cells are looked at: an edge of theirs may be in it.
+const NEAR = 2;
 // Below these widths of a cell there is no grid, and the selection has no outline.
 const SMALLEST_GRID = 6;
 const SMALLEST_OUTLINE = 4;
@@ -17,10 +19,15 @@ export class CellOverlay {
     return this.view.map.projection.isPlain;
   }
 
-  // The cells that are seen: [x0, y0, x1, y1].
-  seen() {
-    const { map, canvas } = this.view;
-    const [x0, y0, x1, y1] = map.projection.cellsIn(this.view.boxOnMap([0, 0, canvas.width, canvas.height]));
+  // A box of the screen on the map, with what is near.
+  onMap([left, top, right, bottom]) {
+    return this.view.boxOnMap([left - NEAR, top - NEAR, right + NEAR, bottom + NEAR]);
+  }
+
+  // The cells that are seen in a box of the screen: [x0, y0, x1, y1].
+  seenIn(box) {
+    const { map } = this.view;
+    const [x0, y0, x1, y1] = map.projection.cellsIn(this.onMap(box));
     return [Math.max(0, x0), Math.max(0, y0), Math.min(map.width, x1), Math.min(map.height, y1)];
   }
 
@@ -34,13 +41,11 @@ export class CellOverlay {
     return [this.view.screenX(x * map.tileWidth), this.view.screenY(y * map.tileHeight)];
   }
 
-  // Calls with each cell that is seen, where they are few.
-  eachSeen(call) {
+  // Calls with each cell that is seen in a box, where few are seen at all.
+  eachSeenIn(box, call) {
     const { map, canvas } = this.view;
-    const [x0, y0, x1, y1] = this.seen();
-    const box = this.view.boxOnMap([0, 0, canvas.width, canvas.height]);
     const isMany = (canvas.width / map.tileWidth / this.view.scale) * (canvas.height / map.tileHeight / this.view.scale) > MOST_SHAPES;
-    if (!isMany) map.projection.walk([x0, y0, x1, y1], box, call);
+    if (!isMany) map.projection.walk(this.seenIn(box), this.onMap(box), call);
   }
 
   line(x0, y0, x1, y1) {
@@ -54,22 +59,22 @@ export class CellOverlay {
     pen.closePath();
   }
 
-  // ---- the grid
-  drawGrid() {
+  // ---- the grid, as far as it is in a box
+  drawGrid(box) {
     const { pen, view } = this;
     pen.strokeStyle = "#0003";
     pen.lineWidth = 1;
     pen.beginPath();
     if (this.isSeenFrom(SMALLEST_GRID)) {
-      if (this.isPlain) this.addLines();
-      else this.eachSeen((x, y) => this.addShape(pen, x, y));
+      if (this.isPlain) this.addLines(box);
+      else this.eachSeenIn(box, (x, y) => this.addShape(pen, x, y));
     }
     pen.stroke();
     this.drawEdge(view.map);
   }
 
-  addLines() {
-    const [x0, y0, x1, y1] = this.seen();
+  addLines(box) {
+    const [x0, y0, x1, y1] = this.seenIn(box);
     const [[left, top], [right, bottom]] = [this.corner(x0, y0), this.corner(x1, y1)];
     for (let x = x0; x <= x1; x++) this.line(this.corner(x, 0)[0], top, this.corner(x, 0)[0], bottom);
     for (let y = y0; y <= y1; y++) this.line(left, this.corner(0, y)[1], right, this.corner(0, y)[1]);
@@ -91,19 +96,19 @@ export class CellOverlay {
     pen.stroke();
   }
 
-  // ---- the selection
-  drawSelection() {
+  // ---- the selection, as far as it is in a box
+  drawSelection(box) {
     const { pen, view } = this;
     if (!view.map.selected) return;
     pen.fillStyle = "#4aa3ff55";
     pen.strokeStyle = "#8cc8ff";
     pen.lineWidth = 1;
-    if (this.isPlain) this.drawRuns();
-    else this.drawShapes();
+    if (this.isPlain) this.drawRuns(box);
+    else this.drawShapes(box);
   }
 
-  drawRuns() {
-    const [x0, y0, x1, y1] = this.seen();
+  drawRuns(box) {
+    const [x0, y0, x1, y1] = this.seenIn(box);
     for (const [row, column, count] of this.view.map.runs) {
       if (row < y0 || row >= y1) continue;
       const [[left, top], [right, bottom]] = [this.corner(column, row), this.corner(column + count, row + 1)];
@@ -133,10 +138,10 @@ export class CellOverlay {
     if (this.isOut(x, y + 1)) this.line(left, bottom, right, bottom);
   }
 
-  drawShapes() {
+  drawShapes(box) {
     const { pen } = this;
     pen.beginPath();
-    this.eachSeen((x, y) => this.isOut(x, y) || this.addShape(pen, x, y));
+    this.eachSeenIn(box, (x, y) => this.isOut(x, y) || this.addShape(pen, x, y));
     pen.fill();
     if (this.isSeenFrom(SMALLEST_OUTLINE)) pen.stroke();
   }

@@ -2,8 +2,9 @@
 // Paints the layers of a map into a part of the screen, in their order: tiles, images, and of objects those that are tiles or texts.
 import { drawTile } from "./draw_tile.js";
 import { paintFar } from "./far_painter.js";
+import { areTouching } from "./object_boxes.js";
 import { DIAGONAL, idIn } from "../core/tile_numbers.js";
-import { paintThing } from "./thing_painter.js";
+import { isThing, paintThing } from "./thing_painter.js";
 import { colourOfText } from "./tints.js";
 
 // Below this width of a cell its mean colour is drawn, and no image.
@@ -13,10 +14,9 @@ const GROUND = "#5b6068";
 // Whether a layer stands where the map does, and what it has hides what is below.
 const isPlain = layer => layer.opacity === 1 && layer.offsetX === 0 && layer.offsetY === 0 && !layer.tint;
 
-// The objects of a layer in the order in which they are drawn: the upper ones first, if it says nothing else.
-function inOrder({ data }) {
-  const objects = data.objects ?? [];
-  return data.draworder === "index" ? objects : [...objects].sort((one, other) => (one.y ?? 0) - (other.y ?? 0));
+// Objects of a layer in the order in which they are drawn: the upper ones first, if it says nothing else.
+function inOrder(objects, { data }) {
+  return data.draworder === "index" ? objects : objects.sort((one, other) => (one.y ?? 0) - (other.y ?? 0));
 }
 
 export class LayerPainter {
@@ -73,24 +73,30 @@ export class LayerPainter {
       const isAside = batch.length && (layer.offsetX !== batch[0].offsetX || layer.offsetY !== batch[0].offsetY);
       if (!layer.isTiles || isAside) flush();
       if (layer.isTiles) batch.push(layer);
-      else this.paintThings(layer);
+      else this.paintThings(layer, box);
     }
     flush();
   }
 
   // Paints what is no tile of a cell: an image, or objects.
-  paintThings(layer) {
+  paintThings(layer, box) {
     this.view.pen.globalAlpha = layer.opacity;
     this.view.pen.imageSmoothingEnabled = this.view.scale < 1;
     if (layer.type === "imagelayer") this.paintImage(layer);
-    else for (const object of inOrder(layer)) if (this.view.hidden !== object.id) paintThing(this, layer, object);
+    else for (const object of inOrder(this.thingsIn(layer, box), layer)) paintThing(this, layer, object);
+  }
+
+  // The objects of a layer that may be seen in a box.
+  thingsIn(layer, box) {
+    const { view } = this;
+    return (layer.data.objects ?? []).filter(each => isThing(each) && view.hidden !== each.id && areTouching(view.boxOfThing(each, layer), box));
   }
 
   // ---- near
   paintNear(layers, box) {
     const hiding = this.hidingLayers(layers, box);
     layers.forEach((layer, at) => {
-      if (!layer.isTiles) return this.paintThings(layer);
+      if (!layer.isTiles) return this.paintThings(layer, box);
       if (at < hiding.lowest) return null;
       this.view.pen.globalAlpha = layer.opacity;
       this.view.pen.imageSmoothingEnabled = this.view.scale < 1;

@@ -3,6 +3,8 @@
 import { LayerPainter } from "./layer_painter.js";
 import { MapImages } from "./map_images.js";
 import { CellCache } from "./cell_cache.js";
+import { boxesOn, placeOnScreen } from "./object_boxes.js";
+import { isThing, reachOfThing } from "./thing_painter.js";
 
 export { drawTile } from "./draw_tile.js";
 
@@ -43,6 +45,8 @@ export class MapView {
     this.hidden = null;
     this.isWhole = true;
     this.moved = [0, 0];
+    // Objects where which all is drawn anew: { object, layer }.
+    this.things = [];
     this.cache = new CellCache();
     this.measures = [];
     // When the page began to work on the hand's last event.
@@ -232,6 +236,21 @@ export class MapView {
     this.askFrame();
   }
 
+  // Draws where objects are, or were, that are tiles or texts: { object, layer } of each.
+  redrawThings(all) {
+    const things = all.filter(({ object }) => isThing(object));
+    if (!things.length) return;
+    this.things.push(...things);
+    this.askFrame();
+  }
+
+  // The box of the screen in which a tile or a text is drawn.
+  boxOfThing(object, layer) {
+    const [x, y] = placeOnScreen(this, object, layer);
+    const reach = reachOfThing(object, this.tilesets) * this.scale + 1;
+    return [x - reach, y - reach, x + reach, y + reach];
+  }
+
   // Shows the map that the editor has.
   takeMap() {
     this.drawn = null;
@@ -294,14 +313,15 @@ export class MapView {
 
   draw() {
     if (this.ratio !== devicePixelRatio) this.resize();
-    const { isWhole, changed, moved } = this;
+    const { changed, moved } = this;
     const isMoved = moved[0] !== 0 || moved[1] !== 0;
-    this.isWhole = false;
-    this.changed = null;
-    this.moved = [0, 0];
+    const boxes = this.map ? boxesOn(this.canvas, this.things.map(({ object, layer }) => this.boxOfThing(object, layer))) : [];
+    const isWhole = this.isWhole || boxes === null;
+    Object.assign(this, { isWhole: false, changed: null, moved: [0, 0], things: [] });
     if (this.map) this.cache.takeBox(this.boxSeen());
     if (isWhole || !this.map) this.painter.paint([0, 0, this.canvas.width, this.canvas.height]);
     else if (isMoved) this.drawMoved(...moved);
+    if (!isWhole) for (const box of boxes) this.painter.paint(box);
     if (changed && this.map && !isWhole) this.painter.paint(this.boxOfChanged(changed));
     if (changed) this.drawn = joined(this.isHeld ? this.drawn : null, changed);
     this.endMeasures();

@@ -21,7 +21,9 @@ export class MiniMap {
     this.canvas.onpointerdown = event => this.down(event);
     this.canvas.onpointermove = event => this.move(event);
     this.canvas.onpointerup = this.canvas.onpointercancel = event => this.up(event);
-    for (const name of ["map", "cells", "done"]) editor.addEventListener(name, () => this.change());
+    for (const name of ["map", "cells"]) editor.addEventListener(name, () => this.change());
+    // A stroke draws its cells itself.
+    editor.addEventListener("done", ({ detail: stroke }) => stroke && this.change());
   }
 
   turn() {

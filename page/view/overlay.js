@@ -2,8 +2,9 @@
 // Draws over the map: the grid, the selection, the objects, and what the hand is about to do.
 import { isLockedIn } from "../tools/barred_layers.js";
 import { CellOverlay } from "./cell_overlay.js";
+import { boxesOn, placeOnScreen } from "./object_boxes.js";
 import { areaOf, boxOf, cornersOf, handlePlaces, isOn, ownPlace } from "./object_shapes.js";
-import { alignedAt, paintThing } from "./thing_painter.js";
+import { alignedAt, isThing, paintThing, reachOfThing } from "./thing_painter.js";
 import { colourOfText } from "./tints.js";
 
 const LONGEST_NAME = 300;
@@ -14,8 +15,15 @@ const MANY_CORNERS = 4096;
 export const MOST_CORNERS = 65_536;
 // The colour of an outline where its layer tells none.
 const OUTLINE = "#e4e7eb";
-// The side of a handle, in pixels of the page.
+// The side of a handle, in pixels of the page; and how far around an object its outline reaches, that of a spot, its handles, and the
+// sharpest corner of a line.
 const HANDLE = 8;
+const AROUND = { outline: 4, spot: 8, handles: 13, corner: 28 };
+// How high a name stands above its object, how much wider than its letters it is, how high, and of how many the width is kept.
+const ABOVE = 18;
+const BESIDE = 8;
+const NAME = 16;
+const MOST_WIDTHS = 20_000;
 
 export class Overlay {
   constructor(view, editor, tilesets) {
@@ -27,8 +35,13 @@ export class Overlay {
     this.cells = new CellOverlay(view, this.pen, view.box.querySelector("#hand").getContext("2d"));
     this.hasGrid = true;
     this.hasNames = true;
+    // The object that is chosen, by its id.
     this.chosen = null;
     this.place = null;
+    // Whether all is drawn anew; else only where these objects are, { object, layer } of each. And whether what the hand is about to do is.
+    Object.assign(this, { isChanged: true, objects: [], isHandChanged: true });
+    // How wide names are drawn, at a ratio of the screen.
+    this.widths = new Map();
     // How far objects with corners reach.
     this.reaches = new WeakMap();
     // What the hand is about to do: { cells: [x, y, width, height], values, line, colour }; a line goes from a cell to a cell.
@@ -37,19 +50,26 @@ export class Overlay {
 
   redraw() {
     this.isChanged = true;
-    this.askFrame();
+    this.redrawHand();
   }
 
   redrawHand() {
+    this.isHandChanged = true;
+    this.askFrame();
+  }
+
+  // Draws where objects are, or were: { object, layer } of each.
+  redrawObjects(all) {
+    this.objects.push(...all);
     this.askFrame();
   }
 
   askFrame() {
     this.frame ??= requestAnimationFrame(() => {
       this.frame = null;
-      if (this.isChanged) this.draw();
-      this.isChanged = false;
-      this.cells.drawHand(this.hand);
+      this.draw();
+      if (this.isHandChanged) this.cells.drawHand(this.hand);
+      Object.assign(this, { isChanged: false, objects: [], isHandChanged: false });
     });
   }
 
@@ -64,33 +84,68 @@ export class Overlay {
 
   // Meanwhile the map does not show it at its old place.
   set dragged(place) {
-    const found = place && this.map?.object(place.id)?.object;
-    const hidden = found?.gid || found?.text ? place.id : null;
+    const found = this.map?.object(place?.id ?? this.place?.id);
+    const placed = () => (found ? [{ object: this.placed(found.object), layer: found.layer }] : []);
+    const before = placed();
     this.place = place;
+    this.redrawObjects([...before, ...placed()]);
+    const hidden = place && found && isThing(found.object) ? place.id : null;
     if (hidden === this.view.hidden) return;
     this.view.hidden = hidden;
-    this.view.redraw();
+    this.view.redrawThings(found ? [found] : []);
+  }
+
+  // Has an object chosen, by its id; null for none.
+  choose(id) {
+    if (id === this.chosen) return;
+    const before = this.chosen;
+    this.chosen = id;
+    this.redrawObjects([before, id].map(each => this.map?.object(each)).filter(each => each));
   }
 
   draw() {
-    this.pen.clearRect(0, 0, this.canvas.width, this.canvas.height);
-    if (!this.map) return;
-    if (this.hasGrid) this.cells.drawGrid();
-    this.drawObjects();
-    this.cells.drawSelection();
+    const { canvas } = this;
+    const boxes = this.isChanged || !this.map ? null : boxesOn(canvas, this.objects.map(({ object, layer }) => this.boxOf(object, layer)));
+    for (const box of boxes ?? [[0, 0, canvas.width, canvas.height]]) this.drawBox(box);
+  }
+
+  // Draws all that is in a box of the screen, in whole pixels.
+  drawBox(box) {
+    const { pen } = this;
+    const [left, top, right, bottom] = box;
+    pen.save();
+    pen.beginPath();
+    pen.rect(left, top, right - left, bottom - top);
+    pen.clip();
+    pen.clearRect(left, top, right - left, bottom - top);
+    if (this.map) this.drawMap(box);
+    pen.restore();
+  }
+
+  drawMap(box) {
+    if (this.hasGrid) this.cells.drawGrid(box);
+    this.drawObjects(box);
+    this.cells.drawSelection(box);
   }
 
   // ---- objects
   // The chosen one stands over all others.
-  drawObjects() {
+  drawObjects(box) {
     const chosen = this.chosen !== null && this.showsChosen ? this.map.object(this.chosen) : null;
     let left = MOST_WHOLE;
+    // Each name finds it.
+    this.pen.font = this.font;
     for (const layer of this.map.layers) {
       const others = [];
-      for (const object of layer.isSeen ? layer.data.objects ?? [] : []) {
-        if (object.visible === false || object.id === chosen?.object.id || !this.isInView(object, layer)) continue;
-        if (left-- > 0) this.drawObject(this.placed(object), layer);
-        else others.push(this.placed(object));
+      for (const each of layer.isSeen ? layer.data.objects ?? [] : []) {
+        if (each.visible === false || each.id === chosen?.object.id) continue;
+        const object = this.placed(each);
+        const place = this.screenPlace(object, layer);
+        if (!this.isInView(object, place)) continue;
+        const isWhole = left-- > 0;
+        if (!this.isIn(box, object, place)) continue;
+        if (isWhole) this.drawObject(object, layer);
+        else others.push(object);
       }
       if (others.length) this.drawBoxes(others, layer);
     }
@@ -99,26 +154,54 @@ export class Overlay {
     this.drawHandles(chosen);
   }
 
-  // Whether a part of the object or its name may be seen: all of it lies within its greatest length of its place.
-  isInView(object, layer) {
+  // Whether a part of the object or its name may be seen, where its place is on the screen: all of it lies within its greatest length of that.
+  isInView(object, [x, y]) {
     const reach = this.reachOf(object) * this.view.scale + LONGEST_NAME;
-    const [x, y] = this.screenPlace(this.placed(object), layer);
     return x > -reach && y > -reach && x < this.canvas.width + reach && y < this.canvas.height + reach;
+  }
+
+  // The box of the screen in which an object is drawn, with its name and its handles.
+  boxOf(object, layer) {
+    const [x, y] = this.screenPlace(object, layer);
+    const reach = Math.max(this.reachOnScreen(object), this.reachOnScreen(object, AROUND.handles));
+    const [left, above, right] = this.nameBox(object);
+    return [x + Math.min(left, -reach), y + Math.min(above, -reach), x + Math.max(right, reach), y + reach];
+  }
+
+  // Whether a part of an object that is not chosen is in a box, where its place is on the screen. There are many: of few the name is measured.
+  isIn([left, top, right, bottom], object, [x, y]) {
+    const reach = this.reachOnScreen(object);
+    if (x + reach > left && x - reach < right && y + reach > top && y - reach < bottom) return true;
+    if (!object.name || !this.hasNames) return false;
+    const [aside, above] = this.nameCorner(object);
+    if (y + above >= bottom || y + above + NAME * this.view.ratio <= top || x + aside >= right) return false;
+    return x + this.nameBox(object)[2] > left;
+  }
+
+  // How far from its place an object is drawn on the screen: slanted or with its tile moved aside, and with its outline.
+  reachOnScreen(object, around = this.aroundOf(object)) {
+    const { projection: { isIsometric, matrix } } = this.map;
+    const reach = isThing(object) ? reachOfThing(object, this.tilesets) : this.reachOf(object) * (isIsometric ? Math.hypot(...matrix) : 1);
+    return reach * this.view.scale + around * this.view.ratio;
+  }
+
+  aroundOf(object) {
+    if (cornersOf(object)) return AROUND.corner;
+    return object.width || object.height ? AROUND.outline : AROUND.spot;
   }
 
   // How far an object reaches from its place.
   reachOf(object) {
     const corners = cornersOf(object);
-    if (!corners) return Math.hypot(object.width ?? 0, object.height ?? 0);
+    const [width, height] = [object.width ?? 0, object.height ?? 0];
+    if (!corners) return Math.sqrt(width * width + height * height);
     if (!this.reaches.has(object)) this.reaches.set(object, corners.reduce((far, { x, y }) => Math.max(far, Math.hypot(x, y)), 0));
     return this.reaches.get(object);
   }
 
   // Where an object's own place stands on the screen.
   screenPlace(object, layer) {
-    const { view } = this;
-    const [x, y] = this.map.projection.place(object.x ?? 0, object.y ?? 0);
-    return [view.originX + (x + layer.offsetX) * view.scale, view.originY + (y + layer.offsetY) * view.scale];
+    return placeOnScreen(this.view, object, layer);
   }
 
   drawObject(object, layer) {
@@ -206,16 +289,42 @@ export class Overlay {
 
   drawName(object, isChosen) {
     if (!object.name || (!this.hasNames && !isChosen)) return;
-    const { pen, view: { ratio, scale } } = this;
-    const [aside, up] = object.gid ? alignedAt(this.tilesets.of(object.gid), this.map) : [0, 0];
-    const [left, top] = [-aside * (object.width ?? 0) * scale, -up * (object.height ?? 0) * scale];
-    pen.font = `${12 * ratio}px sans-serif`;
+    const { pen, view: { ratio } } = this;
+    const [left, top, right] = this.nameBox(object);
+    pen.font = this.font;
     pen.textBaseline = "bottom";
-    const width = pen.measureText(object.name).width;
     pen.fillStyle = isChosen ? "#ffd34d" : "#000a";
-    pen.fillRect(left, top - 18 * ratio, width + 8 * ratio, 16 * ratio);
+    pen.fillRect(left, top, right - left, NAME * ratio);
     pen.fillStyle = isChosen ? "#000" : "#fff";
-    pen.fillText(object.name, left + 4 * ratio, top - 4 * ratio);
+    pen.fillText(object.name, left + 4 * ratio, top + (ABOVE - 4) * ratio);
+  }
+
+  // The upper left corner of an object's name, from its place.
+  nameCorner(object) {
+    const { ratio, scale } = this.view;
+    const [aside, up] = object.gid ? alignedAt(this.tilesets.of(object.gid), this.map) : [0, 0];
+    return [-aside * (object.width ?? 0) * scale, -up * (object.height ?? 0) * scale - ABOVE * ratio];
+  }
+
+  // The box of its name: [left, top, right].
+  nameBox(object) {
+    const [left, top] = this.nameCorner(object);
+    return [left, top, left + (object.name ? this.widthOf(object.name) + BESIDE * this.view.ratio : 0)];
+  }
+
+  get font() {
+    return `${12 * this.view.ratio}px sans-serif`;
+  }
+
+  // How wide a name is drawn.
+  widthOf(name) {
+    const { pen, font, widths } = this;
+    if (widths.font !== font || widths.size > MOST_WIDTHS) this.widths = Object.assign(new Map(), { font });
+    if (!this.widths.has(name)) {
+      pen.font = font;
+      this.widths.set(name, pen.measureText(name).width);
+    }
+    return this.widths.get(name);
   }
 
   // The object at a place in pixels of the map: first of the layer in hand, then the smallest, then the one drawn last. One of a locked

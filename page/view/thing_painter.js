@@ -11,9 +11,19 @@ const ALIGNED = {
   bottomright: [1, 1],
 };
 
+// Whether an object is painted here.
+export const isThing = object => object.visible !== false && Boolean(object.gid || object.text);
+
+// How far a tile or a text reaches from its place, in pixels of the map, however it is turned.
+export function reachOfThing(object, tilesets) {
+  const [width, height] = [object.width ?? 0, object.height ?? 0];
+  const tileset = object.gid ? tilesets.of(object.gid) : null;
+  return Math.hypot(width, height) + (tileset ? Math.hypot(...asideOf(object, tileset)) : 0);
+}
+
 // Paints an object of a layer, where it is a tile or a text.
 export function paintThing({ view, tints }, layer, object, pen = view.pen) {
-  if (object.visible === false || (!object.gid && !object.text)) return;
+  if (!isThing(object)) return;
   const { map, scale } = view;
   const [x, y] = map.projection.place(object.x ?? 0, object.y ?? 0);
   pen.save();
@@ -29,14 +39,19 @@ export function alignedAt(tileset, map) {
   return ALIGNED[tileset?.alignment] ?? (map.projection.isIsometric ? ALIGNED.bottom : ALIGNED.bottomleft);
 }
 
+// How far its tileset moves a tile aside and down, which grows with the tile.
+function asideOf({ gid, width = 0, height = 0 }, tileset) {
+  const tile = idIn(gid, tileset);
+  const [wide, high] = tileset?.has(tile) ? tileset.sizeOf(tile) : [1, 1];
+  return [(tileset?.offsetX ?? 0) * width / wide, (tileset?.offsetY ?? 0) * height / high];
+}
+
 function paintTile(view, tints, layer, object, pen) {
   const { map, scale, tilesets } = view;
   const tileset = tilesets.of(object.gid);
   const [width, height] = [(object.width ?? 0) * scale, (object.height ?? 0) * scale];
   const [left, top] = alignedAt(tileset, map);
-  const tile = idIn(object.gid, tileset);
-  const [wide, high] = tileset?.has(tile) ? tileset.sizeOf(tile) : [1, 1];
-  const [toRight, down] = [(tileset?.offsetX ?? 0) * width / wide, (tileset?.offsetY ?? 0) * height / high];
+  const [toRight, down] = asideOf(object, tileset).map(length => length * scale);
   const tinted = layer.tint ? image => tints.of(image, layer.tint) : null;
   drawTile(pen, tilesets, object.gid, toRight - left * width, down - top * height, width, height, tinted, map.isHexagonal);
 }
