@@ -168,10 +168,11 @@ class Chance:
         self.outside[name] = path.read_bytes()
         self.page.js('dispatchEvent(new Event("focus"))')
         time.sleep(0.3)
-        for button in self.page.driver.find_elements('css selector', '#notice-bars button'):
-            if button.text in ('Reload', 'Not now') and self.numbers.random() < 0.7:
-                self.page.js('arguments[0].click()', button)
-                break
+        if self.numbers.random() < 0.7:
+            self.page.js(
+                '[...document.querySelectorAll("#notice-bars button")]'
+                '.find(each => ["Reload", "Not now"].includes(each.textContent))?.click()'
+            )
         time.sleep(0.2)
         self.answer('Discard and reload', 'Reload', 'Keep both', 'Cancel')
 

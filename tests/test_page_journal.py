@@ -180,8 +180,8 @@ def test_journals_that_are_not_restored():
         page = life.begin()
         for change, told in CHANGES.items():
             assert page.driver.execute_async_script(CHANGE, change) == ''
-            page.js('roskevad.recovery.start()')
-            page.wait(lambda: len(page.notices()) == 1, 'it is offered anew')
+            page.js('return roskevad.recovery.start()')
+            assert len(page.notices()) == 1, 'it is offered anew'
             page.answer('Restore')
             page.wait(lambda: told in ''.join(page.notices()), told)
             assert 'It is kept' in page.notices()[0], page.notices()

@@ -14,6 +14,7 @@ from pathlib import Path
 
 from lib.places import TOP
 from selenium import webdriver
+from selenium.common.exceptions import StaleElementReferenceException
 from selenium.webdriver.chrome.service import Service
 from selenium.webdriver.common.action_chains import ActionChains
 from selenium.webdriver.common.by import By
@@ -63,6 +64,22 @@ def started(*more, folder=None):
     driver = webdriver.Chrome(service=Service(shutil.which('chromedriver'), env=env), options=flags)
     driver.set_window_size(1320, 1040)
     return driver
+
+
+def anew(act):
+    """Does it again where the page renews, meanwhile, what it looks at."""
+
+    @functools.wraps(act)
+    def tried(*words, **named):
+        end = time.monotonic() + WAIT
+        while True:
+            try:
+                return act(*words, **named)
+            except StaleElementReferenceException:
+                if time.monotonic() > end:
+                    raise
+
+    return tried
 
 
 PIXELS = '''
@@ -195,15 +212,18 @@ class Page:
         return self.js('return [...document.querySelectorAll("#notice-bars .notice")].map(each => each.innerText)')
 
     def answer(self, text):
-        """Clicks at a button of a notice."""
-        for each in self.driver.find_elements(By.CSS_SELECTOR, '#notice-bars button'):
-            if each.text == text:
-                each.click()
-                self.js('return new Promise(done => setTimeout(done, 50))')
-                break
-        else:
-            raise AssertionError(f'no notice has {text}: {self.notices()}')
+        """Clicks at a button of a notice. The page hears of it a moment later."""
+        self.wait(lambda: self.press('#notice-bars button', text), f'a notice has {text}')
+        self.js('return new Promise(done => setTimeout(done, 50))')
         self.settle()
+
+    @anew
+    def press(self, css, text):
+        """Clicks at the first button of these with a text; whether there is one."""
+        found = next((each for each in self.driver.find_elements(By.CSS_SELECTOR, css) if each.text == text), None)
+        if found is not None:
+            found.click()
+        return found is not None
 
     def choose_files(self, *paths):
         """Chooses files, as the chooser of 'Open files' gives them."""
@@ -222,8 +242,12 @@ class Page:
     def find(self, css):
         return self.driver.find_element(By.CSS_SELECTOR, css)
 
-    def click(self, css):
+    @anew
+    def click_at(self, css):
         self.find(css).click()
+
+    def click(self, css):
+        self.click_at(css)
         self.settle()
 
     def point(self, cell):
@@ -299,26 +323,29 @@ class Page:
             field = self.find(f'dialog [name={name}]')
             field.clear()
             field.send_keys(str(value))
-        for each in self.driver.find_elements(By.CSS_SELECTOR, 'dialog button'):
-            if each.text == answer:
-                each.click()
-                break
+        self.press('dialog button', answer)
         # The page hears of the answer a moment later.
         self.js('return new Promise(done => setTimeout(done, 50))')
         self.settle()
 
     def type_into(self, css, value):
         """Types a value over that of a field of a table, and goes on."""
+        self.type_at(css, value)
+        self.settle()
+
+    @anew
+    def type_at(self, css, value):
         field = self.find(css)
         field.click()
         field.send_keys(Keys.CONTROL, 'a')
         field.send_keys(Keys.NULL, str(value), Keys.TAB)
-        self.settle()
 
     # ---- what is seen
+    @anew
     def bubble(self):
         return self.find('#bubble').text
 
+    @anew
     def texts(self, css):
         return [each.text for each in self.driver.find_elements(By.CSS_SELECTOR, css)]
 
