@@ -166,7 +166,7 @@ export class Document {
   ): Given;
   /** Merges the stamps and erases in it, as those of a brush. */
   stroke<Given>(work: (document: Document) => Given): Given;
-  /** The whole map, as its file has it: a copy. */
+  /** The whole map as its file has it, but finite, and with its cells unpacked: a copy. */
   map(): Members;
   /** The same without the cells: a copy. */
   outline(): Members;

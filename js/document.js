@@ -5,7 +5,7 @@ import { MAX_COORDINATE } from "./limits.js";
 import { Properties } from "./properties.js";
 import { doubtful, partsOf, rowsOf } from "./rows.js";
 import { Selection } from "./selection.js";
-import { drawn, noteOf, restored } from "./tiled_maps.js";
+import { drawn, noteOf, restored, withoutPacking } from "./tiled_maps.js";
 import { Tilesets } from "./tilesets.js";
 import { Layer, Layers, Objects, missing } from "./views.js";
 import * as words from "./words.js";
@@ -33,6 +33,9 @@ export class Document {
     this._name = name;
     this._isClosed = false;
     this._stroke = null;
+    // Whether anything of its map was set aside or unpacked when it was opened. Else the map is told and saved as the
+    // editor holds it.
+    this._hasSetAside = false;
     // What its map says of how it was made finite, once that was asked for.
     this._note = null;
     // How the cells of its tile layers are written in its file, by their ids, once that was asked for.
@@ -90,7 +93,11 @@ export class Document {
   _read(name, ...given) {
     this._enter();
     const value = this._editor._parsed(name, ...given);
-    return value !== null && this._editor._hasSetAside ? restored(value, this._noteNow()) : value;
+    if (value === null || !this._hasSetAside) {
+      return value;
+    }
+    const told = restored(value, this._noteNow());
+    return name === "layer" ? withoutPacking([told])[0] : told;
   }
 
   // The same of a thing that has a name, which stands behind the other words.

@@ -3,7 +3,7 @@
 //
 //   const editor = await Editor.create({ limit: 0 });
 //   editor.step("new town 4 3 16 16 town.tsj");
-import { noteOf, originOf, restored } from "./tiled_maps.js";
+import { noteOf, originOf, restored, withoutPacking } from "./tiled_maps.js";
 import { joined } from "./bytes.js";
 import { Document } from "./document.js";
 import { Closed, NoMemory, Refused } from "./faults.js";
@@ -72,8 +72,6 @@ export class Editor {
     this._activeHandle = null;
     // About how many bytes an outline has: as many as the last one, or as the file that was opened.
     this._outlineSize = 0;
-    // Whether anything of a map was set aside or unpacked. Until then maps are given as they are.
-    this._hasSetAside = false;
     this._cEditor = module.take(EDITOR_BYTES);
     module.bytes().fill(0, this._cEditor, this._cEditor + EDITOR_BYTES);
     if (module.calls.open(this._cEditor, limit) !== DONE) {
@@ -266,9 +264,12 @@ export class Editor {
     const given = bytesOf(data);
     const unpacked = await this._unpacked(given, call);
     const text = this._made("set_aside", unpacked.bytes, call);
-    this._hasSetAside ||= text !== given;
     try {
-      return this._openBytes(name, text, call);
+      const reply = this._openBytes(name, text, call);
+      if (text !== given) {
+        this._handle(name)._hasSetAside = true;
+      }
+      return reply;
     } catch (fault) {
       if (fault instanceof Refused && isOfMap(fault.code)) {
         throw refusedFile(faultOfFile(this._module, fault, given, unpacked), call);
@@ -301,9 +302,10 @@ export class Editor {
 
   async _saved(call) {
     const shown = this._replyTo("show", call).slice(MAP.length);
-    const bytes = this._hasSetAside ? this._made("put_back", shown, call) : shown;
+    const hasSetAside = this._isSetAside();
+    const bytes = hasSetAside ? this._made("put_back", shown, call) : shown;
     this._replyTo("clean", call);
-    if (!this._hasSetAside) {
+    if (!hasSetAside) {
       return bytes;
     }
     const document = this._activeName();
@@ -389,7 +391,7 @@ export class Editor {
     if (head === null) {
       throw noDocument("origin()");
     }
-    return this._hasSetAside ? originOf(noteOf(head)) : [0, 0];
+    return this._isSetAside() ? originOf(noteOf(head)) : [0, 0];
   }
 
   _outlineText(asked) {
@@ -402,10 +404,23 @@ export class Editor {
     return text;
   }
 
-  // The tree of a text, in which nothing is set aside.
+  // The tree of the active document's map, of its text, in which nothing is set aside.
   _tree(text) {
     const tree = JSON.parse(text);
-    return this._hasSetAside ? restored(tree, noteOf(tree)) : tree;
+    if (this._isSetAside()) {
+      restored(tree, noteOf(tree));
+      withoutPacking(tree.layers);
+    }
+    return tree;
+  }
+
+  // Whether anything was set aside or unpacked of the active document's map.
+  _isSetAside() {
+    if (this._handles.size === 0) {
+      return false;
+    }
+    const handle = this._activeHandle ?? this._handles.get(this._activeName());
+    return handle?._hasSetAside === true;
   }
 
   /**

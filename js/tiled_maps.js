@@ -1,5 +1,6 @@
 // SPDX-License-Identifier: MIT OR Apache-2.0
 // What the library sets aside of a map, in its tree.
+import { NOTE } from "./json_scanner.js";
 
 // The name under which it stands, in the map, in layers and objects.
 const RESERVED = "roskevad";
@@ -21,6 +22,17 @@ export function restored(value, note) {
     return value;
   }
   return value !== null && typeof value === "object" ? restoredMembers(value, note) : value;
+}
+
+/** Layers of which nothing notes any more how they were packed, nor those in them: where `unpackLayers` has put that. */
+export function withoutPacking(layers) {
+  for (const layer of Array.isArray(layers) ? layers : []) {
+    if (layer !== null && typeof layer === "object") {
+      delete layer[NOTE];
+      withoutPacking(layer.layers);
+    }
+  }
+  return layers;
 }
 
 /** The layers in drawing order, those that stand in a group behind it. */

@@ -20,7 +20,7 @@ from lib.any_maps import exports, in_each_format, saved_as, some_map
 from lib.asides import exact
 from lib.cases import CORES, Case, check_each, passed, unlike
 from lib.json_texts import tree_of
-from lib.maps import map_of, new_map, property_of, text_of, thing, things, tiles
+from lib.maps import cells_of, group, map_of, new_map, property_of, text_of, thing, things, tiles
 from lib.compressions import (
     GZIP,
     ZLIB,
@@ -179,6 +179,75 @@ def test_origins():
         except Refused as refusal:
             assert (refusal.code, refusal.line) == (10, 'origin')
     passed(4)
+
+
+def fault_of_trees(document, source):
+    """How `map` and `outline` of a document that was just opened are not what its file has, or None. An infinite map is finite in them."""
+    whole, outline = document.map(), document.outline()
+    told = json.dumps([whole, outline, [layer.members for layer in document.layers.walk()]])
+    without_cells = json.loads(json.dumps(whole))
+    for layer in drawn(without_cells['layers']):
+        layer.pop('data', None)
+    wanted, came = saved_as(source), saved_as(whole)
+    for layer in [*drawn(wanted['layers']), *drawn(came['layers'])]:
+        layer.pop('compression', None)
+    return (
+        ('roskevad' in told and 'a note or a stand-in is told')
+        or unlike(without_cells, outline)
+        or (not source.get('infinite') and unlike(wanted, came))
+        or None
+    )
+
+
+def fault_of_map(case):
+    """How what is told of a map by chance is not what its file has, or None."""
+    source = some_map(random.Random(f'{SEED} {case.given}'))
+    with Editor() as editor:
+        return fault_of_trees(editor.open(json.dumps(source).encode()), source)
+
+
+def test_trees_of_random_maps():
+    check_each([Case(f'map {number}', number, None) for number in range(RUNS)], fault_of_map, CORES)
+
+
+def test_trees_of_packed_maps():
+    """The cells of a packed layer are told as they are open, in base64; nothing tells of a note."""
+    cells = [1 + at % 9 for at in range(30)]
+    for compression in (ZLIB, GZIP, ZSTANDARD):
+        tree = with_compression(map_of(tiles(1, 6, 5, data=cells, opacity=0.5), group(2, tiles(3, 6, 5, data=cells)), width=6, height=5), compression, 9)
+        with Editor() as editor:
+            document = editor.open(json.dumps(tree).encode())
+            first = document.map()['layers'][0]
+            fault = fault_of_trees(document, tree) or unlike(('base64', cells, 0.5), (first['encoding'], cells_of(first), first['opacity']))
+            # What is told is a map that opens.
+            again = editor.open(json.dumps(document.map()).encode())
+            assert not fault and list(again.layers[3].cells()) == cells, f'{compression}: {fault}'
+            passed()
+
+
+def test_what_is_set_aside_belongs_to_its_document():
+    """A map that is opened as it is has members of its own that look like stand-ins: they stay, whatever stands in another document."""
+    halves = {'roskevad': [1072693248, 0]}
+    own = {**new_map(2, 1, 16, 16, 'a.tsj'), 'a': halves, 'b': [{'roskevad_compression': 'zlib', **halves}]}
+    own['layers'][0]['roskevad_compression'] = 'zlib'
+    with Editor() as editor:
+        fraction = editor.open(text_of(map_of(tiles(1, opacity=0.5))), 'fraction')
+        editor.open_map('own', text_of(own))
+        editor.put_file('own.tmj', text_of(own))
+        editor.step('open line own.tmj')
+        for name in ('own', 'line'):
+            document = editor.documents[name]
+            came = document.map(), document.save_bytes(), editor.save_map(all_maps=True), document.layers[1].members['roskevad_compression']
+            fault = unlike((own, text_of(own), text_of(own), 'zlib'), came) or unlike(halves, document.outline()['a'])
+            assert not fault, f'{name}: {fault}'
+        fault = unlike((0.5, 0.5), (fraction.map()['layers'][0]['opacity'], json.loads(fraction.save_bytes())['layers'][0]['opacity']))
+        assert not fault, fault
+        # A document of the same name that is opened later has nothing of the one before.
+        editor.run_lines(['discard fraction', 'open fraction own.tmj'])
+        document = editor.documents['fraction']
+        fault = unlike((own, text_of(own)), (document.map(), document.save_bytes()))
+        assert not fault, fault
+    passed(5)
 
 
 # ---- things that are read alone
@@ -391,7 +460,9 @@ def fault_of_export(case):
     Tiled exports both the same."""
     path = case.given
     with Editor(folder=path.parent) as editor:
-        editor.open_file(path.name, 'm')
+        fault = fault_of_trees(editor.open(path.name, 'm'), json.loads(path.read_bytes()))
+        if fault:
+            return fault
         editor.step('layer add tile New')
         editor.step('prop set map a int 1')
         editor.step('goto 0')

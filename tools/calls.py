@@ -189,7 +189,7 @@ DOCUMENT = Kind('Document', 'A map, its selection and its steps. A call makes th
          written=('with document.macro(text, action=None):', 'document.macro(text, work, { action })')),
     Call('stroke', 'work', 'Merges the stamps and erases in it, as those of a brush.', 'stamp+ LAYER X Y WIDTH TILES', 'work',
          written=('with document.stroke():', 'document.stroke(work)')),
-    Call('map', '', 'The whole map, as its file has it: a copy.', 'show', 'members'),
+    Call('map', '', 'The whole map as its file has it, but finite, and with its cells unpacked: a copy.', 'show', 'members'),
     Call('outline', '', 'The same without the cells: a copy.', gives='members'),
     Call('save', 'path=None', 'Writes the map to a file, or to `document.path`; it counts as saved then.', 'save FILE',
          raises={'value': 'document.save()', 'refused 20': 'after("begin A") and document.save("/dev/shm/none/a.tmj")',

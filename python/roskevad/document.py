@@ -17,7 +17,7 @@ from .limits import MAX_COORDINATE
 from .properties import Properties
 from .rows import Part, doubtful, parts_of, rows_of
 from .selection import Run, Selection
-from .tiled_maps import Members, drawn, note_of, restored
+from .tiled_maps import Members, drawn, note_of, restored, without_packing
 from .tilesets import Tilesets
 from .views import Layer, Layers, Objects
 
@@ -78,7 +78,7 @@ class Document:
     """
 
     # So that a name that it has not is never set silently.
-    __slots__ = '_editor', '_name', '_is_closed', '_stroke', '_path', '_note', '_encodings'
+    __slots__ = '_editor', '_name', '_is_closed', '_stroke', '_path', '_has_set_aside', '_note', '_encodings'
 
     def __init__(self, editor: 'Editor', name: str):
         """Editors make it: `new`, `open` and `documents` give it."""
@@ -87,6 +87,8 @@ class Document:
         self._is_closed = False
         self._stroke: Optional[_Stroke] = None
         self._path: Optional[Path] = None
+        # Whether anything of its map was set aside or unpacked when it was opened. Else the map is told and saved as the editor holds it.
+        self._has_set_aside = False
         # What its map says of how it was made finite, once that was asked for.
         self._note: Optional[Members] = None
         # How the cells of its tile layers are written in its file, by their ids, once that was asked for.
@@ -148,7 +150,10 @@ class Document:
         if text is None:
             return None
         value = json.loads(text)
-        return restored(value, self._note_now()) if self._editor._has_set_aside else value
+        if not self._has_set_aside:
+            return value
+        value = restored(value, self._note_now())
+        return without_packing([value])[0] if name == 'layer' else value
 
     def _note_now(self) -> Members:
         if self._note is None:
@@ -256,8 +261,8 @@ class Document:
         return Tilesets(self)
 
     def map(self) -> Members:
-        """The map as its file has it: a copy."""
-        return self._do(lambda: cast(Members, json.loads(self._editor._shown('map()'))))
+        """The map as its file has it, but finite, and with its cells unpacked: a copy."""
+        return self._do(lambda: self._editor._tree(self._editor._shown('map()')))
 
     def outline(self) -> Members:
         """The same without the cells: a copy."""

@@ -24,7 +24,7 @@ from .map_faults import refused_map
 from .names import document_name
 from .rooms import Room
 from .saving import Saving
-from .tiled_maps import Members, note_of, origin_of, put_back, restored, set_aside
+from .tiled_maps import Members, note_of, origin_of, put_back, restored, set_aside, without_packing
 from .views import Layer
 
 if TYPE_CHECKING:
@@ -136,8 +136,6 @@ class Editor:
         # The open documents that were handed out, by their names; and the one that a call has made active, while no line has changed that.
         self._handles: dict[str, Document] = {}
         self._active_handle: Optional[Document] = None
-        # Whether anything of a map was set aside or unpacked. Until then maps are saved as the editor holds them.
-        self._has_set_aside = False
         self._c_editor = CEditor()
         self._process = _forks[0]
         self._at = ctypes.byref(self._c_editor)
@@ -382,18 +380,28 @@ class Editor:
 
     def _whole(self, data: bytes, call: str) -> bytes:
         """A map that the editor holds, with what was set aside put back, and packed as it was."""
-        return put_back(data, call) if self._has_set_aside else data
+        return put_back(data, call) if self._is_set_aside() else data
 
     def _tree(self, text: bytes) -> Members:
         """The tree of a map that the editor holds, in which nothing is set aside."""
         tree: Members = json.loads(text)
-        return cast(Members, restored(tree, note_of(tree))) if self._has_set_aside else tree
+        if self._is_set_aside():
+            tree = restored(tree, note_of(tree))
+            without_packing(tree['layers'])
+        return tree
+
+    def _is_set_aside(self) -> bool:
+        """Whether anything was set aside or unpacked of the active document's map."""
+        handle = self._active_handle or (self._handles.get(self._active_name()) if self._handles else None)
+        return handle is not None and handle._has_set_aside
 
     def _open_any(self, document: str, data: bytes, call: str) -> str:
         """Opens a document with any map that Tiled saves as JSON: layers are unpacked, and what the format refuses is set aside."""
         text, unpacked = set_aside(data, call)
-        self._has_set_aside = self._has_set_aside or text is not data
-        return self._open_text(document, text, data, unpacked, call)
+        reply = self._open_text(document, text, data, unpacked, call)
+        if text is not data:
+            self._handle(document)._has_set_aside = True
+        return reply
 
     def _open_text(self, document: str, text: bytes, data: bytes, unpacked: UnpackedMap, call: str) -> str:
         """Opens a document with the text of a map. Where it is refused the place is looked for in the file, which has other bytes
@@ -491,7 +499,7 @@ class Editor:
 
     def _origin(self) -> tuple[int, int]:
         head = self._copied('map_head', 'origin')
-        return origin_of(note_of(json.loads(head))) if self._has_set_aside else (0, 0)
+        return origin_of(note_of(json.loads(head))) if self._is_set_aside() else (0, 0)
 
     def _copied(self, name: str, call: str) -> bytes:
         """The text that a call of the library gives of the active document. Raises Refused, with the caller's own call."""
@@ -639,7 +647,9 @@ class Editor:
             call = f'open({given})' if name is None else f'open({given}, {name!r})'
             raise refusal._of(call) from refusal.__cause__
         _LOG.info('%s: opened from %s', opened, 'bytes' if path is None else path)
-        return self._in_turn(lambda: self._handle(opened, path))
+        document = self._in_turn(lambda: self._handle(opened))
+        document._path = path
+        return document
 
     @property
     def documents(self) -> dict[str, Document]:
@@ -695,11 +705,10 @@ class Editor:
         finally:
             self._settle()
 
-    def _handle(self, name: str, path: Optional[Path] = None) -> Document:
+    def _handle(self, name: str) -> Document:
         """The document of that name, which is open."""
         if name not in self._handles:
             self._handles[name] = Document(self, name)
-            self._handles[name]._path = path
         return self._handles[name]
 
     def _note_activation(self, line: bytes) -> None:

@@ -8,6 +8,7 @@ from . import library
 from .faults import Refused
 from .library import LIBRARY
 from .compressed_layers import Unpackable, UnpackedMap, pack_layers, unpack_layers
+from .json_scanner import NOTE
 from .limits import MAX_FILE_BYTES
 from .map_faults import refused_as_no_json
 from .rooms import Room
@@ -90,6 +91,15 @@ def restored(tree: Any, note: Members) -> Any:
         del members[_RESERVED]
         members.update(_exact(members, notes, note))
     return members
+
+
+def without_packing(layers: Any) -> Any:
+    """Layers of which nothing notes any more how they were packed, nor those in them: where `unpack_layers` has put that."""
+    for layer in layers if isinstance(layers, list) else ():
+        if isinstance(layer, dict):
+            layer.pop(NOTE, None)
+            without_packing(layer.get('layers'))
+    return layers
 
 
 def drawn(layers: Iterable[Members]) -> Iterator[Members]:

@@ -99,6 +99,47 @@ async function packedMaps() {
   }
 }
 
+// What is told of a packed layer is as it is open: nothing tells of a note, and what is told opens.
+async function treesOfPackedMaps() {
+  for (const compression of ["zlib", "gzip"]) {
+    const editor = await Editor.create();
+    const data = base64(await packed(new Uint8Array(CELLS.buffer), compression));
+    const layer = (id) => tiles(id, { data, compression, encoding: "base64", height: HEIGHT, width: WIDTH });
+    const group = { id: 2, layers: [layer(3)], name: "Group", opacity: 0.5, type: "group", visible: true, x: 0, y: 0 };
+    const document = await editor.open(mapOf([layer(1), group]));
+    const [whole, outline] = [document.map(), document.outline()];
+    const read = [...document.layers].map(({ members }) => sorted(members));
+    same(JSON.stringify([whole, outline, read]).includes("roskevad"), false);
+    same([whole.layers[1].opacity, read], [0.5, outline.layers.map(sorted)]);
+    same([whole.layers[0].encoding, whole.layers[0].data], ["base64", base64(new Uint8Array(CELLS.buffer))]);
+    const again = await editor.open(JSON.stringify(whole));
+    same([...again.layers.get(3).cells()], [...CELLS]);
+    editor.close();
+  }
+}
+
+// A map that a line opens has members of its own that look like stand-ins: they stay, whatever stands in another
+// document.
+async function whatIsSetAsideBelongsToItsDocument() {
+  const editor = await Editor.create();
+  const halves = { roskevad: [1072693248, 0] };
+  const written = { data: [...CELLS], height: HEIGHT, width: WIDTH };
+  const own = JSON.stringify(sorted(JSON.parse(mapOf([tiles(1, { ...written, roskevad_compression: "zlib" })], { a: halves }))));
+  const fraction = await editor.open(mapOf([tiles(1, { ...written, opacity: 0.5 })]), "fraction");
+  editor.putFile("own.tmj", own);
+  editor.step("open own own.tmj");
+  const told = async (document) => [
+    document.map().a, document.outline().a, document.layers.get(1).members.roskevad_compression,
+    JSON.parse(decoder.decode(await document.saveBytes())).a, (await savedTree(editor)).layers[0].roskevad_compression,
+  ];
+  same(await told(editor.documents.get("own")), [halves, halves, "zlib", halves, "zlib"]);
+  same([fraction.map().layers[0].opacity, JSON.parse(decoder.decode(await fraction.saveBytes())).layers[0].opacity], [0.5, 0.5]);
+  // A document of the same name that is opened later has nothing of the one before.
+  editor.runLines(["discard fraction", "open fraction own.tmj"]);
+  same(await told(editor.documents.get("fraction")), [halves, halves, "zlib", halves, "zlib"]);
+  editor.close();
+}
+
 async function damagedRows(compression) {
   const cells = new Uint8Array(CELLS.buffer);
   const whole = await packed(cells, compression);
@@ -337,6 +378,7 @@ async function namesOfDocuments() {
 }
 
 export const MAP_CHECKS = [
-  mapsThatNeedNothing, packedMaps, damagedData, bombs, mapsThatAreRefused, mapsWithFractions, infiniteMaps,
+  mapsThatNeedNothing, packedMaps, treesOfPackedMaps, whatIsSetAsideBelongsToItsDocument, damagedData, bombs,
+  mapsThatAreRefused, mapsWithFractions, infiniteMaps,
   thingsOfInfiniteMaps, encodingsOfLayers, workWhileSaving, mapsOfClosedEditors, namesOfDocuments, placesInMaps,
 ];
