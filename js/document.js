@@ -196,7 +196,7 @@ export class Document {
   }
 
   get orientation() {
-    return this._read("map_head").orientation;
+    return this._read("map_head").orientation ?? "orthogonal";
   }
 
   get origin() {

@@ -462,7 +462,17 @@ export class Editor {
     if (!words.isWhole(name)) {
       return null;
     }
+    if (subject === "object" && name === "") {
+      return this._firstNameless();
+    }
     return this._module.given(name, (at, size) => this._number("find", OWNERS[subject], at, size));
+  }
+
+  // The id of the first object whose name is the empty text, also where its file leaves that out; null where there
+  // is none.
+  _firstNameless() {
+    const ids = [...(this._numbers(1, "object_ids", 0) ?? [])];
+    return ids.find((id) => (this._parsed("object", id).name ?? "") === "") ?? null;
   }
 
   /** The id of the layer that was added last: the next id less one. Throws Refused. */

@@ -70,7 +70,7 @@ export class MapObject extends View {
   }
 
   get name() {
-    return this._now.name;
+    return this._now.name ?? "";
   }
 
   get type() {
@@ -82,23 +82,23 @@ export class MapObject extends View {
   }
 
   get x() {
-    return this._now.x;
+    return this._now.x ?? 0;
   }
 
   get y() {
-    return this._now.y;
+    return this._now.y ?? 0;
   }
 
   get width() {
-    return this._now.width;
+    return this._now.width ?? 0;
   }
 
   get height() {
-    return this._now.height;
+    return this._now.height ?? 0;
   }
 
   get visible() {
-    return this._now.visible;
+    return this._now.visible ?? true;
   }
 
   get tile() {
@@ -125,8 +125,8 @@ export class MapObject extends View {
   }
 
   toString() {
-    const members = this._document._peek(() => this._now);
-    return members ? `MapObject ${this.id} ${members.name} at ${members.x}, ${members.y}` : `MapObject ${this.id}`;
+    const described = this._document._peek(() => `${this.name} at ${this.x}, ${this.y}`);
+    return described === null ? `MapObject ${this.id}` : `MapObject ${this.id} ${described}`;
   }
 }
 
@@ -146,7 +146,7 @@ for (const [name, why] of Object.entries(NOT_SET)) {
 
 /** The first of these layers or objects that has a name: each is looked at. Null where there is none. */
 function firstNamed(document, subject, ids, name) {
-  return ids.find((id) => document._read(subject, id).name === name) ?? null;
+  return ids.find((id) => (document._read(subject, id).name ?? "") === name) ?? null;
 }
 
 /** What is thrown where there is nothing that a key stands for. */

@@ -160,6 +160,36 @@ def test_points():
         see([(True, 'Spawn', 0, 0), (False, '', 0, 0)], told)
 
 
+def test_what_a_file_leaves_out():
+    """Each member that may be absent has its meaning: of objects, as those of templates, and of a map; `members` has what is there."""
+    bare = [{'id': 1, 'template': 'a.tx', 'x': 3, 'y': 4}, {'id': 2, 'name': 'key', 'x': 5, 'y': 6}, {'id': 3, 'name': '', 'x': 0, 'y': 0, 'gid': 1}]
+    tree = map_of(tiles(1), things(2, bare[1], bare[0]), things(3, bare[2]))
+    for layer in tree['layers']:
+        for name in ('name', 'visible', 'opacity', 'x', 'y', 'draworder'):
+            layer.pop(name, None)
+    for name in ('orientation', 'renderorder', 'infinite', 'version'):
+        del tree[name]
+    tree['properties'] = [{'name': 'a', 'value': 'b'}]
+    with Editor() as editor:
+        document = editor.open(text_of(tree))
+        told = [(each.name, each.type, each.x, each.y, each.width, each.height, each.visible, each.is_point) for each in document.objects]
+        rest = '', 0, 0, True, False
+        wanted = [(name, *rest[:1], *place, *rest[1:]) for name, place in (('key', (5, 6)), ('', (3, 4)), ('', (0, 0)))]
+        see(wanted, told)
+        see(bare, [document.objects[number].members for number in (1, 2, 3)])
+        see([('', True)] * 3, [(layer.name, layer.visible) for layer in document.layers])
+        see(('orthogonal', {'a': 'b'}, 'string'), (document.orientation, dict(document.properties), document.properties.type_of('a')))
+        # A name that is left out is the empty text in look-ups, too.
+        objects = document.objects, document.layers[2].objects, document.layers[3].objects
+        see([(False, True, 1), (False, True, 1), (False, True, 3)], [('x' in each, '' in each, each[''].id) for each in objects])
+        see(1, editor.object_id(''))
+        see(("<MapObject 1 '' at 3, 4>", {}), (repr(document.objects[1]), dict(document.objects[1].properties)))
+        bare[0]['name'] = 'Inn'
+    with Editor() as editor:
+        document = editor.open(text_of({**tree, 'layers': tree['layers'][:1]}))
+        see((False, 0), ('' in document.objects, len(document.objects)))
+
+
 def test_with_a_document():
     """It is closed at its end, where nothing is unsaved; and dropped behind an exception."""
     with Editor() as editor:

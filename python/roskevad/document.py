@@ -232,8 +232,9 @@ class Document:
 
     @property
     def orientation(self) -> str:
-        """How the cells lie, in the words of Tiled's files: orthogonal, isometric, staggered or hexagonal."""
-        return self._do(lambda: str(self._read('map_head')['orientation']))
+        """How the cells lie, in the words of Tiled's files: orthogonal, isometric, staggered or hexagonal. A map that leaves it out is
+        orthogonal."""
+        return self._do(lambda: str(self._read('map_head').get('orientation', 'orthogonal')))
 
     @property
     def origin(self) -> tuple[int, int]:

@@ -545,8 +545,15 @@ class Editor:
 
     def _find(self, subject: str, name: str) -> Optional[int]:
         """The id of the first layer or object of a name; `None` where there is none."""
+        if subject == 'object' and name == '':
+            return self._first_nameless()
         word = words.looked_up(name)
         return self._number('find', OWNERS[subject], word, len(word))
+
+    def _first_nameless(self) -> Optional[int]:
+        """The id of the first object whose name is the empty text, also where its file leaves that out; `None` where there is none."""
+        ids = memoryview(self._copy_bytes('object_ids', 0, unit=4) or b'').cast('I').tolist()
+        return next((id for id in ids if json.loads(self._copy_bytes('object', id) or b'{}').get('name', '') == ''), None)
 
     @_turn
     def last_layer_id(self) -> int:

@@ -17,6 +17,8 @@ _Answer = TypeVar('_Answer')
 TYPES = {'tilelayer': 'tile', 'objectgroup': 'object', 'group': 'group', 'imagelayer': 'image'}
 #: The kinds of layers that a line adds.
 ADDED = ('tile', 'object')
+# What the members of an object are where its file leaves them out, as those of a template.
+_ABSENT = {'name': '', 'x': 0, 'y': 0}
 
 
 class _View:
@@ -94,7 +96,7 @@ class MapObject(_View):
     @property
     def name(self) -> str:
         """Its name; no line changes it. Raises Refused."""
-        return self._look(lambda members: str(members['name']))
+        return self._look(lambda members: str(members.get('name', '')))
 
     @property
     def type(self) -> str:
@@ -127,12 +129,12 @@ class MapObject(_View):
         return self._number('height')
 
     def _number(self, name: str) -> float:
-        return self._look(lambda members: cast(float, members[name]))
+        return self._look(lambda members: cast(float, members.get(name, 0)))
 
     @property
     def visible(self) -> bool:
         """Whether it is shown; no line changes it. Raises Refused."""
-        return self._look(lambda members: bool(members['visible']))
+        return self._look(lambda members: bool(members.get('visible', True)))
 
     @property
     def tile(self) -> Optional[Tile]:
@@ -164,7 +166,7 @@ class MapObject(_View):
         self._document._edit(f'object remove {self.id}')
 
     def __repr__(self) -> str:
-        described = self._document._peek(lambda: '{name!r} at {x}, {y}'.format(**self._now()))
+        described = self._document._peek(lambda: '{name!r} at {x}, {y}'.format(**{**_ABSENT, **self._now()}))
         return f'<MapObject {self.id} {described or "of " + repr(self._document.name)}>'
 
 
@@ -231,7 +233,7 @@ class Objects:
 
 def _first_named(document: 'Document', subject: str, ids: list[int], name: str) -> Optional[int]:
     """The first of these layers or objects that has a name, in a turn: each is looked at."""
-    return next((id for id in ids if document._read(subject, id).get('name') == name), None)
+    return next((id for id in ids if document._read(subject, id).get('name', '') == name), None)
 
 
 class Layer(_View):

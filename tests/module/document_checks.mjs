@@ -81,6 +81,32 @@ async function points() {
   editor.close();
 }
 
+// Each member that may be absent has its meaning: of objects, as those of templates, and of a map.
+async function whatAFileLeavesOut() {
+  const editor = await Editor.create();
+  const bare = [{ id: 1, template: "a.tx", x: 3, y: 4 }, { id: 2, name: "key", x: 5, y: 6 }, { gid: 1, id: 3, name: "", x: 0, y: 0 }];
+  const layers = [
+    { data: [1], height: 1, id: 1, type: "tilelayer", width: 1 }, { id: 2, objects: [bare[1], bare[0]], type: "objectgroup" },
+    { id: 3, objects: [bare[2]], type: "objectgroup" },
+  ];
+  const document = await editor.open(JSON.stringify({
+    height: 1, layers, nextlayerid: 9, nextobjectid: 9, properties: [{ name: "a", value: "b" }], tileheight: 8,
+    tilesets: [{ firstgid: 1, source: "a.tsj" }], tilewidth: 8, type: "map", width: 1,
+  }));
+  const told = [...document.objects].map((each) => [
+    each.name, each.type, each.x, each.y, each.width, each.height, each.visible, each.isPoint,
+  ]);
+  same(told, [["key", "", 5, 6, 0, 0, true, false], ["", "", 3, 4, 0, 0, true, false], ["", "", 0, 0, 0, 0, true, false]]);
+  same([1, 2, 3].map((id) => sorted(document.objects.get(id).members)), bare.map(sorted));
+  same([...document.layers].map(({ name, visible }) => [name, visible]), [["", true], ["", true], ["", true]]);
+  same([document.orientation, document.properties.typeOf("a")], ["orthogonal", "string"]);
+  const lists = [document.objects, document.layers.get(2).objects, document.layers.get(3).objects];
+  same(lists.map((each) => [each.has("x"), each.has(""), each.get("").id]), [[false, true, 1], [false, true, 1], [false, true, 3]]);
+  same([editor.objectId(""), String(document.objects.get(1))], [1, "MapObject 1  at 3, 4"]);
+  same(document.layers.get(1).objects.has(""), false);
+  editor.close();
+}
+
 // They are the caller's own, without a name that the caller has not given.
 async function callsThatRefusalsName() {
   const editor = await Editor.create();
@@ -310,6 +336,6 @@ async function readThings() {
 }
 
 export const DOCUMENT_CHECKS = [
-  drawnDocuments, savedDocuments, propertiesOfOtherTypes, points, callsThatRefusalsName,
+  drawnDocuments, savedDocuments, propertiesOfOtherTypes, points, whatAFileLeavesOut, callsThatRefusalsName,
   namesThatAreNotThere, loopsOfStamps, loopsOfObjects, textsOfDocuments, thingsAndIds, groupsAndRemovals, readThings,
 ];
