@@ -10,6 +10,8 @@ export type ObjectLike = number | string | MapObject;
 export type TilesetLike = number | string | Tileset;
 /** Rows of values: nested arrays, typed arrays or other iterables. */
 export type Rows = Iterable<Iterable<number>>;
+/** What is done within a macro or a stroke, all at once: so it is no async function, and gives no promise. */
+export type Work<Given> = ((document: Document) => Given) & (Given extends PromiseLike<unknown> ? never : unknown);
 /** How a rectangle and the selection become the new one. */
 export type SelectionMode = "replace" | "add" | "subtract" | "intersect";
 /** The members of a map, a layer or an object, as its file has them. */
@@ -161,11 +163,9 @@ export class Document {
    * Makes one step of the edits in it, also of none; where they fail, it is undone. Throws
    * TypeError, RangeError, Refused (24).
    */
-  macro<Given>(
-    text: string, work: (document: Document) => Given, options?: { action?: string | null },
-  ): Given;
-  /** Merges the stamps and erases in it, as those of a brush. */
-  stroke<Given>(work: (document: Document) => Given): Given;
+  macro<Given>(text: string, work: Work<Given>, options?: { action?: string | null }): Given;
+  /** Merges the stamps and erases in it, as those of a brush. Throws TypeError. */
+  stroke<Given>(work: Work<Given>): Given;
   /** The whole map as its file has it, but finite, and with its cells unpacked: a copy. */
   map(): Members;
   /** The same without the cells: a copy. */

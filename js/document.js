@@ -290,10 +290,12 @@ export class Document {
 
   macro(text, work, { action = null } = {}) {
     const said = words.macro(text, action);
+    refuseAsync(work);
     const depth = this.status.depth + 1;
     this._edit(`begin ${said}`);
     return around(
-      () => work(this),
+      work,
+      this,
       () => this._end(depth, false),
       () => this._end(depth, depth === 1),
     );
@@ -313,12 +315,13 @@ export class Document {
   // ---- cells
 
   stroke(work) {
+    refuseAsync(work);
     const outer = this._stroke;
     const end = () => {
       this._stroke = outer;
     };
     this._stroke = outer ?? { hasStep: false };
-    return around(() => work(this), end, end);
+    return around(work, this, end, end);
   }
 
   stamp(layer, x, y, rows, { merge = false } = {}) {
@@ -476,27 +479,39 @@ export class Document {
 }
 
 /**
- * What work gives, or what its promise is kept with: behind `end`, and behind `undo` where it throws. What
- * `undo` throws hides no fault of the work.
+ * What work gives, behind `end`; where it throws, behind `undo`, and what that throws hides no fault of the work. Work
+ * that goes on later is refused: the edits of other tasks would fall into it.
  */
-function around(work, end, undo) {
-  const failed = (fault) => {
+function around(work, document, end, undo) {
+  let given;
+  try {
+    given = work(document);
+    if (typeof given?.then === "function") {
+      throw goesOnLater();
+    }
+  } catch (fault) {
     try {
       undo();
     } catch {
       // The document or the editor is closed.
     }
+    if (given instanceof Promise) {
+      // Why it is broken, if it is, does not matter any more.
+      given.catch(() => null);
+    }
     throw fault;
-  };
-  const done = (given) => {
-    end();
-    return given;
-  };
-  let given;
-  try {
-    given = work();
-  } catch (fault) {
-    return failed(fault);
   }
-  return typeof given?.then === "function" ? given.then(done, failed) : done(given);
+  end();
+  return given;
+}
+
+// Refuses an async function before anything of it is done.
+function refuseAsync(work) {
+  if (String(work?.[Symbol.toStringTag]).startsWith("Async")) {
+    throw goesOnLater();
+  }
+}
+
+function goesOnLater() {
+  return new TypeError("the function of a macro or a stroke does all at once: await before, edit inside");
 }

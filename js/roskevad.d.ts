@@ -3,7 +3,7 @@ import type { Document, Layer } from "./document.js";
 
 export { Document, Layer, Layers, MapObject, Objects, Properties, Selection, Tileset, Tilesets } from "./document.js";
 export type {
-  LayerLike, Members, ObjectLike, PropertyValue, Rows, Run, SelectionMode, Status, Step, Tile, TilesetLike,
+  LayerLike, Members, ObjectLike, PropertyValue, Rows, Run, SelectionMode, Status, Step, Tile, TilesetLike, Work,
 } from "./document.js";
 
 /** The version of this package. */

@@ -35,7 +35,7 @@ ARGUMENTS = {
     'layer': 'LayerLike', 'rows': 'Rows', 'merge': 'boolean', 'name': 'string', 'kind': 'string', 'key': 'number | string',
     'mode': 'SelectionMode', 'text': 'string', 'action': 'string | null', 'tileset': 'string', 'source': 'string', 'type': 'string | null',
     'flipped_horizontally': 'boolean', 'flipped_vertically': 'boolean', 'flipped_diagonally': 'boolean', 'turned': 'boolean',
-    'work': '(document: Document) => Given', 'value': 'number',
+    'work': 'Work<Given>', 'value': 'number',
 }
 
 
@@ -188,7 +188,7 @@ DOCUMENT = Kind('Document', 'A map, its selection and its steps. A call makes th
                          'many("begin A", 64) && document.macro("b", () => 0)')},
          written=('with document.macro(text, action=None):', 'document.macro(text, work, { action })')),
     Call('stroke', 'work', 'Merges the stamps and erases in it, as those of a brush.', 'stamp+ LAYER X Y WIDTH TILES', 'work',
-         written=('with document.stroke():', 'document.stroke(work)')),
+         {'type': ('', 'document.stroke(async () => 0)')}, written=('with document.stroke():', 'document.stroke(work)')),
     Call('map', '', 'The whole map as its file has it, but finite, and with its cells unpacked: a copy.', 'show', 'members'),
     Call('outline', '', 'The same without the cells: a copy.', gives='members'),
     Call('save', 'path=None', 'Writes the map to a file, or to `document.path`; it counts as saved then.', 'save FILE',

@@ -23,11 +23,10 @@ async function drawnDocuments() {
   const editor = await Editor.create();
   const town = editor.new("town", 4, 3, 16, 16, "town.tsj");
   same(town instanceof Document, true);
-  const depth = await town.macro("Fence", async (document) => {
+  const depth = town.macro("Fence", (document) => {
     document.stamp("Tile Layer 1", 0, 0, [[5, 6], Uint32Array.of(7, 2147483656)]);
     const key = document.layers.add("object", "Things").objects.add("key", 16, 8);
     key.properties.set("door", document.objects.get("key"));
-    await Promise.resolve();
     return document.status.depth;
   }, { action: "draw a fence" });
   same([depth, town.undoText, town.status.index], [1, "draw a fence", 1]);
@@ -37,6 +36,40 @@ async function drawnDocuments() {
   same([...town.objects].map((each) => each.properties.get("door")), [1]);
   thrown(RangeError, () => town.macro("a || b", () => 0));
   same(thrown(Refused, () => town.stamp("Things", 0, 0, [[1]])).code, 31);
+  editor.close();
+}
+
+// A function that goes on later would take in the edits of other tasks, and undo them where it fails: it is refused, an
+// async one before anything is done, and what else gives a promise behind that, where a macro is undone.
+async function worksThatGoOnLater() {
+  const editor = await Editor.create();
+  const town = editor.new("town", 4, 3, 16, 16, "town.tsj");
+  town.stamp(1, 0, 0, [[5]]);
+  town.undo();
+  let count = 0;
+  const later = async () => {
+    count += 1;
+    town.stamp(1, 0, 0, [[6]]);
+    await null;
+    throw new Error("no fault of the caller's");
+  };
+  for (const call of [(work) => town.macro("A", work), (work) => town.stroke(work)]) {
+    const { message } = thrown(TypeError, () => call(later));
+    same([message.includes("await before, edit inside"), count, town.status], [true, 0, { index: 0, count: 1, clean: true, depth: 0 }]);
+  }
+  same(thrown(TypeError, () => town.macro("A", async function* () {})).message.includes("edit inside"), true);
+  thrown(TypeError, () => town.macro("A", () => later()));
+  same([count, town.status.index, town.status.depth, town.layers.get(1).cells()[0]], [1, 0, 0, 0]);
+  thrown(TypeError, () => town.stroke(() => later()));
+  same([count, town.status.index, town.layers.get(1).cells()[0]], [2, 1, 6]);
+  thrown(TypeError, () => town.macro("A", () => ({ then() {} })));
+  // A task between them does its own steps; a macro inside another one only ends.
+  const given = town.macro("B", () => {
+    thrown(TypeError, () => town.macro("C", () => later()));
+    return town.status.depth;
+  });
+  await new Promise((resume) => setTimeout(resume, 0));
+  same([given, town.status.depth, town.steps[town.status.index - 1].text], [1, 0, "B"]);
   editor.close();
 }
 
@@ -336,6 +369,7 @@ async function readThings() {
 }
 
 export const DOCUMENT_CHECKS = [
-  drawnDocuments, savedDocuments, propertiesOfOtherTypes, points, whatAFileLeavesOut, callsThatRefusalsName,
-  namesThatAreNotThere, loopsOfStamps, loopsOfObjects, textsOfDocuments, thingsAndIds, groupsAndRemovals, readThings,
+  drawnDocuments, worksThatGoOnLater, savedDocuments, propertiesOfOtherTypes, points, whatAFileLeavesOut,
+  callsThatRefusalsName, namesThatAreNotThere, loopsOfStamps, loopsOfObjects, textsOfDocuments, thingsAndIds,
+  groupsAndRemovals, readThings,
 ];

@@ -39,7 +39,10 @@ async function used(bytes: Uint8Array): Promise<void> {
   const given: Layer = town.macro("A", (document) => document.layers.add("tile", "B"), { action: "a" });
   const id: number = given.valueOf() + town.objects.get(1).id;
   const same: Layer = town.layers.get(given);
-  const later: Promise<void> = town.stroke(async () => undefined);
+  const drawn: number = town.stroke((document) => document.width);
+  town.macro("C", () => {
+    town.undo();
+  });
   town.select(0, 0, 1, 1, { mode: "add" });
   town.properties.set("author", "me", { type: "file" });
   const tile: Tile | null = ground.tile(0, 0);
@@ -56,9 +59,13 @@ async function used(bytes: Uint8Array): Promise<void> {
   const written: Uint8Array = await town.saveBytes();
   const walls: Layer | null = town.layers.find("Walls", "tile");
   const isPoint: boolean = town.objects.get(1).isPoint;
-  void [given, id, same, later, tile, run.length, status.depth, written, walls, isPoint, town.tilesets.first?.firstId];
+  void [given, id, same, drawn, tile, run.length, status.depth, written, walls, isPoint, town.tilesets.first?.firstId];
   // @ts-expect-error: a mode is one of four
   town.select(0, 0, 1, 1, { mode: "cut" });
+  // @ts-expect-error: what is awaited is awaited before
+  town.macro("D", async () => undefined);
+  // @ts-expect-error: so it is of a stroke
+  town.stroke(() => town.saveBytes());
   // @ts-expect-error: an index is only read
   status.index = 5;
   // @ts-expect-error: documents are opened
