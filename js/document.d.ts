@@ -176,6 +176,8 @@ export class Document {
   close(): void;
   /** Closes it, and drops unsaved changes. */
   discard(): void;
+  /** What JSON has of it: `document.outline()`. */
+  toJSON(): Members;
 }
 
 /**
@@ -203,6 +205,8 @@ export class Layers {
    * TypeError, RangeError, Refused (40).
    */
   add(kind: string, name: string): Layer;
+  /** What JSON has of them: the list. */
+  toJSON(): Layer[];
   [Symbol.iterator](): IterableIterator<Layer>;
 }
 
@@ -253,6 +257,8 @@ export class Layer {
   move(place: number): void;
   /** Removes it, and a group with all in it. */
   remove(): void;
+  /** What JSON has of it: `layer.members`. */
+  toJSON(): Members;
 }
 
 /**
@@ -272,6 +278,8 @@ export class Objects {
    * point. Throws TypeError, RangeError, Refused (31, 39).
    */
   add(name: string, x: number, y: number, width?: number, height?: number): MapObject;
+  /** What JSON has of them: the list. */
+  toJSON(): MapObject[];
   [Symbol.iterator](): IterableIterator<MapObject>;
 }
 
@@ -316,6 +324,8 @@ export class MapObject {
   resize(width: number, height: number): void;
   /** Removes it. */
   remove(): void;
+  /** What JSON has of it: `object.members`. */
+  toJSON(): Members;
 }
 
 /**
@@ -345,6 +355,10 @@ export class Properties {
   ): void;
   /** Removes one. */
   delete(key: string): boolean;
+  /**
+   * What JSON has of them: an object of names and values, as `Object.fromEntries(properties)`.
+   */
+  toJSON(): Record<string, PropertyValue>;
   [Symbol.iterator](): IterableIterator<[name: string, value: PropertyValue]>;
 }
 
@@ -369,6 +383,8 @@ export class Tilesets {
    * all tiles there. Throws TypeError, RangeError, Refused (38).
    */
   add(firstId: number, source: string): Tileset;
+  /** What JSON has of them: the list. */
+  toJSON(): Tileset[];
   [Symbol.iterator](): IterableIterator<Tileset>;
 }
 
@@ -394,6 +410,8 @@ export class Tileset {
   ): number;
   /** Removes it. Throws Refused (37). */
   remove(): void;
+  /** What JSON has of it: its first id, source and name. */
+  toJSON(): Members;
 }
 
 /**

@@ -27,19 +27,23 @@ const ROW_NUMBERS = 6;
  * RangeError or TypeError, and nothing is done.
  */
 export class Document {
+  #editor;
+  #name;
+  #isClosed = false;
+  // The stroke that is under way, with whether one of its paints has made a step.
+  #stroke = null;
+  // Whether anything of its map was set aside or unpacked when it was opened. Else the map is told and saved as the
+  // editor holds it.
+  #hasSetAside = false;
+  // What its map says of how it was made finite, once that was asked for.
+  #note = null;
+  // How the cells of its tile layers are written in its file, by their ids, once that was asked for.
+  #encodings = new Map();
+
   // Editors make it: `new`, `open` and `documents` give it.
   constructor(editor, name) {
-    this._editor = editor;
-    this._name = name;
-    this._isClosed = false;
-    this._stroke = null;
-    // Whether anything of its map was set aside or unpacked when it was opened. Else the map is told and saved as the
-    // editor holds it.
-    this._hasSetAside = false;
-    // What its map says of how it was made finite, once that was asked for.
-    this._note = null;
-    // How the cells of its tile layers are written in its file, by their ids, once that was asked for.
-    this._encodings = new Map();
+    this.#editor = editor;
+    this.#name = name;
     // So that a name that it has not is never set silently.
     Object.preventExtensions(this);
   }
@@ -47,22 +51,35 @@ export class Document {
   // ---- what each call does
 
   _enter() {
-    if (this._isClosed) {
-      throw new Closed(`the document ${this._name}`);
+    if (this.#isClosed) {
+      throw new Closed(`the document ${this.#name}`);
     }
     // What a broken module has told is no answer any more.
-    if (this._editor._activeHandle !== this || this._editor._module.isBroken) {
-      if (this._editor._activeName() !== this._name) {
-        this._editor.step(`use ${this._name}`);
+    if (!this.#editor._isActive(this) || this.#editor._module.isBroken) {
+      if (this.#editor._activeName() !== this.#name) {
+        this.#editor.step(`use ${this.#name}`);
       }
-      this._editor._activeHandle = this;
+      this.#editor._noteActive(this);
     }
+  }
+
+  // Whether anything of its map was set aside.
+  get _hasSetAside() {
+    return this.#hasSetAside;
+  }
+
+  _markSetAside() {
+    this.#hasSetAside = true;
+  }
+
+  _markClosed() {
+    this.#isClosed = true;
   }
 
   // The reply to a line.
   _say(line) {
     this._enter();
-    return this._editor.step(line);
+    return this.#editor.step(line);
   }
 
   _edit(line) {
@@ -72,13 +89,13 @@ export class Document {
   // The id of what a line adds.
   _add(kind, line) {
     this._say(line);
-    return kind === "layer" ? this._editor.lastLayerId() : this._editor.lastObjectId();
+    return kind === "layer" ? this.#editor.lastLayerId() : this.#editor.lastObjectId();
   }
 
   // What work gives, for a text of the document: no document becomes active, and nothing is thrown.
   _peek(work) {
     try {
-      return this._editor._restored(() => {
+      return this.#editor._restored(() => {
         this._enter();
         return work();
       });
@@ -92,8 +109,8 @@ export class Document {
   // What a call of the library says of a thing, with all put back that was set aside; null where there is none.
   _read(name, ...given) {
     this._enter();
-    const value = this._editor._parsed(name, ...given);
-    if (value === null || !this._hasSetAside) {
+    const value = this.#editor._parsed(name, ...given);
+    if (value === null || !this.#hasSetAside) {
       return value;
     }
     const told = restored(value, this._noteNow());
@@ -104,29 +121,29 @@ export class Document {
   _readNamed(name, call, ...given) {
     // A line that is said within would take the name's place.
     this._enter();
-    return this._editor._module.given(name, (at, size) => this._read(call, ...given, at, size));
+    return this.#editor._module.given(name, (at, size) => this._read(call, ...given, at, size));
   }
 
   _noteNow() {
-    this._note ??= noteOf(this._editor._parsed("map_head"));
-    return this._note;
+    this.#note ??= noteOf(this.#editor._parsed("map_head"));
+    return this.#note;
   }
 
   // How the cells of a tile layer are written in its file; undefined where as numbers. No edit changes that, and
   // the outline has it of all layers: it is read once.
   _encodingOf(layer) {
-    if (!this._encodings.has(layer)) {
+    if (!this.#encodings.has(layer)) {
       this._enter();
-      for (const { id, encoding } of drawn(JSON.parse(this._editor._outlineText("members")).layers)) {
-        this._encodings.set(id, encoding);
+      for (const { id, encoding } of drawn(JSON.parse(this.#editor._outlineText("members")).layers)) {
+        this.#encodings.set(id, encoding);
       }
     }
-    return this._encodings.get(layer);
+    return this.#encodings.get(layer);
   }
 
   get _sizes() {
     this._enter();
-    const editor = this._editor;
+    const editor = this.#editor;
     const numbers = editor._module.numbers(SIZES_NUMBERS, (to) => editor._call("sizes_of_map", to));
     const [width, height, tileWidth, tileHeight, , , , , tilesets] = numbers;
     return { width, height, tileWidth, tileHeight, tilesets };
@@ -135,7 +152,7 @@ export class Document {
   // All layers, in drawing order, a group before those in it.
   get _layerRows() {
     this._enter();
-    const numbers = this._editor._numbers(ROW_NUMBERS, "layers");
+    const numbers = this.#editor._numbers(ROW_NUMBERS, "layers");
     return Array.from({ length: numbers.length / ROW_NUMBERS }, (_, at) => {
       const [id, parent, kind] = numbers.subarray(at * ROW_NUMBERS);
       return { id, parent, kind };
@@ -145,38 +162,38 @@ export class Document {
   // The ids that a call of the library lists.
   _ids(name, ...given) {
     this._enter();
-    return [...(this._editor._numbers(1, name, ...given) ?? [])];
+    return [...(this.#editor._numbers(1, name, ...given) ?? [])];
   }
 
   // How many items a call of the library would copy, or what it answers; null where there are none.
   _count(name, ...given) {
     this._enter();
-    return this._editor._count(name, ...given);
+    return this.#editor._count(name, ...given);
   }
 
   _number(name, ...given) {
     this._enter();
-    return this._editor._number(name, ...given);
+    return this.#editor._number(name, ...given);
   }
 
   // The id of the first layer or object of a name; null where there is none.
   _find(subject, name) {
     this._enter();
-    return this._editor._find(subject, name);
+    return this.#editor._find(subject, name);
   }
 
   // ---- what it is
 
   get editor() {
-    return this._editor;
+    return this.#editor;
   }
 
   get name() {
-    return this._name;
+    return this.#name;
   }
 
   get isClosed() {
-    return this._isClosed;
+    return this.#isClosed;
   }
 
   get width() {
@@ -201,7 +218,7 @@ export class Document {
 
   get origin() {
     this._enter();
-    return this._editor.origin();
+    return this.#editor.origin();
   }
 
   get layers() {
@@ -222,18 +239,18 @@ export class Document {
 
   map() {
     this._enter();
-    return this._editor.map();
+    return this.#editor.map();
   }
 
   outline() {
     this._enter();
-    return this._editor.outline();
+    return this.#editor.outline();
   }
 
   // ---- its steps
 
   get status() {
-    return this._editor._statusOf(this._number("active"));
+    return this.#editor._statusOf(this._number("active"));
   }
 
   get steps() {
@@ -241,8 +258,8 @@ export class Document {
     return Array.from({ length: count }, (_, place) =>
       Object.freeze({
         text: this._say(`text ${place}`).slice(TEXT.length),
-        action: this._editor.actionText(place) ?? "",
-        isMacro: this._editor.isMacro(place) === true,
+        action: this.#editor.actionText(place) ?? "",
+        isMacro: this.#editor.isMacro(place) === true,
       }),
     );
   }
@@ -257,7 +274,7 @@ export class Document {
 
   get cleanIndex() {
     this._enter();
-    return this._editor.cleanIndex();
+    return this.#editor.cleanIndex();
   }
 
   undo() {
@@ -316,11 +333,11 @@ export class Document {
 
   stroke(work) {
     refuseAsync(work);
-    const outer = this._stroke;
+    const outer = this.#stroke;
     const end = () => {
-      this._stroke = outer;
+      this.#stroke = outer;
     };
-    this._stroke = outer ?? { hasStep: false };
+    this.#stroke = outer ?? { hasStep: false };
     return around(work, this, end, end);
   }
 
@@ -332,7 +349,7 @@ export class Document {
     const [width, height] = [listed[0].length, listed.length];
     const area = { layer: this._idOf(layer), left, top, width, height };
     if (parts.length === 1) {
-      this._paint("stamp", area, ` ${parts[0].values}`, merge, this._stroke);
+      this._paint("stamp", area, ` ${parts[0].values}`, merge, this.#stroke);
     } else {
       this._stampParts(area, parts, listed, merge);
     }
@@ -341,7 +358,7 @@ export class Document {
   _stampParts(area, parts, rows, merge) {
     // A value that is refused is refused before the first part.
     this._say(`stamp ${area.layer} ${NOWHERE} 1 ${doubtful(rows)}`);
-    const stroke = this._stroke ?? { hasStep: false };
+    const stroke = this.#stroke ?? { hasStep: false };
     for (const [place, { first, height, values }] of parts.entries()) {
       try {
         this._paint("stamp", { ...area, top: area.top + first, height }, ` ${values}`, merge, stroke);
@@ -368,9 +385,9 @@ export class Document {
       stroke.hasStep = this.status.index >= index;
     } else {
       const inside = this._onMap(area);
-      const before = this._editor.cells(...inside);
+      const before = this.#editor.cells(...inside);
       this._say(`${word} ${rest}`);
-      const after = this._editor.cells(...inside);
+      const after = this.#editor.cells(...inside);
       stroke.hasStep = before !== null && before.some((value, at) => value !== after[at]);
     }
   }
@@ -387,7 +404,7 @@ export class Document {
   erase(layer, x, y, width, height, { merge = false } = {}) {
     const [left, top] = [words.coordinate(x, "x"), words.coordinate(y, "y")];
     const size = { width: words.number(width, "a width"), height: words.number(height, "a height") };
-    this._paint("erase", { layer: this._idOf(layer), left, top, ...size }, "", merge, this._stroke);
+    this._paint("erase", { layer: this._idOf(layer), left, top, ...size }, "", merge, this.#stroke);
   }
 
   fill(layer, x, y, value) {
@@ -399,7 +416,7 @@ export class Document {
   _idOf(layer) {
     if (layer instanceof Layer) {
       if (layer.document !== this) {
-        throw new RangeError(`${layer} is no layer of ${this._name}`);
+        throw new RangeError(`${layer} is no layer of ${this.#name}`);
       }
       return layer.id;
     }
@@ -419,7 +436,7 @@ export class Document {
     const sizes = this._sizes;
     const wide = width === null ? sizes.width - left : words.coordinate(width, "a width");
     const high = height === null ? sizes.height - top : words.coordinate(height, "a height");
-    const cells = this._editor.cells(layer.id, left, top, wide, high);
+    const cells = this.#editor.cells(layer.id, left, top, wide, high);
     if (cells === null) {
       const [code, why] = layer._now.type === "tilelayer" ? [32, "outside the map"] : [31, "layer of another kind"];
       throw new Refused(code, why, `Layer ${layer.id}: cells ${x}, ${y}, ${width}, ${height}`);
@@ -431,7 +448,7 @@ export class Document {
 
   get selection() {
     this._enter();
-    return new Selection(this._editor.selection());
+    return new Selection(this.#editor.selection());
   }
 
   select(x, y, width, height, { mode = "replace" } = {}) {
@@ -454,23 +471,28 @@ export class Document {
 
   async saveBytes() {
     this._enter();
-    return this._editor._saved("saveBytes()");
+    return this.#editor._saved("saveBytes()");
   }
 
   close() {
-    this._say(`close ${this._name}`);
+    this._say(`close ${this.#name}`);
   }
 
   discard() {
-    this._say(`discard ${this._name}`);
+    this._say(`discard ${this.#name}`);
+  }
+
+  /** What JSON has of it: the map without its cells. */
+  toJSON() {
+    return this.outline();
   }
 
   toString() {
-    if (this._isClosed) {
-      return `Document ${this._name}, closed`;
+    if (this.#isClosed) {
+      return `Document ${this.#name}, closed`;
     }
     const standing = this._peek(() => `, ${this.width} by ${this.height}, ${this._say("status").slice(3)}`);
-    return `Document ${this._name}${standing ?? ""}`;
+    return `Document ${this.#name}${standing ?? ""}`;
   }
 
   [Symbol.for("nodejs.util.inspect.custom")]() {

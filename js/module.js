@@ -48,23 +48,32 @@ const decoder = new TextDecoder("utf-8", { ignoreBOM: true });
  * A module that is loaded. It holds any number of editors, which share its memory and nothing else.
  */
 export class Module {
+  // What the engine threw when it broke a call off.
+  #fault = null;
+  #memory;
+  #bytes;
+  #calls = {};
+  #takeMemory;
+  #giveMemory;
+  // The places that short texts, replies and what is told of lines are copied through.
+  #line;
+  #reply;
+  #linesDone;
+
   /** Use `load`. */
   constructor(exports) {
-    this._fault = null;
-    this._memory = exports.memory;
-    this._bytes = new Uint8Array(this._memory.buffer);
-    /** The calls of the library, by their names without `roskevad_`. */
-    this.calls = {};
+    this.#memory = exports.memory;
+    this.#bytes = new Uint8Array(this.#memory.buffer);
     for (const [name, call] of Object.entries(exports)) {
       if (name.startsWith("roskevad_")) {
-        this.calls[name.slice("roskevad_".length)] = this._guarded(call);
+        this.#calls[name.slice("roskevad_".length)] = this.#guarded(call);
       }
     }
-    this._takeMemory = this._guarded(exports.alloc);
-    this._giveMemory = this._guarded(exports.free);
-    this._line = this.take(ROOM);
-    this._reply = this.take(ROOM);
-    this._linesDone = this.take(LINES_DONE_BYTES);
+    this.#takeMemory = this.#guarded(exports.alloc);
+    this.#giveMemory = this.#guarded(exports.free);
+    this.#line = this.take(ROOM);
+    this.#reply = this.take(ROOM);
+    this.#linesDone = this.take(LINES_DONE_BYTES);
   }
 
   /**
@@ -86,36 +95,41 @@ export class Module {
 
   // A call that answers a number from 0. Where the engine breaks it off, memory may be half written,
   // and no call is made any more.
-  _guarded(call) {
+  #guarded(call) {
     return (a, b, c, d, e, f, g, h) => {
-      if (this._fault) {
-        throw new Broken(this._fault);
+      if (this.#fault) {
+        throw new Broken(this.#fault);
       }
       try {
         return call(a, b, c, d, e, f, g, h) >>> 0;
       } catch (fault) {
-        this._fault = fault;
+        this.#fault = fault;
         throw new Broken(fault);
       }
     };
   }
 
+  /** The calls of the library, by their names without `roskevad_`. */
+  get calls() {
+    return this.#calls;
+  }
+
   /** Whether a call was broken off. */
   get isBroken() {
-    return this._fault !== null;
+    return this.#fault !== null;
   }
 
   /** The whole memory as it is now. When it grows, a view of before has no bytes any more. */
   bytes() {
-    if (this._bytes.length === 0) {
-      this._bytes = new Uint8Array(this._memory.buffer);
+    if (this.#bytes.length === 0) {
+      this.#bytes = new Uint8Array(this.#memory.buffer);
     }
-    return this._bytes;
+    return this.#bytes;
   }
 
   /** A place of so many bytes. Throws NoMemory. */
   take(size) {
-    const at = this._takeMemory(size);
+    const at = this.#takeMemory(size);
     if (at === 0) {
       throw new NoMemory();
     }
@@ -124,7 +138,7 @@ export class Module {
 
   /** Gives a place back. */
   giveBack(at) {
-    this._giveMemory(at);
+    this.#giveMemory(at);
   }
 
   /** What `use` gives with a place of so many bytes, which is given back then. Throws NoMemory. */
@@ -142,21 +156,21 @@ export class Module {
   /** Makes a call on a text or bytes, with their place and their size. Throws NoMemory. */
   given(data, call) {
     if (typeof data === "string" && data.length * 3 <= ROOM) {
-      return call(this._line, this._write(data));
+      return call(this.#line, this.#write(data));
     }
     const given = bytesOf(data);
     const put = (at) => {
       this.bytes().set(given, at);
       return call(at, given.length);
     };
-    return given.length <= ROOM ? put(this._line) : this.holding(given.length, put);
+    return given.length <= ROOM ? put(this.#line) : this.holding(given.length, put);
   }
 
   // Writes a text to the place of lines, and gives its size. Most are short and plain: those are written
   // here, which is quicker than by the encoder.
-  _write(text) {
+  #write(text) {
     const bytes = this.bytes();
-    const at = this._line;
+    const at = this.#line;
     let all = 0;
     if (text.length <= SHORT) {
       for (let index = 0; index < text.length; index++) {
@@ -176,13 +190,13 @@ export class Module {
    * where there are none. Where they do not fit, `again` copies them to a larger place. Throws NoMemory.
    */
   copyBytes(call, again = call, unit = 1) {
-    const count = this.number(call(this._reply, ROOM / unit));
+    const count = this.number(call(this.#reply, ROOM / unit));
     if (count === null) {
       return null;
     }
     const copied = (at) => this.bytes().slice(at, at + count * unit);
     if (count * unit <= ROOM) {
-      return copied(this._reply);
+      return copied(this.#reply);
     }
     return this.holding(count * unit, (at) => {
       again(at, count);
@@ -195,7 +209,7 @@ export class Module {
    * in words, else null. The text is made once more where it has no room. Throws NoMemory.
    */
   made(name, given) {
-    const call = this.calls[name];
+    const call = this.#calls[name];
     return this.holding(given.length, (at) => {
       this.bytes().set(given, at);
       const copied = (room) => this.holding(room, (to) => {
@@ -221,7 +235,7 @@ export class Module {
       const size = this.number(call(at, room));
       return [size, size !== null && size <= room ? decoded(at, size) : null];
     };
-    const [size, text] = guess > ROOM ? this.holding(guess, (at) => read(at, guess)) : read(this._reply, ROOM);
+    const [size, text] = guess > ROOM ? this.holding(guess, (at) => read(at, guess)) : read(this.#reply, ROOM);
     if (size === null || text !== null) {
       return text;
     }
@@ -235,7 +249,7 @@ export class Module {
   mapFault(given) {
     const text = this.holding(given.length, (at) => {
       this.bytes().set(given, at);
-      return this.copyText((to, room) => this.calls.map_fault(at, given.length, to, room));
+      return this.copyText((to, room) => this.#calls.map_fault(at, given.length, to, room));
     });
     return text === null ? null : JSON.parse(text);
   }
@@ -246,12 +260,12 @@ export class Module {
    * and whether the last line was refused. Throws NoMemory.
    */
   runLines(editor, at, size, stop, take) {
-    const { run_lines, reply } = this.calls;
-    const lines = run_lines(editor, at, size, stop ? 1 : 0, this._reply, ROOM, this._linesDone);
+    const { run_lines, reply } = this.#calls;
+    const lines = run_lines(editor, at, size, stop ? 1 : 0, this.#reply, ROOM, this.#linesDone);
     // Four numbers of 64 bits, below 2^32.
-    const done = new Uint32Array(this._memory.buffer, this._linesDone, LINES_DONE_BYTES / 4);
+    const done = new Uint32Array(this.#memory.buffer, this.#linesDone, LINES_DONE_BYTES / 4);
     const [bytes, , replies, , isRefused, , hasRoom] = done;
-    take(this.bytes().subarray(this._reply, this._reply + replies));
+    take(this.bytes().subarray(this.#reply, this.#reply + replies));
     if (!hasRoom) {
       take(withNewline(this.copyBytes((to, room) => reply(editor, to, room))));
     }
@@ -260,13 +274,13 @@ export class Module {
 
   /** How many items a call would copy; null where there are none. Throws NoMemory. */
   count(call) {
-    return this.number(call(this._reply, 0));
+    return this.number(call(this.#reply, 0));
   }
 
   /** So many numbers of 32 bits that a call writes; null where it writes none. */
   numbers(count, call) {
-    const has = this.number(call(this._reply)) !== null;
-    return has ? new Uint32Array(this._memory.buffer, this._reply, count).slice() : null;
+    const has = this.number(call(this.#reply)) !== null;
+    return has ? new Uint32Array(this.#memory.buffer, this.#reply, count).slice() : null;
   }
 
   /** What a call answers, where that is a number, and null where there is none. Throws NoMemory. */

@@ -1,6 +1,7 @@
 // SPDX-License-Identifier: MIT OR Apache-2.0
 // The properties of a map, a layer or an object.
 import { OWNERS } from "./module.js";
+import { WithOwnNames } from "./own_names.js";
 import * as words from "./words.js";
 
 /**
@@ -8,21 +9,26 @@ import * as words from "./words.js";
  * keeps the type of the one that is there; the first value of a name sets a string, an int, a bool or, for
  * a MapObject, an object.
  */
-export class Properties {
+export class Properties extends WithOwnNames {
+  #document;
+  #thing;
+  // What has them, in the words of lines and in the numbers of the library.
+  #owner;
+  #place;
+
   constructor(document, kind = "map", thing = null) {
-    this._document = document;
-    this._thing = thing;
-    // What has them, in the words of lines and in the numbers of the library.
-    this._owner = thing === null ? kind : `${kind}:${thing.id}`;
-    this._place = [OWNERS[kind], thing === null ? 0 : thing.id];
-    Object.freeze(this);
+    super();
+    this.#document = document;
+    this.#thing = thing;
+    this.#owner = thing === null ? kind : `${kind}:${thing.id}`;
+    this.#place = [OWNERS[kind], thing === null ? 0 : thing.id];
   }
 
   // All of them. Throws Refused where what has them was removed.
   get _all() {
-    const listed = this._document._read("properties", ...this._place);
+    const listed = this.#document._read("properties", ...this.#place);
     if (listed === null) {
-      throw this._thing._missing();
+      throw this.#thing._missing();
     }
     return listed;
   }
@@ -32,7 +38,7 @@ export class Properties {
     if (!words.isWhole(key)) {
       return null;
     }
-    return this._document._readNamed(key, "property", ...this._place);
+    return this.#document._readNamed(key, "property", ...this.#place);
   }
 
   // The same. Throws Refused where what has them was removed.
@@ -80,7 +86,7 @@ export class Properties {
     const name = words.key(key);
     const kind = type === null ? this._kindFor(name, value) : words.oneOf(type, words.TYPES, "the type of a property");
     const said = words.setting(name, value, kind);
-    this._document._edit(`prop set${merge ? "+" : ""} ${this._owner} ${name} ${said}`);
+    this.#document._edit(`prop set${merge ? "+" : ""} ${this.#owner} ${name} ${said}`);
   }
 
   _kindFor(name, value) {
@@ -93,16 +99,21 @@ export class Properties {
     if (!this.has(key)) {
       return false;
     }
-    this._document._edit(`prop remove ${this._owner} ${words.key(key)}`);
+    this.#document._edit(`prop remove ${this.#owner} ${words.key(key)}`);
     return true;
   }
 
+  /** What JSON has of them: an object with the value of each name. */
+  toJSON() {
+    return Object.fromEntries(this);
+  }
+
   toString() {
-    return `Properties of ${this._owner}`;
+    return `Properties of ${this.#owner}`;
   }
 
   [Symbol.for("nodejs.util.inspect.custom")]() {
-    const listed = this._document._peek(() => this._all) ?? [];
+    const listed = this.#document._peek(() => this._all) ?? [];
     return `<${this}: ${JSON.stringify(Object.fromEntries(listed.map((each) => [each.name, each.value])))}>`;
   }
 }

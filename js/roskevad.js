@@ -55,6 +55,18 @@ const PART = 20_000;
  * NoMemory where the module has no memory for what they give.
  */
 export class Editor {
+  #module;
+  // The open documents that were handed out, by their names; and the one that is known to be active, while no
+  // line has changed that.
+  #handles = new Map();
+  #activeHandle = null;
+  // The names of those that are being opened.
+  #opening = new Set();
+  // About how many bytes an outline has: as many as the last one, or as the file that was opened.
+  #outlineSize = 0;
+  // The library's own handle; 0 where the editor is closed.
+  #cEditor = 0;
+
   /**
    * An editor over a module that `Module.load` gave. `limit` is the undo limit of each document when it
    * is made, at most 1,000,000, where 0 stands for none.
@@ -63,18 +75,10 @@ export class Editor {
     if (!Number.isInteger(limit) || limit < 0 || limit > MAX_LIMIT) {
       throw new RangeError(`a limit is from 0 to ${MAX_LIMIT}: ${limit}`);
     }
-    this._module = module;
-    // The open documents that were handed out, by their names; and the one that is known to be active, while no
-    // line has changed that.
-    this._handles = new Map();
-    // The names of those that are being opened.
-    this._opening = new Set();
-    this._activeHandle = null;
-    // About how many bytes an outline has: as many as the last one, or as the file that was opened.
-    this._outlineSize = 0;
-    this._cEditor = module.take(EDITOR_BYTES);
-    module.bytes().fill(0, this._cEditor, this._cEditor + EDITOR_BYTES);
-    if (module.calls.open(this._cEditor, limit) !== DONE) {
+    this.#module = module;
+    this.#cEditor = module.take(EDITOR_BYTES);
+    module.bytes().fill(0, this.#cEditor, this.#cEditor + EDITOR_BYTES);
+    if (module.calls.open(this.#cEditor, limit) !== DONE) {
       this.close();
       throw new NoMemory();
     }
@@ -90,24 +94,40 @@ export class Editor {
 
   /** Gives back its memory. Twice is harmless. */
   close() {
-    const [module, cEditor] = [this._module, this._cEditor];
-    Object.assign(this, { _cEditor: 0, _activeHandle: null });
+    const [module, cEditor] = [this.#module, this.#cEditor];
+    this.#cEditor = 0;
+    this.#activeHandle = null;
     if (cEditor !== 0 && !module.isBroken) {
       module.calls.close(cEditor);
       module.giveBack(cEditor);
     }
   }
 
+  // What documents need of it.
+  get _module() {
+    return this.#module;
+  }
+
+  // Whether a document is known to be the active one.
+  _isActive(document) {
+    return this.#activeHandle === document;
+  }
+
+  // Notes that a document is the active one.
+  _noteActive(document) {
+    this.#activeHandle = document;
+  }
+
   // What a call of this name answers.
   _call(name, ...words) {
-    return this._module.calls[name](this._open(), ...words);
+    return this.#module.calls[name](this._open(), ...words);
   }
 
   _open() {
-    if (this._cEditor === 0) {
+    if (this.#cEditor === 0) {
       throw new Closed();
     }
-    return this._cEditor;
+    return this.#cEditor;
   }
 
   // ---- lines
@@ -116,7 +136,7 @@ export class Editor {
   step(line) {
     const [call, again] = this._callsFor(line);
     this._noteActivation(line);
-    const reply = this._module.copyText(call, again) ?? "";
+    const reply = this.#module.copyText(call, again) ?? "";
     this._forgetIfClosed(line, reply);
     const refusal = reply.startsWith("no ") && REFUSAL.exec(reply);
     if (refusal) {
@@ -131,9 +151,9 @@ export class Editor {
    */
   stepBytes(line) {
     const [call, again] = this._callsFor(line);
-    const text = this._handles.size > 0 ? textOf(bytesOf(line)) : "";
+    const text = this.#handles.size > 0 ? textOf(bytesOf(line)) : "";
     this._noteActivation(text);
-    const reply = this._module.copyBytes(call, again);
+    const reply = this.#module.copyBytes(call, again);
     if (reply !== null) {
       this._forgetIfClosed(text, textOf(reply.subarray(0, 3)));
     }
@@ -142,7 +162,7 @@ export class Editor {
 
   // The call that does a line and copies its reply, and the one that copies the reply again.
   _callsFor(line) {
-    const [module, cEditor] = [this._module, this._open()];
+    const [module, cEditor] = [this.#module, this._open()];
     const { step, reply } = module.calls;
     return [
       (to, room) => module.given(line, (at, size) => step(cEditor, at, size, to, room)),
@@ -167,7 +187,7 @@ export class Editor {
     let done = 0;
     for (const part of partsOf(lines)) {
       const came = this._run(part, true, take);
-      if (this._handles.size > 0) {
+      if (this.#handles.size > 0) {
         this._forgetClosed(lines.slice(done, done + came.lines - Number(came.isRefused)));
       }
       done += came.lines;
@@ -185,7 +205,7 @@ export class Editor {
    */
   runBytes(session) {
     const parts = [];
-    this._activeHandle = null;
+    this.#activeHandle = null;
     this._run(session, false, (bytes) => parts.push(bytes.slice()));
     const all = joined(parts);
     this._forgetClosedBySession(session, all);
@@ -195,7 +215,7 @@ export class Editor {
   // Does lines that are cut at newlines, perhaps to the first refused one. Gives how many are done, and
   // whether the last one was refused. `take` gets the replies, part by part.
   _run(session, stop, take) {
-    const [module, cEditor] = [this._module, this._open()];
+    const [module, cEditor] = [this.#module, this._open()];
     return module.given(session, (at, size) => {
       const end = at + size;
       let [lines, isRefused] = [0, false];
@@ -216,7 +236,7 @@ export class Editor {
    * line can spell that name.
    */
   putFile(name, data) {
-    const module = this._module;
+    const module = this.#module;
     const bytes = bytesOf(data);
     const answer = module.given(name, (at, size) =>
       module.holding(bytes.length + SPARE, (from) => {
@@ -231,20 +251,20 @@ export class Editor {
 
   /** The bytes under a name, and null where there is no file of that name. */
   file(name) {
-    return this._module.copyBytes((to, room) =>
-      this._module.given(name, (at, size) => this._call("file", at, size, to, room)),
+    return this.#module.copyBytes((to, room) =>
+      this.#module.given(name, (at, size) => this._call("file", at, size, to, room)),
     );
   }
 
   /** Takes a file out, and says whether there was one of that name. */
   removeFile(name) {
-    return this._module.given(name, (at, size) => this._call("remove_file", at, size)) === DONE;
+    return this.#module.given(name, (at, size) => this._call("remove_file", at, size)) === DONE;
   }
 
   /** The names of the files, in their order. */
   files() {
     return Array.from({ length: this._call("file_count") }, (_, at) =>
-      this._module.copyText((to, room) => this._call("file_name", at, to, room)),
+      this.#module.copyText((to, room) => this._call("file_name", at, to, room)),
     );
   }
 
@@ -267,12 +287,12 @@ export class Editor {
     try {
       const reply = this._openBytes(name, text, call);
       if (text !== given) {
-        this._handle(name)._hasSetAside = true;
+        this._handle(name)._markSetAside();
       }
       return reply;
     } catch (fault) {
       if (fault instanceof Refused && isOfMap(fault.code)) {
-        throw refusedFile(faultOfFile(this._module, fault, given, unpacked), call);
+        throw refusedFile(faultOfFile(this.#module, fault, given, unpacked), call);
       }
       throw fault;
     }
@@ -284,7 +304,7 @@ export class Editor {
       return await unpackLayers(given);
     } catch (fault) {
       if (fault instanceof Unpackable) {
-        const first = faultOfNoJson(this._module, given);
+        const first = faultOfNoJson(this.#module, given);
         throw first ? refusedFile(first, call) : refusedCall(fault.code, "store failed", call, fault.why);
       }
       throw fault;
@@ -329,7 +349,7 @@ export class Editor {
 
   // What a call of the library makes of the text of a map; the same bytes where it makes none.
   _made(name, bytes, call) {
-    const { text, why } = this._module.made(name, bytes);
+    const { text, why } = this.#module.made(name, bytes);
     if (why !== null) {
       throw refusedCall(STORE_FAILED, "store failed", call, why);
     }
@@ -342,11 +362,11 @@ export class Editor {
     const names = Array.from({ length: taken.size + 1 }, (_, at) => `roskevad${at}.tmj`);
     const name = names.find((each) => !taken.has(each));
     this.putFile(name, bytes);
-    this._outlineSize = Math.min(bytes.length, LONGEST_GUESS);
+    this.#outlineSize = Math.min(bytes.length, LONGEST_GUESS);
     try {
       return textOf(this._replyTo(`open ${document} ${name}`, call));
     } finally {
-      if (!this._module.isBroken) {
+      if (!this.#module.isBroken) {
         this.removeFile(name);
       }
     }
@@ -360,7 +380,7 @@ export class Editor {
 
   // Leaves no index of a document clean, if it is still there.
   _markDirty(document) {
-    if (this._cEditor === 0 || this._module.isBroken) {
+    if (this.#cEditor === 0 || this.#module.isBroken) {
       return;
     }
     const active = this._activeName();
@@ -396,11 +416,11 @@ export class Editor {
 
   _outlineText(asked) {
     const call = (to, room) => this._call("outline", to, room);
-    const text = this._module.copyText(call, call, this._outlineSize + SPARE);
+    const text = this.#module.copyText(call, call, this.#outlineSize + SPARE);
     if (text === null) {
       throw noDocument(asked);
     }
-    this._outlineSize = text.length;
+    this.#outlineSize = text.length;
     return text;
   }
 
@@ -416,10 +436,10 @@ export class Editor {
 
   // Whether anything was set aside or unpacked of the active document's map.
   _isSetAside() {
-    if (this._handles.size === 0) {
+    if (this.#handles.size === 0) {
       return false;
     }
-    const handle = this._activeHandle ?? this._handles.get(this._activeName());
+    const handle = this.#activeHandle ?? this.#handles.get(this._activeName());
     return handle?._hasSetAside === true;
   }
 
@@ -465,7 +485,7 @@ export class Editor {
     if (subject === "object" && name === "") {
       return this._firstNameless();
     }
-    return this._module.given(name, (at, size) => this._number("find", OWNERS[subject], at, size));
+    return this.#module.given(name, (at, size) => this._number("find", OWNERS[subject], at, size));
   }
 
   // The id of the first object whose name is the empty text, also where its file leaves that out; null where there
@@ -495,7 +515,7 @@ export class Editor {
 
   /** The runs of the selection in row order: row, first column and number of cells of each. */
   selection() {
-    const module = this._module;
+    const module = this.#module;
     const count = this._call("selection_count");
     return module.holding(RUN_BYTES, (to) =>
       Array.from({ length: count }, (_, at) => {
@@ -519,7 +539,7 @@ export class Editor {
   /** The text for the action of the step at this place, from 0; null where there is none. */
   actionText(at) {
     return isCount(at)
-      ? this._module.copyText((to, room) => this._call("action_text", at, to, room))
+      ? this.#module.copyText((to, room) => this._call("action_text", at, to, room))
       : null;
   }
 
@@ -542,17 +562,17 @@ export class Editor {
     // A refusal tells the call of the caller, and no name that the caller has not given.
     const call = name === undefined ? "open(data)" : `open(data, ${JSON.stringify(name)})`;
     const opened = name === undefined ? this._freeName() : words.document(name);
-    this._opening.add(opened);
+    this.#opening.add(opened);
     try {
       await this._opened(opened, data, call);
     } finally {
-      this._opening.delete(opened);
+      this.#opening.delete(opened);
     }
     return this._handle(opened);
   }
 
   _freeName() {
-    const taken = new Set([...this._names(), ...this._opening]);
+    const taken = new Set([...this._names(), ...this.#opening]);
     let [name, number] = ["map", 1];
     while (taken.has(name)) {
       number += 1;
@@ -569,8 +589,8 @@ export class Editor {
   /** The active document; null where none is. Set, it makes a document active, or none. */
   get active() {
     const name = this._activeName();
-    this._activeHandle = name === "-" ? null : this._handle(name);
-    return this._activeHandle;
+    this.#activeHandle = name === "-" ? null : this._handle(name);
+    return this.#activeHandle;
   }
 
   set active(document) {
@@ -588,12 +608,12 @@ export class Editor {
   }
 
   _nameAt(at) {
-    return this._module.copyText((to, room) => this._call("document_name", at, to, room));
+    return this.#module.copyText((to, room) => this._call("document_name", at, to, room));
   }
 
   // How the document at a place stands.
   _statusOf(at) {
-    const numbers = this._module.numbers(STATUS_NUMBERS, (to) => this._call("status_of", at, to));
+    const numbers = this.#module.numbers(STATUS_NUMBERS, (to) => this._call("status_of", at, to));
     const [index, , count, , depth, , isClean] = numbers;
     return Object.freeze({ index, count, clean: isClean === 1, depth });
   }
@@ -606,29 +626,29 @@ export class Editor {
     } finally {
       if (this._activeName() !== active) {
         this.step(`use ${active}`);
-        this._activeHandle = this._handles.get(active) ?? null;
+        this.#activeHandle = this.#handles.get(active) ?? null;
       }
     }
   }
 
   // The document of that name, which is open.
   _handle(name) {
-    if (!this._handles.has(name)) {
-      this._handles.set(name, new Document(this, name));
+    if (!this.#handles.has(name)) {
+      this.#handles.set(name, new Document(this, name));
     }
-    return this._handles.get(name);
+    return this.#handles.get(name);
   }
 
   // Notes that a line may make another document active, before it is done.
   _noteActivation(line) {
-    if (this._handles.size > 0 && ACTIVATION.test(line)) {
-      this._activeHandle = null;
+    if (this.#handles.size > 0 && ACTIVATION.test(line)) {
+      this.#activeHandle = null;
     }
   }
 
   // Notes what a line has done to what was handed out: it may have closed a document.
   _forgetIfClosed(line, reply) {
-    if (this._handles.size > 0 && reply.startsWith("ok ")) {
+    if (this.#handles.size > 0 && reply.startsWith("ok ")) {
       this._forgetClosed([line]);
     }
   }
@@ -637,17 +657,17 @@ export class Editor {
   _forgetClosed(lines) {
     for (const line of lines) {
       const closed = CLOSING.exec(line);
-      const handle = closed && this._handles.get(closed[1]);
+      const handle = closed && this.#handles.get(closed[1]);
       if (handle) {
-        handle._isClosed = true;
-        this._handles.delete(closed[1]);
+        handle._markClosed();
+        this.#handles.delete(closed[1]);
       }
     }
   }
 
   // The same of a session, of which each line that is not quiet has its reply.
   _forgetClosedBySession(session, replies) {
-    if (this._handles.size > 0) {
+    if (this.#handles.size > 0) {
       const answers = textOf(replies).split("\n");
       const lines = textOf(bytesOf(session)).split("\n").filter((line) => !QUIET.test(line));
       this._forgetClosed(lines.filter((_, at) => answers[at]?.startsWith("ok ")));
@@ -656,25 +676,25 @@ export class Editor {
 
   // What a call says of a thing in JSON; null where there is no such thing.
   _parsed(name, ...words) {
-    const text = this._module.copyText((to, room) => this._call(name, ...words, to, room));
+    const text = this.#module.copyText((to, room) => this._call(name, ...words, to, room));
     return text === null ? null : JSON.parse(text);
   }
 
   // The numbers of 32 bits that a call copies, which counts items of so many; null where there are none.
   _numbers(each, name, ...words) {
     const call = (to, room) => this._call(name, ...words, to, room);
-    const bytes = this._module.copyBytes(call, call, each * NUMBER_BYTES);
+    const bytes = this.#module.copyBytes(call, call, each * NUMBER_BYTES);
     return bytes && new Uint32Array(bytes.buffer);
   }
 
   // How many items a call would copy; null where there are none.
   _count(name, ...words) {
-    return this._module.count((to, room) => this._call(name, ...words, to, room));
+    return this.#module.count((to, room) => this._call(name, ...words, to, room));
   }
 
   // The number that a call answers, or null.
   _number(name, ...words) {
-    return this._module.number(this._call(name, ...words));
+    return this.#module.number(this._call(name, ...words));
   }
 }
 

@@ -18,18 +18,25 @@ const INSPECT = Symbol.for("nodejs.util.inspect.custom");
  * Refused, 36, where the map has no tileset of that first id.
  */
 export class Tileset {
+  #document;
+
   constructor(document, firstId) {
-    this._document = document;
+    this.#document = document;
     this.firstId = firstId;
     Object.freeze(this);
   }
 
   get _members() {
-    const members = this._document._read("tileset", this.firstId);
+    const members = this.#document._read("tileset", this.firstId);
     if (members === null) {
       throw new Refused(36, "no such tileset", this.toString());
     }
     return members;
+  }
+
+  // Whether it is one of this document.
+  _isOf(document) {
+    return this.#document === document;
   }
 
   /** The path of its file from the folder of the map; null where the map has it in itself. */
@@ -54,7 +61,13 @@ export class Tileset {
 
   /** Removes it from the map. */
   remove() {
-    this._document._edit(`tileset remove ${this.firstId}`);
+    this.#document._edit(`tileset remove ${this.firstId}`);
+  }
+
+  /** What JSON has of it: its first id, its source and its name. */
+  toJSON() {
+    const { firstId, source, name } = this;
+    return { firstId, source, name };
   }
 
   /** Its first id. */
@@ -63,7 +76,7 @@ export class Tileset {
   }
 
   toString() {
-    return `Tileset ${this.firstId} of ${this._document.name}`;
+    return `Tileset ${this.firstId} of ${this.#document.name}`;
   }
 
   [INSPECT]() {
@@ -87,20 +100,22 @@ export function tileOf(document, value) {
 
 /** The tilesets of a document, in order, by first id, or by source or name. */
 export class Tilesets {
+  #document;
+
   constructor(document) {
-    this._document = document;
+    this.#document = document;
     Object.freeze(this);
   }
 
   *[Symbol.iterator]() {
-    for (const first of this._document._ids("tilesets")) {
-      yield new Tileset(this._document, first);
+    for (const first of this.#document._ids("tilesets")) {
+      yield new Tileset(this.#document, first);
     }
   }
 
   /** The number of tilesets. */
   get size() {
-    return this._document._sizes.tilesets;
+    return this.#document._sizes.tilesets;
   }
 
   /** The first one in order; null where the map has none. */
@@ -111,9 +126,9 @@ export class Tilesets {
 
   // The first id of what a key stands for; null where there is no such tileset.
   _found(key) {
-    const document = this._document;
+    const document = this.#document;
     if (key instanceof Tileset) {
-      return key._document === document ? this._found(key.firstId) : null;
+      return key._isOf(document) ? this._found(key.firstId) : null;
     }
     if (typeof key === "number") {
       return words.isId(key) && document._count("tileset", key) !== null ? key : null;
@@ -131,7 +146,7 @@ export class Tilesets {
     if (first === null) {
       throw new RangeError(`there is no tileset ${words.quoted(key)}`);
     }
-    return new Tileset(this._document, first);
+    return new Tileset(this.#document, first);
   }
 
   /** Whether there is a tileset with a first id, a source or a name. */
@@ -142,7 +157,20 @@ export class Tilesets {
   /** Adds a tileset by the path of its file from the folder of the map, last, and gives it. */
   add(firstId, source) {
     const first = words.number(firstId, "the first id of a tileset");
-    this._document._edit(`tileset add ${first} ${words.text(source, "the source of a tileset")}`);
-    return new Tileset(this._document, first);
+    this.#document._edit(`tileset add ${first} ${words.text(source, "the source of a tileset")}`);
+    return new Tileset(this.#document, first);
+  }
+
+  /** What JSON has of them: the list of all. */
+  toJSON() {
+    return [...this];
+  }
+
+  toString() {
+    return `Tilesets of ${this.#document.name}`;
+  }
+
+  [INSPECT]() {
+    return `<${this}>`;
   }
 }

@@ -13,8 +13,10 @@ const INSPECT = Symbol.for("nodejs.util.inspect.custom");
 
 // What a document has under an id: it is looked up at each call.
 class View {
+  #document;
+
   constructor(document, id) {
-    this._document = document;
+    this.#document = document;
     this.id = id;
     // So that a name that it has not is never set silently.
     Object.freeze(this);
@@ -22,12 +24,17 @@ class View {
 
   /** The document that it belongs to. */
   get document() {
-    return this._document;
+    return this.#document;
   }
 
   /** All that the map says of it, without cells: a copy. */
   get members() {
     return this._now;
+  }
+
+  /** What JSON has of it: its members. */
+  toJSON() {
+    return this.members;
   }
 
   /** Its id. */
@@ -50,7 +57,7 @@ export class MapObject extends View {
   }
 
   get _now() {
-    const members = this._document._read("object", this.id);
+    const members = this.document._read("object", this.id);
     if (members === null) {
       throw this._missing();
     }
@@ -62,11 +69,11 @@ export class MapObject extends View {
   }
 
   get layer() {
-    const id = this._document._number("object_layer", this.id);
+    const id = this.document._number("object_layer", this.id);
     if (id === null) {
       throw this._missing();
     }
-    return new Layer(this._document, id);
+    return new Layer(this.document, id);
   }
 
   get name() {
@@ -103,29 +110,29 @@ export class MapObject extends View {
 
   get tile() {
     const { gid } = this._now;
-    return gid ? tileOf(this._document, gid) : null;
+    return gid ? tileOf(this.document, gid) : null;
   }
 
   get properties() {
-    return new Properties(this._document, "object", this);
+    return new Properties(this.document, "object", this);
   }
 
   move(x, y, { merge = false } = {}) {
     const where = `${words.coordinate(x, "x")} ${words.coordinate(y, "y")}`;
-    this._document._edit(`object move${merge ? "+" : ""} ${this.id} ${where}`);
+    this.document._edit(`object move${merge ? "+" : ""} ${this.id} ${where}`);
   }
 
   resize(width, height) {
     const size = `${words.number(width, "a width")} ${words.number(height, "a height")}`;
-    this._document._edit(`object resize ${this.id} ${size}`);
+    this.document._edit(`object resize ${this.id} ${size}`);
   }
 
   remove() {
-    this._document._edit(`object remove ${this.id}`);
+    this.document._edit(`object remove ${this.id}`);
   }
 
   toString() {
-    const described = this._document._peek(() => `${this.name} at ${this.x}, ${this.y}`);
+    const described = this.document._peek(() => `${this.name} at ${this.x}, ${this.y}`);
     return described === null ? `MapObject ${this.id}` : `MapObject ${this.id} ${described}`;
   }
 }
@@ -156,42 +163,45 @@ export function missing(kind, key) {
 
 /** The objects of a layer, or of a whole document: in drawing order, by id or by name. */
 export class Objects {
+  #document;
+  #layer;
+
   constructor(document, layer = null) {
-    this._document = document;
-    this._layer = layer;
+    this.#document = document;
+    this.#layer = layer;
     Object.freeze(this);
   }
 
   get _ids() {
-    return this._document._ids("object_ids", this._layer ?? 0);
+    return this.#document._ids("object_ids", this.#layer ?? 0);
   }
 
   *[Symbol.iterator]() {
     for (const id of this._ids) {
-      yield new MapObject(this._document, id);
+      yield new MapObject(this.#document, id);
     }
   }
 
   get size() {
-    return this._document._count("object_ids", this._layer ?? 0) ?? 0;
+    return this.#document._count("object_ids", this.#layer ?? 0) ?? 0;
   }
 
   // The id of what a key stands for; null where there is no such object here.
   _found(key) {
     if (key instanceof MapObject) {
-      return key.document === this._document ? this._found(key.id) : null;
+      return key.document === this.#document ? this._found(key.id) : null;
     }
     if (typeof key === "string") {
-      const id = this._document._find("object", key);
-      const isHere = id === null || this._layer === null || this._has(id);
-      return isHere ? id : firstNamed(this._document, "object", this._ids, key);
+      const id = this.#document._find("object", key);
+      const isHere = id === null || this.#layer === null || this._has(id);
+      return isHere ? id : firstNamed(this.#document, "object", this._ids, key);
     }
     return words.isId(key) && this._has(key) ? key : null;
   }
 
   _has(id) {
-    const layer = this._document._number("object_layer", id);
-    return layer !== null && (this._layer === null || this._layer === layer);
+    const layer = this.#document._number("object_layer", id);
+    return layer !== null && (this.#layer === null || this.#layer === layer);
   }
 
   get(key) {
@@ -199,7 +209,7 @@ export class Objects {
     if (id === null) {
       throw missing("object", key);
     }
-    return new MapObject(this._document, id);
+    return new MapObject(this.#document, id);
   }
 
   has(key) {
@@ -207,14 +217,28 @@ export class Objects {
   }
 
   add(name, x, y, width = 0, height = 0) {
-    if (this._layer === null) {
+    if (this.#layer === null) {
       throw new RangeError("an object is added to a layer: document.layers.get(..).objects.add(..)");
     }
     const where = `${words.coordinate(x, "x")} ${words.coordinate(y, "y")}`;
     const size = `${words.number(width, "a width")} ${words.number(height, "a height")}`;
     const said = words.text(name, "the name of an object");
-    const id = this._document._add("object", `object add ${this._layer} ${where} ${size} ${said}`);
-    return new MapObject(this._document, id);
+    const id = this.#document._add("object", `object add ${this.#layer} ${where} ${size} ${said}`);
+    return new MapObject(this.#document, id);
+  }
+
+  /** What JSON has of them: the list of all. */
+  toJSON() {
+    return [...this];
+  }
+
+  toString() {
+    const place = this.#layer === null ? "all layers" : `layer ${this.#layer}`;
+    return `Objects of ${place} of ${this.#document.name}`;
+  }
+
+  [INSPECT]() {
+    return `<${this}>`;
   }
 }
 
@@ -225,7 +249,7 @@ export class Objects {
 export class Layer extends View {
   // What the map says of it, without what is in it.
   get _now() {
-    const members = this._document._read("layer", this.id);
+    const members = this.document._read("layer", this.id);
     if (members === null) {
       throw this._missing();
     }
@@ -237,7 +261,7 @@ export class Layer extends View {
   }
 
   get members() {
-    const [members, document] = [this._now, this._document];
+    const [members, document] = [this._now, this.document];
     if (members.type === "tilelayer") {
       const { width, height } = document._sizes;
       const encoding = document._encodingOf(this.id);
@@ -259,7 +283,7 @@ export class Layer extends View {
   }
 
   set name(name) {
-    this._document._edit(`layer rename ${this.id} ${words.text(name, "the name of a layer")}`);
+    this.document._edit(`layer rename ${this.id} ${words.text(name, "the name of a layer")}`);
   }
 
   get visible() {
@@ -267,86 +291,89 @@ export class Layer extends View {
   }
 
   set visible(visible) {
-    this._document._edit(`layer show ${this.id} ${visible ? "yes" : "no"}`);
+    this.document._edit(`layer show ${this.id} ${visible ? "yes" : "no"}`);
   }
 
   get layers() {
-    return new Layers(this._document, this.id);
+    return new Layers(this.document, this.id);
   }
 
   get objects() {
-    return new Objects(this._document, this.id);
+    return new Objects(this.document, this.id);
   }
 
   get properties() {
-    return new Properties(this._document, "layer", this);
+    return new Properties(this.document, "layer", this);
   }
 
   cells(x = 0, y = 0, width = null, height = null) {
-    return this._document._cellsOf(this, x, y, width, height).cells;
+    return this.document._cellsOf(this, x, y, width, height).cells;
   }
 
   rows(x = 0, y = 0, width = null, height = null) {
-    const { cells, wide } = this._document._cellsOf(this, x, y, width, height);
+    const { cells, wide } = this.document._cellsOf(this, x, y, width, height);
     return Array.from({ length: wide ? cells.length / wide : 0 }, (_, row) => [
       ...cells.subarray(row * wide, (row + 1) * wide),
     ]);
   }
 
   tile(x, y) {
-    const [value] = this._document._cellsOf(this, x, y, 1, 1).cells;
-    return value === 0 ? null : tileOf(this._document, value);
+    const [value] = this.document._cellsOf(this, x, y, 1, 1).cells;
+    return value === 0 ? null : tileOf(this.document, value);
   }
 
   move(place) {
-    this._document._edit(`layer move ${this.id} ${words.number(place, "a place")}`);
+    this.document._edit(`layer move ${this.id} ${words.number(place, "a place")}`);
   }
 
   remove() {
-    this._document._edit(`layer remove ${this.id}`);
+    this.document._edit(`layer remove ${this.id}`);
   }
 
   toString() {
-    const members = this._document._peek(() => this._now);
+    const members = this.document._peek(() => this._now);
     return members ? `Layer ${this.id} ${TYPES[members.type]} ${members.name}` : `Layer ${this.id}`;
   }
 }
 
 /** The layers of a document that are in no group, or those in a group: in drawing order. */
 export class Layers {
+  #document;
+  #group;
+
   constructor(document, group = null) {
-    this._document = document;
-    this._group = group;
+    this.#document = document;
+    this.#group = group;
     Object.freeze(this);
   }
 
   // All of them, with those in groups. Throws Refused where the group was removed.
   get _walked() {
-    const rows = this._document._layerRows;
-    if (this._group === null) {
+    const rows = this.#document._layerRows;
+    if (this.#group === null) {
       return rows;
     }
-    if (!rows.some((row) => row.id === this._group)) {
-      throw new Refused(30, "no such layer", `Layers of ${this._group}`);
+    if (!rows.some((row) => row.id === this.#group)) {
+      throw new Refused(30, "no such layer", `Layers of ${this.#group}`);
     }
-    const groups = new Set([this._group]);
+    const groups = new Set([this.#group]);
     return rows.filter((row) => groups.has(row.parent) && groups.add(row.id));
   }
 
   // Those that stand in no other group.
   get _below() {
-    return this._walked.filter((row) => row.parent === (this._group ?? 0));
+    return this._walked.filter((row) => row.parent === (this.#group ?? 0));
   }
 
   *[Symbol.iterator]() {
     for (const { id } of this._below) {
-      yield new Layer(this._document, id);
+      yield new Layer(this.#document, id);
     }
   }
 
   *walk() {
     for (const { id } of this._walked) {
-      yield new Layer(this._document, id);
+      yield new Layer(this.#document, id);
     }
   }
 
@@ -357,19 +384,19 @@ export class Layers {
   // The id of what a key stands for; null where there is no such layer here.
   _found(key) {
     if (key instanceof Layer) {
-      return key.document === this._document ? this._found(key.id) : null;
+      return key.document === this.#document ? this._found(key.id) : null;
     }
     if (typeof key === "string") {
-      const id = this._document._find("layer", key);
-      const isHere = id === null || this._group === null || this._has(id);
-      return isHere ? id : firstNamed(this._document, "layer", this._walked.map((row) => row.id), key);
+      const id = this.#document._find("layer", key);
+      const isHere = id === null || this.#group === null || this._has(id);
+      return isHere ? id : firstNamed(this.#document, "layer", this._walked.map((row) => row.id), key);
     }
     return words.isId(key) && this._has(key) ? key : null;
   }
 
   _has(id) {
-    return this._group === null
-      ? this._document._count("layer", id) !== null
+    return this.#group === null
+      ? this.#document._count("layer", id) !== null
       : this._walked.some((row) => row.id === id);
   }
 
@@ -378,7 +405,7 @@ export class Layers {
     if (id === null) {
       throw missing("layer", key);
     }
-    return new Layer(this._document, id);
+    return new Layer(this.#document, id);
   }
 
   has(key) {
@@ -387,18 +414,31 @@ export class Layers {
 
   find(name, kind) {
     const said = words.oneOf(kind, Object.values(KINDS), "the kind of a layer");
-    const first = this._document._find("layer", name);
+    const first = this.#document._find("layer", name);
     const ids = this._walked.filter((row) => KINDS[row.kind] === said).map((row) => row.id);
-    const id = first === null || ids.includes(first) ? first : firstNamed(this._document, "layer", ids, name);
-    return id === null ? null : new Layer(this._document, id);
+    const id = first === null || ids.includes(first) ? first : firstNamed(this.#document, "layer", ids, name);
+    return id === null ? null : new Layer(this.#document, id);
   }
 
   add(kind, name) {
-    if (this._group !== null) {
+    if (this.#group !== null) {
       throw new RangeError("no line adds a layer to a group: document.layers.add(..)");
     }
     const said = words.oneOf(kind, ADDED, "the kind of a layer that is added");
-    const id = this._document._add("layer", `layer add ${said} ${words.text(name, "the name of a layer")}`);
-    return new Layer(this._document, id);
+    const id = this.#document._add("layer", `layer add ${said} ${words.text(name, "the name of a layer")}`);
+    return new Layer(this.#document, id);
+  }
+
+  /** What JSON has of them: the list of those in no group, or of those in the group. */
+  toJSON() {
+    return [...this];
+  }
+
+  toString() {
+    return `Layers of ${this.#group === null ? "" : `layer ${this.#group} of `}${this.#document.name}`;
+  }
+
+  [INSPECT]() {
+    return `<${this}>`;
   }
 }

@@ -238,8 +238,8 @@ def test_what_python_raises():
 def calls_of_documents(language):
     """The names of those that a closed document answers by Closed."""
     quiet = {'name', 'editor', 'path', 'is_closed', 'layers', 'objects', 'properties', 'tilesets', 'stroke'}
-    names = [call.name for kind, call in rows_of(language) if kind == 'Document' and call.name not in quiet]
-    return sorted(REFERENCE.camel(name) if language == JAVASCRIPT else name for name in names)
+    named = [call for kind, call in rows_of(language) if kind == 'Document' and call.name not in quiet]
+    return sorted(call.renamed or REFERENCE.camel(call.name) if language == JAVASCRIPT else call.name for call in named)
 
 
 GIVEN = {'stamp': (1, 0, 0, [[1]]), 'erase': (1, 0, 0, 1, 1), 'macro': ('a',), 'save': ('a.tmj',)}

@@ -48,12 +48,13 @@ COSTS = {
     },
     'Document': {
         'answer': 'stamp erase fill selection select select_none steps undo redo goto clear stroke',
-        'map': 'resize map outline save save_bytes close discard',
+        'map': 'resize map outline save save_bytes close discard to_json',
     },
-    'Layers': {'answer': 'find size walk'},
-    'Layer': {'answer; once map': 'members', 'answer': 'cells rows remove'},
-    'Objects': {'1; by a name map': 'get has', 'answer': 'size'},
-    'Properties': {'answer': 'size keys'},
+    'Layers': {'answer': 'find size walk to_json'},
+    'Layer': {'answer; once map': 'members to_json', 'answer': 'cells rows remove'},
+    'Objects': {'1; by a name map': 'get has', 'answer': 'size to_json'},
+    'Properties': {'answer': 'size keys to_json'},
+    'Tilesets': {'answer': 'to_json'},
     'Tileset': {'map': 'remove'},
     'Selection': {'answer': 'runs size'},
 }
@@ -97,6 +98,11 @@ class Kind:
 
 def value(name: str, gives: str, does: str, **more: object) -> Call:
     return Call(name, None, does, gives=gives, **more)  # type: ignore[arg-type]
+
+
+def to_json(kind: str, gives: str, does: str) -> Call:
+    """What `JSON.stringify` calls of a thing, which JavaScript alone has."""
+    return Call('to_json', '', does, gives=gives, only='javascript', written=('', f'{kind}.toJSON()'), renamed='toJSON')
 
 
 EDITOR = Kind('Editor', 'An editor: documents in memory. A call of a closed one raises {closed}.', [
@@ -199,6 +205,7 @@ DOCUMENT = Kind('Document', 'A map, its selection and its steps. A call makes th
          written=('document.save_bytes()', 'await document.saveBytes()')),
     Call('close', '', 'Closes it.', 'close DOC', '', {'refused 13': 'document.close()'}),
     Call('discard', '', 'Closes it, and drops unsaved changes.', 'discard DOC'),
+    to_json('document', 'members', 'What JSON has of it: `document.outline()`.'),
 ])
 
 LAYERS = Kind('Layers', 'The layers in no group, or those in a group, as they are at each call. A loop over them goes in drawing '
@@ -215,6 +222,7 @@ LAYERS = Kind('Layers', 'The layers in no group, or those in a group, as they ar
     Call('add', 'kind, name', 'Adds a layer, `tile` or `object`, in no group, over the others, and gives it.', 'layer add tile|object NAME', 'Layer',
          {'type': 'document.layers.add("tile", 5)', 'value': 'document.layers.add("wall", "a")',
           'refused 40': 'many("layer add tile a", 253) and document.layers.add("tile", "a")'}),
+    to_json('layers', 'Layers[]', 'What JSON has of them: the list.'),
 ])
 
 LAYER = Kind('Layer', 'A layer, by its id. Where it was removed, a call raises {Refused} 30.', [
@@ -245,6 +253,7 @@ LAYER = Kind('Layer', 'A layer, by its id. Where it was removed, a call raises {
     Call('move', 'place', 'Moves it among the layers beside it; 0 is drawn first.', 'layer move LAYER PLACE', '',
          {'type': 'document.layers{1}.move("a")', 'value': 'document.layers{1}.move(-1)', 'refused 39': 'document.layers{1}.move(3)'}),
     Call('remove', '', 'Removes it, and a group with all in it.', 'layer remove LAYER'),
+    to_json('layer', 'members', 'What JSON has of it: `layer.members`.'),
 ])
 
 OBJECTS = Kind('Objects', 'The objects of a layer, or of all layers, as they are at each call. A loop goes in drawing order.', [
@@ -258,6 +267,7 @@ OBJECTS = Kind('Objects', 'The objects of a layer, or of all layers, as they are
          'object add LAYER X Y WIDTH HEIGHT NAME', 'MapObject',
          {'type': 'document.layers{2}.objects.add(5, 0, 0)', 'value': 'document.objects.add("a", 0, 0)',
           'refused 31': 'document.layers{1}.objects.add("a", 0, 0)', 'refused 39': 'document.layers{2}.objects.add("a", 0, 0, 4294967295, 0)'}),
+    to_json('objects', 'Objects[]', 'What JSON has of them: the list.'),
 ])
 
 OBJECT = Kind('MapObject', 'An object, by its id. Where it was removed, a call raises {Refused} 34.', [
@@ -282,6 +292,7 @@ OBJECT = Kind('MapObject', 'An object, by its id. Where it was removed, a call r
          {'type': 'document.objects{1}.resize(0.5, 0)', 'value': 'document.objects{1}.resize(-1, 0)',
           'refused 39': 'document.objects{1}.resize(4294967295, 0)'}),
     Call('remove', '', 'Removes it.', 'object remove OBJECT'),
+    to_json('object', 'members', 'What JSON has of it: `object.members`.'),
 ])
 
 PROPERTIES = Kind('Properties', 'The properties of a map, a layer or an object, as they are at each call: {mapping}. A value that is '
@@ -302,6 +313,7 @@ PROPERTIES = Kind('Properties', 'The properties of a map, a layer or an object, 
          types={'key': 'string', 'value': 'string | number | boolean | MapObject'}),
     Call('delete', 'key', 'Removes one.', 'prop remove OWNER KEY', 'deleted', {'key': ('document.properties.pop("a")', '')},
          written=('del properties[key]', 'properties.delete(key)'), types={'key': 'string'}),
+    to_json('properties', 'values', 'What JSON has of them: an object of names and values, as `Object.fromEntries(properties)`.'),
 ])
 
 TILESETS = Kind('Tilesets', 'The tilesets, as they are at each call. A loop goes in their order.', [
@@ -316,6 +328,7 @@ TILESETS = Kind('Tilesets', 'The tilesets, as they are at each call. A loop goes
          'tileset add FIRST SOURCE', 'Tileset',
          {'type': 'document.tilesets.add("a", "a.tsj")', 'value': 'document.tilesets.add(33, "")',
           'refused 38': 'document.tilesets.add(1, "a.tsj")'}),
+    to_json('tilesets', 'Tilesets[]', 'What JSON has of them: the list.'),
 ])
 
 TILESET = Kind('Tileset', 'A tileset, by its first id. Where it was removed, a call raises {Refused} 36.', [
@@ -327,6 +340,7 @@ TILESET = Kind('Tileset', 'A tileset, by its first id. Where it was removed, a c
          'The value of a cell with a tile of this ID in Tiled. Whether the tileset has that tile is not looked at.', gives='int',
          raises={'type': 'document.tilesets{1}.value("a")', 'value': 'document.tilesets{1}.value(-1)'}),
     Call('remove', '', 'Removes it.', 'tileset remove FIRST', '', {'refused 37': 'document.tilesets{1}.remove()'}),
+    to_json('tileset', 'members', 'What JSON has of it: its first id, source and name.'),
 ])
 
 SELECTION = Kind('Selection', 'The cells that were selected when it was asked for. A loop over it gives each cell: {cell}.', [

@@ -50,13 +50,13 @@ for (const trial of trials) {
   came[trial] = await thrown(trial);
 }
 const members = Object.fromEntries(classes.map((name) => [name, membersOf(roskevad[name])]));
-// What is set in a constructor is a value, too.
+// What is set in a constructor is a value, too. The own names of properties are those of the map.
 const editor = await roskevad.Editor.create();
 editor.runLines(lines);
 const document = editor.active;
 const made = {
   Document: document, Layers: document.layers, Layer: document.layers.get(1), Objects: document.objects,
-  MapObject: document.objects.get(1), Properties: document.properties, Tilesets: document.tilesets,
+  MapObject: document.objects.get(1), Tilesets: document.tilesets,
   Tileset: document.tilesets.get(1), Selection: document.selection, Editor: editor,
 };
 for (const [name, thing] of Object.entries(made)) {
@@ -71,7 +71,9 @@ const closed = [];
 for (const name of names) {
   try {
     const call = document[name];
-    await call.call(document, ...(given[name] ?? [1, 0, 0, 1].slice(0, argumentsOf(call).plain.length)));
+    if (typeof call === "function") {
+      await call.call(document, ...(given[name] ?? [1, 0, 0, 1].slice(0, argumentsOf(call).plain.length)));
+    }
   } catch (fault) {
     closed.push(...(fault instanceof roskevad.Closed ? [name] : []));
   }

@@ -158,6 +158,58 @@ async function callsThatRefusalsName() {
   editor.close();
 }
 
+// JSON has of each thing what the map says of it, and nothing of the module and its memory. No thing has names of its own
+// but its id.
+async function textsInJSON() {
+  const editor = await Editor.create();
+  const town = editor.new("town", 4, 3, 16, 16, "town.tsj");
+  const key = town.layers.add("object", "Things").objects.add("key", 16, 8);
+  key.properties.set("open", true);
+  town.stamp(1, 0, 0, [[5]]);
+  const [ground, things] = town.layers;
+  const told = (thing) => JSON.parse(JSON.stringify(thing));
+  const tileset = { firstId: 1, source: "town.tsj", name: null };
+  const rows = [
+    [town, town.outline()], [ground, ground.members], [things, things.members], [key, key.members], [key.properties, { open: true }],
+    [town.layers, [ground.members, things.members]], [town.objects, [key.members]], [town.tilesets, [tileset]],
+    [town.tilesets.first, tileset], [town.selection, { runs: [] }], [editor, {}],
+  ];
+  for (const [thing, wanted] of rows) {
+    same(told(thing), wanted);
+  }
+  const { value, tileset: its, localId } = told(ground.tile(0, 0));
+  same([value, its, localId], [5, tileset, 4]);
+  const names = [town, ground, key, town.layers, town.objects, town.tilesets, town.tilesets.first, editor].map(Object.keys);
+  same(names, [[], ["id"], ["id"], [], [], [], ["firstId"], []]);
+  editor.close();
+}
+
+// Properties are looked at as a plain object is, also where one has the name of a call, which stays a call.
+async function propertiesAsObjects() {
+  const editor = await Editor.create();
+  const town = editor.new("town", 4, 3, 16, 16, "town.tsj");
+  const { properties } = town;
+  same([Object.entries(properties), "size" in properties], [[], true]);
+  const rows = ["author", "size", "get", "2", "then", "__proto__", "constructor"].map((name, at) => [name, at]);
+  rows.forEach(([name, value]) => properties.set(name, value));
+  same([Object.entries(properties), [...properties], Object.keys(properties)], [rows, rows, rows.map(([name]) => name)]);
+  same([properties.size, properties.get("get"), properties.author, properties.none ?? null], [rows.length, 2, 0, null]);
+  same(["author" in properties, "none" in properties, Object.hasOwn(properties, "author")], [true, false, true]);
+  const json = JSON.stringify(Object.fromEntries(rows));
+  same([{ ...properties }.size, Object.assign({}, properties).get, JSON.stringify(properties)], [1, 2, json]);
+  same((await properties) === properties, true);
+  properties.delete("author");
+  same([Object.keys(properties).length, "author" in properties], [rows.length - 1, false]);
+  const faults = [
+    () => Object.assign(properties, { author: "me" }), () => delete properties.size, () => Object.freeze(properties),
+    () => Object.defineProperty(properties, "a", { value: 1 }),
+  ];
+  faults.forEach((call) => thrown(TypeError, call));
+  town.discard();
+  thrown(Closed, () => Object.keys(properties));
+  editor.close();
+}
+
 // What has no such name, or is only read, is never set silently.
 async function namesThatAreNotThere() {
   const editor = await Editor.create();
@@ -370,6 +422,6 @@ async function readThings() {
 
 export const DOCUMENT_CHECKS = [
   drawnDocuments, worksThatGoOnLater, savedDocuments, propertiesOfOtherTypes, points, whatAFileLeavesOut,
-  callsThatRefusalsName, namesThatAreNotThere, loopsOfStamps, loopsOfObjects, textsOfDocuments, thingsAndIds,
-  groupsAndRemovals, readThings,
+  callsThatRefusalsName, textsInJSON, propertiesAsObjects, namesThatAreNotThere, loopsOfStamps, loopsOfObjects,
+  textsOfDocuments, thingsAndIds, groupsAndRemovals, readThings,
 ];

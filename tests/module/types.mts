@@ -45,6 +45,7 @@ async function used(bytes: Uint8Array): Promise<void> {
   });
   town.select(0, 0, 1, 1, { mode: "add" });
   town.properties.set("author", "me", { type: "file" });
+  const author: unknown = town.properties.toJSON().author;
   const tile: Tile | null = ground.tile(0, 0);
   const [run]: readonly Run[] = town.selection.runs;
   const status: Status = made.status;
@@ -59,7 +60,7 @@ async function used(bytes: Uint8Array): Promise<void> {
   const written: Uint8Array = await town.saveBytes();
   const walls: Layer | null = town.layers.find("Walls", "tile");
   const isPoint: boolean = town.objects.get(1).isPoint;
-  void [given, id, same, drawn, tile, run.length, status.depth, written, walls, isPoint, town.tilesets.first?.firstId];
+  void [given, id, same, drawn, author, tile, run.length, status.depth, written, walls, isPoint, town.tilesets.first?.firstId];
   // @ts-expect-error: a mode is one of four
   town.select(0, 0, 1, 1, { mode: "cut" });
   // @ts-expect-error: what is awaited is awaited before
