@@ -30,8 +30,7 @@ const ASIDE_FAULTS = new Map([
 // The longest text that is made, as in the program.
 const TOO_LONG = `set aside or put back, it would be longer than ${MAX_FILE_BYTES.toLocaleString("en-US")} bytes`;
 
-// The module beside this file, and the section with the version at its end.
-const BESIDE = new URL("./roskevad.wasm", import.meta.url);
+// The section with the version at the end of the module.
 const MARK = "roskevad";
 // The bytes of the place that what is not longer is copied through, each way.
 const ROOM = 65_536;
@@ -79,9 +78,9 @@ export class Module {
   /**
    * Loads the module from its bytes, from where a URL or a path leads, from a Blob or a Response, or
    * from a WebAssembly.Module; without a source, the one of this package. Throws BadModule where it is
-   * cut short or of another version.
+   * cut short or of another version, and TypeError where it is wanted beside this file, and where that is is not known.
    */
-  static async load(source = BESIDE) {
+  static async load(source = beside()) {
     const compiled = source instanceof WebAssembly.Module ? source : await compiledFrom(source);
     const [mark] = WebAssembly.Module.customSections(compiled, MARK);
     if (!mark) {
@@ -289,6 +288,15 @@ export class Module {
       throw new NoMemory();
     }
     return answer === NONE ? null : answer;
+  }
+}
+
+// The module beside this file. That is asked for only where no other is named: a bundle that is no module has no place.
+function beside() {
+  try {
+    return new URL("./roskevad.wasm", import.meta.url);
+  } catch (cause) {
+    throw new TypeError("this bundle does not know where roskevad.wasm is: Editor.create({ module }) names it", { cause });
   }
 }
 

@@ -106,8 +106,8 @@ export type Source =
 export class Module {
   private constructor();
   /**
-   * Loads the module; without a source, the one of this package. Throws BadModule where it is cut short
-   * or of another version.
+   * Loads the module; without a source, the one of this package, which stands beside it. Throws BadModule where
+   * it is cut short or of another version, and TypeError where the package does not know where it stands itself.
    */
   static load(source?: Source): Promise<Module>;
   /** Whether the engine broke a call off. */

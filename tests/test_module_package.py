@@ -1,19 +1,28 @@
 # SPDX-License-Identifier: MIT OR Apache-2.0
 """Sees that the package for JavaScript in `js/` is whole: its files, its licences, its version, and
-the forms of lines, which are those of the Python package; and, by the compiler of TypeScript, that
-its declarations are those of its code."""
+the forms of lines, which are those of the Python package; by the compiler of TypeScript, that its
+declarations are those of its code; and that a project takes it as npm packs it: its links lead to
+files in it, and bundles of esbuild that are modules, and that are none, draw a map in Node, and in
+Chromium from a disk."""
 import json
+import os
 import re
+import shutil
 import subprocess
 import sys
+import tempfile
+from contextlib import contextmanager
+from pathlib import Path
 
-from lib.cases import Case, check_each, unlike
+from lib.cases import Case, check_each, fail_with, unlike
 from lib.places import TESTS, TOP
+from module.browsers import WAIT, chromium, opened
+from module.server import Server
 
 sys.path.insert(0, str(TOP / 'python'))
 from roskevad.forms import FORMS, forms_of  # noqa: E402
 
-PACKAGES = ('nodejs', 'node-typescript')
+PACKAGES = ('nodejs', 'node-typescript', 'esbuild', 'chromium')
 JS = TOP / 'js'
 DECLARED = ''.join((JS / name).read_text() for name in ('roskevad.d.ts', 'document.d.ts'))
 # The libraries of types that a page's program and one of Node alone may have.
@@ -99,3 +108,113 @@ def fault_of_types(case):
 
 def test_types():
     check_each([Case(f'with {host}', host, None) for host in HOSTS], fault_of_types)
+
+
+# ---- in a project
+
+# What npm packs beside what `files` names.
+ALWAYS = ('package.json', 'README.md')
+DRAWN = 'Document town, 4 by 3, 1/1 dirty 0'
+# A program of a project; TOLD stands for what is done with what it tells.
+MAIN = '''import { Editor } from "roskevad";
+import module from "roskevad/roskevad.wasm";
+
+async function drawn() {
+  const editor = await Editor.create({ module });
+  const town = editor.new("town", 4, 3, 16, 16, "town.tsj");
+  town.stamp(1, 0, 0, [[5]]);
+  return String(town);
+}
+
+drawn().then((given) => [given, null], (fault) => [null, `${fault}`]).then((came) => TOLD);
+'''
+LOADER = '--loader:.wasm=binary'
+# A program that names no module.
+NAMELESS = 'import { Editor } from "roskevad";\nEditor.create().then(() => console.log("made"), (fault) => console.log(`${fault}`));\n'
+
+
+def files_that_are_packed():
+    package = json.loads((JS / 'package.json').read_text())
+    return sorted({name for pattern in package['files'] for name in names_of(pattern)} | {*ALWAYS})
+
+
+@contextmanager
+def project(**files):
+    """A folder of a project that has the packed package, and these files."""
+    with tempfile.TemporaryDirectory(prefix='roskevad_project_') as folder:
+        package = Path(folder) / 'node_modules' / 'roskevad'
+        package.mkdir(parents=True)
+        for name in files_that_are_packed():
+            shutil.copy(JS / name, package / name)
+        for name, text in files.items():
+            (Path(folder) / name.replace('_', '.')).write_text(text)
+        yield Path(folder)
+
+
+def told_by(folder, *words):
+    """What a command prints in a folder. It must end well."""
+    done = subprocess.run(words, cwd=folder, capture_output=True, text=True, timeout=120)
+    assert done.returncode == 0, f'{words}: {done.stdout[-1000:]}{done.stderr[-2000:]}'
+    return done.stdout.strip()
+
+
+def bundle(folder, entry, out, *options):
+    told_by(folder, 'esbuild', entry, '--bundle', f'--outfile={out}', '--log-level=error', *options)
+
+
+def test_links_of_the_packed_package():
+    packed = files_that_are_packed()
+    fail_with(
+        f'{name}: {link} leads to no file of the package'
+        for name in packed
+        if name.endswith('.md')
+        for link in re.findall(r'\]\(([^)]+)\)', (JS / name).read_text())
+        if '://' not in link and not link.startswith('#') and os.path.normpath(link.partition('#')[0]) not in packed
+    )
+
+
+def test_bundles_in_node():
+    """Of each form, with the module in it."""
+
+    def fault_of(case):
+        form, end = case.given
+        with project(main_js=MAIN.replace('TOLD', 'console.log(came[0] ?? came[1])')) as folder:
+            bundle(folder, 'main.js', f'out.{end}', f'--format={form}', '--platform=node', LOADER)
+            return unlike(case.wanted, told_by(folder, 'node', f'out.{end}'))
+
+    rows = [('iife', 'js'), ('cjs', 'cjs'), ('esm', 'mjs')]
+    check_each([Case(form, (form, end), DRAWN) for form, end in rows], fault_of)
+
+
+def test_bundles_without_a_module():
+    """One that is a module finds it beside it. One that is none says what to name, and only when it is asked."""
+    with project(main_js=NAMELESS) as folder:
+        bundle(folder, 'main.js', 'out.mjs', '--format=esm', '--platform=node')
+        bundle(folder, 'main.js', 'out.cjs', '--format=cjs', '--platform=node')
+        shutil.copy(JS / 'roskevad.wasm', folder)
+        fault = unlike('made', told_by(folder, 'node', 'out.mjs'))
+        assert not fault, fault
+        told = told_by(folder, 'node', 'out.cjs')
+        assert told.startswith('TypeError: ') and 'Editor.create({ module })' in told, told
+
+
+def test_a_bundle_on_a_disk():
+    """Chromium opens a page from a disk, whose one script is a bundle that is no module."""
+    with Server() as server:
+        tell = f'const tell = (came) => fetch("{server.address}/came", {{ method: "POST", mode: "no-cors", body: JSON.stringify(came) }});'
+        first = f'<script>{tell} onerror = (fault) => tell([null, fault]);</script>'
+        page = f'<!doctype html><meta charset="utf-8"><title>Roskevad</title>{first}<script src="out.js"></script>'
+        with project(main_js=MAIN.replace('TOLD', 'tell(came)'), index_html=page) as folder:
+            bundle(folder, 'main.js', 'out.js', '--format=iife', LOADER)
+            with opened(chromium, (folder / 'index.html').as_uri()) as process:
+                came = server.wait(WAIT, lambda: process.poll() is None)
+    fault = unlike((DRAWN, None), tuple(came))
+    assert not fault, fault
+
+
+def test_types_in_a_project():
+    """The compiler of TypeScript finds the declarations of the package, and of its module of WebAssembly."""
+    options = {'noEmit': True, 'strict': True, 'target': 'es2022', 'module': 'node16', 'moduleResolution': 'node16', 'types': []}
+    config = json.dumps({'compilerOptions': options, 'files': ['main.mts']})
+    with project(main_mts=MAIN.replace('TOLD', 'void came'), tsconfig_json=config) as folder:
+        told_by(folder, 'tsc', '--project', '.', '--lib', 'es2022')

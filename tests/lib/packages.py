@@ -15,6 +15,7 @@ OF_DEBIAN = {SELENIUM: 'selenium', ZSTANDARD: 'zstandard'}
 COMMANDS = {
     'chromium': 'chromium',
     'chromium-driver': 'chromedriver',
+    'esbuild': 'esbuild',
     'firefox-esr': 'firefox-esr',
     'mypy': 'mypy',
     'node-typescript': 'tsc',
