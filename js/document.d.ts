@@ -379,10 +379,11 @@ export class Tilesets {
   /** How many there are. */
   readonly size: number;
   /**
-   * Adds one, by the path of its file from the map's folder, and gives it; its first id is above
-   * all tiles there. Throws TypeError, RangeError, Refused (38).
+   * Adds one, by the path of its file from the map's folder, and gives it. Its first id is above
+   * all tiles there: where a tile in use would be one of it, it is refused, unless it `renumbers`.
+   * Throws TypeError, RangeError, Refused (37, 38).
    */
-  add(firstId: number, source: string): Tileset;
+  add(firstId: number, source: string, options?: { renumbers?: boolean }): Tileset;
   /** What JSON has of them: the list. */
   toJSON(): Tileset[];
   [Symbol.iterator](): IterableIterator<Tileset>;

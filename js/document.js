@@ -3,7 +3,7 @@
 import { Closed, Refused } from "./faults.js";
 import { MAX_COORDINATE } from "./limits.js";
 import { Properties } from "./properties.js";
-import { doubtful, partsOf, rowsOf } from "./rows.js";
+import { BASE, doubtful, partsOf, rowsOf } from "./rows.js";
 import { Selection } from "./selection.js";
 import { drawn, noteOf, restored, withoutPacking } from "./tiled_maps.js";
 import { Tilesets } from "./tilesets.js";
@@ -174,6 +174,20 @@ export class Document {
   _number(name, ...given) {
     this._enter();
     return this.#editor._number(name, ...given);
+  }
+
+  // The values of all cells and objects, without flags.
+  _valuesInUse() {
+    const { width, height } = this._sizes;
+    const found = new Set();
+    const take = (value) => found.add((value & BASE) >>> 0);
+    for (const { id } of this._layerRows) {
+      new Set(this.#editor.cells(id, 0, 0, width, height) ?? []).forEach(take);
+    }
+    for (const { type, objects } of drawn(JSON.parse(this.#editor._outlineText("tilesets")).layers)) {
+      (type === "objectgroup" ? objects : []).forEach(({ gid = 0 }) => take(gid));
+    }
+    return found;
   }
 
   // The id of the first layer or object of a name; null where there is none.

@@ -135,7 +135,7 @@ export class Editor {
 
   /** Gives back its memory. Twice is harmless. */
   close(): void;
-  /** The same, for `using`, where the engine has that. */
+  /** The same, for `using`, where the engine has that. It warns on the console of documents that are not saved. */
   [Symbol.dispose](): void;
 
   /**

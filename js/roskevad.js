@@ -611,6 +611,14 @@ export class Editor {
     return this.#module.copyText((to, room) => this._call("document_name", at, to, room));
   }
 
+  // The names of the documents that are not saved; none of a closed editor or a broken one.
+  _unsaved() {
+    if (this.#cEditor === 0 || this.#module.isBroken) {
+      return [];
+    }
+    return this._names().filter((_, at) => !this._statusOf(at).clean);
+  }
+
   // How the document at a place stands.
   _statusOf(at) {
     const numbers = this.#module.numbers(STATUS_NUMBERS, (to) => this._call("status_of", at, to));
@@ -698,9 +706,15 @@ export class Editor {
   }
 }
 
-// So that `using` closes it, where the engine has that.
+// So that `using` closes it, where the engine has that. Who drops work so is told.
 if (Symbol.dispose) {
-  Editor.prototype[Symbol.dispose] = Editor.prototype.close;
+  Editor.prototype[Symbol.dispose] = function dispose() {
+    const dropped = this._unsaved();
+    this.close();
+    if (dropped.length > 0) {
+      console.warn(`an Editor is closed, and what was not saved is dropped: ${dropped.join(", ")}`);
+    }
+  };
 }
 
 /** Lines as texts, each of which has so many lines that it is handed on quickly. */

@@ -155,10 +155,32 @@ export class Tilesets {
   }
 
   /** Adds a tileset by the path of its file from the folder of the map, last, and gives it. */
-  add(firstId, source) {
+  add(firstId, source, { renumbers = false } = {}) {
     const first = words.number(firstId, "the first id of a tileset");
-    this.#document._edit(`tileset add ${first} ${words.text(source, "the source of a tileset")}`);
+    const line = `tileset add ${first} ${words.text(source, "the source of a tileset")}`;
+    const value = renumbers ? null : this._valueAbove(first);
+    if (value !== null) {
+      const why = `a tile with the value ${value} is in use, and would be one of it: { renumbers: true } adds it all the same`;
+      const call = `tilesets.add(${first}, ${JSON.stringify(source)})`;
+      throw new Refused(37, "tileset in use", call, null, [], { isCall: true, why });
+    }
+    this.#document._edit(line);
     return new Tileset(this.#document, first);
+  }
+
+  // The least value in use that would be of a tileset with this first id; null where there is none, and where that
+  // first id is not above the others.
+  _valueAbove(first) {
+    if (this.#document._ids("tilesets").some((each) => each >= first)) {
+      return null;
+    }
+    let least = null;
+    for (const value of this.#document._valuesInUse()) {
+      if (value >= first && (least === null || value < least)) {
+        least = value;
+      }
+    }
+    return least;
   }
 
   /** What JSON has of them: the list of all. */

@@ -18,11 +18,11 @@ import threading
 from pathlib import Path
 
 from lib.cases import Case, check_each, raised, unlike
-from lib.maps import group, map_of, packed, text_of, things, tiles
+from lib.maps import group, map_of, packed, text_of, thing, things, tiles
 from lib.places import EXAMPLE_MAPS, TOP
 
 sys.path.insert(0, str(TOP / 'python'))
-from roskevad import Closed, Editor, Refused, Status, library  # noqa: E402
+from roskevad import Closed, Editor, Refused, Status, library, saving  # noqa: E402
 from roskevad.forms import FORMS  # noqa: E402
 from roskevad.library import LIBRARY  # noqa: E402
 
@@ -188,6 +188,123 @@ def test_what_a_file_leaves_out():
     with Editor() as editor:
         document = editor.open(text_of({**tree, 'layers': tree['layers'][:1]}))
         see((False, 0), ('' in document.objects, len(document.objects)))
+
+
+def test_tilesets_that_renumber():
+    """A first id that would give a used tile another meaning is refused, unless that is what is wanted; nothing is done then."""
+    flipped = 0x80000000 + 40
+    cases = {
+        'a cell': map_of(tiles(1, data=[40, 0])), 'a flipped cell in a group': map_of(group(2, tiles(1, data=[0, flipped]))),
+        'an object': map_of(things(1, thing(1, gid=flipped))), 'a packed cell': map_of(tiles(1, data=packed([40, 1]), encoding='base64')),
+    }
+
+    def fault_of(case):
+        with Editor() as editor:
+            document = editor.open(text_of(case.given))
+            refusal = raised(Refused, document.tilesets.add, 33, 'walls.tsj')
+            told = refusal.code, refusal.words, refusal.line, 'renumbers=True' in str(refusal.why), document.status.count, len(document.tilesets)
+            above = document.tilesets.add(41, 'a.tsj').first_id
+            document.undo()
+            below = document.tilesets.add(33, 'walls.tsj', renumbers=True).first_id
+            wanted = (37, 'tileset in use', "tilesets.add(33, 'walls.tsj')", True, 0, 1), 41, 33
+            # One that the editor refuses is refused by it.
+            return unlike(wanted, (told, above, below)) or unlike(38, raised(Refused, document.tilesets.add, 33, 'b.tsj').code)
+
+    check_each([Case(name, tree, None) for name, tree in cases.items()], fault_of)
+
+
+# ---- work that is not saved
+
+
+def warned_by(code):
+    """What a program warns of."""
+    env = {**os.environ, 'PYTHONPATH': str(TOP / 'python')}
+    done = subprocess.run([sys.executable, '-W', 'always', '-c', f'from roskevad import Editor\n{code}'], env=env, capture_output=True, text=True)
+    return [line.partition(': ResourceWarning: ')[2] for line in done.stderr.split('\n') if 'ResourceWarning' in line]
+
+
+def test_an_editor_that_drops_work():
+    """A `with` whose editor has unsaved documents warns of them; not where an exception ends it, nor where it is closed by a call."""
+    made_ = "  document = editor.new('a', 4, 3, 16, 16, 'a.tsj')\n  editor.new('b', 4, 3, 16, 16, 'a.tsj')\n"
+    edit = '  document.stamp(1, 0, 0, [[5]])\n'
+    told = ['an Editor is closed, and what was not saved is dropped: a']
+    rows = {
+        'an edit': (f'with Editor() as editor:\n{made_}{edit}', told),
+        'no edit': (f'with Editor() as editor:\n{made_}', []),
+        'an edit that is undone': (f'with Editor() as editor:\n{made_}{edit}  document.undo()', []),
+        'what is dropped by a call': (f'with Editor() as editor:\n{made_}{edit}  document.discard()', []),
+        'an exception': (f'with Editor() as editor:\n{made_}{edit}  raise KeyError', []),
+        'a call': (f'with Editor() as editor:\n{made_}{edit}  editor.close()', []),
+    }
+    check_each([Case(name, code, wanted) for name, (code, wanted) in rows.items()], lambda case: unlike(case.wanted, warned_by(case.given)))
+
+
+def changed_file(folder, editor):
+    """A document whose file another program has written meanwhile, and that file."""
+    path = Path(folder) / 'a.tmj'
+    path.write_bytes(text_of(map_of(tiles(1))))
+    document = editor.open('a.tmj')
+    path.write_bytes(text_of(map_of(tiles(1, name='Another'))))
+    document.stamp(1, 0, 0, [[1]])
+    return document, path
+
+
+def test_files_that_have_changed():
+    """A save refuses to write over what it has not read or saved; `force` does so."""
+    with tempfile.TemporaryDirectory() as folder, Editor(folder=folder) as editor:
+        document, path = changed_file(folder, editor)
+        other = path.read_bytes()
+        refusal = raised(Refused, document.save)
+        see((51, "save('a.tmj')", True), (refusal.code, refusal.line, 'force=True' in str(refusal.why)))
+        see((other, False, [path.name]), (path.read_bytes(), document.status.clean, os.listdir(folder)))
+        raised(Refused, document.save, path)
+        document.save('b.tmj')
+        see(51, raised(Refused, document.save, 'a.tmj').code)
+        document.save('a.tmj', force=True)
+        see(((Path(folder) / 'b.tmj').read_bytes(), True), (path.read_bytes(), document.status.clean))
+        # What was saved last is known, also by another call.
+        document.stamp(1, 0, 0, [[2]])
+        editor.save_file('a.tmj')
+        document.stamp(1, 0, 0, [[3]])
+        document.save()
+        see(document.save_bytes(), path.read_bytes())
+
+
+def test_files_that_have_not_changed():
+    """A file that is gone, one that has the bytes that are saved, and one that this document has never read are written."""
+    with tempfile.TemporaryDirectory() as folder, Editor(folder=folder) as editor:
+        document, path = changed_file(folder, editor)
+        path.unlink()
+        document.save()
+        document.stamp(1, 0, 0, [[2]])
+        path.write_bytes(document.save_bytes())
+        document.save()
+        (Path(folder) / 'c.tmj').write_text('another')
+        document.save('c.tmj')
+        see(document.save_bytes(), (Path(folder) / 'c.tmj').read_bytes())
+        # Two documents of one file: the second one has not read what the first one saves.
+        first, second = editor.open('c.tmj', 'first'), editor.open('c.tmj', 'second')
+        for at, each in enumerate((first, second)):
+            each.stamp(1, 1, 0, [[3 + at]])
+        first.save()
+        see(51, raised(Refused, second.save).code)
+
+
+def test_a_save_behind_one_that_failed():
+    """What a save has written that failed behind its rename is known, too."""
+    with tempfile.TemporaryDirectory() as folder, Editor(folder=folder) as editor:
+        document = made(editor)
+        document.save('a.tmj')
+        document.stamp(1, 0, 0, [[5]])
+        sync = saving.Saving._sync_names
+        saving.Saving._sync_names = lambda _: (_ for _ in ()).throw(OSError(5, 'a fault'))
+        try:
+            see(51, raised(Refused, document.save).code)
+        finally:
+            saving.Saving._sync_names = sync
+        document.stamp(1, 0, 0, [[6]])
+        document.save()
+        see((True, document.save_bytes()), (document.status.clean, (Path(folder) / 'a.tmj').read_bytes()))
 
 
 def test_with_a_document():

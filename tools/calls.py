@@ -34,6 +34,7 @@ GIVEN = {
 ARGUMENTS = {
     'layer': 'LayerLike', 'rows': 'Rows', 'merge': 'boolean', 'name': 'string', 'kind': 'string', 'key': 'number | string',
     'mode': 'SelectionMode', 'text': 'string', 'action': 'string | null', 'tileset': 'string', 'source': 'string', 'type': 'string | null',
+    'renumbers': 'boolean', 'force': 'boolean', 'keep_empty': 'boolean',
     'flipped_horizontally': 'boolean', 'flipped_vertically': 'boolean', 'flipped_diagonally': 'boolean', 'turned': 'boolean',
     'work': 'Work<Given>', 'value': 'number',
 }
@@ -54,7 +55,7 @@ COSTS = {
     'Layer': {'answer; once map': 'members to_json', 'answer': 'cells rows remove'},
     'Objects': {'1; by a name map': 'get has', 'answer': 'size to_json'},
     'Properties': {'answer': 'size keys to_json'},
-    'Tilesets': {'answer': 'to_json'},
+    'Tilesets': {'map': 'add', 'answer': 'to_json'},
     'Tileset': {'map': 'remove'},
     'Selection': {'answer': 'runs size'},
 }
@@ -197,7 +198,8 @@ DOCUMENT = Kind('Document', 'A map, its selection and its steps. A call makes th
          {'type': ('', 'document.stroke(async () => 0)')}, written=('with document.stroke():', 'document.stroke(work)')),
     Call('map', '', 'The whole map as its file has it, but finite, and with its cells unpacked: a copy.', 'show', 'members'),
     Call('outline', '', 'The same without the cells: a copy.', gives='members'),
-    Call('save', 'path=None', 'Writes the map to a file, or to `document.path`; it counts as saved then.', 'save FILE',
+    Call('save', 'path=None; force=False', 'Writes the map to a file, or to `document.path`; it counts as saved then. A file whose bytes are not '
+         'those that it has read or saved last is refused, unless it is to `force` them.', 'save FILE',
          raises={'value': 'document.save()', 'refused 20': 'after("begin A") and document.save("/dev/shm/none/a.tmj")',
                  'refused 51': 'document.save("/dev/null/a.tmj")'}, only='python'),
     Call('save_bytes', '', 'The map as the bytes of a file; it counts as saved then.', 'save FILE', 'bytes!',
@@ -324,9 +326,11 @@ TILESETS = Kind('Tilesets', 'The tilesets, as they are at each call. A loop goes
          types={'key': 'TilesetLike'}),
     value('first', 'Tileset?', 'The first in order; {None} where there is none.'),
     value('size', 'int', 'How many there are.', written=('len(tilesets)', 'tilesets.size')),
-    Call('add', 'first_id, source', 'Adds one, by the path of its file from the map\'s folder, and gives it; its first id is above all tiles there.',
+    Call('add', 'first_id, source; renumbers=False', 'Adds one, by the path of its file from the map\'s folder, and gives it. Its first id is '
+         'above all tiles there: where a tile in use would be one of it, it is refused, unless it `renumbers`.',
          'tileset add FIRST SOURCE', 'Tileset',
          {'type': 'document.tilesets.add("a", "a.tsj")', 'value': 'document.tilesets.add(33, "")',
+          'refused 37': 'after("stamp 1 1 0 1 9") and document.tilesets.add(9, "a.tsj")',
           'refused 38': 'document.tilesets.add(1, "a.tsj")'}),
     to_json('tilesets', 'Tilesets[]', 'What JSON has of them: the list.'),
 ])

@@ -4,6 +4,7 @@
     python3 -m roskevad [--folder DIR] [--limit N]
 """
 import argparse
+import contextlib
 import os
 import sys
 from pathlib import Path
@@ -209,7 +210,8 @@ def main() -> int:
         return 1
     for stream, errors in ((sys.stdin, 'surrogateescape'), (sys.stdout, 'backslashreplace')):
         getattr(stream, 'reconfigure')(errors=errors)
-    with Editor(limit=chosen.limit, folder=chosen.folder) as editor:
+    # What is not saved the prompt names itself.
+    with contextlib.closing(Editor(limit=chosen.limit, folder=chosen.folder)) as editor:
         complete(editor)
         return Prompt(editor).run()
 

@@ -1,11 +1,11 @@
 # SPDX-License-Identifier: MIT OR Apache-2.0
 """A document of an editor, in the words of its caller."""
 import contextlib
-import inspect
 import json
 import logging
 import os
 from dataclasses import dataclass
+from hashlib import sha256
 from pathlib import Path
 from types import TracebackType
 from typing import TYPE_CHECKING, Any, Callable, ContextManager, Iterator, NamedTuple, NoReturn, Optional, TypeVar, Union, cast
@@ -15,7 +15,7 @@ from .faults import Closed, Refused
 from .library import LAYER_ROW, LayerRow, MapSizes, SelectionRun
 from .limits import MAX_COORDINATE
 from .properties import Properties
-from .rows import Part, doubtful, parts_of, rows_of
+from .rows import BASE, Part, doubtful, parts_of, rows_of
 from .selection import Run, Selection
 from .tiled_maps import Members, drawn, note_of, restored, without_packing
 from .tilesets import Tilesets
@@ -78,7 +78,7 @@ class Document:
     """
 
     # So that a name that it has not is never set silently.
-    __slots__ = '_editor', '_name', '_is_closed', '_stroke', '_path', '_has_set_aside', '_note', '_encodings'
+    __slots__ = '_editor', '_name', '_is_closed', '_stroke', '_path', '_written', '_has_set_aside', '_note', '_encodings'
 
     def __init__(self, editor: 'Editor', name: str):
         """Editors make it: `new`, `open` and `documents` give it."""
@@ -87,6 +87,8 @@ class Document:
         self._is_closed = False
         self._stroke: Optional[_Stroke] = None
         self._path: Optional[Path] = None
+        # What was read or saved last under each path, by hashes of the bytes; and behind that what saves have begun to write since.
+        self._written: dict[str, list[bytes]] = {}
         # Whether anything of its map was set aside or unpacked when it was opened. Else the map is told and saved as the editor holds it.
         self._has_set_aside = False
         # What its map says of how it was made finite, once that was asked for.
@@ -181,6 +183,16 @@ class Document:
     def _ids(self, name: str, *words: int) -> list[int]:
         """The ids that a call of the library lists."""
         return memoryview(self._editor._copy_bytes(name, *words, unit=4) or b'').cast('I').tolist()
+
+    def _values_in_use(self) -> set[int]:
+        """The values of all cells and objects, without flags, in a turn."""
+        sizes, found = self._sizes(), set[int]()
+        for row in self._layer_rows():
+            found.update(self._editor._cells(row.id, 0, 0, sizes.width, sizes.height) or ())
+        outline = json.loads(self._editor._copied('outline', 'tilesets'))
+        for layer in drawn(outline['layers']):
+            found.update(each.get('gid', 0) for each in (layer['objects'] if layer['type'] == 'objectgroup' else ()))
+        return {value & BASE for value in found}
 
     def _status_now(self) -> Status:
         status = self._editor._status_of(self._editor._call('active'))
@@ -501,19 +513,28 @@ class Document:
         self._edit(f'resize {size} {words.coordinate(x, "x")} {words.coordinate(y, "y")}')
 
     # ---- its file
-    def save(self, path: 'Union[str, os.PathLike[str], None]' = None) -> None:
+    def save(self, path: 'Union[str, os.PathLike[str], None]' = None, force: bool = False) -> None:
         """Writes the map to a file, or to `path`, the one that it was opened from or saved to last; it counts as saved then. The
         file is the old or the new one, whole, whatever falls in between. Raises ValueError where there is no such file, and none
-        is named; Refused: 20 while a macro is open, 51 where it cannot be written."""
+        is named; Refused: 20 while a macro is open, 51 where it cannot be written, or where the file that is there has other bytes
+        than those that this document has read from it or saved to it last; with `force` it replaces them."""
         if path is None and self._path is None:
             raise ValueError(f'{self._name} has no file yet: save(path) names it')
-        self._save(Path(path or self._path or ''))
+        self._save(Path(path or self._path or ''), force)
 
-    def _save(self, path: Path) -> None:
-        # What it does in a turn, since one has begun.
-        save = cast(Callable[..., str], inspect.unwrap(self._editor.save_file))
+    def _note_written(self, path: Path, data: bytes, is_begun: bool = False) -> None:
+        """Notes what was read or saved under a path, or what a save has begun to write there."""
+        noted = self._written.setdefault(os.path.abspath(path), [])
+        noted[:] = [*(noted if is_begun else ()), sha256(data).digest()]
+
+    def _knows(self, path: Path, data: Optional[bytes]) -> bool:
+        """Whether the bytes under a path are known, or none were ever read from there or saved to it."""
+        noted = self._written.get(os.path.abspath(path))
+        return noted is None or data is not None and sha256(data).digest() in noted
+
+    def _save(self, path: Path, force: bool) -> None:
         try:
-            self._do(lambda: save(self._editor, path))
+            self._do(lambda: self._editor._saved_file(path, 'save', is_careful=not force))
         except Refused as refusal:
             raise refusal._of(f'save({os.fspath(path)!r})') from refusal.__cause__
         self._path = path

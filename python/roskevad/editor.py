@@ -10,8 +10,10 @@ import os
 import re
 import stat
 import threading
+import warnings
 from array import array
 from pathlib import Path
+from types import TracebackType
 from typing import TYPE_CHECKING, Any, Callable, ContextManager, Iterable, Iterator, NoReturn, Optional, Protocol, TypeVar, Union, cast
 
 from . import library, words
@@ -150,8 +152,20 @@ class Editor:
     def __enter__(self) -> 'Editor':
         return self
 
-    def __exit__(self, *_: object) -> None:
+    def __exit__(
+        self, kind: Optional[type[BaseException]] = None, fault: Optional[BaseException] = None, trace: Optional[TracebackType] = None
+    ) -> None:
+        """Closes it, and warns by ResourceWarning of documents that are not saved; not behind an exception, where they are dropped."""
+        dropped = self._unsaved_if_open() if fault is None else []
         self.close()
+        if dropped:
+            told = f'an Editor is closed, and what was not saved is dropped: {", ".join(dropped)}'
+            warnings.warn(told, ResourceWarning, stacklevel=2)
+
+    def _unsaved_if_open(self) -> list[str]:
+        with contextlib.suppress(Closed):
+            return self.unsaved()
+        return []
 
     def close(self) -> None:
         """Gives back its memory. Twice is harmless, and so it is in a fork of its process."""
@@ -436,7 +450,11 @@ class Editor:
         data, fault = _read(self.folder / path)
         document = document_name(path) if name is None else name
         try:
-            return self._open(document, None, call) if data is None else self._open_any(document, data, call)
+            if data is None:
+                return self._open(document, None, call)
+            reply = self._open_any(document, data, call)
+            self._handle(document)._note_written(self.folder / path, data)
+            return reply
         except Refused as refusal:
             if fault is not None and refusal.code == 50:
                 raise _failed(call) from fault
@@ -448,10 +466,24 @@ class Editor:
         then. What was set aside is put back, if no edit has changed it. A file that has these bytes stays as it is. Raises
         Refused: 51 where it cannot be written, and the clean index stays. Where an exception falls in between, as that of
         Ctrl+C, the file is the old or the new one, and the index is the clean one if it is the new one."""
-        call = f'save_file({os.fspath(path)!r})'
+        return self._saved_file(path, f'save_file({os.fspath(path)!r})')
+
+    def _saved_file(self, path: Union[str, 'os.PathLike[str]'], call: str, is_careful: bool = False) -> str:
+        """The same, in a turn, of a call. One that is careful replaces nothing that the document has not read or saved."""
         self._refuse_save(call)
-        data = self._whole(self._shown(call), call)
-        saving = self._unsettled = Saving(self.folder / path, data, self._mark_clean, not self._has_failed)
+        data, place = self._whole(self._shown(call), call), self.folder / path
+        document = self._handle(self._active_name())
+
+        def see(is_locked: bool) -> None:
+            if is_careful:
+                _refuse_unknown(document, place, data, call)
+            document._note_written(place, data, is_begun=True)
+
+        def mark() -> None:
+            self._mark_clean()
+            document._note_written(place, data)
+
+        saving = self._unsettled = Saving(place, data, mark, not self._has_failed, see)
         try:
             saving.write()
         except OSError as fault:
@@ -466,7 +498,7 @@ class Editor:
         if saving.fault is not None:
             self._has_failed = True
             raise _failed(call) from saving.fault
-        return f'saved {(self.folder / path).name} {len(data)}'
+        return f'saved {place.name} {len(data)}'
 
     def _refuse_save(self, call: str) -> None:
         """Raises what a `save` would be refused with before it writes."""
@@ -769,6 +801,15 @@ class _ActiveDocument:
             line = f'use {self._document}'
             self._editor._reply_to(line, line)
             self._editor._active_handle = self._editor._handles.get(self._document)
+
+
+def _refuse_unknown(document: Document, path: Path, data: bytes, call: str) -> None:
+    """Refuses a save of these bytes where the file that is there has others, which the document has not read from it or saved to it last."""
+    there, fault = _read(path)
+    is_there = there is not None or fault is not None and path.is_file()
+    if is_there and there != data and not document._knows(path, there):
+        why = f'{path.name} has other bytes than those that were read or saved last: save(.., force=True) replaces them'
+        raise Refused(51, 'store failed', call, forms=(), why=why)
 
 
 def _failed(call: str) -> Refused:

@@ -155,13 +155,30 @@ class Tilesets:
         """Whether there is a tileset with a first id, a source or a name."""
         return self._document._do(lambda: self._found(key)) is not None
 
-    def add(self, first_id: int, source: str) -> Tileset:
+    def add(self, first_id: int, source: str, renumbers: bool = False) -> Tileset:
         """Adds a tileset by the path of its file from the folder of the map, last, and gives it. Its first id must be above those of
-        all tiles there: the greatest first id plus the number of tiles of that tileset. Raises TypeError, ValueError; Refused: 38
-        where it is not above the other first ids."""
+        all tiles there: the greatest first id plus the number of tiles of that tileset. Raises TypeError, ValueError; Refused: 37
+        where a tile in use would be one of it, unless it `renumbers`, 38 where it is not above the other first ids."""
         first = words.number(first_id, 'the first id of a tileset')
-        self._document._edit(f'tileset add {first} {words.text(source, "the source of a tileset")}')
+        line = f'tileset add {first} {words.text(source, "the source of a tileset")}'
+
+        def work() -> None:
+            value = None if renumbers else self._value_above(first)
+            if value is not None:
+                why = f'a tile with the value {value} is in use, and would be one of it: renumbers=True adds it all the same'
+                raise Refused(37, 'tileset in use', f'tilesets.add({first}, {source!r})', forms=(), why=why)
+            self._document._say(line)
+
+        self._document._do(work)
         return Tileset(self._document, first)
+
+    def _value_above(self, first: int) -> Optional[int]:
+        """The least value in use that would be of a tileset with this first id, in a turn. None where there is none, and where that first
+        id is not above the others."""
+        document = self._document
+        if first <= max(document._ids('tilesets'), default=0):
+            return None
+        return min((value for value in document._values_in_use() if value >= first), default=None)
 
     def __repr__(self) -> str:
         return f'<Tilesets of {self._document.name!r}>'

@@ -210,6 +210,49 @@ async function propertiesAsObjects() {
   editor.close();
 }
 
+// A first id that would give a used tile another meaning is refused, unless that is what is wanted.
+async function tilesetsThatRenumber() {
+  const editor = await Editor.create();
+  const tree = editor.new("made", 2, 1, 16, 16, "town.tsj").map();
+  const things = { id: 2, name: "", objects: [{ gid: 2147483688, id: 1, x: 0, y: 0 }], type: "objectgroup", visible: true };
+  const group = { id: 3, layers: [{ ...tree.layers[0], data: [0, 2147483688], id: 4 }], name: "", type: "group", visible: true };
+  for (const layer of [{ ...tree.layers[0], data: [40, 0] }, group, things]) {
+    const document = await editor.open(JSON.stringify({ ...tree, layers: [layer], nextlayerid: 9, nextobjectid: 9 }));
+    const refusal = thrown(Refused, () => document.tilesets.add(33, "walls.tsj"));
+    same([refusal.code, refusal.words, refusal.line], [37, "tileset in use", 'tilesets.add(33, "walls.tsj")']);
+    same([refusal.why.includes("renumbers: true"), document.status.count, document.tilesets.size], [true, 0, 1]);
+    same(document.tilesets.add(41, "a.tsj").firstId, 41);
+    document.undo();
+    same(document.tilesets.add(33, "walls.tsj", { renumbers: true }).firstId, 33);
+    same(thrown(Refused, () => document.tilesets.add(33, "b.tsj")).code, 38);
+  }
+  editor.close();
+}
+
+// `using` tells of work that it drops, where the engine has that.
+async function disposedEditors() {
+  if (!Symbol.dispose) {
+    return;
+  }
+  const told = [];
+  const { warn } = console;
+  console.warn = (text) => told.push(text);
+  try {
+    for (const isEdited of [true, false]) {
+      const editor = await Editor.create();
+      const document = editor.new("a", 4, 3, 16, 16, "a.tsj");
+      editor.new("b", 4, 3, 16, 16, "a.tsj");
+      document.stroke(() => isEdited && document.stamp(1, 0, 0, [[5]]));
+      editor[Symbol.dispose]();
+      editor[Symbol.dispose]();
+      thrown(Closed, () => document.status);
+    }
+  } finally {
+    console.warn = warn;
+  }
+  same(told, ["an Editor is closed, and what was not saved is dropped: a"]);
+}
+
 // What has no such name, or is only read, is never set silently.
 async function namesThatAreNotThere() {
   const editor = await Editor.create();
@@ -422,6 +465,7 @@ async function readThings() {
 
 export const DOCUMENT_CHECKS = [
   drawnDocuments, worksThatGoOnLater, savedDocuments, propertiesOfOtherTypes, points, whatAFileLeavesOut,
-  callsThatRefusalsName, textsInJSON, propertiesAsObjects, namesThatAreNotThere, loopsOfStamps, loopsOfObjects,
+  callsThatRefusalsName, textsInJSON, propertiesAsObjects, tilesetsThatRenumber, disposedEditors, namesThatAreNotThere,
+  loopsOfStamps, loopsOfObjects,
   textsOfDocuments, thingsAndIds, groupsAndRemovals, readThings,
 ];
