@@ -160,10 +160,12 @@ export class Document {
    */
   limit(count: number): void;
   /**
-   * Makes one step of the edits in it, also of none; where they fail, it is undone. Throws
-   * TypeError, RangeError, Refused (24).
+   * Makes one step of the edits in it; where they fail, it is undone. Without an edit it is a step
+   * only where it is to `keepEmpty`. Throws TypeError, RangeError, Refused (24).
    */
-  macro<Given>(text: string, work: Work<Given>, options?: { action?: string | null }): Given;
+  macro<Given>(
+    text: string, work: Work<Given>, options?: { action?: string | null; keepEmpty?: boolean },
+  ): Given;
   /** Merges the stamps and erases in it, as those of a brush. Throws TypeError. */
   stroke<Given>(work: Work<Given>): Given;
   /** The whole map as its file has it, but finite, and with its cells unpacked: a copy. */
@@ -245,6 +247,11 @@ export class Layer {
    * 32).
    */
   rows(x?: number, y?: number, width?: number | null, height?: number | null): number[][];
+  /**
+   * Writes rows of values from a cell on, as `stamp` does, but zeros too, which empty their cells.
+   * Throws TypeError, RangeError, Refused (31, 33).
+   */
+  write(x: number, y: number, rows: Rows): void;
   /**
    * The tile of a cell; null where the cell is empty. Throws TypeError, RangeError, Refused (31,
    * 32).

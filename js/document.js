@@ -1,7 +1,7 @@
 // SPDX-License-Identifier: MIT OR Apache-2.0
 // A document of an editor, in the words of its caller.
 import { Closed, Refused } from "./faults.js";
-import { MAX_COORDINATE } from "./limits.js";
+import { MAX_COORDINATE, MAX_OPEN_MACROS } from "./limits.js";
 import { Properties } from "./properties.js";
 import { BASE, doubtful, partsOf, rowsOf } from "./rows.js";
 import { Selection } from "./selection.js";
@@ -30,6 +30,8 @@ export class Document {
   #editor;
   #name;
   #isClosed = false;
+  // The texts of open macros that wait for their first edit: those around them have begun.
+  #begins = [];
   // The stroke that is under way, with whether one of its paints has made a step.
   #stroke = null;
   // Whether anything of its map was set aside or unpacked when it was opened. Else the map is told and saved as the
@@ -74,6 +76,7 @@ export class Document {
 
   _markClosed() {
     this.#isClosed = true;
+    this._wait([]);
   }
 
   // The reply to a line.
@@ -264,6 +267,11 @@ export class Document {
   // ---- its steps
 
   get status() {
+    const status = this._statusNow;
+    return Object.freeze({ ...status, depth: status.depth + this.#begins.length });
+  }
+
+  get _statusNow() {
     return this.#editor._statusOf(this._number("active"));
   }
 
@@ -292,19 +300,28 @@ export class Document {
   }
 
   undo() {
-    this._edit("undo");
+    this._turn("undo");
   }
 
   redo() {
-    this._edit("redo");
+    this._turn("redo");
   }
 
   goto(index) {
-    this._edit(`goto ${words.number(index, "an index")}`);
+    this._turn(`goto ${words.number(index, "an index")}`);
   }
 
   markClean() {
-    this._edit("clean");
+    this._turn("clean");
+  }
+
+  // Says a line that is refused while a macro is open, also one that waits for its first edit.
+  _turn(line) {
+    this._enter();
+    if (this.#begins.length > 0) {
+      throw new Refused(20, "macro open", line);
+    }
+    this._say(line);
   }
 
   markDirty() {
@@ -319,11 +336,10 @@ export class Document {
     this._edit(`limit ${words.number(count, "a limit")}`);
   }
 
-  macro(text, work, { action = null } = {}) {
+  macro(text, work, { action = null, keepEmpty = false } = {}) {
     const said = words.macro(text, action);
     refuseAsync(work);
-    const depth = this.status.depth + 1;
-    this._edit(`begin ${said}`);
+    const depth = this._openMacro(said, keepEmpty);
     return around(
       work,
       this,
@@ -332,13 +348,66 @@ export class Document {
     );
   }
 
-  // Ends the macro of a depth, with those in it that lines have left open, unless lines have ended it.
+  // The depth of a macro that is opened. It waits for its first edit, unless it is kept without one.
+  _openMacro(said, isKept) {
+    const { depth } = this.status;
+    if (depth >= MAX_OPEN_MACROS) {
+      throw new Refused(24, "too deep", `begin ${said}`);
+    }
+    this._wait([...this.#begins, said]);
+    if (isKept) {
+      this._beginNow();
+    }
+    return depth + 1;
+  }
+
+  // Has macros with these texts wait for their first edit, and no others.
+  _wait(begins) {
+    this.#begins = begins;
+    if (begins.length > 0) {
+      this.#editor._waiting.add(this);
+    } else {
+      this.#editor._waiting.delete(this);
+    }
+  }
+
+  // Begins the macros that wait. Where one is refused, it waits on, with those in it.
+  _beginNow() {
+    const begins = [...this.#begins];
+    this._wait([]);
+    try {
+      while (begins.length > 0) {
+        this._say(`begin ${begins[0]}`);
+        begins.shift();
+      }
+    } finally {
+      this._wait(begins);
+    }
+  }
+
+  // Does work that paints: where it changes nothing, macros wait on for their first edit.
+  _beginningIf(changes, work) {
+    const begins = this.#begins;
+    if (begins.length === 0 || changes()) {
+      return work();
+    }
+    this._wait([]);
+    try {
+      return work();
+    } finally {
+      this._wait(begins);
+    }
+  }
+
+  // Ends the macro of a depth, with those in it that lines have left open, unless lines have ended it. One that waits
+  // is none.
   _end(depth, isUndone) {
-    const isOpen = this.status.depth >= depth;
-    while (this.status.depth >= depth) {
+    const begun = this._statusNow.depth;
+    this._wait(this.#begins.slice(0, Math.max(depth - 1 - begun, 0)));
+    while (this._statusNow.depth >= depth) {
       this._say("end");
     }
-    if (isOpen && isUndone) {
+    if (begun >= depth && isUndone) {
       this._say("undo");
     }
   }
@@ -362,14 +431,14 @@ export class Document {
     words.coordinate(top + parts[parts.length - 1].first, "y of the last rows");
     const [width, height] = [listed[0].length, listed.length];
     const area = { layer: this._idOf(layer), left, top, width, height };
-    if (parts.length === 1) {
-      this._paint("stamp", area, ` ${parts[0].values}`, merge, this.#stroke);
-    } else {
-      this._stampParts(area, parts, listed, merge);
-    }
+    this._beginningIf(() => this._changes(area, listed), () => this._stampParts(area, parts, listed, merge));
   }
 
   _stampParts(area, parts, rows, merge) {
+    if (parts.length === 1) {
+      this._paint("stamp", area, ` ${parts[0].values}`, merge, this.#stroke);
+      return;
+    }
     // A value that is refused is refused before the first part.
     this._say(`stamp ${area.layer} ${NOWHERE} 1 ${doubtful(rows)}`);
     const stroke = this.#stroke ?? { hasStep: false };
@@ -386,6 +455,71 @@ export class Document {
     }
   }
 
+  // The new values of the selected cells that rows would change, zeros too, or an erase, where there are none; null where
+  // it is no tile layer.
+  _differences(area, rows) {
+    const inside = this._onMap(area);
+    const [, x, y, width, height] = inside;
+    const cells = this.#editor.cells(...inside);
+    if (cells === null) {
+      return null;
+    }
+    const selection = this.selection;
+    const isFree = selection.runs.length === 0;
+    const news = new Set();
+    for (const [at, old] of cells.entries()) {
+      const [column, row] = [x + (at % width), y + Math.floor(at / width)];
+      const value = rows === null ? 0 : rows[row - area.top][column - area.left];
+      if (value !== old && (isFree || selection.has(column, row))) {
+        news.add(value);
+      }
+    }
+    return news;
+  }
+
+  // Whether a stamp of rows, or an erase, changes a cell, or is refused.
+  _changes(area, rows) {
+    const news = this._differences(area, rows);
+    return news === null || [...news].some((value) => value !== 0 || rows === null);
+  }
+
+  // Writes rows of values into a tile layer, zeros too.
+  _write(layer, x, y, rows) {
+    const listed = rowsOf(rows);
+    const [left, top] = [words.coordinate(x, "x"), words.coordinate(y, "y")];
+    words.coordinate(top + listed.length, "y of the last rows");
+    const outer = this.#stroke;
+    this.#stroke = null;
+    try {
+      this._writeNow({ layer: layer.id, left, top, width: listed[0].length, height: listed.length }, listed);
+    } finally {
+      this.#stroke = outer;
+      if (outer !== null) {
+        outer.hasStep = false;
+      }
+    }
+  }
+
+  _writeNow(area, rows) {
+    // A value that is refused is refused before anything is done, and so is a layer; no macro begins for that.
+    this._beginningIf(() => false, () => this._say(`stamp ${area.layer} ${NOWHERE} 1 ${doubtful(rows)}`));
+    const news = this._differences(area, rows) ?? new Set();
+    const [stamp, erase] = [
+      () => this._stampParts(area, [...partsOf(rows)], rows, false),
+      () => this._paint("erase", area, "", false, null),
+    ];
+    if (news.size === 0) {
+      return;
+    }
+    if (!news.has(0)) {
+      stamp();
+    } else if (rows.every((row) => row.every((value) => value === 0))) {
+      erase();
+    } else {
+      this.macro("Write", () => [erase(), stamp()], { action: "write tiles", keepEmpty: true });
+    }
+  }
+
   // Says a stamp, with its values, or an erase.
   _paint(word, area, values, merge, stroke) {
     const { layer, left, top, width, height } = area;
@@ -393,10 +527,10 @@ export class Document {
     if (stroke === null || merge) {
       this._say(`${word}${merge ? "+" : ""} ${rest}`);
     } else if (stroke.hasStep) {
-      const { index } = this.status;
+      const { index } = this._statusNow;
       this._say(`${word}+ ${rest}`);
       // Where paints have taken each other back, their step is gone.
-      stroke.hasStep = this.status.index >= index;
+      stroke.hasStep = this._statusNow.index >= index;
     } else {
       const inside = this._onMap(area);
       const before = this.#editor.cells(...inside);
@@ -409,7 +543,7 @@ export class Document {
   // A rectangle of cells as far as it is on the map: its layer, its corner and its size.
   _onMap({ layer, left, top, width, height }) {
     const sizes = this._sizes;
-    const [x, y] = [Math.max(left, 0), Math.max(top, 0)];
+    const [x, y] = [Math.min(Math.max(left, 0), sizes.width), Math.min(Math.max(top, 0), sizes.height)];
     const right = Math.min(left + width, sizes.width);
     const bottom = Math.min(top + height, sizes.height);
     return [layer, x, y, Math.max(right - x, 0), Math.max(bottom - y, 0)];
@@ -418,12 +552,18 @@ export class Document {
   erase(layer, x, y, width, height, { merge = false } = {}) {
     const [left, top] = [words.coordinate(x, "x"), words.coordinate(y, "y")];
     const size = { width: words.number(width, "a width"), height: words.number(height, "a height") };
-    this._paint("erase", { layer: this._idOf(layer), left, top, ...size }, "", merge, this.#stroke);
+    const area = { layer: this._idOf(layer), left, top, ...size };
+    this._beginningIf(() => this._changes(area, null), () => this._paint("erase", area, "", merge, this.#stroke));
   }
 
   fill(layer, x, y, value) {
-    const where = `${words.coordinate(x, "x")} ${words.coordinate(y, "y")}`;
-    this._edit(`fill ${this._idOf(layer)} ${where} ${words.number(value, "the value of a cell")}`);
+    const [left, top] = [words.coordinate(x, "x"), words.coordinate(y, "y")];
+    const said = words.number(value, "the value of a cell");
+    const id = this._idOf(layer);
+    this._beginningIf(
+      () => this.#editor.cells(id, left, top, 1, 1)?.[0] !== said,
+      () => this._edit(`fill ${id} ${left} ${top} ${said}`),
+    );
   }
 
   // The id of a layer, of its id, or of the first one of a name.

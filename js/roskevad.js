@@ -35,6 +35,9 @@ const STORE_FAILED = 51;
 const LONGEST_REFUSAL = 200;
 // Lines that may make another document active.
 const ACTIVATION = /^(?:use|new|open|close|discard) /;
+// A line that is an edit, or begins or ends a macro; and one that is refused while a macro is open.
+const EDIT = /^(?:stamp|erase|fill|select|layer|resize|object|prop|tileset|begin|end)\+?(?: |$)/;
+const NOT_IN_MACROS = /^(?:undo|redo|goto|clean|save)(?: |$)/;
 // A line that closes a document, and one that has no reply.
 const CLOSING = /^(?:close|discard) ([A-Za-z0-9_.-]+)$/;
 const QUIET = /^(?: *$|#)/;
@@ -62,6 +65,8 @@ export class Editor {
   #activeHandle = null;
   // The names of those that are being opened.
   #opening = new Set();
+  // The documents that have macros which wait for their first edit.
+  #waiting = new Set();
   // About how many bytes an outline has: as many as the last one, or as the file that was opened.
   #outlineSize = 0;
   // The library's own handle; 0 where the editor is closed.
@@ -106,6 +111,11 @@ export class Editor {
   // What documents need of it.
   get _module() {
     return this.#module;
+  }
+
+  // The documents that have macros which wait for their first edit.
+  get _waiting() {
+    return this.#waiting;
   }
 
   // Whether a document is known to be the active one.
@@ -205,6 +215,7 @@ export class Editor {
    */
   runBytes(session) {
     const parts = [];
+    this._beginMacros();
     this.#activeHandle = null;
     this._run(session, false, (bytes) => parts.push(bytes.slice()));
     const all = joined(parts);
@@ -321,6 +332,9 @@ export class Editor {
   }
 
   async _saved(call) {
+    if (this._waits()) {
+      throw refusedCall(20, "macro open", call);
+    }
     const shown = this._replyTo("show", call).slice(MAP.length);
     const hasSetAside = this._isSetAside();
     const bytes = hasSetAside ? this._made("put_back", shown, call) : shown;
@@ -339,6 +353,9 @@ export class Editor {
 
   // The reply to a line that a call says. Throws Refused with the call.
   _replyTo(line, call) {
+    if (NOT_IN_MACROS.test(line) && this._waits()) {
+      throw refusedCall(20, "macro open", call);
+    }
     const reply = this.stepBytes(line);
     const refusal = REFUSAL.exec(textOf(reply.subarray(0, LONGEST_REFUSAL)));
     if (refusal) {
@@ -647,10 +664,24 @@ export class Editor {
     return this.#handles.get(name);
   }
 
-  // Notes that a line may make another document active, before it is done.
+  // Notes that a line may make another document active, or is an edit that a macro waits for, before it is done.
   _noteActivation(line) {
     if (this.#handles.size > 0 && ACTIVATION.test(line)) {
       this.#activeHandle = null;
+    } else if (this.#waiting.size > 0 && (EDIT.test(line) || NOT_IN_MACROS.test(line))) {
+      this._beginMacros();
+    }
+  }
+
+  // Whether the active document has macros that wait for their first edit.
+  _waits() {
+    return this.#waiting.size > 0 && this.#waiting.has(this.#handles.get(this._activeName()));
+  }
+
+  // Begins the macros of the active document that wait for their first edit.
+  _beginMacros() {
+    if (this._waits()) {
+      this.#handles.get(this._activeName())._beginNow();
     }
   }
 

@@ -317,6 +317,10 @@ export class Layer extends View {
     ]);
   }
 
+  write(x, y, rows) {
+    this.document._write(this, x, y, rows);
+  }
+
   tile(x, y) {
     const [value] = this.document._cellsOf(this, x, y, 1, 1).cells;
     return value === 0 ? null : tileOf(this.document, value);

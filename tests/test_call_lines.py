@@ -104,6 +104,68 @@ SCENARIOS = [
              'try { document.macro("A", () => { document.discard(); document.undo(); }); } catch (fault) {'
              ' if (!(fault instanceof roskevad.Closed)) throw fault; }',
              ['discard town']),
+    Scenario('a macro without an edit', 'document.undo()\nwith document.macro("A"), document.macro("B"):\n  assert document.status.depth == 2\n'
+             '  document.layers["Things"].name, document.steps, editor.step("status")\nassert document.status.depth == 0',
+             'document.undo(); document.macro("A", () => document.macro("B", () => { document.layers.get("Things").name; document.steps;'
+             ' if (document.status.depth !== 2) throw new Error("depth"); editor.step("status"); }))',
+             ['undo'], [('document.redo_text', 'document.redoText', 'stamp tiles')]),
+    Scenario('a macro without an edit that fails', 'document.undo()\ntry:\n  with document.macro("A"):\n    document.layers["none"]\n'
+             'except KeyError:\n  pass',
+             'document.undo(); try { document.macro("A", () => document.layers.get("none")); } catch {}', ['undo']),
+    Scenario('a macro that is kept without an edit', 'with document.macro("A", action="do nothing", keep_empty=True):\n  pass',
+             'document.macro("A", () => 0, { action: "do nothing", keepEmpty: true })', ['begin A || do nothing', 'end']),
+    Scenario('macros that begin with an edit in one of them', 'with document.macro("A"):\n  with document.macro("B"):\n    pass\n'
+             '  with document.macro("C"):\n    document.layers[1].name = "Ground"\n  with document.macro("D"):\n    pass',
+             'document.macro("A", () => { document.macro("B", () => 0); document.macro("C", () => { document.layers.get(1).name = "Ground"; });'
+             ' document.macro("D", () => 0); })',
+             ['begin A', 'begin C', 'layer rename 1 Ground', 'end', 'end']),
+    Scenario('an empty macro around one that is kept', 'with document.macro("A"):\n  with document.macro("B", keep_empty=True):\n    pass',
+             'document.macro("A", () => document.macro("B", () => 0, { keepEmpty: true }))', ['begin A', 'begin B', 'end', 'end']),
+    Scenario('a macro of lines', 'with document.macro("A"):\n  editor.step("stamp 1 0 0 1 5")\nwith document.macro("B"):\n'
+             '  editor.step_bytes(b"stamp 1 1 0 1 5")\nwith document.macro("C"):\n  editor.run_lines(["status", "erase 1 0 0 1 1"])',
+             'document.macro("A", () => editor.step("stamp 1 0 0 1 5")); document.macro("B", () => editor.stepBytes("stamp 1 1 0 1 5"));'
+             'document.macro("C", () => editor.runLines(["status", "erase 1 0 0 1 1"]))',
+             ['begin A', 'stamp 1 0 0 1 5', 'end', 'begin B', 'stamp 1 1 0 1 5', 'end', 'begin C', 'erase 1 0 0 1 1', 'end']),
+    Scenario('a macro of paints that change nothing', 'with document.macro("A"):\n  document.stamp(1, 0, 0, [[1, 0], [0, 0]])\n'
+             '  document.stamp(1, 9, 9, [[5]])\n  document.erase(1, 1, 1, 9, 9)\n  document.fill(1, 0, 0, 1)\n'
+             '  document.layers[1].write(0, 0, [[1, 0], [0, 0]])',
+             'document.macro("A", () => { document.stamp(1, 0, 0, [[1, 0], [0, 0]]); document.stamp(1, 9, 9, [[5]]); document.erase(1, 1, 1, 9, 9);'
+             ' document.fill(1, 0, 0, 1); document.layers.get(1).write(0, 0, [[1, 0], [0, 0]]); })',
+             ['stamp 1 0 0 2 1,0,0,0']),
+    Scenario('paints outside the selection', 'document.select(3, 2, 1, 1)\nwith document.macro("A"):\n  document.stamp(1, 0, 0, [[5]])\n'
+             '  document.erase(1, 0, 0, 1, 1)\nwith document.macro("B"):\n  document.stamp(1, 0, 0, [[5] * 4] * 3)',
+             'document.select(3, 2, 1, 1); document.macro("A", () => { document.stamp(1, 0, 0, [[5]]); document.erase(1, 0, 0, 1, 1); });'
+             'document.macro("B", () => document.stamp(1, 0, 0, Array(3).fill([5, 5, 5, 5])))',
+             ['select replace 3 2 1 1', 'begin B', 'stamp 1 0 0 4 5,5,5,5,5,5,5,5,5,5,5,5', 'end']),
+    Scenario('what is refused in a macro before its first edit', 'document.undo()\ncodes = []\nwith document.macro("A"):\n'
+             '  for call in (document.undo, document.redo, document.mark_clean, document.save_bytes, lambda: document.goto(0)):\n'
+             '    try:\n      call()\n    except roskevad.Refused as refusal:\n      codes.append(refusal.code)\nassert codes == [20] * 5, codes',
+             'document.undo(); const codes = []; const later = [];'
+             'document.macro("A", () => { for (const call of [() => document.undo(), () => document.redo(), () => document.markClean(),'
+             ' () => document.goto(0)]) { try { call(); } catch (fault) { codes.push(fault.code); } }'
+             ' later.push(document.saveBytes()); }); codes.push((await later[0].catch((fault) => fault)).code);'
+             'if (String(codes) !== "20,20,20,20,20") throw new Error(codes)',
+             ['undo']),
+    Scenario('macros of two documents', 'other = editor.new("b", 2, 2, 8, 8, "b.tsj")\nwith document.macro("A"), other.macro("B"):\n'
+             '  other.stamp(1, 0, 0, [[5]])\ndocument.stamp(1, 0, 0, [[5]])',
+             'const other = editor.new("b", 2, 2, 8, 8, "b.tsj"); document.macro("A", () => other.macro("B", () => other.stamp(1, 0, 0, [[5]])));'
+             'document.stamp(1, 0, 0, [[5]])',
+             ['new b 2 2 8 8 b.tsj', 'begin B', 'stamp 1 0 0 1 5', 'end', 'use town', 'stamp 1 0 0 1 5']),
+    # ---- writing zeros
+    Scenario('rows over empty cells', 'document.layers[1].write(0, 0, [[5, 0], [0, 6]])', 'document.layers.get(1).write(0, 0, [[5, 0], [0, 6]])',
+             ['stamp 1 0 0 2 5,0,0,6']),
+    Scenario('rows that empty cells', 'document.layers[1].write(-1, 0, [[7, 0, 7], [0, 6, 0]])\ndocument.undo()\ndocument.redo()',
+             'document.layers.get(1).write(-1, 0, [[7, 0, 7], [0, 6, 0]]); document.undo(); document.redo()',
+             ['begin Write || write tiles', 'erase 1 -1 0 3 2', 'stamp 1 -1 0 3 7,0,7,0,6,0', 'end'],
+             [('document.layers[1].rows(0, 0, 2, 2)', 'document.layers.get(1).rows(0, 0, 2, 2)', [[0, 7], [6, 0]])]),
+    Scenario('rows of zeros', 'document.layers[1].write(0, 0, [[0, 0]])', 'document.layers.get(1).write(0, 0, [[0, 0]])', ['erase 1 0 0 2 1']),
+    Scenario('rows that are there', 'document.layers[1].write(0, 0, [[1, 0]])', 'document.layers.get(1).write(0, 0, [[1, 0]])', []),
+    Scenario('rows in a macro and in a stroke', 'with document.macro("A"):\n  document.layers[1].write(0, 0, [[0, 5]])\nwith document.stroke():\n'
+             '  document.stamp(1, 0, 1, [[5]])\n  document.layers[1].write(1, 1, [[6]])\n  document.stamp(1, 2, 1, [[7]])',
+             'document.macro("A", () => document.layers.get(1).write(0, 0, [[0, 5]])); document.stroke(() => { document.stamp(1, 0, 1, [[5]]);'
+             ' document.layers.get(1).write(1, 1, [[6]]); document.stamp(1, 2, 1, [[7]]); })',
+             ['begin A', 'begin Write || write tiles', 'erase 1 0 0 2 1', 'stamp 1 0 0 2 0,5', 'end', 'end', 'stamp 1 0 1 1 5', 'stamp 1 1 1 1 6',
+              'stamp 1 2 1 1 7']),
     # ---- strokes
     Scenario('a stroke', 'with document.stroke():\n  document.stamp(1, 0, 0, [[1]])\n  document.stamp(1, 1, 0, [[5]])\n  document.stamp(1, 2, 0, [[5]])',
              'document.stroke(() => { document.stamp(1, 0, 0, [[1]]); document.stamp(1, 1, 0, [[5]]); document.stamp(1, 2, 0, [[5]]); })',

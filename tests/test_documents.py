@@ -18,7 +18,7 @@ import threading
 from pathlib import Path
 
 from lib.cases import Case, check_each, raised, unlike
-from lib.maps import group, map_of, packed, text_of, thing, things, tiles
+from lib.maps import group, map_of, packed, text_of, things, tiles
 from lib.places import EXAMPLE_MAPS, TOP
 
 sys.path.insert(0, str(TOP / 'python'))
@@ -195,7 +195,7 @@ def test_tilesets_that_renumber():
     flipped = 0x80000000 + 40
     cases = {
         'a cell': map_of(tiles(1, data=[40, 0])), 'a flipped cell in a group': map_of(group(2, tiles(1, data=[0, flipped]))),
-        'an object': map_of(things(1, thing(1, gid=flipped))), 'a packed cell': map_of(tiles(1, data=packed([40, 1]), encoding='base64')),
+        'an object': map_of(things(1, {'id': 1, 'x': 0, 'y': 0, 'gid': flipped})), 'a packed cell': map_of(tiles(1, data=packed([40, 1]), encoding='base64')),
     }
 
     def fault_of(case):

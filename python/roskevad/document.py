@@ -4,16 +4,16 @@ import contextlib
 import json
 import logging
 import os
-from dataclasses import dataclass
+from dataclasses import dataclass, replace
 from hashlib import sha256
 from pathlib import Path
 from types import TracebackType
-from typing import TYPE_CHECKING, Any, Callable, ContextManager, Iterator, NamedTuple, NoReturn, Optional, TypeVar, Union, cast
+from typing import TYPE_CHECKING, Any, Callable, ContextManager, Iterator, NamedTuple, NoReturn, Optional, TypeVar, Union
 
 from . import words
 from .faults import Closed, Refused
 from .library import LAYER_ROW, LayerRow, MapSizes, SelectionRun
-from .limits import MAX_COORDINATE
+from .limits import MAX_COORDINATE, MAX_OPEN_MACROS
 from .properties import Properties
 from .rows import BASE, Part, doubtful, parts_of, rows_of
 from .selection import Run, Selection
@@ -78,7 +78,7 @@ class Document:
     """
 
     # So that a name that it has not is never set silently.
-    __slots__ = '_editor', '_name', '_is_closed', '_stroke', '_path', '_written', '_has_set_aside', '_note', '_encodings'
+    __slots__ = '_editor', '_name', '_is_closed', '_stroke', '_begins', '_path', '_written', '_has_set_aside', '_note', '_encodings'
 
     def __init__(self, editor: 'Editor', name: str):
         """Editors make it: `new`, `open` and `documents` give it."""
@@ -86,6 +86,8 @@ class Document:
         self._name = name
         self._is_closed = False
         self._stroke: Optional[_Stroke] = None
+        # The texts of open macros that wait for their first edit: those around them have begun.
+        self._begins: list[str] = []
         self._path: Optional[Path] = None
         # What was read or saved last under each path, by hashes of the bytes; and behind that what saves have begun to write since.
         self._written: dict[str, list[bytes]] = {}
@@ -200,6 +202,7 @@ class Document:
 
     def _close(self) -> None:
         self._is_closed = True
+        self._wait([])
 
     # ---- what it is
     @property
@@ -285,7 +288,12 @@ class Document:
     @property
     def status(self) -> Status:
         """How it stands: index, count, clean, depth."""
-        return self._do(self._status_now)
+
+        def work() -> Status:
+            status = self._status_now()
+            return replace(status, depth=status.depth + len(self._begins))
+
+        return self._do(work)
 
     @property
     def steps(self) -> tuple[Step, ...]:
@@ -343,17 +351,16 @@ class Document:
         1,000,000."""
         self._edit(f'limit {words.number(count, "a limit")}')
 
-    def macro(self, text: str, action: Optional[str] = None) -> 'ContextManager[Document]':
-        """A `with` whose edits are one step of this text, and of this action text where it is another. On an exception the
-        outermost one ends and undoes it, one inside another only ends, and the exception goes on. Raises TypeError, ValueError;
-        Refused: 24 where 64 are open."""
-        return self._macro(words.macro(text, action))
+    def macro(self, text: str, action: Optional[str] = None, keep_empty: bool = False) -> 'ContextManager[Document]':
+        """A `with` whose edits are one step of this text, and of this action text where it is another. It begins with its first edit, or
+        with `keep_empty` at once: without an edit it is no step. On an exception the outermost one ends and undoes it, one inside
+        another only ends, and the exception goes on. Raises TypeError, ValueError; Refused: 24 where 64 are open."""
+        return self._macro(words.macro(text, action), keep_empty)
 
     @contextlib.contextmanager
-    def _macro(self, said: str) -> Iterator['Document']:
-        depth = self._do(self._status_now).depth + 1
+    def _macro(self, said: str, keep_empty: bool) -> Iterator['Document']:
+        depth = self._do(lambda: self._open_macro(said, keep_empty))
         try:
-            self._edit(f'begin {said}')
             yield self
         except BaseException:
             # What goes wrong here hides no fault of the caller.
@@ -362,12 +369,53 @@ class Document:
             raise
         self._do(lambda: self._end(depth, is_undone=False))
 
+    def _open_macro(self, said: str, keep_empty: bool) -> int:
+        """The depth of a macro that is opened, in a turn. It waits for its first edit, unless it is kept without one."""
+        depth = self._status_now().depth + len(self._begins) + 1
+        if depth > MAX_OPEN_MACROS:
+            raise Refused(24, 'too deep', f'begin {said}', forms=())
+        self._wait([*self._begins, said])
+        if keep_empty:
+            self._begin_now()
+        return depth
+
+    def _wait(self, begins: list[str]) -> None:
+        """Has macros with these texts wait for their first edit, and no others."""
+        self._begins = begins
+        (self._editor._waiting.add if begins else self._editor._waiting.discard)(self)
+
+    def _begin_now(self) -> None:
+        """Begins the macros that wait, in a turn. Where one is refused, it waits on, with those in it."""
+        begins = self._begins
+        self._wait([])
+        try:
+            while begins:
+                line = f'begin {begins[0]}'
+                self._editor._reply_to(line, line)
+                begins = begins[1:]
+        finally:
+            self._wait(begins)
+
+    @contextlib.contextmanager
+    def _beginning_if(self, changes: Callable[[], bool]) -> Iterator[None]:
+        """A `with` for lines that paint, in a turn: where they change nothing, macros wait on for their first edit."""
+        begins = self._begins
+        if not begins or changes():
+            yield
+            return
+        self._wait([])
+        try:
+            yield
+        finally:
+            self._wait(begins)
+
     def _end(self, depth: int, is_undone: bool) -> None:
-        """Ends the macro of a depth, with those in it that lines have left open, unless lines have ended it."""
-        is_open = self._status_now().depth >= depth
+        """Ends the macro of a depth, with those in it that lines have left open, unless lines have ended it. One that waits is none."""
+        begun = self._status_now().depth
+        self._wait(self._begins[:max(depth - 1 - begun, 0)])
         while self._status_now().depth >= depth:
             self._say('end')
-        if is_open and is_undone:
+        if begun >= depth and is_undone:
             self._say('undo')
 
     # ---- cells
@@ -394,7 +442,76 @@ class Document:
         parts = list(parts_of(listed))
         left, top = words.coordinate(x, 'x'), words.coordinate(y, 'y')
         words.coordinate(top + parts[-1].first, 'y of the last rows')
-        self._do(lambda: self._stamp_parts(_Area(self._id_of(layer), left, top, len(listed[0]), len(listed)), parts, listed, merge))
+
+        def work() -> None:
+            area = _Area(self._id_of(layer), left, top, len(listed[0]), len(listed))
+            with self._beginning_if(lambda: self._changes(area, listed)):
+                self._stamp_parts(area, parts, listed, merge)
+
+        self._do(work)
+
+    def _differences(self, area: _Area, rows: Optional[list[list[int]]]) -> Optional[Iterator[tuple[int, int]]]:
+        """The old and the new values of the selected cells that rows would change, zeros too, or an erase, where there are none; None
+        where it is no tile layer."""
+        inside = self._on_map(area)
+        found, selected = self._editor._cells(*inside), self._selection_now()
+        if found is None:
+            return None
+        cells, empty = found, [0] * inside.width
+
+        def each() -> Iterator[tuple[int, int]]:
+            for y in range(inside.y, inside.y + inside.height):
+                at, skipped = (y - inside.y) * inside.width, inside.x - area.x
+                news = empty if rows is None else rows[y - area.y][skipped:skipped + inside.width]
+                for x, (old, new) in enumerate(zip(cells[at:at + inside.width], news), inside.x):
+                    if old != new and (not selected.runs or (x, y) in selected):
+                        yield old, new
+
+        return each()
+
+    def _changes(self, area: _Area, rows: Optional[list[list[int]]]) -> bool:
+        """Whether a stamp of rows, or an erase, changes a cell, or is refused."""
+        differences = self._differences(area, rows)
+        return differences is None or any(new or rows is None for _, new in differences)
+
+    def _write(self, layer: Layer, x: int, y: int, rows: Any) -> None:
+        """Writes rows of values into a tile layer, zeros too."""
+        listed = rows_of(rows)
+        left, top = words.coordinate(x, 'x'), words.coordinate(y, 'y')
+        words.coordinate(top + len(listed), 'y of the last rows')
+        outer, self._stroke = self._stroke, None
+        try:
+            self._do(lambda: self._write_now(_Area(layer.id, left, top, len(listed[0]), len(listed)), listed))
+        finally:
+            self._stroke = outer
+            if outer is not None:
+                outer.has_step = False
+
+    def _write_now(self, area: _Area, rows: list[list[int]]) -> None:
+        # A value that is refused is refused before anything is done, and so is a layer.
+        self._say_of(area, rows)
+        news = {new != 0 for _, new in self._differences(area, rows) or ()}
+        if not news:
+            return
+        if False not in news:
+            self._stamp_parts(area, list(parts_of(rows)), rows, False)
+        elif not any(map(any, rows)):
+            self._paint(area, '', False, None)
+        else:
+            depth = self._open_macro('Write || write tiles', True)
+            try:
+                self._paint(area, '', False, None)
+                self._stamp_parts(area, list(parts_of(rows)), rows, False)
+            except BaseException:
+                with contextlib.suppress(Refused, Closed):
+                    self._end(depth, is_undone=depth == 1)
+                raise
+            self._end(depth, is_undone=False)
+
+    def _say_of(self, area: _Area, rows: list[list[int]]) -> None:
+        """Says a stamp past every map with the value of rows that is the first to be refused: it changes nothing, and begins no macro."""
+        with self._beginning_if(lambda: False):
+            self._say(f'stamp {area.layer} {_NOWHERE} 1 {doubtful(rows)}')
 
     def _stamp_parts(self, area: _Area, parts: list[Part], rows: list[list[int]], merge: bool) -> None:
         if len(parts) == 1:
@@ -431,7 +548,7 @@ class Document:
     def _on_map(self, area: _Area) -> _Area:
         """A rectangle of cells as far as it is on the map."""
         sizes = self._sizes()
-        left, top = max(area.x, 0), max(area.y, 0)
+        left, top = min(max(area.x, 0), sizes.width), min(max(area.y, 0), sizes.height)
         right, bottom = min(area.x + area.width, sizes.width), min(area.y + area.height, sizes.height)
         return _Area(area.layer, left, top, max(right - left, 0), max(bottom - top, 0))
 
@@ -440,13 +557,25 @@ class Document:
         Raises TypeError, ValueError; Refused: 31 where it is no tile layer."""
         left, top = words.coordinate(x, 'x'), words.coordinate(y, 'y')
         size = words.number(width, 'a width'), words.number(height, 'a height')
-        self._do(lambda: self._paint(_Area(self._id_of(layer), left, top, *size), '', merge, self._stroke))
+
+        def work() -> None:
+            area = _Area(self._id_of(layer), left, top, *size)
+            with self._beginning_if(lambda: self._changes(area, None)):
+                self._paint(area, '', merge, self._stroke)
+
+        self._do(work)
 
     def fill(self, layer: LayerLike, x: int, y: int, value: int) -> None:
         """Writes a value into the cell and the cells of the same value that are joined to it. Raises TypeError, ValueError;
         Refused: 31 where it is no tile layer, 32 outside the map, 33 for a value without a tileset."""
-        said = f'{words.coordinate(x, "x")} {words.coordinate(y, "y")} {words.number(value, "the value of a cell")}'
-        self._do(lambda: self._say(f'fill {self._id_of(layer)} {said}'))
+        left, top, said = words.coordinate(x, 'x'), words.coordinate(y, 'y'), words.number(value, 'the value of a cell')
+
+        def work() -> None:
+            id = self._id_of(layer)
+            with self._beginning_if(lambda: list(self._editor._cells(id, left, top, 1, 1) or ()) != [said]):
+                self._say(f'fill {id} {left} {top} {said}')
+
+        self._do(work)
 
     def _id_of(self, layer: LayerLike) -> int:
         """The id of a layer, in a turn. Raises KeyError where none has that name."""
@@ -484,16 +613,15 @@ class Document:
     @property
     def selection(self) -> Selection:
         """The selected cells: `runs`, `len`, and `(x, y) in` it. Later edits do not change it."""
+        return self._do(self._selection_now)
 
-        def work() -> Selection:
-            run = SelectionRun()
-            runs = []
-            for place in range(self._editor._call('selection_count')):
-                self._editor._call('selection_run', place, run)
-                runs.append(Run(run.row, run.column, run.count))
-            return Selection(tuple(runs))
-
-        return self._do(work)
+    def _selection_now(self) -> Selection:
+        run = SelectionRun()
+        runs = []
+        for place in range(self._editor._call('selection_count')):
+            self._editor._call('selection_run', place, run)
+            runs.append(Run(run.row, run.column, run.count))
+        return Selection(tuple(runs))
 
     def select(self, x: int, y: int, width: int, height: int, mode: str = 'replace') -> None:
         """Selects a rectangle of cells: it replaces the selection, or is added to it, or taken out of it (subtract), or only what

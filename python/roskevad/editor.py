@@ -8,25 +8,27 @@ import json
 import logging
 import os
 import re
-import stat
 import threading
 import warnings
 from array import array
 from pathlib import Path
 from types import TracebackType
-from typing import TYPE_CHECKING, Any, Callable, ContextManager, Iterable, Iterator, NoReturn, Optional, Protocol, TypeVar, Union, cast
+from typing import TYPE_CHECKING, Any, Callable, ContextManager, Iterable, Iterator, NoReturn, Optional, TypeVar, Union, cast
 
 from . import library, words
 from .compressed_layers import UnpackedMap
 from .document import Document
 from .faults import Closed, Refused
+from .folder_files import read, refuse_unknown
 from .library import LIBRARY, OWNERS, CEditor, DocumentStatus, LinesDone, SelectionRun
-from .limits import MAX_FILE_BYTES, MAX_LIMIT
+from .limits import MAX_LIMIT
+from .line_bytes import EDITS, NOT_IN_MACROS, bytes_of, data_of, word_at_front, word_of
 from .map_faults import refused_map
 from .names import document_name
 from .rooms import Room
 from .saving import Saving
 from .tiled_maps import Members, note_of, origin_of, put_back, restored, set_aside, without_packing
+from .unsettled import ActiveDocument, TemporaryFile, Unsettled
 from .views import Layer
 
 if TYPE_CHECKING:
@@ -35,7 +37,6 @@ if TYPE_CHECKING:
 _LOG = logging.getLogger('roskevad')
 _REFUSAL = re.compile(r'no (\d+) (.*)', re.DOTALL)
 _STEP = LIBRARY.roskevad_step
-# The longest file that is opened.
 # How many forks lie between this process and the one that loaded the module.
 _forks = [0]
 
@@ -47,40 +48,12 @@ def _count_fork() -> None:
 os.register_at_fork(after_in_child=_count_fork)
 
 
-def _bytes_of(text: Union[str, bytes]) -> bytes:
-    return text.encode('utf-8', 'surrogateescape') if isinstance(text, str) else bytes(text)
-
-
-def _data_of(data: 'ReadableBuffer', call: str) -> bytes:
-    """The bytes of a bytes-like object. Raises TypeError where it is none, as a number or a text."""
-    if isinstance(data, bytes):
-        return data
-    try:
-        return memoryview(data).tobytes()
-    except TypeError:
-        raise TypeError(f'{call} takes bytes, or an object like bytes: {type(data).__name__}') from None
-
-
-def _word_of(line: str) -> bytes:
-    """The bytes of a line among many. Raises TypeError where it is no text."""
-    try:
-        return line.encode('utf-8', 'surrogateescape')
-    except AttributeError:
-        raise TypeError(f'run_lines takes a str for each line: {type(line).__name__}') from None
-
-
 def _fork_fault() -> Closed:
     return Closed('an Editor is not used in a fork of its process')
 
 
 def _busy_fault() -> RuntimeError:
     return RuntimeError('an Editor is not called from a signal handler or a callback while its thread is in a call')
-
-
-class _Unsettled(Protocol):
-    """What a call has begun, and what is ended whatever falls in between. To settle it twice is harmless."""
-
-    def settle(self) -> None: ...
 
 
 _Method = TypeVar('_Method', bound=Callable[..., Any])
@@ -132,12 +105,14 @@ class Editor:
     def __init__(self, limit: int = 0, folder: Union[str, 'os.PathLike[str]'] = '.'):
         self._lock = threading.RLock()
         self._is_busy = False
-        self._unsettled: Optional[_Unsettled] = None
+        self._unsettled: Optional[Unsettled] = None
         # Whether a save has failed: then what is read of a file need not be what the disk has, and is compared no more.
         self._has_failed = False
         # The open documents that were handed out, by their names; and the one that a call has made active, while no line has changed that.
         self._handles: dict[str, Document] = {}
         self._active_handle: Optional[Document] = None
+        # The documents that have macros which wait for their first edit.
+        self._waiting: set[Document] = set()
         self._c_editor = CEditor()
         self._process = _forks[0]
         self._at = ctypes.byref(self._c_editor)
@@ -223,7 +198,9 @@ class Editor:
 
     def _reply_to(self, line: str, call: str) -> bytes:
         """The reply to a line that a call makes. Raises Refused with the call."""
-        data = _bytes_of(line)
+        data = bytes_of(line)
+        if self._waiting and word_at_front(data) in NOT_IN_MACROS and self._waits():
+            raise Refused(20, 'macro open', call, forms=())
         self._note_activation(data)
         reply = self._copy_bytes('step', data, len(data)) or b''
         refusal = _REFUSAL.fullmatch(reply.decode()) if reply.startswith(b'no ') else None
@@ -235,7 +212,7 @@ class Editor:
     def step_bytes(self, line: 'ReadableBuffer') -> Optional[bytes]:
         """Does what a line asks for, and gives the reply, whatever it is; `None` where the line is quiet. A byte 10 ends no
         line here: it is a byte like any other."""
-        data = line if isinstance(line, bytes) else _data_of(line, 'step_bytes')
+        data = line if isinstance(line, bytes) else data_of(line, 'step_bytes')
         if self._process != _forks[0]:
             raise _fork_fault()
         with self._lock:
@@ -307,7 +284,7 @@ class Editor:
         to the lines before it, which are done. Raises ValueError for a line with a newline in it, and does nothing."""
         if isinstance(lines, (str, bytes)):
             raise TypeError(f'run_lines takes lines, and not one: {type(lines).__name__}')
-        words = [_word_of(line) for line in lines]
+        words = [word_of(line) for line in lines]
         if any(b'\n' in word for word in words):
             raise ValueError('run_lines takes lines, and there is a newline in one')
         return self._run(words)
@@ -340,17 +317,17 @@ class Editor:
     def put_file(self, name: str, data: 'ReadableBuffer') -> None:
         """Puts the bytes of a bytes-like object under a name, in place of those that are there. Raises TypeError where it is
         none, and ValueError where no line can spell that name."""
-        self._put(name, _data_of(data, 'put_file'))
+        self._put(name, data_of(data, 'put_file'))
 
     def _put(self, name: str, data: bytes) -> None:
-        word = _bytes_of(name)
+        word = bytes_of(name)
         if self._call('put_file', word, len(word), data, len(data)) == library.BAD_NAME:
             raise ValueError(f'no line can spell the name {name!r}')
 
     @_turn
     def file(self, name: str) -> Optional[bytes]:
         """The bytes under a name, and `None` where there is no file of that name."""
-        word = _bytes_of(name)
+        word = bytes_of(name)
         return self._copy_bytes('file', word, len(word))
 
     @_turn
@@ -359,7 +336,7 @@ class Editor:
         return self._removed(name)
 
     def _removed(self, name: str) -> bool:
-        word = _bytes_of(name)
+        word = bytes_of(name)
         return self._call('remove_file', word, len(word)) == library.DONE
 
     @_turn
@@ -373,7 +350,7 @@ class Editor:
     def open_map(self, name: str, data: 'ReadableBuffer', *, all_maps: bool = False) -> str:
         """Opens a document of that name with a map that is given as the bytes of a file, in a bytes-like object; with `all_maps`
         any map that Tiled saves as JSON, as `open_file` does. Raises Refused."""
-        given, call = _data_of(data, 'open_map'), f'open_map({name!r})'
+        given, call = data_of(data, 'open_map'), f'open_map({name!r})'
         return self._open_any(name, given, call) if all_maps else self._open_text(name, given, given, UnpackedMap(given, {}), call)
 
     @_turn
@@ -428,7 +405,7 @@ class Editor:
     def _open(self, document: str, data: Optional[bytes], call: str) -> str:
         """Opens a document with these bytes, which stand in the store under a free name meanwhile."""
         name = next(name for name in map('roskevad{}.tmj'.format, itertools.count()) if not self._has(name))
-        self._unsettled = _TemporaryFile(self, name)
+        self._unsettled = TemporaryFile(self, name)
         try:
             if data is not None:
                 self._put(name, data)
@@ -437,7 +414,7 @@ class Editor:
             self._settle()
 
     def _has(self, name: str) -> bool:
-        word = _bytes_of(name)
+        word = bytes_of(name)
         return self._count('file', word, len(word)) is not None
 
     # ---- maps of a folder
@@ -447,7 +424,7 @@ class Editor:
         fractions, and layers are unpacked. Its name is the one that `document_name` makes from the file's, where none is given.
         Raises Refused: 50 where there is no such file, 51 where it cannot be read or set aside; `why` has the reason then."""
         call = f'open_file({os.fspath(path)!r})' if name is None else f'open_file({os.fspath(path)!r}, {name!r})'
-        data, fault = _read(self.folder / path)
+        data, fault = read(self.folder / path)
         document = document_name(path) if name is None else name
         try:
             if data is None:
@@ -476,7 +453,7 @@ class Editor:
 
         def see(is_locked: bool) -> None:
             if is_careful:
-                _refuse_unknown(document, place, data, call)
+                refuse_unknown(document, place, data, call)
             document._note_written(place, data, is_begun=True)
 
         def mark() -> None:
@@ -505,7 +482,7 @@ class Editor:
         at = self._number('active')
         if at is None:
             raise _none_active(call)
-        if self._status_of(at).depth > 0:
+        if self._status_of(at).depth > 0 or self._waits():
             raise Refused(20, 'macro open', call, forms=())
 
     def _mark_clean(self) -> None:
@@ -738,7 +715,7 @@ class Editor:
 
     def _restored(self, work: Callable[[], _Answer]) -> _Answer:
         """Has work done, and makes the document active again that is active before it."""
-        self._unsettled = _ActiveDocument(self, self._active_name())
+        self._unsettled = ActiveDocument(self, self._active_name())
         try:
             return work()
         finally:
@@ -751,9 +728,15 @@ class Editor:
         return self._handles[name]
 
     def _note_activation(self, line: bytes) -> None:
-        """Notes that a line may make another document active, before it is done."""
+        """Notes that a line may make another document active, or is an edit that a macro waits for, before it is done."""
         if line.startswith(_ACTIVATIONS):
             self._active_handle = None
+        elif self._waiting and word_at_front(line) in EDITS | NOT_IN_MACROS and self._waits():
+            self._handle(self._active_name())._begin_now()
+
+    def _waits(self) -> bool:
+        """Whether the active document has macros that wait for their first edit."""
+        return self._handles.get(self._active_name()) in self._waiting
 
     def _forget(self, name: str) -> None:
         """Notes that a document was closed."""
@@ -778,40 +761,6 @@ class Editor:
         return f'<Editor of {", ".join(names) or "no document"}>'
 
 
-class _TemporaryFile:
-    """A name of the store that a call needs for itself, and which has no file before and behind it."""
-
-    def __init__(self, editor: Editor, name: str):
-        self._editor = editor
-        self._name = name
-
-    def settle(self) -> None:
-        self._editor._removed(self._name)
-
-
-class _ActiveDocument:
-    """A document that is active before a call and behind it, `-` where none is."""
-
-    def __init__(self, editor: Editor, document: str):
-        self._editor = editor
-        self._document = document
-
-    def settle(self) -> None:
-        if self._editor._active_name() != self._document:
-            line = f'use {self._document}'
-            self._editor._reply_to(line, line)
-            self._editor._active_handle = self._editor._handles.get(self._document)
-
-
-def _refuse_unknown(document: Document, path: Path, data: bytes, call: str) -> None:
-    """Refuses a save of these bytes where the file that is there has others, which the document has not read from it or saved to it last."""
-    there, fault = _read(path)
-    is_there = there is not None or fault is not None and path.is_file()
-    if is_there and there != data and not document._knows(path, there):
-        why = f'{path.name} has other bytes than those that were read or saved last: save(.., force=True) replaces them'
-        raise Refused(51, 'store failed', call, forms=(), why=why)
-
-
 def _failed(call: str) -> Refused:
     return Refused(51, 'store failed', call, forms=())
 
@@ -825,17 +774,3 @@ def _refused(reply: str, word: bytes, place: int, replies: list[str]) -> Refused
 
 def _none_active(call: str) -> Refused:
     return Refused(10, 'no active document', call, forms=())
-
-
-def _read(path: Path) -> tuple[Optional[bytes], Optional[OSError]]:
-    """The bytes of a file, if it is there and can be read, and what went wrong where it cannot be read. A pipe is not waited for."""
-    try:
-        with open(path, 'rb', opener=lambda name, flags: os.open(name, flags | os.O_NONBLOCK)) as file:
-            if not stat.S_ISREG(os.fstat(file.fileno()).st_mode):
-                return None, OSError(f'{path} is no regular file')
-            data = file.read(MAX_FILE_BYTES + 1)
-            return (data, None) if len(data) <= MAX_FILE_BYTES else (None, OSError(f'{path} is too long'))
-    except FileNotFoundError:
-        return None, None
-    except OSError as fault:
-        return None, fault

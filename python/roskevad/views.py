@@ -302,6 +302,11 @@ class Layer(_View):
         width, cells = self._document._cells_of(self, x, y, width, height)
         return [cells[at:at + width].tolist() for at in range(0, len(cells), width)] if width else []
 
+    def write(self, x: int, y: int, rows: Any) -> None:
+        """Writes rows of values from a cell on, as `document.stamp` does, but zeros too, which empty their cells: one step, in a stroke
+        of its own. Raises TypeError, ValueError; Refused: 31 where it is no tile layer, 33 for a value without a tileset."""
+        self._document._write(self, x, y, rows)
+
     def tile(self, x: int, y: int) -> Optional[Tile]:
         """The tile of a cell; None where the cell is empty. Raises TypeError, ValueError; Refused: 31 where it is no tile layer, 32
         outside the map."""

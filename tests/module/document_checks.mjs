@@ -65,6 +65,7 @@ async function worksThatGoOnLater() {
   thrown(TypeError, () => town.macro("A", () => ({ then() {} })));
   // A task between them does its own steps; a macro inside another one only ends.
   const given = town.macro("B", () => {
+    town.stamp(1, 1, 0, [[7]]);
     thrown(TypeError, () => town.macro("C", () => later()));
     return town.status.depth;
   });
