@@ -168,10 +168,11 @@ export class Tilesets {
     return new Tileset(this.#document, first);
   }
 
-  // The least value in use that would be of a tileset with this first id; null where there is none, and where that
-  // first id is not above the others.
+  // The least value in use that is a tile of a tileset, and would be one of another with this first id; null where there
+  // is none, and where that first id is not above the others.
   _valueAbove(first) {
-    if (this.#document._ids("tilesets").some((each) => each >= first)) {
+    const firsts = this.#document._ids("tilesets");
+    if (firsts.length === 0 || firsts.some((each) => each >= first)) {
       return null;
     }
     let least = null;

@@ -211,6 +211,9 @@ def test_tilesets_that_renumber():
             return unlike(wanted, (told, above, below)) or unlike(38, raised(Refused, document.tilesets.add, 33, 'b.tsj').code)
 
     check_each([Case(name, tree, None) for name, tree in cases.items()], fault_of)
+    # Where there is no tileset, no tile has a meaning yet.
+    with Editor() as editor:
+        see(33, editor.open(text_of(map_of(tiles(1, data=[40, 0]), tilesets=[]))).tilesets.add(33, 'walls.tsj').first_id)
 
 
 # ---- work that is not saved

@@ -173,10 +173,11 @@ class Tilesets:
         return Tileset(self._document, first)
 
     def _value_above(self, first: int) -> Optional[int]:
-        """The least value in use that would be of a tileset with this first id, in a turn. None where there is none, and where that first
-        id is not above the others."""
+        """The least value in use that is a tile of a tileset, and would be one of another with this first id, in a turn. None where there is
+        none, and where that first id is not above the others."""
         document = self._document
-        if first <= max(document._ids('tilesets'), default=0):
+        firsts = document._ids('tilesets')
+        if not firsts or first <= max(firsts):
             return None
         return min((value for value in document._values_in_use() if value >= first), default=None)
 

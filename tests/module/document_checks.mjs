@@ -227,6 +227,9 @@ async function tilesetsThatRenumber() {
     same(document.tilesets.add(33, "walls.tsj", { renumbers: true }).firstId, 33);
     same(thrown(Refused, () => document.tilesets.add(33, "b.tsj")).code, 38);
   }
+  // Where there is no tileset, no tile has a meaning yet.
+  const bare = await editor.open(JSON.stringify({ ...tree, layers: [{ ...tree.layers[0], data: [40, 0] }], tilesets: [] }));
+  same(bare.tilesets.add(33, "walls.tsj").firstId, 33);
   editor.close();
 }
 
