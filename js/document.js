@@ -455,8 +455,8 @@ export class Document {
     }
   }
 
-  // The new values of the selected cells that rows would change, zeros too, or an erase, where there are none; null where
-  // it is no tile layer.
+  // The new values of the selected cells that rows would change, zeros too, or an erase, where there are none; null
+  // where it is no tile layer.
   _differences(area, rows) {
     const inside = this._onMap(area);
     const [, x, y, width, height] = inside;

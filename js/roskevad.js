@@ -191,12 +191,13 @@ export class Editor {
     if (lines.some((line) => line.includes("\n"))) {
       throw new RangeError("a line has no newline in it");
     }
-    lines.forEach((line) => this._noteActivation(line));
     const replies = [];
     const take = (bytes) => replies.push(...textOf(bytes).split("\n").slice(0, -1));
     let done = 0;
-    for (const part of partsOf(lines)) {
-      const came = this._run(part, true, take);
+    // While macros wait for their first edit, it must be known which document is active at each one.
+    for (const part of partsOf(lines, this.#waiting.size > 0)) {
+      part.forEach((line) => this._noteActivation(line));
+      const came = this._run(`${part.join("\n")}\n`, true, take);
       if (this.#handles.size > 0) {
         this._forgetClosed(lines.slice(done, done + came.lines - Number(came.isRefused)));
       }
@@ -748,15 +749,20 @@ if (Symbol.dispose) {
   };
 }
 
-/** Lines as texts, each of which has so many lines that it is handed on quickly. */
-function* partsOf(lines) {
+/**
+ * Lines in parts, each of which has so many that it is handed on quickly; where that is wanted, one ends where a line
+ * may make another document active.
+ */
+function* partsOf(lines, endsAtActivations) {
   for (let from = 0; from < lines.length; ) {
     let [to, length] = [from, 0];
     do {
       length += lines[to].length + 1;
       to += 1;
-    } while (to < lines.length && length + lines[to].length < PART);
-    yield `${lines.slice(from, to).join("\n")}\n`;
+    } while (
+      to < lines.length && length + lines[to].length < PART && !(endsAtActivations && ACTIVATION.test(lines[to - 1]))
+    );
+    yield lines.slice(from, to);
     from = to;
   }
 }

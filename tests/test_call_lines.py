@@ -151,6 +151,16 @@ SCENARIOS = [
              'const other = editor.new("b", 2, 2, 8, 8, "b.tsj"); document.macro("A", () => other.macro("B", () => other.stamp(1, 0, 0, [[5]])));'
              'document.stamp(1, 0, 0, [[5]])',
              ['new b 2 2 8 8 b.tsj', 'begin B', 'stamp 1 0 0 1 5', 'end', 'use town', 'stamp 1 0 0 1 5']),
+    Scenario('lines of two documents in a macro', 'editor.new("b", 2, 2, 8, 8, "b.tsj")\nwith document.macro("A"):\n'
+             '  editor.run_lines(["use b", "stamp 1 0 0 1 5"])\nwith document.macro("B"):\n'
+             '  editor.run_lines(["use b", "stamp 1 1 0 1 5", "use town", "erase 1 0 0 1 1"])\nwith document.macro("C"):\n  try:\n'
+             '    editor.run_lines(["use b", "status", "use town", "status", "stamp 9 0 0 1 1"])\n  except roskevad.Refused as refusal:\n'
+             '    assert (refusal.place, len(refusal.replies)) == (4, 4), refusal.args',
+             'editor.new("b", 2, 2, 8, 8, "b.tsj"); document.macro("A", () => editor.runLines(["use b", "stamp 1 0 0 1 5"]));'
+             'document.macro("B", () => editor.runLines(["use b", "stamp 1 1 0 1 5", "use town", "erase 1 0 0 1 1"]));'
+             'document.macro("C", () => { try { editor.runLines(["use b", "status", "use town", "status", "stamp 9 0 0 1 1"]); } catch (fault) {'
+             ' if (fault.place !== 4 || fault.replies.length !== 4) throw fault; } })',
+             ['new b 2 2 8 8 b.tsj', 'stamp 1 0 0 1 5', 'stamp 1 1 0 1 5', 'use town', 'begin B', 'erase 1 0 0 1 1', 'end', 'begin C', 'end']),
     # ---- writing zeros
     Scenario('rows over empty cells', 'document.layers[1].write(0, 0, [[5, 0], [0, 6]])', 'document.layers.get(1).write(0, 0, [[5, 0], [0, 6]])',
              ['stamp 1 0 0 2 5,0,0,6']),

@@ -291,6 +291,17 @@ class Editor:
 
     @_turn
     def _run(self, words: list[bytes]) -> list[str]:
+        replies: list[str] = []
+        # While macros wait for their first edit, it must be known which document is active at each one.
+        ends = [at for at, word in enumerate(words, 1) if word.startswith(_ACTIVATIONS)] if self._waiting else []
+        for start, end in zip([0, *ends], [*ends, len(words)]):
+            try:
+                replies += self._run_part(words[start:end])
+            except Refused as refusal:
+                raise Refused(refusal.code, refusal.words, refusal.line, start + (refusal.place or 0), replies + refusal.replies) from None
+        return replies
+
+    def _run_part(self, words: list[bytes]) -> list[str]:
         data = b''.join(word + b'\n' for word in words)
         if 32 * len(words) > self._room.size:
             self._room = Room(32 * len(words))
