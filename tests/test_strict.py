@@ -13,6 +13,7 @@ import unicodedata
 
 from lib.cases import CORES, Case, check_each, passed, unlike
 from lib.forms import HELP
+from lib.lines_at_fault import a_line_at_fault, told_of
 from lib.places import TILE_EDITOR
 from lib.refusals import refusal
 from lib.sessions import heard, joined
@@ -36,12 +37,12 @@ SESSIONS = [
         5,
         [f'line 5: undo: {refusal(21)}'],
     ),
-    ([b'status\r'], 1, [f'line 1: status\\u{{d}}: {refusal(3)}: word 1\n  status']),
-    ([b'undo \x1b[2J'], 1, [f'line 1: undo \\u{{1b}}[2J: {refusal(4)}: word 2\n  undo']),
+    ([b'status\r'], 1, [f'line 1: status\\u{{d}}: {refusal(3)}: word 1 is not a command\n  status']),
+    ([b'undo \x1b[2J'], 1, [f'line 1: undo \\u{{1b}}[2J: {refusal(4)}: word 2 is one too many\n  undo']),
     (
         [b'caf\xc3\xa9'],
         1,
-        [f'line 1: café: {refusal(3)}: word 1\n  close DOC\n  clean\n  clear'],
+        [f'line 1: café: {refusal(3)}: word 1 is not a command\n  close DOC\n  clean\n  clear'],
     ),
     ([b'status', b'\xff\xfe'], 2, [f'line 2: {refusal(2)}']),
     ([b'status', b'x' * 65537, b'status'], 2, [f'line 2: {refusal(1)}']),
@@ -52,7 +53,7 @@ SESSIONS = [
     (
         [b'# ' + b'x' * 300, b'undo ' + b'\x01' * 65_530],
         2,
-        ['line 2: undo ' + '\\u{1}' * 195 + f'...: {refusal(4)}: word 2\n  undo'],
+        ['line 2: undo ' + '\\u{1}' * 195 + f'...: {refusal(4)}: word 2 is one too many\n  undo'],
     ),
     ([NEW], 1, []),
     ([NEW, STAMP], 2, ['end of input: town: unsaved changes']),
@@ -120,90 +121,6 @@ def test_where_a_strict_run_ends():
 
 # ---- the word at fault
 
-# What may stand for a word of a form, and what may not.
-NUMBER = (['0', '7', '4294967295'], ['', '-1', '01', '+1', '1.5', 'x', '7\r', '4294967296', '²'])
-COORDINATE = (
-    ['0', '-1', '1000000000', '-1000000000'],
-    ['', '-', '-0', '01', '+1', '1.5', 'x', '--1', '1000000001', '-1000000001'],
-)
-NAME = ['a', '_x.y-1', 'A' * 64]
-TEXT = (
-    ['a', ' a', 'a b  c', 'ä' * 100, 'x' * 200, 'yes', '|| a'],
-    ['', 'x' * 201, 'a \x1f b', '\x7f', 'a\tb', '\r', 'ä' * 101],
-)
-OWNER = (
-    ['map', 'layer:1', 'object:4294967295'],
-    ['', 'Map', 'map:1', 'layer', 'layer:', 'layer:01', 'object:x', 'object:4294967296', 'tile:1'],
-)
-SIDE = (['1', '2', '4096'], ['', '0', '4097', '-1', '01', 'x'])
-KINDS = {
-    'DOC': (NAME, ['', '.a', '-a', 'A' * 65, 'a/b', 'ä', 'a\r']),
-    'FILE': (NAME + ['a' * 100], ['', '.a', '../a', '-', 'a' * 101, 'ä', 'a/b']),
-    'X': COORDINATE,
-    'Y': COORDINATE,
-    'OWNER': OWNER,
-    'KEY': (['a', 'é', 'k' * 200, '"', '||'], ['', 'k' * 201, 'a\x7f', '\x01', 'a\tb']),
-    'TYPE': (
-        ['string', 'int', 'bool', 'color', 'file', 'object'],
-        ['', 'float', 'String', 'colour', 'class'],
-    ),
-    **dict.fromkeys(['TEXT', 'ACTION', 'NAME', 'SOURCE'], TEXT),
-}
-VALUES = {
-    'string': TEXT,
-    'file': TEXT,
-    'int': COORDINATE,
-    'bool': (['true', 'false'], ['', 'True', '1', 'yes', 'true\r']),
-    'color': (['#012def', '#ff00ff00'], ['', 'ff0000', '#FF0000', '#12345', '#1234567', 'red']),
-    'object': NUMBER,
-}
-
-
-def words_for(form, at, front):
-    """What may stand as a word of a form behind some words, and what may not."""
-    word = form[at]
-    if word == 'VALUE':
-        return VALUES[front[-1]]
-    if word == 'TILES':
-        width = int(front[-1])
-        row = ','.join(['4294967295'] + ['0'] * (width - 1))
-        short = [] if width == 1 else ['5', f'{row},5']
-        return [row, f'{row},{row}'], ['', f'{row},', f',{row}', f'{row},01', 'x', '1.5', *short]
-    if word == 'WIDTH' and form[0].startswith('stamp'):
-        return SIDE
-    if word == 'TEXT' and '||' in form:
-        return ['a', 'a b', '||', 'x' * 200], TEXT[1]
-    if word.isupper():
-        return KINDS.get(word, NUMBER)
-    return [word], ['', word.upper(), f'{word}s', f'{word}\r'] if word != '||' else []
-
-
-def is_text(form, at, front):
-    """Whether a word of a form behind some words is a text, which takes all that is left."""
-    return words_for(form, at, front)[1] is TEXT[1]
-
-
-def a_line_at_fault(chance):
-    """A line that is refused as 4, by its words, and the form that it leaves; None where chance
-    makes another line."""
-    form = chance.choice(HELP).split(' ')
-    fault = chance.randint(1, len(form))
-    front = []
-    for at in range(fault):
-        front.append(chance.choice(words_for(form, at, front)[0]))
-    if fault == len(form):
-        is_open = is_text(form, fault - 1, front[:-1])
-        return None if is_open else (front + [chance.choice(['', 'x', '7'])], fault, form)
-    wrong = [word for word in words_for(form, fault, front)[1] if word != form[fault]]
-    if not wrong:
-        return None
-    word = chance.choice([None, *wrong])
-    if word is None:
-        # Without the space behind them, bars are part of a text.
-        return None if front[-1] == '||' else (front, fault, form)
-    is_open = word == '' and is_text(form, fault, front)
-    return front + [word] + chance.choice([[], [] if is_open else ['1', 'b']]), fault, form
-
 
 def shown(line):
     """A line as a message has it: at most 200 characters, and control characters as their codes."""
@@ -214,9 +131,9 @@ def shown(line):
     return front + ('...' if len(line) > 200 else '')
 
 
-def refused_at(line, code, place, forms):
+def refused_at(line, code, told, forms):
     """A line, and what is said of it."""
-    first = f'tile_editor: line 1: {shown(line)}: {refusal(code)}: word {place}'
+    first = f'tile_editor: line 1: {shown(line)}: {refusal(code)}: {told}'
     return Case(line[:200], line, '\n'.join([first, *(f'  {form}' for form in forms), '']))
 
 
@@ -228,7 +145,7 @@ def lines_at_fault(count):
         if made is not None:
             words, fault, form = made
             forms = [other for other in HELP if other.split(' ')[:fault] == form[:fault]]
-            yield refused_at(' '.join(words), 4, fault + 1, forms)
+            yield refused_at(' '.join(words), 4, told_of(form, fault, words), forms)
 
 
 def fault_of_line(case):
@@ -259,7 +176,7 @@ def test_lines_of_no_command():
         '+': [],
     }
     check_each(
-        [refused_at(line, 3, 1, wanted) for line, wanted in forms.items()], fault_of_line, CORES
+        [refused_at(line, 3, 'word 1 is not a command', wanted) for line, wanted in forms.items()], fault_of_line, CORES
     )
 
 

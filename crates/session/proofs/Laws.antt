@@ -1,7 +1,7 @@
 -- A spelled line is read as that line, and what is read is its spelling.
 use Rattle.std.proofs.Common.{rules, ◌≡◌, ℕ, ◌≤◌, cond, false, true, leb, not, ltb, eqb, ◌&&◌, ◌||◌, Bool, List, [], ◌∷◌, ◌++◌, length, Ok, Err, Result, Some}
 use Rattle.std.proofs.Common.{refl, sym, ap, ◌∙◌, subst, arith}
-use Rattle.std.specs.Prelude.{IfOk}
+use Rattle.std.specs.Prelude.{IfOk, IsOk, is_ok}
 use Rattle.std.specs.List.{AllByRecursion, flat_map, list_all}
 use Rattle.std.specs.Str.{is_utf8}
 use Rattle.std.proofs.lemmas.Str.{IsUtf8-nil, IsUtf8-from_is_utf8}
@@ -140,3 +140,16 @@ quiet_is_read bytes l u h = checked bytes l u ∙ ap (λ b. cond b (Ok Quiet) (r
 pub long_is_not_read : LongIsNotRead
 unfolding line_of
 long_is_not_read bytes h = rw (lt-ltb MAX_LINE (length bytes) h) refl
+
+-- words that are read are not quiet
+line_loud : (line : Line) (ws : List (List ℕ)) → ws ≡ flat_map token_words (tokens line) → IsOk (read line_form ws) → is_quiet (spaced ws) ≡ false
+line_loud Quiet ws e o = let none = subst (λ us. IsOk (read line_form us)) e o in absurd cc
+line_loud line ws e o = ap (λ us. is_quiet (spaced us)) e ∙ loud (tokens line) (facts line).loud
+
+loud_by : (ws : List (List ℕ)) (r : Result Line LineFault) → read line_form ws ≡ r → IfOk r (Spells (λ ts. ts) ws) → is_ok r ≡ true
+    → is_quiet (spaced ws) ≡ false
+loud_by ws (Ok line) e s o = line_loud line ws (s.words ∙ ap (flat_map token_words) (sym s.are)) (ap is_ok e)
+loud_by ws (Err f) e s o = absurd cc
+
+pub read_is_loud : (ws : List (List ℕ)) → AllByRecursion Clean ws → IsOk (read line_form ws) → is_quiet (spaced ws) ≡ false
+read_is_loud ws c o = loud_by ws (read line_form ws) refl (forms.read_is_spelled line_form (λ ts. ts) ws agrees c) o

@@ -19,7 +19,7 @@ use Rattle.session.specs.Spelling.{Token, Fixed, Given, Rest, RestTexts, token_w
 use Rattle.session.specs.Spelling.{owner_word, spaced, joined_by_bars, AreTexts, IsNumber, IsOwner, IsCoordinate, IsField, IsToken}
 
 -- no fewer than the bytes of a field's words
-abbrev field_room : FieldKind → ℕ
+abbrev pub field_room : FieldKind → ℕ
 field_room Number = 10
 field_room Coordinate = 11
 field_room Block = MAX_LINE + 1
@@ -42,11 +42,11 @@ room (Rest text ∷ ts) = MAX_TEXT + 1 + room ts
 room (RestTexts text action ∷ ts) = MAX_TEXT + length bars + MAX_TEXT + 1 + room ts
 
 -- the bytes of words, each with a space behind it
-total : List (List ℕ) → ℕ
+unfoldable pub total : List (List ℕ) → ℕ
 total [] = 0
 total (w ∷ ws) = length w + 1 + total ws
 
-length-spaced : (w : List ℕ) (ws : List (List ℕ)) → length (spaced (w ∷ ws)) + 1 ≡ total (w ∷ ws)
+pub length-spaced : (w : List ℕ) (ws : List (List ℕ)) → length (spaced (w ∷ ws)) + 1 ≡ total (w ∷ ws)
 unfolding total
 length-spaced w [] = omega arith
 length-spaced w (v ∷ ws) = omega (arith, length-append w (32 ∷ spaced (v ∷ ws)), length-spaced v ws)
@@ -56,7 +56,7 @@ unfolding total
 spaced_within [] = omega arith
 spaced_within (w ∷ ws) = omega (arith, length-spaced w ws)
 
-total-append : (us ws : List (List ℕ)) → total (us ++ ws) ≡ total us + total ws
+pub total-append : (us ws : List (List ℕ)) → total (us ++ ws) ≡ total us + total ws
 unfolding total
 total-append [] ws = omega arith
 total-append (u ∷ us) ws = omega (arith, total-append us ws)
@@ -65,7 +65,7 @@ total_some : (ws : List (List ℕ)) → 1 ≤ length ws → total ws ≡ length 
 total_some [] h = absurd (omega arith)
 total_some (w ∷ ws) h = omega (arith, length-spaced w ws)
 
-total-words : (text : List ℕ) → total (words text) ≡ length text + 1
+pub total-words : (text : List ℕ) → total (words text) ≡ length text + 1
 total-words text = omega (
   arith,
   total_some (words text) (omega (arith, length-slice_split (λ b. eqb b 32) text)),
@@ -73,7 +73,7 @@ total-words text = omega (
       (join_with_byte-slice_split 32 text),
 )
 
-number_within : (n : ℕ) → IsNumber n → length (decimal n) ≤ 10
+pub number_within : (n : ℕ) → IsNumber n → length (decimal n) ≤ 10
 number_within n h = length-decimal-le 10 n (omega arith) (omega arith) (omega arith)
 
 coordinate_within : (z : ℤ) → IsCoordinate z → length (signed_decimal z) ≤ 11
@@ -107,7 +107,7 @@ owner_within owners.Map h = omega arith
 owner_within (owners.Layer id) h = omega (arith, number_within id h)
 owner_within (owners.Object id) h = omega (arith, number_within id h)
 
-field_within : (kind : FieldKind) (value : FieldValue kind) → IsField kind value → field_room kind ≤ MAX_LINE
+pub field_within : (kind : FieldKind) (value : FieldValue kind) → IsField kind value → field_room kind ≤ MAX_LINE
     → total (field_words kind value) ≤ field_room kind + 1
 unfolding total
 field_within Number n h r = omega (arith, number_within n h)

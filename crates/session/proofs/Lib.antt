@@ -16,3 +16,8 @@ pub mod Lengths
 pub mod Forms
 pub mod Laws
 pub mod LastDigits
+pub mod FieldWords
+pub mod Places
+pub mod Others
+pub mod Faults
+pub mod Joined

@@ -1,10 +1,12 @@
+ghost use Rattle.session.specs.Left.{fault_at, next};
 ghost use Rattle.refusals.specs.declared.line_fault.LineFault.TheVariants.{BadWord};
 ghost use Rattle.session.specs.Grammar.{choose, layer_lines, Gives, read, add_layer_form, move_layer_form, remove_layer_form, rename_layer_form, show_layer_form};
-ghost use Rattle.std.specs.Prelude.{◌≡◌};
+ghost use Rattle.std.specs.Prelude.{◌≡◌, IfErr};
 ghost use Rattle.session.specs.Words.{layer_kind_of, yes_no_of};
 
 use crate::fields::{Fields, known};
 use crate::line::Line;
+use crate::trail::{Expected, Trail};
 use map_model::LayerKind;
 use refusals::LineFault;
 
@@ -31,24 +33,27 @@ fn yes_no(word: &str) -> Option<bool>
 }
 
 #[tactic(auto, unfolding(crate::specs::Grammar::word_at))]
-fn add_layer<'a>(fields: &mut Fields<'a>) -> Result<Line<'a>, LineFault>
-    ensures { Gives (λ x. x) result (read add_layer_form fields.old) }
+fn add_layer<'a, T: Trail + Copy>(fields: &mut Fields<'a, T>) -> Result<Line<'a>, LineFault>
+    ensures value { Gives (λ x. x) result (read add_layer_form fields.old.words) }
+    ensures place { IfErr result (λ _. fields.new.place ≡ fault_at add_layer_form (next fields.old.place) fields.old.words) }
 {
-    let kind = known(layer_kind(fields.word()?))?;
+    let kind = known(layer_kind(fields.word(Expected::Kind)?))?;
     let name = fields.text()?;
     Ok(Line::AddLayer { kind, name })
 }
 
-fn remove_layer<'a>(fields: &mut Fields<'a>) -> Result<Line<'a>, LineFault>
-    ensures { Gives (λ x. x) result (read remove_layer_form fields.old) }
+fn remove_layer<'a, T: Trail + Copy>(fields: &mut Fields<'a, T>) -> Result<Line<'a>, LineFault>
+    ensures value { Gives (λ x. x) result (read remove_layer_form fields.old.words) }
+    ensures place { IfErr result (λ _. fields.new.place ≡ fault_at remove_layer_form (next fields.old.place) fields.old.words) }
 {
     let layer = fields.number()?;
     fields.end()?;
     Ok(Line::RemoveLayer { layer })
 }
 
-fn rename_layer<'a>(fields: &mut Fields<'a>) -> Result<Line<'a>, LineFault>
-    ensures { Gives (λ x. x) result (read rename_layer_form fields.old) }
+fn rename_layer<'a, T: Trail + Copy>(fields: &mut Fields<'a, T>) -> Result<Line<'a>, LineFault>
+    ensures value { Gives (λ x. x) result (read rename_layer_form fields.old.words) }
+    ensures place { IfErr result (λ _. fields.new.place ≡ fault_at rename_layer_form (next fields.old.place) fields.old.words) }
 {
     let layer = fields.number()?;
     let name = fields.text()?;
@@ -56,17 +61,19 @@ fn rename_layer<'a>(fields: &mut Fields<'a>) -> Result<Line<'a>, LineFault>
 }
 
 #[tactic(auto, unfolding(crate::specs::Grammar::word_at))]
-fn show_layer<'a>(fields: &mut Fields<'a>) -> Result<Line<'a>, LineFault>
-    ensures { Gives (λ x. x) result (read show_layer_form fields.old) }
+fn show_layer<'a, T: Trail + Copy>(fields: &mut Fields<'a, T>) -> Result<Line<'a>, LineFault>
+    ensures value { Gives (λ x. x) result (read show_layer_form fields.old.words) }
+    ensures place { IfErr result (λ _. fields.new.place ≡ fault_at show_layer_form (next fields.old.place) fields.old.words) }
 {
     let layer = fields.number()?;
-    let visible = known(yes_no(fields.word()?))?;
+    let visible = known(yes_no(fields.word(Expected::YesNo)?))?;
     fields.end()?;
     Ok(Line::ShowLayer { layer, visible })
 }
 
-fn move_layer<'a>(fields: &mut Fields<'a>) -> Result<Line<'a>, LineFault>
-    ensures { Gives (λ x. x) result (read move_layer_form fields.old) }
+fn move_layer<'a, T: Trail + Copy>(fields: &mut Fields<'a, T>) -> Result<Line<'a>, LineFault>
+    ensures value { Gives (λ x. x) result (read move_layer_form fields.old.words) }
+    ensures place { IfErr result (λ _. fields.new.place ≡ fault_at move_layer_form (next fields.old.place) fields.old.words) }
 {
     let layer = fields.number()?;
     let place = fields.number()?;
@@ -75,10 +82,11 @@ fn move_layer<'a>(fields: &mut Fields<'a>) -> Result<Line<'a>, LineFault>
 }
 
 /// The line of layers that the words behind `layer` are.
-pub fn layer<'a>(fields: &mut Fields<'a>) -> Result<Line<'a>, LineFault>
-    ensures { Gives (λ x. x) result (read (choose layer_lines BadWord) fields.old) }
+pub fn layer<'a, T: Trail + Copy>(fields: &mut Fields<'a, T>) -> Result<Line<'a>, LineFault>
+    ensures value { Gives (λ x. x) result (read (choose layer_lines BadWord) fields.old.words) }
+    ensures place { IfErr result (λ _. fields.new.place ≡ fault_at (choose layer_lines BadWord) (next fields.old.place) fields.old.words) }
 {
-    let action = fields.word()?;
+    let action = fields.word(Expected::Action)?;
     match action {
         "add" => add_layer(fields),
         "remove" => remove_layer(fields),

@@ -1,4 +1,5 @@
-ghost use Rattle.std.specs.Prelude.{◌≡◌};
+ghost use Rattle.session.specs.Left.{fault_at, next};
+ghost use Rattle.std.specs.Prelude.{◌≡◌, IfErr};
 ghost use Rattle.std.specs.List.{list_all};
 ghost use Rattle.session.specs.declared.line.Line.{Line};
 ghost use Rattle.session.specs.declared.line.Line.TheVariants.{SetProperty};
@@ -11,6 +12,7 @@ use crate::fields::{Fields, known};
 use crate::limits::MAX_KEY;
 use crate::line::Line;
 use crate::text::Text;
+use crate::trail::{Expected, Trail};
 use crate::typed_value::TypedValue;
 use crate::words::{cut, number_before};
 use map_model::Owner;
@@ -115,16 +117,17 @@ fn owner(word: &str) -> Option<Owner>
 
 // A property's type and value, which are all that is left.
 #[tactic(auto, unfolding(crate::specs::Grammar::word_at))]
-fn typed_value<'a>(fields: &mut Fields<'a>) -> Result<TypedValue<'a>, LineFault>
-    ensures { (line : TypedValue → Line) → Gives line result (read (choose (value_types line) BadWord) fields.old) }
+fn typed_value<'a, T: Trail + Copy>(fields: &mut Fields<'a, T>) -> Result<TypedValue<'a>, LineFault>
+    ensures value { (line : TypedValue → Line) → Gives line result (read (choose (value_types line) BadWord) fields.old.words) }
+    ensures place { (line : TypedValue → Line) → IfErr result (λ _. fields.new.place ≡ fault_at (choose (value_types line) BadWord) (next fields.old.place) fields.old.words) }
 {
-    let type_name = fields.word()?;
+    let type_name = fields.word(Expected::Type)?;
     let value = match type_name {
         "string" => return Ok(TypedValue::String(fields.text()?)),
         "file" => return Ok(TypedValue::File(fields.text()?)),
         "int" => TypedValue::Int(fields.coordinate()?),
-        "bool" => TypedValue::Bool(known(truth(fields.word()?))?),
-        "color" => TypedValue::Color(known(color(fields.word()?))?),
+        "bool" => TypedValue::Bool(known(truth(fields.word(Expected::Truth)?))?),
+        "color" => TypedValue::Color(known(color(fields.word(Expected::Color)?))?),
         "object" => TypedValue::Object(fields.number()?),
         _ => return Err(LineFault::BadWord),
     };
@@ -133,13 +136,14 @@ fn typed_value<'a>(fields: &mut Fields<'a>) -> Result<TypedValue<'a>, LineFault>
 }
 
 // The line that sets a property, from its type on.
-fn set_typed<'a>(
+fn set_typed<'a, T: Trail + Copy>(
     owner: Owner,
     name: Text<'a>,
     follows: bool,
-    fields: &mut Fields<'a>,
+    fields: &mut Fields<'a, T>,
 ) -> Result<Line<'a>, LineFault>
-    ensures { Gives (λ x. x) result (read (choose (value_types (λ value. SetProperty owner name.entry value follows)) BadWord) fields.old) }
+    ensures value { Gives (λ x. x) result (read (choose (value_types (λ value. SetProperty owner name.entry value follows)) BadWord) fields.old.words) }
+    ensures place { IfErr result (λ _. fields.new.place ≡ fault_at (choose (value_types (λ value. SetProperty owner name.entry value follows)) BadWord) (next fields.old.place) fields.old.words) }
 {
     match typed_value(fields) {
         Ok(value) => Ok(Line::SetProperty {
@@ -153,29 +157,35 @@ fn set_typed<'a>(
 }
 
 #[tactic(auto, unfolding(crate::specs::Grammar::word_at))]
-fn set_property<'a>(follows: bool, fields: &mut Fields<'a>) -> Result<Line<'a>, LineFault>
-    ensures { Gives (λ x. x) result (read (set_property_form follows) fields.old) }
+fn set_property<'a, T: Trail + Copy>(
+    follows: bool,
+    fields: &mut Fields<'a, T>,
+) -> Result<Line<'a>, LineFault>
+    ensures value { Gives (λ x. x) result (read (set_property_form follows) fields.old.words) }
+    ensures place { IfErr result (λ _. fields.new.place ≡ fault_at (set_property_form follows) (next fields.old.place) fields.old.words) }
 {
-    let owner = known(owner(fields.word()?))?;
-    let name = known(key(fields.word()?))?;
+    let owner = known(owner(fields.word(Expected::Owner)?))?;
+    let name = known(key(fields.word(Expected::Key)?))?;
     set_typed(owner, name, follows, fields)
 }
 
 #[tactic(auto, unfolding(crate::specs::Grammar::word_at))]
-fn remove_property<'a>(fields: &mut Fields<'a>) -> Result<Line<'a>, LineFault>
-    ensures { Gives (λ x. x) result (read remove_property_form fields.old) }
+fn remove_property<'a, T: Trail + Copy>(fields: &mut Fields<'a, T>) -> Result<Line<'a>, LineFault>
+    ensures value { Gives (λ x. x) result (read remove_property_form fields.old.words) }
+    ensures place { IfErr result (λ _. fields.new.place ≡ fault_at remove_property_form (next fields.old.place) fields.old.words) }
 {
-    let owner = known(owner(fields.word()?))?;
-    let name = known(key(fields.word()?))?;
+    let owner = known(owner(fields.word(Expected::Owner)?))?;
+    let name = known(key(fields.word(Expected::Key)?))?;
     fields.end()?;
     Ok(Line::RemoveProperty { owner, name })
 }
 
 /// The line of properties that the words behind `prop` are.
-pub fn property<'a>(fields: &mut Fields<'a>) -> Result<Line<'a>, LineFault>
-    ensures { Gives (λ x. x) result (read (choose property_lines BadWord) fields.old) }
+pub fn property<'a, T: Trail + Copy>(fields: &mut Fields<'a, T>) -> Result<Line<'a>, LineFault>
+    ensures value { Gives (λ x. x) result (read (choose property_lines BadWord) fields.old.words) }
+    ensures place { IfErr result (λ _. fields.new.place ≡ fault_at (choose property_lines BadWord) (next fields.old.place) fields.old.words) }
 {
-    let action = fields.word()?;
+    let action = fields.word(Expected::Action)?;
     match action {
         "set" => set_property(false, fields),
         "set+" => set_property(true, fields),

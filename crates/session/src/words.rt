@@ -135,6 +135,8 @@ fn behind_minus(text: &str) -> Option<&str>
 }
 
 /// The coordinate that the first word is, at most `MAX_COORDINATE` from 0, and what is left of the line.
+// (inlined into the two readers of coordinates, with a trail and without)
+#[inline(always)]
 pub fn coordinate_before(text: &str) -> Option<(i32, Option<&str>)>
     ensures { IsFirst coordinate_of (words text.now) 32 result }
 {

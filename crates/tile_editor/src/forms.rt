@@ -1,126 +1,42 @@
 // The forms of session lines, and the word at which a refused line leaves them.
 use crate::command_line::shown_forms;
-use crate::word_kinds::{
-    is_block, is_coordinate, is_key, is_name, is_number, is_number_within, is_owner, is_text,
-    is_type, is_value,
-};
-use map_model::limits::MAX_SIDE;
 use refusals::LineFault;
-use session::limits::{MAX_DOCUMENT_NAME, MAX_FILE_NAME};
+use session::word_fault;
 use std::alloc::{AllocError, Global};
 use std::fmt::Write;
 
-/// A word of a form, and what stands before it.
-#[derive(Clone, Copy)]
-struct Expected<'a> {
-    form: &'a str,
-    word: &'a str,
-    /// The word of the line that stands before.
-    before: &'a str,
-}
-
-impl<'a> Expected<'a> {
-    // Whether it is a text, which is the rest of the line.
-    fn is_text(self) -> bool {
-        match self.word {
-            "TEXT" | "ACTION" | "NAME" | "SOURCE" => true,
-            "VALUE" => self.before == "string" || self.before == "file",
-            _ => false,
-        }
-    }
-
-    // Whether it is the width of a stamp.
-    fn is_stamp_width(self) -> bool {
-        self.word == "WIDTH" && self.form.starts_with("stamp")
-    }
-
-    // What of a line stands for it, and what is left behind the space.
-    fn cut<'b>(self, line: &'b str) -> (&'b str, Option<&'b str>) {
-        if self.word == "TEXT" && self.form.starts_with("begin ") {
-            return cut_at_bars(line);
-        }
-        if self.is_text() {
-            return (line, None);
-        }
-        match line.split_once(' ') {
-            Some((word, behind)) => (word, Some(behind)),
-            None => (line, None),
-        }
-    }
-
-    // Whether a word of a line can stand for it.
-    fn fits(self, word: &str) -> bool {
-        match self.word {
-            "DOC" => is_name(word, MAX_DOCUMENT_NAME),
-            "FILE" => is_name(word, MAX_FILE_NAME),
-            "X" | "Y" => is_coordinate(word),
-            "TEXT" | "ACTION" | "NAME" | "SOURCE" => is_text(word),
-            "TILES" => is_block(self.before, word),
-            "OWNER" => is_owner(word),
-            "KEY" => is_key(word),
-            "TYPE" => is_type(word),
-            "VALUE" => is_value(self.before, word),
-            number if number.starts_with(|letter: char| letter.is_ascii_uppercase()) => {
-                if self.is_stamp_width() {
-                    return is_number_within(word, MAX_SIDE);
-                }
-                is_number(word)
-            }
-            own => own == word,
-        }
+// Whether a word that the session's reader took of a line is the one that a form has in its place.
+fn stands_for(own: &str, word: &str) -> bool {
+    match own {
+        // `-` is no name.
+        "DOC" => word != "-",
+        // The text in front of them may be more than one word.
+        "||" => true,
+        _ => own == word || own.starts_with(|letter: char| letter.is_ascii_uppercase()),
     }
 }
 
-// The text before the first bars, and the rest, which begins with the bars; or the whole line.
-fn cut_at_bars(line: &str) -> (&str, Option<&str>) {
-    match line.split_once(" || ") {
-        Some((text, _)) => {
-            let behind = line.strip_prefix(text).unwrap_or("");
-            (text, behind.strip_prefix(' '))
-        }
-        None => (line, None),
-    }
-}
-
-// How many words of a line can stand where a form has them, from the first on.
-fn fitting(form: &str, line: &str) -> usize {
-    let mut count = 0usize;
-    let mut before = "";
-    let mut rest = Some(line);
-    for word in form.split(' ') {
-        let Some(text) = rest else {
-            break;
-        };
-        let expected = Expected { form, word, before };
-        let (found, behind) = expected.cut(text);
-        if !expected.fits(found) {
+// Whether so many words at the front of a line are a form's.
+fn begins_as(form: &str, line: &str, count: usize) -> bool {
+    let mut fitting = 0usize;
+    for (own, word) in form.split(' ').zip(line.split(' ')) {
+        if fitting == count || !stands_for(own, word) {
             break;
         }
-        count = count.saturating_add(1);
-        before = found;
-        rest = behind;
+        fitting = fitting.saturating_add(1);
     }
-    count
+    fitting == count
 }
 
-// The forms of the line's command which fit most words of a line, each on a line of its own, and how many words those are.
-fn nearest(alloc: Global, line: &str) -> Result<(usize, String), AllocError> {
-    let mut most = 0;
+// The forms with so many words of a line at their front, each on a line of its own.
+fn begun(alloc: Global, line: &str, count: usize) -> Result<String, AllocError> {
     let mut forms = String::new(alloc);
     for shown in shown_forms().lines() {
-        let Some(form) = shown.strip_prefix("  ") else {
-            continue;
-        };
-        let count = fitting(form, line);
-        if count > most {
-            most = count;
-            forms.clear();
-        }
-        if count > 0 && count == most {
+        if shown.starts_with(' ') && begins_as(shown.trim_start(), line, count) {
             write!(forms, "\n{shown}")?;
         }
     }
-    Ok((most, forms))
+    Ok(forms)
 }
 
 // The command of a line or of a form, without a plus sign.
@@ -159,14 +75,15 @@ fn meant(alloc: Global, line: &str) -> Result<String, AllocError> {
     Ok(forms)
 }
 
-/// What is said of a line that is refused as 3 or 4: at which word, counted from 1, it leaves its form, and the forms that the
-/// words before that fit. A text counts as one word. The word may be missing, or be one too many.
+/// What is said of a line that is refused as 3 or 4: at which word, counted from 1, it leaves its form, what that word is to be, and
+/// the forms that the words before it fit. A text counts as one word. The word may be missing, or be one too many.
 pub fn hint_of(alloc: Global, line: &str, fault: LineFault) -> Result<String, AllocError> {
-    let (fitting, forms) = match fault {
-        LineFault::UnknownCommand => (0, meant(alloc, line)?),
-        LineFault::BadWord => nearest(alloc, line)?,
-        LineFault::TooLong | LineFault::NotUtf8 => return Ok(String::new(alloc)),
+    let Some(word) = word_fault(line.as_bytes()) else {
+        return Ok(String::new(alloc));
     };
-    let place = fitting.saturating_add(1);
-    format!(in alloc; ": word {place}{forms}")
+    let forms = match fault {
+        LineFault::UnknownCommand => meant(alloc, line)?,
+        _ => begun(alloc, line, word.place.saturating_sub(1) as usize)?,
+    };
+    format!(in alloc; ": {word}{forms}")
 }

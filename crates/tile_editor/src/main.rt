@@ -6,7 +6,6 @@ mod command_line;
 mod forms;
 mod reports;
 mod streams;
-mod word_kinds;
 
 use crate::command_line::options;
 use crate::reports::{ErrorLines, FolderFaults, look_at_folder};
