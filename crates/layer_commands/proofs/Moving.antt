@@ -15,10 +15,10 @@ use Rattle.map_model.proofs.Changes.{remove-insert, insert-remove, slice_get-ins
 use Rattle.map_model.proofs.Keeps.{moved-keeps}
 use Rattle.map_model.proofs.LensLaws.{siblings-laws}
 use Rattle.map_model.proofs.Places.{layer_place-there}
-use Rattle.command_api.specs.Exchange.{IsExchanged}
+use Rattle.command_api.specs.Exchange.{IsExchanged, change_of}
 use Rattle.command_api.specs.Making.{Makes}
 use Rattle.edits.specs.LayerEdits.{put_in, with_layer_moved, after_move}
-use Rattle.layer_commands.specs.Changes.{CanBeMoved, move_exchange, move_change}
+use Rattle.layer_commands.specs.Changes.{CanBeMoved, moving}
 use Rattle.layer_commands.specs.Names.{move_names}
 use Rattle.layer_commands.proofs.Siblings.{siblings-get, siblings-with, siblings-two}
 
@@ -120,7 +120,7 @@ module _ (parent : Option ℕ) (a b : ℕ) (d : DocumentParts) (ls : List Layer)
   after-IsWellFormed h = subst (λ (x : DocumentParts). IsWellFormed x.map) (siblings-with parent change d) (moved-keeps d.map parent ls e h a b l there)
 
   turned_there : (x : DocumentParts) → IsWellFormed d.map → x ≡ with_map (with_layer_moved from to) d
-      → IsExchanged (move_exchange (record { from = from; to = to })) (move_exchange (record { from = to; to = from })) d x
+      → IsExchanged (moving from to) (moving to from) d x
   turned_there x h is =
       let here : x ≡ after = is ∙ after-is in
       record {
@@ -158,10 +158,9 @@ module _ (from to : LayerPlace) (d : DocumentParts) (can : CanBeMoved from to d.
       (place_in from.parent from.at to.at d first.own first.among first.layer second.layer first.there second-there)
 
   pub move_turned : (e : DocumentParts) → e ≡ with_map (with_layer_moved from to) d
-      → IsExchanged (move_exchange (record { from = from; to = to })) (move_exchange (record { from = to; to = from })) d e
+      → IsExchanged (moving from to) (moving to from) d e
   move_turned e =
-      subst (λ p. e ≡ with_map (with_layer_moved from p) d → IsExchanged (move_exchange (record { from = from; to = p }))
-      (move_exchange (record { from = p; to = from })) d e)
+      subst (λ p. e ≡ with_map (with_layer_moved from p) d → IsExchanged (moving from p) (moving p from) d e)
       (place-is from to can.among)
       (turned_there from.parent from.at to.at d first.own first.among first.layer second.layer first.there second-there e can.before)
 
@@ -173,7 +172,7 @@ moved_well_formed (Some l) to m q h = h
 
 -- ---- a move that is asked for
 pub move_asked : (d : DocumentParts) (id to : ℕ) (from : LayerPlace) → layer_place d.map id ≡ Some from → to < sibling_count d.map from → IsWellFormed d.map
-    → Makes move_names d (after_move d id to) (move_change (record { from = from; to = sibling_place from to }))
+    → Makes move_names d (after_move d id to) (change_of (moving from (sibling_place from to)))
 move_asked d id to from e room h =
     let there = layer_place-there d.map id from e h in
     let first = found_at d.map from there in

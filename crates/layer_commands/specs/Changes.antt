@@ -56,15 +56,19 @@ pub record CanBeMoved (from to : LayerPlace) (m : MapParts) : Type 0 where
   pub before : IsWellFormed m
   pub after : IsWellFormed (with_layer_moved from to m)
 
--- the two places change places too
-abbrev pub move_exchange : MoveLayer → Exchange
-move_exchange c = record {
+-- the layer at a place goes to another one
+abbrev pub moving : LayerPlace → LayerPlace → Exchange
+moving from to = record {
   names = move_names;
   obsolete = false;
   made = None;
-  exchanged = with_map (with_layer_moved c.from c.to);
-  fits = λ d. CanBeMoved c.from c.to d.map;
+  exchanged = with_map (with_layer_moved from to);
+  fits = λ d. CanBeMoved from to d.map;
 }
+
+-- the two places change places too
+abbrev pub move_exchange : MoveLayer → Exchange
+move_exchange c = moving c.from c.to
 
 abbrev pub move_change : MoveLayer → Change
 move_change c = change_of (move_exchange c)

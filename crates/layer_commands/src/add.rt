@@ -64,6 +64,15 @@ fn loose_layer(
     Loose::new(alloc, layer).map_err(|_| AllocError)
 }
 
+impl AddLayer {
+    /// The id of the layer.
+    pub fn layer(&self) -> u32
+        ensures { result ≡ self.now.id }
+    {
+        self.id
+    }
+}
+
 impl Exchange for AddLayer {
     ghost exchange_parts = { add_exchange };
 

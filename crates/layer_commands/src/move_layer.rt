@@ -14,6 +14,7 @@ use std::mem;
 pub struct MoveLayer {
     from: LayerPlace,
     to: LayerPlace,
+    layer: u32,
 }
 
 impl MoveLayer {
@@ -25,6 +26,7 @@ impl MoveLayer {
     pub fn new(document: &Document, layer: u32, place: u32) -> Result<MoveLayer, EditFault>
         ensures command { IfOk result (λ c. Makes move_names document.now (after_move document.now layer place) (move_change c)) }
         ensures refusal { IfErr result (λ fault. after_move document.now layer place ≡ Err fault) }
+        ensures id { IfOk result (λ c. c.layer ≡ layer) }
     {
         let map = document.map();
         let Some(from) = map.layer_place(layer) else {
@@ -37,7 +39,15 @@ impl MoveLayer {
         Ok(MoveLayer {
             from,
             to: from.sibling(at),
+            layer,
         })
+    }
+
+    /// The id of the layer.
+    pub fn layer(&self) -> u32
+        ensures { result ≡ self.now.layer }
+    {
+        self.layer
     }
 }
 

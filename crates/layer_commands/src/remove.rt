@@ -15,6 +15,7 @@ use map_model::{Document, Layer, LayerPlace};
 pub struct RemoveLayer {
     place: LayerPlace,
     layer: Option<Loose<Layer>>,
+    id: u32,
 }
 
 impl RemoveLayer {
@@ -24,11 +25,23 @@ impl RemoveLayer {
     pub fn new(document: &Document, layer: u32) -> Result<RemoveLayer, EditFault>
         ensures command { IfOk result (λ c. Makes remove_names document.now (after_remove document.now layer) (remove_change c)) }
         ensures refusal { IfErr result (λ fault. after_remove document.now layer ≡ Err fault) }
+        ensures id { IfOk result (λ c. c.id ≡ layer) }
     {
         match document.map().layer_place(layer) {
-            Some(place) => Ok(RemoveLayer { place, layer: None }),
+            Some(place) => Ok(RemoveLayer {
+                place,
+                layer: None,
+                id: layer,
+            }),
             None => Err(EditFault::NoSuchLayer),
         }
+    }
+
+    /// The id of the layer.
+    pub fn layer(&self) -> u32
+        ensures { result ≡ self.now.id }
+    {
+        self.id
     }
 }
 

@@ -1,4 +1,4 @@
-ghost use Rattle.std.specs.Prelude.{IfOk, IfErr, refl};
+ghost use Rattle.std.specs.Prelude.{◌≡◌, IfOk, IfErr, refl};
 ghost use Rattle.command_api.specs.Making.{IsRefusalOf, Makes};
 ghost use Rattle.edits.specs.LayerEdits.{after_rename};
 ghost use Rattle.layer_commands.specs.Changes.{rename_change, rename_exchange};
@@ -43,6 +43,15 @@ impl RenameLayer {
             }),
             Err(_) => Err(EditFault::NoMemory),
         }
+    }
+}
+
+impl RenameLayer {
+    /// The id of the layer.
+    pub fn layer(&self) -> u32
+        ensures { result ≡ self.now.layer }
+    {
+        self.layer
     }
 }
 

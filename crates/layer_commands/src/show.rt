@@ -36,6 +36,15 @@ impl ShowLayer {
     }
 }
 
+impl ShowLayer {
+    /// The id of the layer.
+    pub fn layer(&self) -> u32
+        ensures { result ≡ self.now.layer }
+    {
+        self.layer
+    }
+}
+
 impl Exchange for ShowLayer {
     ghost exchange_parts = { show_exchange };
 

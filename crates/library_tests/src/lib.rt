@@ -9,6 +9,8 @@ mod closing;
 #[cfg(test)]
 mod counted_paints;
 #[cfg(test)]
+mod entries;
+#[cfg(test)]
 mod free;
 #[cfg(test)]
 mod looks;

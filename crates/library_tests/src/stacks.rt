@@ -209,7 +209,7 @@ pub(crate) fn end_macro<C: Command>(stack: &mut Stack<C>) -> Result<(), StackFau
 }
 
 // A stack of a document, with no step yet.
-fn new_stack<C: Command>(alloc: Global) -> Option<Stack<C>>
+pub(crate) fn new_stack<C: Command>(alloc: Global) -> Option<Stack<C>>
     ensures { IfSome result (λ stack. Holds C.change stack) }
 {
     match blank(alloc) {

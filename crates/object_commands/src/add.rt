@@ -105,6 +105,15 @@ fn loose_object(
     Loose::new(alloc, object).map_err(|_| AllocError)
 }
 
+impl AddObject {
+    /// The id of the object.
+    pub fn object(&self) -> u32
+        ensures { result ≡ self.now.id }
+    {
+        self.id
+    }
+}
+
 impl Exchange for AddObject {
     ghost exchange_parts = { add_object_exchange };
 

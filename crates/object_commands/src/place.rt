@@ -109,6 +109,15 @@ impl PlaceObject {
     }
 }
 
+impl PlaceObject {
+    /// The id of the object.
+    pub fn object(&self) -> u32
+        ensures { result ≡ self.now.object }
+    {
+        self.object
+    }
+}
+
 impl Exchange for PlaceObject {
     ghost exchange_parts = { place_object_exchange };
 

@@ -14,6 +14,7 @@ use map_model::{Document, Object, ObjectPlace};
 pub struct RemoveObject {
     place: ObjectPlace,
     object: Option<Loose<Object>>,
+    id: u32,
 }
 
 impl RemoveObject {
@@ -23,14 +24,23 @@ impl RemoveObject {
     pub fn new(document: &Document, object: u32) -> Result<RemoveObject, EditFault>
         ensures command { IfOk result (λ c. Makes remove_object_names document.now (after_remove_object document.now object) (remove_object_change c)) }
         ensures refusal { IfErr result (λ fault. after_remove_object document.now object ≡ Err fault) }
+        ensures id { IfOk result (λ c. c.id ≡ object) }
     {
         match document.map().object(object) {
             Some((place, _)) => Ok(RemoveObject {
                 place,
                 object: None,
+                id: object,
             }),
             None => Err(EditFault::NoSuchObject),
         }
+    }
+
+    /// The id of the object.
+    pub fn object(&self) -> u32
+        ensures { result ≡ self.now.id }
+    {
+        self.id
     }
 }
 

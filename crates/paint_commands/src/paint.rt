@@ -109,6 +109,20 @@ impl PaintCommand {
         Ok(PaintCommand::of_change(PaintKind::Fill, false, change))
     }
 
+    /// The id of the layer that it paints on.
+    pub fn layer(&self) -> u32
+        ensures { result ≡ painted_layer self.now }
+    {
+        self.layer
+    }
+
+    /// Whether it follows the paint before it, into which it may merge.
+    pub fn follows(&self) -> bool
+        ensures { result ≡ self.now.follows }
+    {
+        self.follows
+    }
+
     /// The cells that the paint changes, in row order, each once, with unequal values before and after: the
     /// difference of the documents on its two sides.
     pub fn change(&self) -> &[CellEdit]

@@ -1,3 +1,4 @@
 pub mod PropertyMaking
 pub mod TilesetsAdded
 pub mod Settings
+mod Removed

@@ -60,7 +60,7 @@ given_place None fault place e = cc
 given_place (Some own) fault place e = let is : own ≡ place = cc in ap Some is
 
 -- an owner that is no fault stands at its place
-owner-there : (m : MapParts) (owner : Owner) (place : OwnerPlace) → owner_or_fault m owner ≡ Ok place → owner_place m owner ≡ Some place
+pub owner-there : (m : MapParts) (owner : Owner) (place : OwnerPlace) → owner_or_fault m owner ≡ Ok place → owner_place m owner ≡ Some place
 owner-there m owners.Map place e = let is : places.Map ≡ place = cc in ap Some is
 owner-there m (owners.Layer id) place e = given_place (owner_place m (owners.Layer id)) NoSuchLayer place e
 owner-there m (owners.Object id) place e = given_place (owner_place m (owners.Object id)) NoSuchObject place e

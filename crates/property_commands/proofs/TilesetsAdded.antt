@@ -26,7 +26,7 @@ below first (t ∷ ts) h = let both = and_parts _ _ h in (ltb-true _ _ both.0, b
 pub add_tileset_made : (d : DocumentParts) (first : ℕ) (source : List ℕ) (at : ℕ) (loose : Option Tileset) → IsUtf8 source → at ≡ length d.map.tilesets
     → loose ≡ Some (external_tileset first source) → is_above first d.map.tilesets ≡ true → 1 ≤ first
     → first ≤ MAX_FIRST_ID → length d.map.tilesets < MAX_TILESETS → IsWellFormed d.map
-    → Makes add_tileset_names d (after_add_tileset d first source) (add_tileset_change (record { at = at; tileset = Some loose }))
+    → Makes add_tileset_names d (after_add_tileset d first source) (add_tileset_change (record { at = at; tileset = Some loose; first_id = first }))
 add_tileset_made d first source at loose utf8 last is above low high few h =
     rw (is, last) (
     link_made refl (record {
@@ -47,6 +47,6 @@ place-there m first at e =
     rw there.1 refl
 
 pub remove_tileset_made : (d : DocumentParts) (first at : ℕ) → tileset_place d.map first ≡ Some at → has_uses d.map first ≡ false → IsWellFormed d.map
-    → Makes remove_tileset_names d (after_remove_tileset d first) (remove_tileset_change (record { at = at; tileset = None }))
+    → Makes remove_tileset_names d (after_remove_tileset d first) (remove_tileset_change (record { at = at; tileset = None; first_id = first }))
 remove_tileset_made d first at e unused h =
     link_made refl (record { ready = place-there d.map first at e; before = h; after = remove_tileset-keeps d.map at _ refl h }) (rw (e, unused) refl)

@@ -1,3 +1,4 @@
 pub mod PropertyChanges
 pub mod TilesetChanges
 pub mod Names
+pub mod Owners

@@ -94,6 +94,13 @@ impl SetProperty {
         }
     }
 
+    /// The owner of the property.
+    pub fn owner(&self) -> Owner
+        ensures { result ≡ self.now.set.value.owner }
+    {
+        self.set.owner
+    }
+
     /// The box that it holds, with a command that does the same.
     pub fn into_box(self) -> Box<PropertySet>
         ensures { IsSame (set_property_change self) (property_set_change result.value) }

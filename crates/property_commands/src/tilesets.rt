@@ -18,6 +18,7 @@ use std::alloc::{AllocError, Global};
 pub struct AddTileset {
     at: usize,
     tileset: Option<Loose<Tileset>>,
+    first_id: u32,
 }
 
 impl AddTileset {
@@ -34,6 +35,7 @@ impl AddTileset {
     ) -> Result<AddTileset, EditFault>
         ensures command { IfOk result (λ c. Makes add_tileset_names document.now (after_add_tileset document.now first_id source.now) (add_tileset_change c)) }
         ensures refusal { IfErr result (IsRefusalOf (after_add_tileset document.now first_id source.now)) }
+        ensures first { IfOk result (λ c. c.first_id ≡ first_id) }
     {
         let tilesets = &document.map().parts().tilesets;
         if !is_above_all(tilesets, first_id) {
@@ -50,9 +52,17 @@ impl AddTileset {
             Ok(tileset) => Ok(AddTileset {
                 at,
                 tileset: Some(tileset),
+                first_id,
             }),
             Err(_) => Err(EditFault::NoMemory),
         }
+    }
+
+    /// The first id of the tileset.
+    pub fn first_id(&self) -> u32
+        ensures { result ≡ self.now.first_id }
+    {
+        self.first_id
     }
 }
 
@@ -98,6 +108,7 @@ impl Lone for AddTileset {
 pub struct RemoveTileset {
     at: usize,
     tileset: Option<Loose<Tileset>>,
+    first_id: u32,
 }
 
 impl RemoveTileset {
@@ -107,6 +118,7 @@ impl RemoveTileset {
     pub fn new(document: &Document, first_id: u32) -> Result<RemoveTileset, EditFault>
         ensures command { IfOk result (λ c. Makes remove_tileset_names document.now (after_remove_tileset document.now first_id) (remove_tileset_change c)) }
         ensures refusal { IfErr result (λ fault. after_remove_tileset document.now first_id ≡ Err fault) }
+        ensures first { IfOk result (λ c. c.first_id ≡ first_id) }
     {
         let map = document.map();
         let Some(at) = map.tileset_place(first_id) else {
@@ -115,7 +127,18 @@ impl RemoveTileset {
         if map.in_use(first_id) == Some(true) {
             return Err(EditFault::TilesetInUse);
         }
-        Ok(RemoveTileset { at, tileset: None })
+        Ok(RemoveTileset {
+            at,
+            tileset: None,
+            first_id,
+        })
+    }
+
+    /// The first id of the tileset.
+    pub fn first_id(&self) -> u32
+        ensures { result ≡ self.now.first_id }
+    {
+        self.first_id
     }
 }
 

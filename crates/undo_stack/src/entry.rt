@@ -13,7 +13,7 @@ use map_model::{Document, MapText};
 use std::alloc::{AllocError, Global};
 use std::collections::VecDeque;
 
-/// What a stack turns as one step: a command, or a macro of entries.
+/// What a stack turns as one step: a command, or a macro of entries. A stack lends it to be looked at.
 #[derive(Drop)]
 pub enum Entry<C> {
     Command(C),
@@ -27,6 +27,24 @@ pub struct MacroContents<E> {
     pub text: MapText,
     pub action: MapText,
     pub children: Vec<E>,
+}
+
+impl<C> Entry<C> {
+    /// The command, and `None` of a macro.
+    pub fn command(&self) -> Option<&C> {
+        match self {
+            Entry::Command(command) => Some(command),
+            Entry::Macro(_) => None,
+        }
+    }
+
+    /// The entries of a macro, first to last. A command has none.
+    pub fn entries(&self) -> &[Entry<C>] {
+        match self {
+            Entry::Command(_) => &[],
+            Entry::Macro(contents) => contents.children.as_slice(),
+        }
+    }
 }
 
 impl<C: Command> Entry<C> {
@@ -53,7 +71,7 @@ impl<C: Command> Entry<C> {
     /// Makes the change again.
     #[inline(always)]
     #[cycle(redo)]
-    pub fn redo(&mut self, document: &mut Document)
+    pub(crate) fn redo(&mut self, document: &mut Document)
         requires { (entry_change C.change self.old).fits_redo document.old }
         ensures turned { IsRedone (entry_change C.change self.old) (entry_change C.change self.new) document.old document.new }
         ensures depth { depth self.new ≡ depth self.old }
@@ -68,7 +86,7 @@ impl<C: Command> Entry<C> {
     /// Turns the change back.
     #[inline(always)]
     #[cycle(undo)]
-    pub fn undo(&mut self, document: &mut Document)
+    pub(crate) fn undo(&mut self, document: &mut Document)
         requires { (entry_change C.change self.old).fits_undo document.old }
         ensures turned { IsUndone (entry_change C.change self.old) (entry_change C.change self.new) document.old document.new }
         ensures depth { depth self.new ≡ depth self.old }
@@ -83,7 +101,7 @@ impl<C: Command> Entry<C> {
 
 impl<C: Command> Entry<C> {
     /// Whether the entry changes nothing and may be dropped. A macro never may.
-    pub fn obsolete(&self) -> bool
+    pub(crate) fn obsolete(&self) -> bool
         ensures answer { result ≡ (entry_change C.change self.now).obsolete }
         ensures law { IsLawful (entry_change C.change self.now) }
     {
@@ -104,7 +122,7 @@ impl<C: Command> Entry<C> {
     }
 
     /// Whether the entry is a free command. A macro is none.
-    pub fn is_free(&self) -> bool
+    pub(crate) fn is_free(&self) -> bool
         ensures { result ≡ is_free (entry_change C.change self.now).names.vanishing }
     {
         match self {
@@ -114,7 +132,7 @@ impl<C: Command> Entry<C> {
     }
 
     /// Whether the entry is a free command that is obsolete.
-    pub fn is_gone(&self) -> bool
+    pub(crate) fn is_gone(&self) -> bool
         ensures answer { result ≡ is_gone (entry_change C.change self.now) }
         ensures gone { result ≡ true → IsGone (entry_change C.change self.now) }
         ensures live { result ≡ false → is_free (entry_change C.change self.now).names.vanishing ≡ true → IsLive (entry_change C.change self.now) }
@@ -129,7 +147,7 @@ impl<C: Command> Entry<C> {
     /// nothing in.
     ///
     /// Where there is no memory the entry does what it did.
-    pub fn merge(
+    pub(crate) fn merge(
         &mut self,
         alloc: Global,
         newer: &C,

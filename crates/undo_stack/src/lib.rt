@@ -11,6 +11,7 @@ mod pushed;
 mod sequence;
 mod stack;
 
+pub use entry::{Entry, MacroContents};
 pub use pushed::Pushed;
 pub use refusals::StackFault;
 pub use stack::Stack;

@@ -57,6 +57,14 @@ impl<C: Command> Sequence<C> {
         }
     }
 
+    /// The entry below the index, and `None` where the index is 0.
+    pub fn last(&self) -> Option<&Entry<C>> {
+        if self.index == 0 {
+            return None;
+        }
+        self.entries.get(self.index - 1)
+    }
+
     /// Drops all entries. The limit stays, and the clean index is 0.
     pub fn clear(&mut self)
         ensures entries { self.new.entries.items ≡ [] }

@@ -10,6 +10,7 @@ ghost use Rattle.undo_stack.specs.Told.{says_gone, says_merged, TellsDrop};
 ghost use Rattle.undo_stack.specs.declared.limits.TheConstants.{MAX_LIMIT};
 
 mod actions;
+mod entries;
 mod macros;
 mod sequences;
 
