@@ -21,6 +21,7 @@ ghost use Rattle.editor.specs.Turns.{PlansTurns, ReportsPush};
 mod documents;
 mod files;
 
+use crate::tell::{NoTell, Tell};
 use command_api::Command;
 use document_lines::{Planned, answered, on_document, refused, state_of};
 use map_store::MapStore;
@@ -188,9 +189,25 @@ impl<C: Command> Editor<C> {
         ensures kinds { CommitKinds (C.change command) (machine_of C.change self.old) result (machine_of C.change self.new) (kinds_in self.old) (kinds_in self.new) }
         ensures sound { IsSound C.change self.old → is_free (C.change command).names.vanishing ≡ false → IsSound C.change self.new }
     {
+        self.commit_told(command, &mut NoTell)
+    }
+
+    /// As `commit`, and tells what the command became.
+    pub fn commit_told<T: Tell>(&mut self, command: C, tell: &mut T) -> Reply
+        requires held { IsHeld C.change self.old }
+        requires fits { FitsActive (active_of (machine_of C.change self.old)) (C.change command) }
+        ensures held { IsHeld C.change self.new }
+        ensures commits { Commits (active_of (machine_of C.change self.old)) (C.change command) result (machine_of C.change self.old) (machine_of C.change self.new) }
+        ensures reported { ReportsPush C.change command result self.old self.new }
+        ensures kinds { CommitKinds (C.change command) (machine_of C.change self.old) result (machine_of C.change self.new) (kinds_in self.old) (kinds_in self.new) }
+        ensures sound { IsSound C.change self.old → is_free (C.change command).names.vanishing ≡ false → IsSound C.change self.new }
+    {
         match self.group.active_mut() {
-            Some(stack) => match stack.push(command) {
-                Ok(()) => state_of(stack),
+            Some(stack) => match stack.push_told(command) {
+                Ok(pushed) => {
+                    tell.pushed(pushed);
+                    state_of(stack)
+                }
                 Err(_) => Reply::Refused(Refusal::NoMemory),
             },
             None => unreachable!(),

@@ -4,6 +4,8 @@
 
 mod editor;
 mod saving;
+mod tell;
 
 pub use document_lines::{Edit, Planned};
 pub use editor::{Editor, turns_are_moves};
+pub use tell::{NoTell, Tell};

@@ -2,12 +2,17 @@
 #![tactic(auto)]
 
 mod lines_done;
+mod listening;
 mod lookups;
 mod many_lines;
 mod memory_editor;
 mod rectangle;
+mod seen;
+mod telling;
+mod told;
 
 pub use lines_done::LinesDone;
 pub use lookups::Status;
 pub use memory_editor::MemoryEditor;
 pub use rectangle::Rectangle;
+pub use told::{Became, Step, Told};

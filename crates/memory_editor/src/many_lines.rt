@@ -89,10 +89,12 @@ impl MemoryEditor {
         }
     }
 
-    // Does a line, and puts the reply to it and a newline at the front of a buffer, where it has room for them. Gives their size.
+    // Does a line, the first one of a call or a further one, and puts the reply to it and a newline at the front of a buffer, where
+    // it has room for them. Gives their size.
     fn run_line(
         &mut self,
         line: &[u8],
+        is_first: bool,
         head: &mut ArrayString<512>,
         replies: &mut [u8],
     ) -> Option<usize>
@@ -100,7 +102,8 @@ impl MemoryEditor {
         ensures size { result ≡ size_within (reply_bytes self.new.reply) replies.old }
         ensures put { replies.new ≡ written (reply_bytes self.new.reply) replies.old }
     {
-        self.step(line);
+        self.listen(is_first);
+        self.hear(line);
         put_reply(self.reply(), head, replies)
     }
 
@@ -119,7 +122,8 @@ impl MemoryEditor {
                 return done;
             }
             let (line, taken) = first_line(&bytes[done.bytes..]);
-            let put = self.run_line(line, &mut head, &mut replies[done.replies..]);
+            let is_first = done.lines == 0;
+            let put = self.run_line(line, is_first, &mut head, &mut replies[done.replies..]);
             done = done.with_line(taken, self.is_refused(), put);
         }
     }

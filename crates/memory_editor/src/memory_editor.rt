@@ -1,3 +1,4 @@
+use crate::listening::Listening;
 use crate::rectangle::{Rectangle, copy_cells};
 use editor::{Edit, Editor};
 use map_json::write_outline;
@@ -5,7 +6,7 @@ use map_model::Map;
 use map_store::{MapStore, MemoryStore};
 use region::Run;
 use session::Reply;
-use session_run::step;
+use session_run::step_told;
 use std::alloc::{AllocError, Global};
 use std::marker::Model;
 use undo_stack::Stack;
@@ -19,6 +20,8 @@ pub struct MemoryEditor {
     store: MemoryStore,
     // The reply to the last line, where it had one.
     reply: Option<Reply>,
+    // What is kept of the last line to tell what it did.
+    pub(crate) listening: Listening,
     pub(crate) alloc: Global,
 }
 
@@ -59,6 +62,7 @@ impl MemoryEditor {
             editor: Editor::new(alloc, limit),
             store: MemoryStore::new(alloc),
             reply: None,
+            listening: Listening::new(),
             alloc,
         }
     }
@@ -67,10 +71,25 @@ impl MemoryEditor {
     pub fn step(&mut self, line: &[u8])
         ensures { StepsTo line.now self.old self.new }
     {
+        self.listen(true);
+        self.hear(line);
+    }
+
+    // Does a line.
+    pub(crate) fn hear(&mut self, line: &[u8])
+        ensures { StepsTo line.now self.old self.new }
+    {
         let put = |edit: Edit| -> Option<Edit>
             ensures { result ≡ Some edit }
         { Some(edit) };
-        self.reply = step(self.alloc, &mut self.editor, &mut self.store, line, &put);
+        self.reply = step_told(
+            self.alloc,
+            &mut self.editor,
+            &mut self.store,
+            line,
+            &put,
+            &mut self.listening,
+        );
     }
 
     /// The reply to the last line, and `None` where that line was quiet or there was none.
@@ -135,7 +154,7 @@ impl MemoryEditor {
     ghost use Rattle.memory_editor.specs.Rectangles.{cells_of};
 
     // The stack of the active document.
-    fn active(&self) -> Option<&Stack<Edit>>
+    pub(crate) fn active(&self) -> Option<&Stack<Edit>>
         ensures active { option_map (λ stack. history edit_change stack.now) result ≡ active_of self.now.machine }
         ensures held { IfSome result (λ stack. Holds edit_change stack.now) }
         ensures kinds { MatchOption result (macros_at self.now.machine.group.active self.now.kinds ≡ [])

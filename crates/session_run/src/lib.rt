@@ -8,5 +8,5 @@ mod strict;
 mod writing;
 
 pub use laws::{journals_lead_to_the_same_documents, runs_are_one, runs_have_journals};
-pub use running::{RunFault, Summary, run, step};
+pub use running::{RunFault, Summary, run, step, step_told};
 pub use strict::{Report, StrictFault, Unsaved, run_strict};

@@ -16,7 +16,7 @@ use crate::strict::{End, Nobody, Report, end_over, end_refused, ending};
 use crate::writing::write_reply;
 use arrayvec::ArrayString;
 use command_api::Command;
-use editor::{Edit, Editor, Planned};
+use editor::{Edit, Editor, NoTell, Planned, Tell};
 use lines::{Found, LineReader};
 use map_store::MapStore;
 use refusals::{LineFault, Refusal};
@@ -73,12 +73,13 @@ fn boxed<K: Command>(alloc: Global, command: K) -> Option<Box<K>>
 // Carries out a line that was read: the reply to it, and none to a quiet one. What it plans is put into a command and
 // committed.
 #[inline(always)]
-fn carry_out<C: Command, S: MapStore, F: Fn(Edit) -> Option<C>>(
+fn carry_out<C: Command, S: MapStore, F: Fn(Edit) -> Option<C>, T: Tell>(
     alloc: Global,
     editor: &mut Editor<C>,
     store: &mut S,
     line: &Line<'_>,
     put: &F,
+    tell: &mut T,
 ) -> Option<Reply>
     requires sound { IsSound C.change editor.old }
     requires spelled { CanBeSpelled line.now }
@@ -93,21 +94,25 @@ fn carry_out<C: Command, S: MapStore, F: Fn(Edit) -> Option<C>>(
     match editor.plan(alloc, store, line) {
         Planned::Quiet => None,
         Planned::Reply(reply) => Some(reply),
-        Planned::Push(edit) => match put(edit) {
-            Some(command) => Some(editor.commit(command)),
-            None => Some(Reply::Refused(Refusal::NoMemory)),
-        },
+        Planned::Push(edit) => {
+            tell.edit(&edit);
+            match put(edit) {
+                Some(command) => Some(editor.commit_told(command, tell)),
+                None => Some(Reply::Refused(Refusal::NoMemory)),
+            }
+        }
     }
 }
 
 // Does the step of bytes that may be any line.
 #[inline(always)]
-fn step_parsed<C: Command, S: MapStore, F: Fn(Edit) -> Option<C>>(
+fn step_parsed<C: Command, S: MapStore, F: Fn(Edit) -> Option<C>, T: Tell>(
     alloc: Global,
     editor: &mut Editor<C>,
     store: &mut S,
     line: &[u8],
     put: &F,
+    tell: &mut T,
 ) -> Option<Reply>
     requires sound { IsSound C.change editor.old }
     requires callable { F.IsAlwaysCallable put.now }
@@ -119,7 +124,7 @@ fn step_parsed<C: Command, S: MapStore, F: Fn(Edit) -> Option<C>>(
     ensures asks { AsksIn line.now (machine_of C.change editor.old) (S.keeps store.new) result (S.asked store.old) (S.asked store.new) }
 {
     match &parse_line(line) {
-        Ok(line) => carry_out(alloc, editor, store, line, put),
+        Ok(line) => carry_out(alloc, editor, store, line, put, tell),
         Err(fault) => Some(Reply::Refused(Refusal::Line(*fault))),
     }
 }
@@ -146,12 +151,34 @@ pub fn step<C: Command, S: MapStore, F: Fn(Edit) -> Option<C>>(
     ensures kinds { StepKindsIn line.now (machine_of C.change editor.old) result (machine_of C.change editor.new) (kinds_in editor.old) (kinds_in editor.new) }
     ensures asks { AsksIn line.now (machine_of C.change editor.old) (S.keeps store.new) result (S.asked store.old) (S.asked store.new) }
 {
+    step_told(alloc, editor, store, line, put, &mut NoTell)
+}
+
+/// As `step`, and tells of the line's edit, where it is one.
+#[inline(always)]
+pub fn step_told<C: Command, S: MapStore, F: Fn(Edit) -> Option<C>, T: Tell>(
+    alloc: Global,
+    editor: &mut Editor<C>,
+    store: &mut S,
+    line: &[u8],
+    put: &F,
+    tell: &mut T,
+) -> Option<Reply>
+    requires sound { IsSound C.change editor.old }
+    requires callable { F.IsAlwaysCallable put.now }
+    requires same { (edit : Edit) (command : Option C) → F.post put.now edit command → PutsSame C.change edit command }
+    ensures sound { IsSound C.change editor.new }
+    ensures step { MachineStepIn line.now
+        (workspace (machine_of C.change editor.old) (S.stored store.old)) result (workspace (machine_of C.change editor.new) (S.stored store.new)) }
+    ensures kinds { StepKindsIn line.now (machine_of C.change editor.old) result (machine_of C.change editor.new) (kinds_in editor.old) (kinds_in editor.new) }
+    ensures asks { AsksIn line.now (machine_of C.change editor.old) (S.keeps store.new) result (S.asked store.old) (S.asked store.new) }
+{
     // A frequent line is done without a parsed line and a plan.
     match frequent_line(line) {
         Some(FrequentLine::Undo) => Some(editor.undo()),
         Some(FrequentLine::Redo) => Some(editor.redo()),
         Some(FrequentLine::Status) => Some(editor.status()),
-        None => step_parsed(alloc, editor, store, line, put),
+        None => step_parsed(alloc, editor, store, line, put, tell),
     }
 }
 

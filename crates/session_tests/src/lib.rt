@@ -6,3 +6,5 @@
 mod in_memory;
 #[cfg(test)]
 mod runs;
+#[cfg(test)]
+mod told;

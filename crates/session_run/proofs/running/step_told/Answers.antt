@@ -1,7 +1,7 @@
 use Rattle.std.proofs.Common.{◌≡◌, Ok}
 use Rattle.session.specs.Grammar.{line_of}
 use Rattle.session.specs.declared.line.Line.TheVariants.{Undo, Redo}
-use Rattle.session_run.proofs.running.step.Goals as goal
+use Rattle.session_run.proofs.running.step_told.Goals as goal
 
 pub returns-in-Some-Undo-clause-step : goal.returns-in-Some-Undo-clause-step
 returns-in-Some-Undo-clause-step g c =
