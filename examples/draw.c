@@ -1,6 +1,6 @@
 /* SPDX-License-Identifier: MIT OR Apache-2.0 */
-/* Opens a map and draws its cells as text, a sign for each cell, once with a stamp and once behind its undo. It asks for sizes, layers
- * and cells, and reads no JSON. From the top of a clone:
+/* Opens a map and draws its cells as text, a sign for each cell, with a stamp. Then it undoes the stamp, and draws the cells alone that
+ * the undo has changed. It asks for sizes, layers and cells, and for what a line did, and reads no JSON. From the top of a clone:
  *
  *   cp -r examples/maps /tmp
  *   cc -O2 -Iinclude examples/draw.c lib/libroskevad.a -o /tmp/maps/draw
@@ -87,13 +87,39 @@ static char sign_of(uint32_t cell)
     return SIGNS[(cell & TILE) % (sizeof SIGNS - 1)];
 }
 
-/* Draws each layer over those before it. */
-static void draw(roskevad_editor *editor, const char *what)
+/* Cells of a rectangle: its first column and row, and how many it has. */
+typedef struct rectangle {
+    size_t x, y, width, height;
+} rectangle;
+
+/* The whole map. */
+static rectangle all_of(roskevad_editor *editor)
 {
     roskevad_sizes sizes;
     if (roskevad_editor_sizes_of_map(editor, &sizes) != ROSKEVAD_DONE)
         stop("no map is open");
-    size_t width = sizes.width, height = sizes.height, count = width * height;
+    rectangle all = {0, 0, sizes.width, sizes.height};
+    return all;
+}
+
+/* What the last line has changed. */
+static rectangle changed_by_last_line(roskevad_editor *editor)
+{
+    roskevad_told told;
+    if (roskevad_editor_tell(editor, &told) != ROSKEVAD_DONE)
+        stop("no editor is open");
+    if (told.differs != ROSKEVAD_DIFFERS_CELLS)
+        return all_of(editor);
+    rectangle changed = {(size_t)told.x, (size_t)told.y, told.width, told.height};
+    return changed;
+}
+
+/* Draws each layer over those before it. */
+static void draw(roskevad_editor *editor, const char *what, rectangle part)
+{
+    roskevad_sizes sizes;
+    roskevad_editor_sizes_of_map(editor, &sizes);
+    size_t count = part.width * part.height;
     roskevad_layer_row *rows = layers_of(editor, sizes.layers);
     uint32_t *cells = take(count, sizeof *cells);
     char *signs = take(count, 1);
@@ -101,15 +127,15 @@ static void draw(roskevad_editor *editor, const char *what)
     for (size_t at = 0; at < sizes.layers; at++) {
         if (rows[at].kind != ROSKEVAD_TILES || !rows[at].is_visible)
             continue;
-        if (roskevad_editor_cells(editor, rows[at].id, 0, 0, width, height, cells, count) != count)
+        if (roskevad_editor_cells(editor, rows[at].id, part.x, part.y, part.width, part.height, cells, count) != count)
             stop("a layer without cells");
         for (size_t cell = 0; cell < count; cell++)
             if (cells[cell] != 0)
                 signs[cell] = sign_of(cells[cell]);
     }
     printf("%s\n", what);
-    for (size_t row = 0; row < height; row++)
-        printf("%.*s\n", (int)width, signs + row * width);
+    for (size_t row = 0; row < part.height; row++)
+        printf("%.*s\n", (int)part.width, signs + row * part.width);
     free(signs);
     free(cells);
     free(rows);
@@ -122,9 +148,9 @@ int main(int count, char **words)
     roskevad_editor editor = ROSKEVAD_CLOSED;
     open_map(&editor, words[1]);
     step(&editor, "stamp 1 0 0 4 7,7,7,7");
-    draw(&editor, "with a stamp:");
+    draw(&editor, "with a stamp:", all_of(&editor));
     step(&editor, "undo");
-    draw(&editor, "as it was:");
+    draw(&editor, "what the undo has changed:", changed_by_last_line(&editor));
     roskevad_editor_close(&editor);
     return 0;
 }

@@ -104,6 +104,8 @@ typedef struct roskevad_lines_done {
 #define ROSKEVAD_MAP 1u
 #define ROSKEVAD_LAYER 2u
 #define ROSKEVAD_OBJECT 3u
+/* What an edit can be about besides. */
+#define ROSKEVAD_TILESET 4u
 
 /* The sizes of a map, and how many layers and tilesets it has. */
 typedef struct roskevad_sizes {
@@ -134,6 +136,63 @@ typedef struct roskevad_status {
     size_t is_clean;  /* 1 or 0 */
     size_t is_active; /* 1 or 0 */
 } roskevad_status;
+
+/* What may differ: a sum of these. What is not among them is as it was. */
+#define ROSKEVAD_DIFFERS_DOCUMENTS 1u  /* which documents are open, or which of them is active */
+#define ROSKEVAD_DIFFERS_OUTLINE 2u    /* the text of the map but for its cells */
+#define ROSKEVAD_DIFFERS_SELECTION 4u
+#define ROSKEVAD_DIFFERS_CELLS 8u      /* cells of one layer within a rectangle */
+#define ROSKEVAD_DIFFERS_ALL_CELLS 16u /* any cell of any layer, and which layers there are */
+
+/* What became of an edit, of a macro that ended, or of steps that were turned. */
+#define ROSKEVAD_BECAME_NOTHING 0u           /* the line is none of these, or changes nothing */
+#define ROSKEVAD_BECAME_ADDED 1u             /* the step below the index, or the last entry of the innermost open macro */
+#define ROSKEVAD_BECAME_ADDED_AND_DROPPED 2u /* the same, and the first step is gone: there were more than the limit */
+#define ROSKEVAD_BECAME_MERGED 3u            /* the step below the index took it in, or the last entry of the open macro */
+#define ROSKEVAD_BECAME_GONE 4u              /* the same, and nothing was left of that step */
+#define ROSKEVAD_BECAME_TURNED 5u            /* steps were undone or redone, from `before` to `index` */
+
+/* What the last line did. All but `differs` and `refusal` is about the active document. Where the last call of `roskevad_run_lines` did
+ * several lines, all may differ, `became` is ROSKEVAD_BECAME_NOTHING, `dropped` 0, and `refusal` that of the last one. */
+typedef struct roskevad_told {
+    size_t before;     /* the index before the lines */
+    size_t index;      /* how the document stands now */
+    size_t count;
+    size_t depth;
+    size_t dropped;    /* how many steps are gone from the beginning, 0 or 1: there were more than the limit */
+    size_t is_clean;   /* 1 or 0 */
+    uint32_t refusal;  /* the number of the refusal of the last line, or 0 */
+    uint32_t differs;  /* a sum of ROSKEVAD_DIFFERS_* */
+    uint32_t became;   /* of the last line: ROSKEVAD_BECAME_* */
+    uint32_t subject;  /* what all edits are about: ROSKEVAD_MAP, _LAYER, _OBJECT or _TILESET; 0 for several things, and for the selection */
+    uint32_t id;       /* its id, of a tileset its first id, of the map 0 */
+    uint32_t layer;    /* where ROSKEVAD_DIFFERS_CELLS is among those that differ: the layer of these cells, and their rectangle */
+    int32_t x;
+    int32_t y;
+    uint32_t width;
+    uint32_t height;
+} roskevad_told;
+
+/* A step of the active document. */
+typedef struct roskevad_step_row {
+    uint32_t is_macro; /* 1 or 0 */
+    uint32_t differs;  /* what its undo and its redo change; this and the rest as in roskevad_told */
+    uint32_t subject;
+    uint32_t id;
+    uint32_t layer;
+    int32_t x;
+    int32_t y;
+    uint32_t width;
+    uint32_t height;
+} roskevad_step_row;
+
+/* The word at which a line is refused. A text, which is the rest of a line, counts as one word. */
+typedef struct roskevad_faulty_word {
+    size_t place;      /* which word it is, from 1 */
+    size_t at;         /* where it begins in the line, in bytes: at the end where it is missing */
+    size_t length;     /* how many bytes it has */
+    size_t is_missing; /* whether the line ends in front of it: 1 or 0 */
+} roskevad_faulty_word;
 
 /* ---- the library's own names; their pointers are never null */
 size_t roskevad_open(roskevad_editor *editor, size_t limit);
@@ -170,10 +229,14 @@ size_t roskevad_document_count(roskevad_editor *editor);
 size_t roskevad_document_name(roskevad_editor *editor, size_t at, uint8_t *name, size_t room);
 size_t roskevad_active(roskevad_editor *editor);
 size_t roskevad_status_of(roskevad_editor *editor, size_t at, roskevad_status *status);
+size_t roskevad_tell(roskevad_editor *editor, roskevad_told *told);
+size_t roskevad_steps(roskevad_editor *editor, size_t from, roskevad_step_row *rows, size_t room);
+size_t roskevad_step_text(roskevad_editor *editor, size_t at, uint8_t *text, size_t room);
 void roskevad_close(roskevad_editor *editor);
 size_t roskevad_set_aside(const uint8_t *bytes, size_t length, uint8_t *text, size_t room);
 size_t roskevad_put_back(const uint8_t *bytes, size_t length, uint8_t *text, size_t room);
 size_t roskevad_map_fault(const uint8_t *bytes, size_t length, uint8_t *text, size_t room);
+size_t roskevad_word_fault(const uint8_t *line, size_t line_length, roskevad_faulty_word *word, uint8_t *text, size_t room);
 size_t roskevad_version(uint8_t *version, size_t room);
 
 /* ---- what to call */
@@ -427,6 +490,25 @@ static inline size_t roskevad_editor_status_of(roskevad_editor *editor, size_t a
     return roskevad_status_of(editor, at, status);
 }
 
+/* What the last line did. It is looked up in the steps, so ask before the next line. ROSKEVAD_DONE or ROSKEVAD_IS_CLOSED. */
+static inline size_t roskevad_editor_tell(roskevad_editor *editor, roskevad_told *told)
+{
+    return roskevad_tell(editor, told);
+}
+
+/* Puts steps of the active document into `rows`, from the one with number `from` on, as far as there are steps, and rows in the `room`.
+ * The first step has 0, and an open macro stands last. How many were put, or ROSKEVAD_IS_CLOSED. */
+static inline size_t roskevad_editor_steps(roskevad_editor *editor, size_t from, roskevad_step_row *rows, size_t room)
+{
+    return roskevad_steps(editor, from, rows, room);
+}
+
+/* The text of a step, as the line `text` gives it. Its size, ROSKEVAD_NONE past the last step, or ROSKEVAD_IS_CLOSED. */
+static inline size_t roskevad_editor_step_text(roskevad_editor *editor, size_t at, char *text, size_t room)
+{
+    return roskevad_step_text(editor, at, roskevad_room_at(text), room);
+}
+
 /* Closes an editor, and gives back its memory. A closed one stays closed. */
 static inline void roskevad_editor_close(roskevad_editor *editor)
 {
@@ -458,6 +540,13 @@ static inline size_t roskevad_editor_put_back(const void *bytes, size_t length, 
 static inline size_t roskevad_editor_map_fault(const void *bytes, size_t length, char *text, size_t room)
 {
     return roskevad_map_fault(roskevad_bytes_at(bytes), length, roskevad_room_at(text), room);
+}
+
+/* The word at which a line is refused as 3 or 4, and what is wrong with it in words: `word 1 is not a command`. The text's size, fewer
+ * than 256; ROSKEVAD_NONE where the line is read, or refused as 1 or 2. No line is done. */
+static inline size_t roskevad_editor_word_fault(const char *line, size_t length, roskevad_faulty_word *word, char *text, size_t room)
+{
+    return roskevad_word_fault(roskevad_bytes_at(line), length, word, roskevad_room_at(text), room);
 }
 
 /* The version of the library. Its size. */

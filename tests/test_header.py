@@ -11,7 +11,7 @@ from lib.places import NATIVE, TOP
 HEADER = (TOP / 'include' / 'roskevad.h').read_text()
 USE = NATIVE / 'header_use.c'
 # The structs of whose fields the use reads each.
-READ = {'roskevad_sizes', 'roskevad_layer_row', 'roskevad_status'}
+READ = {'roskevad_sizes', 'roskevad_layer_row', 'roskevad_status', 'roskevad_faulty_word', 'roskevad_told', 'roskevad_step_row'}
 BOTH = [
     '-Wall',
     '-Wextra',

@@ -36,12 +36,15 @@ STRUCTS = {
     'roskevad_lines_done': library.LinesDone,
     'roskevad_sizes': library.MapSizes,
     'roskevad_status': library.DocumentStatus,
+    'roskevad_faulty_word': library.FaultyWord,
+    'roskevad_told': library.Told,
 }
 TYPES = {
     'void *': ctypes.c_void_p,
     'bool ': ctypes.c_bool,
     'size_t ': ctypes.c_size_t,
     'uint32_t ': ctypes.c_uint32,
+    'int32_t ': ctypes.c_int32,
     # A buffer, or what is copied from one.
     'uint8_t *': ctypes.c_void_p,
     'uint32_t *': ctypes.c_void_p,
@@ -49,6 +52,8 @@ TYPES = {
 }
 # A struct that is taken out of bytes, some of its fields. A buffer of it has no type.
 ROW = 'roskevad_layer_row'
+# One that the package does not read.
+STEP_ROW = 'roskevad_step_row'
 LETTERS = {'uint32_t ': 'I', 'size_t ': 'N'}
 SANITIZED = ['-fsanitize=address,undefined', '-fno-sanitize-recover=all', '-g']
 
@@ -363,9 +368,12 @@ def fault_of_drawing(case):
     stamped = copy.deepcopy(case.given)
     first = next(layer for layer in layers_in(stamped['layers']) if layer['id'] == 1)
     cells = list(cells_of(first))
+    changed = [at for at in range(4) if cells[at] != 7]
     cells[:4] = [7] * 4
     set_cells(first, cells)
-    return unlike(f'with a stamp:\n{drawn(stamped)}as it was:\n{drawn(case.given)}', came)
+    # The stamp changes cells of the first row alone.
+    back = drawn(case.given)[changed[0] : changed[-1] + 1]
+    return unlike(f'with a stamp:\n{drawn(stamped)}what the undo has changed:\n{back}\n', came)
 
 
 def test_maps_that_the_example_draws():
@@ -392,8 +400,9 @@ def test_structs_of_the_package():
     structs = dict(
         re.findall(r'^typedef struct (\w+) \{\n(.*?)^\} \1;', HEADER, re.MULTILINE | re.DOTALL)
     )
-    fault = unlike(sorted([*STRUCTS, ROW]), sorted(structs))
+    fault = unlike(sorted([*STRUCTS, ROW, STEP_ROW]), sorted(structs))
     assert not fault, fault
+    structs.pop(STEP_ROW)
     fields_in = re.compile(r'^    (\w+ \*?)(\w+);', re.MULTILINE)
     row = fields_in.findall(structs.pop(ROW))
     filled = struct.pack(''.join(LETTERS[kind] for kind, _ in row), *range(len(row)))
@@ -412,7 +421,7 @@ def test_structs_of_the_package():
 def test_arguments_of_the_package():
     """Each call of the header has those of its types."""
     types = {f'{name} *': ctypes.POINTER(kind) for name, kind in STRUCTS.items()}
-    types.update({**TYPES, f'{ROW} *': ctypes.c_void_p})
+    types.update({**TYPES, f'{ROW} *': ctypes.c_void_p, f'{STEP_ROW} *': ctypes.c_void_p})
     calls = re.findall(r'^(size_t|void) roskevad_(\w+)\(([^;{]*)\);', HEADER, re.MULTILINE)
     given = {
         name: (answer, [types[re.match(r'(.* \*?)\w+$', word)[1]] for word in words.split(', ')])

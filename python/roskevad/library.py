@@ -63,6 +63,23 @@ class DocumentStatus(ctypes.Structure):
     _fields_ = [(name, ctypes.c_size_t) for name in ('index', 'count', 'depth', 'is_clean', 'is_active')]
 
 
+class FaultyWord(ctypes.Structure):
+    """`roskevad_faulty_word`, the word at which a line is refused."""
+
+    _fields_ = [(name, ctypes.c_size_t) for name in ('place', 'at', 'length', 'is_missing')]
+
+
+class Told(ctypes.Structure):
+    """`roskevad_told`, what lines did."""
+
+    _fields_ = [
+        *((name, ctypes.c_size_t) for name in ('before', 'index', 'count', 'depth', 'dropped', 'is_clean')),
+        *((name, ctypes.c_uint32) for name in ('refusal', 'differs', 'became', 'subject', 'id', 'layer')),
+        *((name, ctypes.c_int32) for name in ('x', 'y')),
+        *((name, ctypes.c_uint32) for name in ('width', 'height')),
+    ]
+
+
 class LayerRow(NamedTuple):
     """What is read of a `roskevad_layer_row`, a layer in the list of all layers. The parent of one in no group is 0."""
 
@@ -116,10 +133,14 @@ _PARAMETERS = {
     'document_name': [_EDITOR, _SIZE, _ROOM, _SIZE],
     'active': [_EDITOR],
     'status_of': [_EDITOR, _SIZE, ctypes.POINTER(DocumentStatus)],
+    'tell': [_EDITOR, ctypes.POINTER(Told)],
+    'steps': [_EDITOR, _SIZE, _ROOM, _SIZE],
+    'step_text': [_EDITOR, _SIZE, _ROOM, _SIZE],
     'close': [_EDITOR],
     'set_aside': [_BYTES, _SIZE, _ROOM, _SIZE],
     'put_back': [_BYTES, _SIZE, _ROOM, _SIZE],
     'map_fault': [_BYTES, _SIZE, _ROOM, _SIZE],
+    'word_fault': [_BYTES, _SIZE, ctypes.POINTER(FaultyWord), _ROOM, _SIZE],
     'version': [_ROOM, _SIZE],
 }
 

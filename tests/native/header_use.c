@@ -54,6 +54,30 @@ static size_t told_by_own_names(const char *name, char *room, size_t size)
     return sum + roskevad_status_of(&editor, 0, &status) + sizes.width + rows[0].id + status.index;
 }
 
+static size_t lines_told(char *room, size_t size)
+{
+    roskevad_told told = {0, 0, 0, 0, 0, 0, 0, 0, 0, 0, 0, 0, 0, 0, 0, 0};
+    roskevad_step_row rows[2] = {{0, 0, 0, 0, 0, 0, 0, 0, 0}, {0, 0, 0, 0, 0, 0, 0, 0, 0}};
+    size_t sum = roskevad_editor_tell(&editor, &told) + roskevad_tell(&editor, &told);
+    sum += roskevad_editor_steps(&editor, 0, rows, 2) + roskevad_steps(&editor, 0, rows, 2);
+    sum += roskevad_editor_step_text(&editor, 0, room, size) + roskevad_step_text(&editor, 0, roskevad_room_at(room), size);
+    sum += told.before + told.index + told.count + told.depth + told.dropped + told.is_clean;
+    sum += told.refusal + told.differs + told.became + told.subject + told.id + told.layer + told.width + told.height;
+    sum += (told.x == rows[0].x ? 1u : 0u) + (told.y == rows[0].y ? 1u : 0u) + rows[0].is_macro + rows[0].differs + rows[0].subject;
+    sum += ROSKEVAD_DIFFERS_DOCUMENTS + ROSKEVAD_DIFFERS_OUTLINE + ROSKEVAD_DIFFERS_SELECTION + ROSKEVAD_DIFFERS_CELLS;
+    sum += ROSKEVAD_DIFFERS_ALL_CELLS + ROSKEVAD_BECAME_NOTHING + ROSKEVAD_BECAME_ADDED + ROSKEVAD_BECAME_ADDED_AND_DROPPED;
+    sum += ROSKEVAD_BECAME_MERGED + ROSKEVAD_BECAME_GONE + ROSKEVAD_BECAME_TURNED + ROSKEVAD_TILESET;
+    return sum + rows[0].id + rows[0].layer + rows[0].width + rows[0].height;
+}
+
+static size_t word_told(const char *line, size_t length, char *room, size_t size)
+{
+    roskevad_faulty_word word = {0, 0, 0, 0};
+    size_t sum = roskevad_editor_word_fault(line, length, &word, room, size);
+    sum += roskevad_word_fault(roskevad_bytes_at(line), length, &word, roskevad_room_at(room), size);
+    return sum + word.place + word.at + word.length + word.is_missing;
+}
+
 int main(void)
 {
     const char line[] = "status";
@@ -87,6 +111,8 @@ int main(void)
     sum += roskevad_editor_set_aside(line, sizeof line - 1, room, sizeof room);
     sum += roskevad_editor_put_back(ROSKEVAD_NULL, 0, ROSKEVAD_NULL, 0);
     sum += roskevad_editor_map_fault(line, sizeof line - 1, room, sizeof room);
+    sum += lines_told(room, sizeof room);
+    sum += word_told(line, sizeof line - 1, room, sizeof room);
     sum += roskevad_editor_version(room, sizeof room);
     roskevad_editor_close(&editor);
     return sum == 0;

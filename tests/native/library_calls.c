@@ -156,6 +156,65 @@ static void check_told(roskevad_editor *editor)
     WANT(roskevad_editor_selection_run(editor, 1, &run) == ROSKEVAD_NONE);
 }
 
+/* What a line is told to have done, when it was done. */
+static roskevad_told told_of(roskevad_editor *editor, const char *line)
+{
+    roskevad_told told;
+    char room[64];
+    memset(&told, 0xff, sizeof told);
+    WANT(roskevad_editor_step(editor, line, strlen(line), room, sizeof room) < ROSKEVAD_IS_CLOSED);
+    WANT(roskevad_editor_tell(editor, &told) == ROSKEVAD_DONE);
+    return told;
+}
+
+/* Cells of layer 1 within that rectangle differ, and nothing else; that layer alone is what the edits are about. */
+static bool is_of_cells(roskevad_told told, int32_t x, int32_t y, uint32_t width, uint32_t height)
+{
+    bool is_there = told.x == x && told.y == y && told.width == width && told.height == height;
+    return is_there && told.differs == ROSKEVAD_DIFFERS_CELLS && told.layer == 1 && told.subject == ROSKEVAD_LAYER && told.id == 1;
+}
+
+/* What lines did, and the steps that came of them. */
+static void check_what_lines_did(void)
+{
+    static const char MANY[] = "undo\nstamp 1 0 2 1 5\nstamp 1 3 2 1 5\n";
+    roskevad_editor editor = ROSKEVAD_CLOSED;
+    roskevad_step_row rows[4];
+    roskevad_told told = {9, 9, 9, 9, 9, 9, 9, 9, 9, 9, 9, 9, 9, 9, 9, 9};
+    roskevad_lines_done done;
+    char room[256];
+    WANT(roskevad_editor_tell(&editor, &told) == ROSKEVAD_IS_CLOSED && told.before == 9 && told.height == 9);
+    WANT(roskevad_editor_steps(&editor, 0, rows, 4) == ROSKEVAD_IS_CLOSED && roskevad_editor_step_text(&editor, 0, NULL, 0) == ROSKEVAD_IS_CLOSED);
+    WANT(roskevad_editor_open(&editor, 2) == ROSKEVAD_DONE);
+    told = told_of(&editor, "new a 4 3 16 16 a.tsj");
+    WANT((told.differs & ROSKEVAD_DIFFERS_DOCUMENTS) != 0 && told.became == ROSKEVAD_BECAME_NOTHING && told.is_clean == 1);
+    told = told_of(&editor, "stamp 1 1 1 2 5,6");
+    WANT(is_of_cells(told, 1, 1, 2, 1) && told.became == ROSKEVAD_BECAME_ADDED && told.before == 0 && told.index == 1 && told.is_clean == 0);
+    told = told_of(&editor, "stamp+ 1 1 2 1 5");
+    WANT(is_of_cells(told, 1, 2, 1, 1) && told.became == ROSKEVAD_BECAME_MERGED && told.index == 1);
+    told = told_of(&editor, "undo");
+    WANT(is_of_cells(told, 1, 1, 2, 2) && told.became == ROSKEVAD_BECAME_TURNED && told.before == 1 && told.index == 0 && told.count == 1);
+    told = told_of(&editor, "stamp 9 0 0 1 5");
+    WANT(told.differs == 0 && told.refusal == 30 && told.became == ROSKEVAD_BECAME_NOTHING);
+    told = told_of(&editor, "select replace 0 2 4 1");
+    WANT(told.differs == ROSKEVAD_DIFFERS_SELECTION && told.became == ROSKEVAD_BECAME_ADDED && told.subject == 0 && told.count == 1);
+    told = told_of(&editor, "layer rename 1 Sea");
+    WANT(told.differs == ROSKEVAD_DIFFERS_OUTLINE && told.subject == ROSKEVAD_LAYER && told.id == 1 && told.dropped == 0);
+    told = told_of(&editor, "resize 5 4 0 0");
+    WANT((told.differs & ROSKEVAD_DIFFERS_ALL_CELLS) != 0 && told.became == ROSKEVAD_BECAME_ADDED_AND_DROPPED && told.dropped == 1 && told.count == 2);
+    WANT(roskevad_editor_run_lines(&editor, MANY, sizeof MANY - 1, false, room, sizeof room, &done) == 3);
+    WANT(roskevad_editor_tell(&editor, &told) == ROSKEVAD_DONE && (told.differs & ROSKEVAD_DIFFERS_ALL_CELLS) != 0 && told.before == 2);
+    WANT(told.became == ROSKEVAD_BECAME_NOTHING && told.dropped == 0 && told.refusal == 0);
+    WANT(roskevad_editor_steps(&editor, 0, rows, 4) == 2 && roskevad_editor_steps(&editor, 1, rows + 3, 1) == 1);
+    WANT(roskevad_editor_steps(&editor, 2, rows, 4) == 0 && roskevad_editor_steps(&editor, SIZE_MAX, rows, 4) == 0);
+    WANT(rows[0].differs == ROSKEVAD_DIFFERS_CELLS && rows[0].layer == 1 && rows[0].x == 0 && rows[0].y == 2 && rows[0].width == 1 && rows[0].is_macro == 0);
+    WANT(memcmp(rows + 1, rows + 3, sizeof *rows) == 0 && rows[1].x == 3 && rows[1].subject == ROSKEVAD_LAYER && rows[1].id == 1);
+    WANT(roskevad_editor_step(&editor, "text 0", 6, room, sizeof room) > 3);
+    WANT(roskevad_editor_step_text(&editor, 0, room + 128, 128) < 128 && memcmp(room + 3, room + 128, 5) == 0);
+    WANT(roskevad_editor_step_text(&editor, 2, room, sizeof room) == ROSKEVAD_NONE);
+    roskevad_editor_close(&editor);
+}
+
 /* Cells of a map of 4 by 3, which has the value 5 in its first two. */
 static void check_cells(roskevad_editor *editor)
 {
@@ -461,6 +520,22 @@ static void check_map_faults(void)
     WANT(roskevad_editor_map_fault(NULL, 0, NULL, 0) < ROSKEVAD_NO_MEMORY);
 }
 
+/* The word at which a line is refused. */
+static void check_word_faults(void)
+{
+    static const char REFUSED[] = "begin a b || ", READ[] = "stamp 1 0 0 1 5", TOLD[] = "word 4 is not a text of 1 to 200 bytes, with no control character";
+    roskevad_faulty_word word = {9, 9, 9, 9};
+    char room[256];
+    memset(room, 'x', sizeof room);
+    WANT(roskevad_editor_word_fault(READ, sizeof READ - 1, &word, room, sizeof room) == ROSKEVAD_NONE && word.place == 9 && room[0] == 'x');
+    WANT(roskevad_editor_word_fault(REFUSED, sizeof REFUSED - 1, &word, room, 8) == sizeof TOLD - 1 && room[0] == 'x');
+    WANT(word.place == 4 && word.at == sizeof REFUSED - 1 && word.length == 0 && word.is_missing == 0);
+    WANT(roskevad_editor_word_fault(REFUSED, sizeof REFUSED - 1, &word, room, sizeof room) == sizeof TOLD - 1 && memcmp(room, TOLD, sizeof TOLD - 1) == 0);
+    WANT(roskevad_editor_word_fault("undo x", 6, &word, room, sizeof room) < 256 && word.place == 2 && word.at == 5 && word.length == 1);
+    WANT(roskevad_editor_word_fault("goto", 4, &word, NULL, 0) < 256 && word.place == 2 && word.at == 4 && word.is_missing == 1);
+    WANT(roskevad_editor_word_fault(NULL, 0, &word, NULL, 0) == ROSKEVAD_NONE);
+}
+
 /* Lines of which one is refused, on a editor with no document. */
 static void check_lines(roskevad_editor *editor)
 {
@@ -499,6 +574,8 @@ static void run_random(size_t lines)
     check_edges(&editor);
     check_asides();
     check_map_faults();
+    check_word_faults();
+    check_what_lines_did();
     check_lines(&editor);
     check_told(&editor);
     check_cells(&editor);

@@ -3,3 +3,4 @@ pub mod Asides
 pub mod Counts
 pub mod Held
 pub mod Things
+pub mod WordFaults

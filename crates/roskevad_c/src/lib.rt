@@ -1,6 +1,6 @@
 //! The editor for C: an editor in memory, behind a type that C can hold.
 //!
-//! Each call but the last four takes an editor, which C keeps and never looks into. A call that gives bytes copies them to the
+//! Each call but the last four, and `roskevad_word_fault`, takes an editor, which C keeps and never looks into. A call that gives bytes copies them to the
 //! front of a buffer where the buffer has room for all of them, and else leaves the buffer as it was; it answers how many
 //! there are. What stands in place of a length or a number is one of the constants at the end of the numbers.
 #![tactic(auto)]
@@ -15,8 +15,10 @@ mod lookups;
 mod names;
 mod parts;
 mod runs;
+mod tells;
 mod things;
 mod told;
+mod word_faults;
 
 ghost use Rattle.std.specs.Prelude.{◌≡◌, nat_le, None, Some, codes, length, slice_get, if◌then◌else◌};
 ghost use Rattle.std.specs.FinMap.{keys, len};
