@@ -8,16 +8,16 @@ import { formsOf } from "./forms.js";
  * `code` is the number of the refusal, `words` what it says, and `line` the line. Where the line is of
  * no command, or is not as its command has it, `forms` are the forms to write it in. Where it was one of
  * many lines, `place` is its place among them, from 0, and `replies` are those to the lines before it,
- * which are done. `line` of a call is the call, as `open(data, "town")`, and it has no forms; where the map
+ * which are done. `wordAtFault` says at which word a line is no line, and what is wrong with it. `line` of a call is the call, as `open(data, "town")`, and it has no forms; where the map
  * could not be set aside or unpacked, `why` has the reason in words. Where a map was read and refused,
  * `placeInMap` tells where in its file.
  */
 export class Refused extends Error {
-  constructor(code, words, line, place = null, replies = [], { isCall = false, why = null, placeInMap = null } = {}) {
+  constructor(code, words, line, place = null, replies = [], { isCall = false, why = null, placeInMap = null, wordAtFault = null } = {}) {
     const forms = !isCall && (code === 3 || code === 4) ? formsOf(line) : [];
-    const more = [placeInMap && wordsOfPlace(placeInMap), why].filter((each) => each !== null);
+    const more = [wordAtFault && wordAtFault.text, placeInMap && wordsOfPlace(placeInMap), why].filter((each) => each !== null);
     super([`${code} ${words}: ${line.slice(0, 200)}`, ...more, ...forms].join("\n  "));
-    Object.assign(this, { name: "Refused", code, words, line, forms, place, replies, why, placeInMap });
+    Object.assign(this, { name: "Refused", code, words, line, forms, place, replies, why, placeInMap, wordAtFault });
   }
 }
 

@@ -36,6 +36,8 @@ const MARK = "roskevad";
 const ROOM = 65_536;
 // The bytes of what the library says of lines that it has done.
 const LINES_DONE_BYTES = 32;
+// The same of the word at which a line is refused.
+const FAULTY_WORD_BYTES = 32;
 const NEWLINE = 10;
 // The characters of a short text.
 const SHORT = 100;
@@ -251,6 +253,25 @@ export class Module {
       return this.copyText((to, room) => this.#calls.map_fault(at, given.length, to, room));
     });
     return text === null ? null : JSON.parse(text);
+  }
+
+  /**
+   * The word at which a line is refused: which it is, from 1, the word itself, null where the line ends in front of it, and what is wrong
+   * with it, as `word 1 is not a command`. Null where the line is read, or refused as a whole. Throws NoMemory.
+   */
+  wordFault(line) {
+    const given = encoder.encode(line);
+    return this.holding(FAULTY_WORD_BYTES + given.length, (to) => {
+      const from = to + FAULTY_WORD_BYTES;
+      this.bytes().set(given, from);
+      const text = this.copyText((at, room) => this.calls.word_fault(from, given.length, to, at, room));
+      if (text === null) {
+        return null;
+      }
+      // Four numbers of 64 bits, below 2^32.
+      const [place, , at, , length, , isMissing] = new Uint32Array(this.#memory.buffer, to, FAULTY_WORD_BYTES / 4);
+      return { place, word: isMissing === 1 ? null : decoder.decode(given.subarray(at, at + length)), text };
+    });
   }
 
   /**

@@ -22,7 +22,7 @@ export function formsOf(line: string): string[];
 export class Refused extends Error {
   constructor(
     code: number, words: string, line: string, place?: number | null, replies?: string[],
-    more?: { isCall?: boolean; why?: string | null; placeInMap?: MapPlace | null },
+    more?: { isCall?: boolean; why?: string | null; placeInMap?: MapPlace | null; wordAtFault?: WordAtFault | null },
   );
   /** The number of the refusal: docs/refusals.md lists them. */
   readonly code: number;
@@ -32,6 +32,8 @@ export class Refused extends Error {
   readonly line: string;
   /** Where the line is of no command, or is not as its command has it: the forms to write it in. */
   readonly forms: readonly string[];
+  /** Of such a line: the word at fault; else null. */
+  readonly wordAtFault: WordAtFault | null;
   /** Of a line among many: its place, from 0; else null. */
   readonly place: number | null;
   /** The replies to the lines before it, which are done. */
@@ -40,6 +42,16 @@ export class Refused extends Error {
   readonly why: string | null;
   /** Of `open`, where the map is read and refused: where in its file; else null. */
   readonly placeInMap: MapPlace | null;
+}
+
+/** The word of a line at which it is no line. A text, which is the rest of a line, counts as one word. */
+export interface WordAtFault {
+  /** Which word it is, from 1. */
+  readonly place: number;
+  /** The word, or null where the line ends in front of it. */
+  readonly word: string | null;
+  /** What is wrong with it, as `word 1 is not a command`. */
+  readonly text: string;
 }
 
 /** Where in a file a map has its fault. */

@@ -42,6 +42,8 @@ const NOT_IN_MACROS = /^(?:undo|redo|goto|clean|save)(?: |$)/;
 const CLOSING = /^(?:close|discard) ([A-Za-z0-9_.-]+)$/;
 const QUIET = /^(?: *$|#)/;
 const REFUSAL = /^no (\d+) (.*)$/s;
+// The codes of lines that are no line, at one of their words.
+const OF_A_WORD = new Set([3, 4]);
 // The bytes of the library's own handle of an editor, and of a run of the selection.
 const EDITOR_BYTES = 16;
 const RUN_BYTES = 12;
@@ -150,9 +152,15 @@ export class Editor {
     this._forgetIfClosed(line, reply);
     const refusal = reply.startsWith("no ") && REFUSAL.exec(reply);
     if (refusal) {
-      throw new Refused(Number(refusal[1]), refusal[2], line);
+      throw this._refusedLine(Number(refusal[1]), refusal[2], line);
     }
     return reply;
+  }
+
+  // What is thrown for a line that is refused.
+  _refusedLine(code, words, line, place = null, replies = []) {
+    const wordAtFault = OF_A_WORD.has(code) ? Object.freeze(this._module.wordFault(line)) : null;
+    return new Refused(code, words, line, place, replies, { wordAtFault });
   }
 
   /**
@@ -204,7 +212,7 @@ export class Editor {
       done += came.lines;
       if (came.isRefused) {
         const [, code, words] = REFUSAL.exec(replies.pop());
-        throw new Refused(Number(code), words, lines[done - 1], done - 1, replies);
+        throw this._refusedLine(Number(code), words, lines[done - 1], done - 1, replies);
       }
     }
     return replies;

@@ -7,12 +7,12 @@ import random
 import re
 
 from lib.cases import passed
+from lib.lines_at_fault import a_line_at_fault
 from lib.maps import layers_in
 from lib.refusals import refusal
 from page.bench import Bench, choose, middle_of, object_of, spelled, standing
 from page.browser import ActionChains, Keys
 from selenium.webdriver.support.ui import Select
-from test_strict import a_line_at_fault
 
 NEEDS_BROWSER = True
 IS_LONG = True
@@ -20,31 +20,31 @@ IS_LONG = True
 # Lines that are refused, each with the place of the word at fault and with words of what is wanted
 # there, as docs/session-lines.md says what the words of a line are.
 REFUSED = [
-    ('prop set map a b string x', 5, 'string or file'),
-    ('prop set map a string ', 6, 'not empty'),
-    ('prop set map a color #FF0000', 6, '#rrggbb'),
-    ('prop set map a color red', 6, '#rrggbb'),
+    ('prop set map a b string x', 5, 'string, int, bool, color, file or object'),
+    ('prop set map a string ', 6, 'is empty'),
+    ('prop set map a color #FF0000', 6, '6 or 8 of the digits'),
+    ('prop set map a color red', 6, '6 or 8 of the digits'),
     ('prop set map a bool yes', 6, 'true or false'),
     ('prop set map a int 1.5', 6, 'a whole number'),
-    ('prop set map a int 01', 6, 'zero in front'),
-    ('prop set map a float 1', 5, 'string or file'),
+    ('prop set map a int 01', 6, 'a whole number'),
+    ('prop set map a float 1', 5, 'string, int, bool, color, file or object'),
     ('prop set layer a int 1', 3, 'layer: or object: and an id'),
-    ('layer rename 1 ', 4, 'not empty'),
+    ('layer rename 1 ', 4, 'is empty'),
     ('layer show 1 perhaps', 4, 'yes or no'),
-    ('object move 1 1000000001 0', 4, 'from -1,000,000,000 to 1,000,000,000'),
+    ('object move 1 1000000001 0', 4, 'from -1000000000 to 1000000000'),
     ('object resize 1 -3 4', 4, 'from 0 to'),
     ('stamp 1 0 0 2 5,6,7', 6, 'rows of 2'),
     ('stamp 1 0 0 1 05', 6, 'numbers joined by commas'),
-    ('stamp 1 0 0 4097 5', 5, 'from 1 to 4,096'),
-    ('tile 1 -0 0', 3, 'zero in front'),
+    ('stamp 1 0 0 4097 5', 5, 'from 1 to 4096'),
+    ('tile 1 -0 0', 3, 'from -1000000000'),
     ('goto', 2, 'is missing'),
     ('undo x', 2, 'one too many'),
     ('undo ', 2, 'is empty'),
-    ('begin A || ', 4, 'not empty'),
+    ('begin A || ', 4, 'is empty'),
     ('open a ../b', 3, 'of A-Z a-z 0-9'),
     ('new my map 4 4 4 4 t', 3, 'a whole number'),
-    ('fill+ 1 0 0 5', 1, 'no command'),
-    ('Undo', 1, 'no command'),
+    ('fill+ 1 0 0 5', 1, 'not a command'),
+    ('Undo', 1, 'not a command'),
 ]
 
 

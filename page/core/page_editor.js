@@ -13,7 +13,7 @@ import { FileNames, freeName } from "../files/names.js";
 import { OpenDocuments } from "./open_documents.js";
 import { loadModule } from "./own_module.js";
 import { Changed, ChosenFiles } from "../files/places.js";
-import { shortHintOf } from "./refusals.js";
+import { wordsOfWord } from "./refusals.js";
 import { Replay } from "./replay.js";
 import { MOST_AT_ONCE, SAVED, cut, isRefusal, opened, pause, replyOf } from "./replies.js";
 import { sourceOf } from "../files/sources.js";
@@ -21,6 +21,7 @@ import { sourceOf } from "../files/sources.js";
 const OPEN = /^open ([A-Za-z0-9_][A-Za-z0-9_.-]{0,63}) ([A-Za-z0-9_][A-Za-z0-9_.-]{0,99})$/;
 const SAVE = /^save ([A-Za-z0-9_][A-Za-z0-9_.-]{0,99})$/;
 const STATUS = /^ok (\d+)\/(\d+) (clean|dirty) (\d+)$/;
+const IS_OF_WORD = /^no [34] /;
 const NOT_ACCEPTED = { replies: [], isAccepted: false };
 // How many lines that are played the journal may be behind.
 const MOST_BEHIND = 10_000;
@@ -109,17 +110,17 @@ export class PageEditor extends EventTarget {
   // the time `until`, in milliseconds, no further line is begun.
   doLines(lines, { isFree = false, stroke = null, gesture = null, until = Infinity } = {}) {
     const replies = [];
-    let [count, refusal, refused] = [0, null, null];
+    let [count, refusal, refused, why] = [0, null, null, null];
     for (const line of lines) {
       if (this.isBarred(line)) return { ...NOT_ACCEPTED, replies, count, barred: this.barred };
       const reply = this.runLine(line, stroke !== null, gesture);
       count++;
       if (reply !== null) replies.push(reply);
-      if (isRefusal(reply) && refusal === null) [refusal, refused] = [reply, line];
+      if (isRefusal(reply) && refusal === null) [refusal, refused, why] = [reply, line, this.whyOf(reply, line)];
       if ((refusal && !isFree) || performance.now() > until) break;
     }
     this.settle(stroke);
-    return { replies, count, isAccepted: refusal === null, refusal, refused };
+    return { replies, count, isAccepted: refusal === null, refusal, refused, why };
   }
 
   // Does lines one behind the other, and waits for the files that they read and write. With `goOn` each part of them takes a short time; behind
@@ -203,7 +204,19 @@ export class PageEditor extends EventTarget {
   }
 
   list(line, reply, gesture = null) {
-    this.listed.push([++this.lineCount, cut(line), reply === null ? null : cut(reply), shortHintOf(reply, line), cellsIn(line), gesture]);
+    const why = this.whyOf(reply, line)?.split("\n")[0] ?? "";
+    this.listed.push([++this.lineCount, cut(line), reply === null ? null : cut(reply), why, cellsIn(line), gesture]);
+  }
+
+  // What is wrong with the word at which a line is refused; null where no word is at fault.
+  whyOf(reply, line) {
+    if (!IS_OF_WORD.test(reply ?? "")) return null;
+    try {
+      return wordsOfWord(this.module.wordFault(line), line);
+    } catch (fault) {
+      if (fault instanceof NoMemory) return null;
+      throw fault;
+    }
   }
 
   // Takes what the lines have changed.

@@ -1,11 +1,11 @@
 // SPDX-License-Identifier: MIT OR Apache-2.0
 // Words for a refused line: which of its words is at fault, what is wanted in its place, and what to do.
 import { FORMS, formsOf } from "../../js/roskevad.js";
-import { KINDS, TYPES } from "./kinds.js";
 
-const UNKNOWN = 3;
-const MISSPELLED = 4;
 const LONGEST_SHOWN = 40;
+// How many forms are shown behind a word at fault: of all commands, and of those that a line has begun with.
+const MOST_COMMANDS = 6;
+const MOST_FORMS = 3;
 // What a refusal means for the hand, where its words alone do not tell.
 const HINTS = {
   1: "Cut it into shorter lines.",
@@ -26,112 +26,40 @@ const HINTS = {
 };
 
 const cut = text => (text.length <= LONGEST_SHOWN ? text : `${text.slice(0, LONGEST_SHOWN)}..`);
-const OWNER = "map, or layer: or object: and an id";
-const NUMBERS = matchedNumbers();
-const WORDS = {
-  DOC: KINDS.document, FILE: KINDS.file, X: KINDS.coordinate, Y: KINDS.coordinate, KEY: KINDS.key, COLOUR: KINDS.colour,
-  TEXT: KINDS.text, ACTION: KINDS.text, NAME: KINDS.text, SOURCE: KINDS.text,
-  OWNER: { wanted: OWNER, fault: text => (text === "map" || !NUMBERS.number.fault(/^(?:layer|object):(.*)$/s.exec(text)?.[1] ?? "") ? "" : OWNER) },
-  TYPE: fitting(/^(string|int|bool|color|file|object)$/, `one of ${Object.keys(TYPES).join(", ")}`),
-};
-const TEXTS = new Set(["TEXT", "ACTION", "NAME", "SOURCE"]);
 
-function fitting(pattern, wanted) {
-  return { wanted, fault: text => (pattern.test(text) ? "" : wanted) };
+// Whether a word of a line, which is what a form has there, is that of this form.
+const isOfForm = (own, word) => own === "||" || /^[A-Z]/.test(own) || own.split("|").includes(word);
+
+// The forms whose front is that of a line, so many words long.
+function formsFrom(line, count) {
+  const words = line.split(" ").slice(0, count);
+  const fits = form => form.split(" ").slice(0, count).every((own, at) => isOfForm(own, words[at]));
+  return [...FORMS.values()].flat().filter(form => form.split(" ").length >= count && fits(form));
 }
 
-// Whole numbers are without zeros in front in a line.
-function matchedNumbers() {
-  const strict = kind => ({ wanted: kind.wanted, fault: text => kind.fault(text) || (kind.spelled(text) === text ? "" : "no zero in front") });
-  return { coordinate: strict(KINDS.coordinate), number: strict(KINDS.number), width: strict(KINDS.cells) };
+// What is wrong with a word, as the reader of lines tells it.
+function wrongWith({ place, word, text }, line) {
+  if (word === null || place > line.split(" ").length) return `W${text.slice(1)}.`;
+  if (word === "" && place > 1) return `Word ${place} is empty: one space stands between two words, and none at the end.`;
+  return `Word ${place}, '${cut(word)}', ${text.slice(`word ${place} `.length)}.`;
 }
 
-// The rows of a stamp.
-function tilesFault(text, width) {
-  const values = text.split(",");
-  const at = values.findIndex(value => NUMBERS.number.fault(value));
-  if (at >= 0) return `numbers joined by commas; '${cut(values[at])}' is none`;
-  return values.length % Number(width) === 0 ? "" : `as many values as fill rows of ${width}; these are ${values.length}`;
-}
-
-// What a word of a form takes: { wanted, fault(text) }. `before` is the word of the line that stands before.
-function kindOf(form, word, before) {
-  if (word === "TILES") return { wanted: `values that fill rows of ${before}`, fault: text => tilesFault(text, before) };
-  if (word === "VALUE" || word === "NUMBER") return { int: NUMBERS.coordinate, object: NUMBERS.number }[before] ?? TYPES[before] ?? NUMBERS.number;
-  if (word === "WIDTH" && form.startsWith("stamp")) return NUMBERS.width;
-  if (word === "X" || word === "Y") return NUMBERS.coordinate;
-  if (WORDS[word]) return WORDS[word];
-  if (/^[A-Z]/.test(word)) return NUMBERS.number;
-  const choices = word === "||" ? [word] : word.split("|");
-  return { wanted: choices.join(" or "), fault: text => (choices.includes(text) ? "" : choices.join(" or ")) };
-}
-
-// What of the rest of a line stands for a word of a form, and what is behind it; null where nothing is.
-function divided(form, word, before, rest) {
-  const bars = word === "TEXT" && form.startsWith("begin ") ? rest.indexOf(" || ") : -1;
-  const isText = TEXTS.has(word) || (word === "VALUE" && ["string", "file"].includes(before));
-  const at = bars >= 0 ? bars : isText ? -1 : rest.indexOf(" ");
-  return at < 0 ? [rest, null] : [rest.slice(0, at), rest.slice(at + 1)];
-}
-
-// How far a line goes along a form: how many words fit, the word where it leaves the form, and what is wrong with it.
-function along(form, line) {
-  const expected = form.split(" ");
-  let [rest, before] = [line, ""];
-  for (let count = 0; count < expected.length; count++) {
-    if (rest === null) return { form, count, word: null, fault: kindOf(form, expected[count], before).wanted };
-    const [word, behind] = divided(form, expected[count], before, rest);
-    const kind = kindOf(form, expected[count], before);
-    const fault = kind.fault(word);
-    if (fault) return { form, count, word, fault };
-    [rest, before] = [behind, word];
-  }
-  return { form, count: expected.length, word: rest, fault: rest === null ? "" : "too much" };
-}
-
-// The word of a misspelled line at which it leaves the forms: { place, word, fault, forms }. Words are counted from 1.
-export function wordAtFault(line) {
-  const all = [...FORMS.values()].flat().map(form => along(form, line));
-  const most = Math.max(...all.map(each => each.count));
-  const nearest = all.filter(each => each.count === most && each.fault);
-  const faults = [...new Set(nearest.map(each => each.fault))];
-  const wanted = faults.filter(fault => fault !== "too much");
-  return { place: most + 1, word: nearest[0]?.word ?? null, fault: wanted.join(", or "), forms: nearest.map(each => each.form) };
-}
-
-// Says at which word a line is misspelled, and which form it must have.
-function misspelled(line) {
-  const { place, word, fault, forms } = wordAtFault(line);
-  const form = `\n${forms.slice(0, 3).join("\n")}`;
-  if (word === null) return `Word ${place} is missing: ${fault}.${form}`;
-  if (word === "" && !fault.startsWith("not empty")) return `Word ${place} is empty: one space stands between two words, and none at the end.${form}`;
-  if (!fault) return `Word ${place}, '${cut(word)}', is one too many.${form}`;
-  return `Word ${place}, '${cut(word)}': ${fault}.${form}`;
-}
-
-function unknown(line) {
-  const forms = formsOf(line);
+// Says at which word a line is refused, what it is to be, and in which forms a line may go on there.
+export function wordsOfWord(fault, line) {
   if (line.startsWith(" ")) return "The line begins with a space.";
-  const word = `Word 1, '${cut(line.split(" ")[0])}', is no command.`;
-  return forms.length ? `${word}\n${forms.slice(0, 6).join("\n")}` : word;
+  const forms = fault.place === 1 ? formsOf(line).slice(0, MOST_COMMANDS) : formsFrom(line, fault.place - 1).slice(0, MOST_FORMS);
+  return [wrongWith(fault, line), ...forms].join("\n");
 }
 
 // What is said of a refused line behind the words of its reply; "" where those tell all.
-export function hintOf(reply, line) {
+export function hintOf(reply) {
   const code = Number(/^no (\d+)/.exec(reply)?.[1] ?? 0);
-  if (code === MISSPELLED) return misspelled(line);
-  if (code === UNKNOWN) return unknown(line);
   return HINTS[code >= 60 && code <= 69 ? 60 : code] ?? "";
 }
 
-// The same on one line, for a list of lines: only of a word at fault.
-export function shortHintOf(reply, line) {
-  return /^no [34] /.test(reply ?? "") ? hintOf(reply, line).split("\n")[0] : "";
-}
-
 // All that is said of lines that were refused: the words of the reply, with its number, and what to do.
-export function saidOf({ refusal, refused, why, barred }) {
+export function saidOf({ refusal, why, barred }) {
   if (barred) return barred;
   const [, code, words] = /^no (\d+) (.*)$/.exec(refusal);
-  return `Refused: ${words} (${code}). ${why ?? hintOf(refusal, refused ?? "")}`.trim();
+  return `Refused: ${words} (${code}). ${why ?? hintOf(refusal)}`.trim();
 }

@@ -16,8 +16,9 @@ from .names import document_name
 from .properties import Properties
 from .selection import Run, Selection
 from .tilesets import Tile, Tileset, Tilesets
+from .word_faults import WordAtFault
 
 __all__ = [
     'Closed', 'Document', 'Editor', 'Layer', 'Layers', 'MapObject', 'MapPlace', 'Objects', 'Properties', 'Refused', 'Run', 'Selection',
-    'Status', 'Step', 'Tile', 'Tileset', 'Tilesets', '__version__', 'document_name',
+    'Status', 'Step', 'Tile', 'Tileset', 'Tilesets', 'WordAtFault', '__version__', 'document_name',
 ]

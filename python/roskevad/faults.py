@@ -3,6 +3,7 @@
 from typing import TYPE_CHECKING, Iterable, Optional
 
 from .forms import forms_of
+from .word_faults import WordAtFault, word_fault_of
 
 if TYPE_CHECKING:
     from .map_faults import MapPlace
@@ -13,25 +14,28 @@ class Refused(Exception):
 
     `code` is the number of the refusal, `words` what it says, and `line` what the caller wrote: a line, as `undo`, or a call,
     as `save_file('a.tmj')`. Where a line is of no command, or is not as its command has it, `forms` are the forms to write it
-    in; a call has none. Where it was one of many lines, `place` is its place among them, from 0, and `replies` are those to the
-    lines before it, which are done. `why` says of a map why it is not set aside, put back or unpacked, if that is so. Where a map
-    is read and refused, `place_in_map` tells where in its file.
+    in, and `word_at_fault` says at which word; a call has neither. Where it was one of many lines, `place` is its place among
+    them, from 0, and `replies` are those to the lines before it, which are done. `why` says of a map why it is not set aside,
+    put back or unpacked, if that is so. Where a map is read and refused, `place_in_map` tells where in its file.
     """
 
     def __init__(
         self, code: int, words: str, line: str, place: Optional[int] = None, replies: Iterable[str] = (),
         forms: Optional[tuple[str, ...]] = None, why: Optional[str] = None, place_in_map: 'Optional[MapPlace]' = None,
+        word_at_fault: Optional[WordAtFault] = None,
     ):
         self.code = code
         self.words = words
         self.line = line
         self.place = place
         self.replies = list(replies)
-        self.forms = forms if forms is not None else forms_of(line) if code in (3, 4) else ()
+        is_of_a_word = forms is None and code in (3, 4)
+        self.forms = forms if forms is not None else forms_of(line) if is_of_a_word else ()
+        self.word_at_fault = word_fault_of(line) if is_of_a_word else word_at_fault
         self.why = why
         self.place_in_map = place_in_map
         # An exception is copied and pickled by its arguments, and so it goes from one process to another.
-        super().__init__(code, words, line, place, self.replies, self.forms, why, place_in_map)
+        super().__init__(code, words, line, place, self.replies, self.forms, why, place_in_map, self.word_at_fault)
 
     def _of(self, call: str) -> 'Refused':
         """The same refusal of another call."""
@@ -39,7 +43,7 @@ class Refused(Exception):
         return Refused(code, words, call, *more)
 
     def __str__(self) -> str:
-        more = [str(each) for each in (self.place_in_map, self.why) if each is not None]
+        more = [str(each) for each in (self.word_at_fault, self.place_in_map, self.why) if each is not None]
         return '\n  '.join([f'{self.code} {self.words}: {self.line[:200]}', *more, *self.forms])
 
 

@@ -49,7 +49,8 @@ async function linesAndReplies() {
   const { code, words, line, forms } = thrown(Refused, () => editor.step("stamp"));
   same([code, line], [4, "stamp"]);
   same(forms, ["stamp LAYER X Y WIDTH TILES", "stamp+ LAYER X Y WIDTH TILES"]);
-  same(thrown(Refused, () => editor.step("stamp")).message, `4 ${words}: stamp\n  ${forms.join("\n  ")}`);
+  const wrong = "word 2 is missing: a whole number from 0 to 4294967295, with no zero in front";
+  same(thrown(Refused, () => editor.step("stamp")).message, `4 ${words}: stamp\n  ${[wrong, ...forms].join("\n  ")}`);
   same(thrown(Refused, () => editor.step("undo undo")).forms, ["undo"]);
   same(thrown(Refused, () => editor.step("constructor")).code, 3);
   same(editor.step("layer rename 1 Straße 🌲"), "ok 2/2 dirty 0");
