@@ -210,7 +210,7 @@ static void check_what_lines_did(void)
     WANT(rows[0].differs == ROSKEVAD_DIFFERS_CELLS && rows[0].layer == 1 && rows[0].x == 0 && rows[0].y == 2 && rows[0].width == 1 && rows[0].is_macro == 0);
     WANT(memcmp(rows + 1, rows + 3, sizeof *rows) == 0 && rows[1].x == 3 && rows[1].subject == ROSKEVAD_LAYER && rows[1].id == 1);
     WANT(roskevad_editor_step(&editor, "text 0", 6, room, sizeof room) > 3);
-    WANT(roskevad_editor_step_text(&editor, 0, room + 128, 128) < 128 && memcmp(room + 3, room + 128, 5) == 0);
+    WANT(roskevad_editor_step_text(&editor, 0, room + 128, 128) < 128 && memcmp(room, "text ", 5) == 0 && memcmp(room + 5, room + 128, 5) == 0);
     WANT(roskevad_editor_step_text(&editor, 2, room, sizeof room) == ROSKEVAD_NONE);
     roskevad_editor_close(&editor);
 }
