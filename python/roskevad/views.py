@@ -191,16 +191,13 @@ class Objects:
     def __len__(self) -> int:
         return self._document._do(lambda: self._document._editor._count('object_ids', self._layer or 0)) or 0
 
+    def _is_whole(self) -> bool:
+        """Whether they are those of the whole document."""
+        return self._layer is None
+
     def _found(self, key: object) -> Optional[int]:
         """The id of what a key stands for, in a turn; None where there is no such object here."""
-        document = self._document
-        if isinstance(key, MapObject):
-            return self._found(key.id) if key.document is document else None
-        if isinstance(key, str):
-            id = document._editor._find('object', key)
-            is_here = id is None or self._layer is None or self._has(id)
-            return id if is_here else _first_named(document, 'object', self._ids(), key)
-        return cast(int, key) if is_id(key) and self._has(cast(int, key)) else None
+        return _id_of(self, MapObject, key)
 
     def _has(self, id: int) -> bool:
         layer = self._document._editor._number('object_layer', id)
@@ -229,6 +226,18 @@ class Objects:
 
     def __repr__(self) -> str:
         return f'<Objects of {"all layers" if self._layer is None else f"layer {self._layer}"} of {self._document.name!r}>'
+
+
+def _id_of(things: 'Union[Objects, Layers]', view: type[_View], key: object) -> Optional[int]:
+    """The id of what a key stands for among layers or objects, in a turn; None where there is no such thing among them."""
+    document, subject = things._document, view._subject
+    if isinstance(key, view):
+        return _id_of(things, view, key.id) if key.document is document else None
+    if isinstance(key, str):
+        id = document._editor._find(subject, key)
+        is_here = id is None or things._is_whole() or things._has(id)
+        return id if is_here else _first_named(document, subject, things._ids(), key)
+    return cast(int, key) if is_id(key) and things._has(cast(int, key)) else None
 
 
 def _first_named(document: 'Document', subject: str, ids: list[int], name: str) -> Optional[int]:
@@ -365,21 +374,22 @@ class Layers:
     def __len__(self) -> int:
         return len(self._document._do(self._below))
 
+    def _ids(self) -> list[int]:
+        """The ids of all of them, with those in groups, in a turn."""
+        return [row.id for row in self._walked()]
+
+    def _is_whole(self) -> bool:
+        """Whether they are those of the whole document."""
+        return self._group is None
+
     def _found(self, key: object) -> Optional[int]:
         """The id of what a key stands for, in a turn; None where there is no such layer here."""
-        document = self._document
-        if isinstance(key, Layer):
-            return self._found(key.id) if key.document is document else None
-        if isinstance(key, str):
-            id = document._editor._find('layer', key)
-            is_here = id is None or self._group is None or self._has(id)
-            return id if is_here else _first_named(document, 'layer', [row.id for row in self._walked()], key)
-        return cast(int, key) if is_id(key) and self._has(cast(int, key)) else None
+        return _id_of(self, Layer, key)
 
     def _has(self, id: int) -> bool:
         if self._group is None:
             return self._document._editor._count('layer', id) is not None
-        return id in [row.id for row in self._walked()]
+        return id in self._ids()
 
     def __getitem__(self, key: Union[int, str, Layer]) -> Layer:
         """The layer with an id, or the first of a name, in groups too. Raises KeyError where there is none."""
