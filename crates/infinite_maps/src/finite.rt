@@ -18,9 +18,9 @@ use crate::notes::{MAX_CELLS, MAX_SIDE, integer, natural};
 use crate::part::Part;
 use crate::pasting::put_finite;
 use crate::plane::Plane;
-use crate::same::is_same;
 use crate::spread::{made_infinite, moved};
 use crate::survey::{Extent, surveyed};
+use json_trees::is_same;
 use serde_json::{Map, Value};
 use std::alloc::{AllocError, Global};
 

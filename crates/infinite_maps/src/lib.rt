@@ -15,12 +15,10 @@ mod part;
 mod pasting;
 mod plane;
 mod rectangle;
-mod same;
 mod spread;
 mod survey;
 
 pub use fault::Fault;
 pub use finite::made_finite;
 pub use laws::layers_stay;
-pub use same::is_within;
 pub use spread::made_infinite;

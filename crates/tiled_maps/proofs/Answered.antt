@@ -18,7 +18,8 @@ use Rattle.tiled_maps.specs.Fractions.{has_fraction, fractions_in, most_fraction
 use Rattle.tiled_maps.specs.Aside.{reserved_name, set_aside_of}
 use Rattle.tiled_maps.specs.Back.{back}
 use Rattle.tiled_maps.specs.Trees.{put_back_of, HasNoFinite, IsFiniteOf, MakesFinite}
-use Rattle.tiled_maps.specs.Texts.{IsTreeOf, IsSetAside, IsPutBack, IsNotFinite, SetsAside, text_or}
+use Rattle.json_trees.specs.Texts.{IsTreeOf}
+use Rattle.tiled_maps.specs.Texts.{IsSetAside, IsPutBack, IsNotFinite, SetsAside, text_or}
 use Rattle.tiled_maps.proofs.Meeting.{is_infinite-set_aside_of, put_back_of-plain, put_back_of-spread, put_back_of-free}
 use Rattle.tiled_maps.proofs.Whole.{has_fraction-aside, HasFewFractions-none, aside-unchanged, back-unchanged, depth-back}
 use Rattle.tiled_maps.proofs.ReadTrees.{IsReadTree-read}

@@ -8,7 +8,8 @@ use Rattle.serde_json.specs.Read.{read}
 use Rattle.tiled_maps.specs.declared.fault.Fault.TheVariants.{NotJson}
 use Rattle.tiled_maps.specs.Aside.{set_aside_of}
 use Rattle.tiled_maps.specs.Look.{NeedsNothing, TextNeedsNothing}
-use Rattle.tiled_maps.specs.Texts.{IsTreeOf, SetsAside, PutsBack}
+use Rattle.json_trees.specs.Texts.{IsTreeOf}
+use Rattle.tiled_maps.specs.Texts.{SetsAside, PutsBack}
 use Rattle.tiled_maps.proofs.Meeting.{is_infinite-set_aside_of}
 use Rattle.tiled_maps.proofs.Answered.{SetsAside-none, IsPutBack-none}
 

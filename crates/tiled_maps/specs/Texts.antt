@@ -5,6 +5,7 @@ use Rattle.serde_json.specs.Data.{Data, depth}
 use Rattle.serde_json.specs.Read.{read, max_depth}
 use Rattle.serde_json.specs.View.{view}
 use Rattle.serde_json.specs.declared.value.Value.{Value}
+use Rattle.json_trees.specs.Texts.{IsTreeOf}
 use Rattle.infinite_maps.specs.Infinite.{is_infinite, infinite_of}
 use Rattle.infinite_maps.specs.Overlaps.{has_overlap}
 use Rattle.infinite_maps.specs.Sound.{has_bad_chunk}
@@ -16,10 +17,6 @@ use Rattle.tiled_maps.specs.Members.{has_name}
 use Rattle.tiled_maps.specs.Fractions.{has_fraction, fractions_in, most_fractions, HasFewFractions}
 use Rattle.tiled_maps.specs.Aside.{reserved_name, set_aside_of}
 use Rattle.tiled_maps.specs.Trees.{HasNoFinite, IsAside, put_back_of, IsTooDeep}
-
--- the bytes are UTF-8, and a JSON text of this tree
-abbrev pub IsTreeOf : List ℕ → Data → Type 0
-IsTreeOf bytes d = IsUtf8 bytes × (read bytes ≡ Some d)
 
 -- the text that is answered for bytes: the bytes themselves if there is no other
 abbrev pub text_or : List ℕ → Option (Vec ℕ Global) → List ℕ

@@ -10,7 +10,7 @@ use crate::fractions::{has_few_fractions, has_fraction};
 use crate::members::has_name;
 use crate::place::Place;
 use crate::tree::{MAX_DEPTH, finite, infinite, whole};
-use infinite_maps::is_within;
+use json_trees::is_within;
 use serde_json::Value;
 use std::alloc::Global;
 

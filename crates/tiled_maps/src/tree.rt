@@ -10,7 +10,8 @@ use crate::aside::aside;
 use crate::fault::Fault;
 use crate::fractions::has_fraction;
 use crate::place::Place;
-use infinite_maps::{is_within, made_finite, made_infinite};
+use infinite_maps::{made_finite, made_infinite};
+use json_trees::is_within;
 use serde_json::Value;
 use std::alloc::Global;
 

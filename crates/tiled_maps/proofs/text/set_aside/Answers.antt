@@ -9,7 +9,7 @@ use Rattle.tiled_maps.specs.declared.place.Place.TheVariants.{Map}
 use Rattle.tiled_maps.specs.Aside.{reserved_name, set_aside_of}
 use Rattle.tiled_maps.specs.Fractions.{has_fraction, HasFewFractions}
 use Rattle.tiled_maps.specs.Members.{has_name}
-use Rattle.tiled_maps.specs.Texts.{IsTreeOf}
+use Rattle.json_trees.specs.Texts.{IsTreeOf}
 use Rattle.tiled_maps.specs.Trees.{MakesFinite}
 use Rattle.tiled_maps.proofs.Answered.{few_seen, SetsAside-none, SetsAside-whole, SetsAside-finite, finite_fault}
 use Rattle.tiled_maps.proofs.text.set_aside.Goals as goal

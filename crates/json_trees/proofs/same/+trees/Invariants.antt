@@ -1,7 +1,7 @@
 use Rattle.std.proofs.Common.{◌≡◌, ◌↔◌, drop}
 use Rattle.std.specs.Slice.Iter.{iter_rest}
 use Rattle.serde_json.specs.View.{items_view, members_view}
-use Rattle.infinite_maps.proofs.same.+trees.Given as goal
+use Rattle.json_trees.proofs.same.+trees.Given as goal
 
 abbrev pub invariant-items_are_same-loop-item : goal.invariant-items_are_same-loop-item
 invariant-items_are_same-loop-item l =

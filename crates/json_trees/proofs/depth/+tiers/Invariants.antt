@@ -2,7 +2,7 @@ use Rattle.std.proofs.Common.{◌≡◌, drop}
 use Rattle.std.specs.Prelude.{nat_le}
 use Rattle.serde_json.specs.Data.{items_depth, members_depth}
 use Rattle.serde_json.specs.View.{items_view, members_view}
-use Rattle.infinite_maps.proofs.same.+tiers.Given as goal
+use Rattle.json_trees.proofs.depth.+tiers.Given as goal
 
 abbrev pub invariant-items_are_within-loop-item : goal.invariant-items_are_within-loop-item
 invariant-items_are_within-loop-item l = nat_le (items_depth (items_view (drop l.item-index l.item-items))) l.tiers

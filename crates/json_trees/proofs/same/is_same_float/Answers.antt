@@ -2,7 +2,7 @@ use Rattle.std.proofs.Common.{◌≡◌, true, sym, ap, ◌∙◌, subst, T, eqb
 use Rattle.std.specs.Float.{binary64}
 use Rattle.std.specs.Float.Ieee
 use lib.Ieee.Bits.{of_bits-to_bits}
-use Rattle.infinite_maps.proofs.same.is_same_float.Goals as goal
+use Rattle.json_trees.proofs.same.is_same_float.Goals as goal
 
 pub returns : goal.returns
 returns c =
