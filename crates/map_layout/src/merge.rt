@@ -1,0 +1,367 @@
+//! A tree printed with the bytes of a source wherever its values are the same.
+use crate::keys::Keys;
+use crate::parts::{Member, Part, are_sorted, between, members_of, parts_of};
+use crate::print::{
+    Spot, print, print_items, print_members, push_colon, push_comma, push_member_gap, row_of,
+};
+use crate::spelling::push_text;
+use crate::style::{Lines, Style};
+use json_trees::is_same;
+use serde_json::{Map, Value};
+use std::alloc::{AllocError, Global};
+
+/// A value of the source, and its bytes.
+#[derive(Clone, Copy)]
+pub struct Old<'a> {
+    pub value: &'a Value,
+    pub text: &'a [u8],
+}
+
+// An object of the source: its members, where they stand, and its bytes.
+#[derive(Clone, Copy)]
+struct OldObject<'a> {
+    values: &'a Map<String, Value>,
+    members: &'a [Member],
+    text: &'a [u8],
+}
+
+// An array of the source: its items, where they stand, and its bytes.
+#[derive(Clone, Copy)]
+struct OldArray<'a> {
+    items: &'a [Value],
+    parts: &'a [Part],
+    text: &'a [u8],
+}
+
+/// Prints a value: the bytes of an old one as far as it is the same.
+#[cycle(merges)]
+pub fn merge(
+    alloc: Global,
+    out: &mut Vec<u8>,
+    style: &Style,
+    spot: Spot,
+    new: &Value,
+    old: Old<'_>,
+) -> Result<(), AllocError> {
+    if is_same(new, old.value) {
+        return out.extend_from_slice(old.text);
+    }
+    match new {
+        Value::Object(members) => match old.value {
+            Value::Object(olds) => merge_members(alloc, out, style, spot, members, olds, old.text),
+            _ => print(alloc, out, style, spot, new),
+        },
+        Value::Array(items) => match old.value {
+            Value::Array(olds) => merge_items(alloc, out, style, spot, items, olds, old.text),
+            _ => print(alloc, out, style, spot, new),
+        },
+        Value::Null | Value::Bool(_) | Value::Number(_) | Value::String(_) => print(
+            alloc, out, style, spot, new,
+        ),
+    }
+}
+
+#[cycle(merges)]
+fn merge_members(
+    alloc: Global,
+    out: &mut Vec<u8>,
+    style: &Style,
+    spot: Spot,
+    new: &Map<String, Value>,
+    old: &Map<String, Value>,
+    text: &[u8],
+) -> Result<(), AllocError> {
+    let members = members_of(alloc, text)?;
+    // A name that stands twice has two places and one value.
+    if members.len() != old.len() || new.is_empty() {
+        return print_members(alloc, out, style, spot, new);
+    }
+    let (Some(first), Some(last)) = (members.first(), members.last()) else {
+        return print_members(alloc, out, style, spot, new);
+    };
+    let old = OldObject {
+        values: old,
+        members: &members,
+        text,
+    };
+    out.extend_from_slice(between(text, 0, first.start))?;
+    if are_sorted(&members) {
+        merge_sorted(alloc, out, style, spot, new, old)?;
+    } else {
+        merge_unsorted(alloc, out, style, spot, new, old)?;
+    }
+    out.extend_from_slice(between(text, last.end, text.len()))
+}
+
+// By their names, where the source has them so.
+#[cycle(merges)]
+fn merge_sorted(
+    alloc: Global,
+    out: &mut Vec<u8>,
+    style: &Style,
+    spot: Spot,
+    new: &Map<String, Value>,
+    old: OldObject<'_>,
+) -> Result<(), AllocError> {
+    let mut is_first = true;
+    for (name, value) in new.iter() {
+        let name = name.as_str();
+        let place = place_of(old.members, name);
+        push_gap(out, style, spot, old, place, is_first)?;
+        is_first = false;
+        let below = spot_of(style, spot, new, name);
+        match place {
+            Some(place) => merge_member(alloc, out, style, below, value, old, place)?,
+            None => push_new_member(alloc, out, style, below, name, value)?,
+        }
+    }
+    Ok(())
+}
+
+// As they stand in the source, and new ones behind them.
+#[cycle(merges)]
+fn merge_unsorted(
+    alloc: Global,
+    out: &mut Vec<u8>,
+    style: &Style,
+    spot: Spot,
+    new: &Map<String, Value>,
+    old: OldObject<'_>,
+) -> Result<(), AllocError> {
+    let mut is_first = true;
+    for (place, member) in old.members.iter().enumerate() {
+        let name = member.name.as_str();
+        if let Some(value) = new.get(name) {
+            push_gap(out, style, spot, old, Some(place), is_first)?;
+            is_first = false;
+            let below = spot_of(style, spot, new, name);
+            merge_member(alloc, out, style, below, value, old, place)?;
+        }
+    }
+    for (name, value) in new.iter() {
+        let name = name.as_str();
+        if old.values.get(name).is_none() {
+            push_gap(out, style, spot, old, None, is_first)?;
+            is_first = false;
+            let below = spot_of(style, spot, new, name);
+            push_new_member(alloc, out, style, below, name, value)?;
+        }
+    }
+    Ok(())
+}
+
+// A member that the source has: its name as it stands there, and its value as far as it is the same.
+#[cycle(merges)]
+fn merge_member(
+    alloc: Global,
+    out: &mut Vec<u8>,
+    style: &Style,
+    spot: Spot,
+    value: &Value,
+    old: OldObject<'_>,
+    place: usize,
+) -> Result<(), AllocError> {
+    let Some(member) = old.members.get(place) else {
+        return Ok(());
+    };
+    let Some(before) = old.values.get(member.name.as_str()) else {
+        return Ok(());
+    };
+    // In Tiled's layout an object brings the line in front of it; a value of another kind has none.
+    let is_line_left = style.lines == Lines::Tiled && before.is_object() && !value.is_object();
+    let front = if is_line_left {
+        member.colon
+    } else {
+        member.value
+    };
+    out.extend_from_slice(between(old.text, member.start, front))?;
+    let spot = Spot {
+        is_on_line: before.is_object(),
+        ..spot
+    };
+    let text = between(old.text, member.value, member.end);
+    merge(
+        alloc,
+        out,
+        style,
+        spot,
+        value,
+        Old {
+            value: before,
+            text,
+        },
+    )
+}
+
+// A member that the source does not have.
+fn push_new_member(
+    alloc: Global,
+    out: &mut Vec<u8>,
+    style: &Style,
+    spot: Spot,
+    name: &str,
+    value: &Value,
+) -> Result<(), AllocError> {
+    push_text(out, style, name)?;
+    push_colon(out, style)?;
+    print(alloc, out, style, spot, value)
+}
+
+// What stands in front of a member that is not the first: what stood there in the source, or what stood between the first two.
+fn push_gap(
+    out: &mut Vec<u8>,
+    style: &Style,
+    spot: Spot,
+    old: OldObject<'_>,
+    place: Option<usize>,
+    is_first: bool,
+) -> Result<(), AllocError> {
+    if is_first {
+        return Ok(());
+    }
+    let at = place.unwrap_or(1).max(1);
+    match (old.members.get(at.saturating_sub(1)), old.members.get(at)) {
+        (Some(one), Some(next)) => out.extend_from_slice(between(old.text, one.end, next.start)),
+        _ => push_member_gap(out, style, spot.depth, false),
+    }
+}
+
+// Where a member's value is printed.
+fn spot_of(style: &Style, spot: Spot, members: &Map<String, Value>, name: &str) -> Spot {
+    let row = if name == "data" {
+        row_of(style, members)
+    } else {
+        0
+    };
+    Spot {
+        row,
+        ..spot.below()
+    }
+}
+
+// The place of the member of a name, among members that stand by their names.
+fn place_of(members: &[Member], name: &str) -> Option<usize> {
+    let mut low: usize = 0;
+    let mut high = members.len();
+    // Each round halves what is between both.
+    for _round in 0..64 {
+        let middle = low.saturating_add(high) / 2;
+        match members.get(middle) {
+            Some(member) if low < high => {
+                let here = member.name.as_str();
+                if here == name {
+                    return Some(middle);
+                } else if here < name {
+                    low = middle.saturating_add(1);
+                } else {
+                    high = middle;
+                }
+            }
+            _ => return None,
+        }
+    }
+    None
+}
+
+#[cycle(merges)]
+fn merge_items(
+    alloc: Global,
+    out: &mut Vec<u8>,
+    style: &Style,
+    spot: Spot,
+    new: &Vec<Value>,
+    old: &Vec<Value>,
+    text: &[u8],
+) -> Result<(), AllocError> {
+    let parts = parts_of(alloc, text)?;
+    let has_as_many = new.len() == old.len();
+    if parts.len() != old.len() || new.is_empty() || !has_as_many && spot.row > 0 {
+        return print_items(alloc, out, style, spot, new);
+    }
+    let (Some(first), Some(last)) = (parts.first(), parts.last()) else {
+        return print_items(alloc, out, style, spot, new);
+    };
+    let keys = Keys::of(alloc, old)?;
+    let has_places = has_as_many || keys.is_some();
+    let old = OldArray {
+        items: old,
+        parts: &parts,
+        text,
+    };
+    let below = Spot {
+        is_on_line: begins_with_object(old.items),
+        ..spot.below()
+    };
+    out.extend_from_slice(between(text, 0, first.start))?;
+    for (index, item) in new.iter().enumerate() {
+        let place = old_place(alloc, &keys, index, item)?;
+        if index > 0 {
+            push_item_gap_like(out, style, old, if has_places { place } else { None })?;
+        }
+        merge_item(alloc, out, style, below, item, old, place)?;
+    }
+    out.extend_from_slice(between(text, last.end, text.len()))
+}
+
+// An item that stood at a place of the source, or is new.
+#[cycle(merges)]
+fn merge_item(
+    alloc: Global,
+    out: &mut Vec<u8>,
+    style: &Style,
+    spot: Spot,
+    item: &Value,
+    old: OldArray<'_>,
+    place: Option<usize>,
+) -> Result<(), AllocError> {
+    let Some(place) = place else {
+        return print(alloc, out, style, spot, item);
+    };
+    match (old.items.get(place), old.parts.get(place)) {
+        (Some(value), Some(part)) => {
+            let text = between(old.text, part.start, part.end);
+            merge(alloc, out, style, spot, item, Old { value, text })
+        }
+        _ => print(alloc, out, style, spot, item),
+    }
+}
+
+fn begins_with_object(items: &[Value]) -> bool {
+    match items.first() {
+        Some(item) => item.is_object(),
+        None => false,
+    }
+}
+
+// What stands in front of an item that is not the first: what stood there in the source, or what stood between the first two.
+fn push_item_gap_like(
+    out: &mut Vec<u8>,
+    style: &Style,
+    old: OldArray<'_>,
+    place: Option<usize>,
+) -> Result<(), AllocError> {
+    let at = place.unwrap_or(1).max(1);
+    match (old.parts.get(at.saturating_sub(1)), old.parts.get(at)) {
+        (Some(before), Some(part)) => {
+            out.extend_from_slice(between(old.text, before.end, part.start))
+        }
+        (Some(only), None) => {
+            push_comma(out, style)?;
+            out.extend_from_slice(between(old.text, 1, only.start))
+        }
+        _ => push_comma(out, style),
+    }
+}
+
+// Where the item stood that an item is: by its key, or else by its place.
+fn old_place(
+    alloc: Global,
+    keys: &Option<Keys>,
+    index: usize,
+    item: &Value,
+) -> Result<Option<usize>, AllocError> {
+    match keys {
+        Some(keys) => keys.place_of(alloc, item),
+        None => Ok(Some(index)),
+    }
+}

@@ -1,0 +1,132 @@
+//! From text to text. What is printed is read again, and is given only if it has the same tree.
+
+ghost use Rattle.std.specs.Prelude.{◌≤◌, IfOk, IsTrue};
+ghost use Rattle.serde_json.specs.Data.{depth};
+ghost use Rattle.serde_json.specs.Read.{max_depth};
+ghost use Rattle.serde_json.specs.View.{view as data_of};
+ghost use Rattle.json_trees.specs.Texts.{IsTreeOf};
+ghost use Rattle.map_layout.specs.Laid.{LaysOut, Keeps, Reads, IsTreeOrNone};
+
+use crate::fault::LayoutFault;
+use crate::layout::{Layout, LineEnd};
+use crate::learn::style_of;
+use crate::merge::{Old, merge};
+use crate::parts::{between, whole};
+use crate::print::{Spot, print};
+use crate::scan::nests_too_deep;
+use crate::style::Style;
+use json_trees::is_same;
+use serde_json::Value;
+use std::alloc::{AllocError, Global};
+
+// The tree that the bytes have.
+fn read(alloc: Global, bytes: &[u8]) -> Result<Value, LayoutFault>
+    ensures { Reads bytes.now result }
+{
+    match Value::from_slice(alloc, bytes) {
+        Ok(value) => Ok(value),
+        Err(error) => {
+            if error.is_memory() {
+                Err(LayoutFault::Memory)
+            } else if nests_too_deep(bytes) {
+                Err(LayoutFault::TooDeep)
+            } else {
+                Err(LayoutFault::NotJson)
+            }
+        }
+    }
+}
+
+// Whether a text has this tree; `false` says nothing.
+fn has_tree(alloc: Global, text: &[u8], value: &Value) -> Result<bool, AllocError>
+    ensures { IfOk result (λ same. IsTrue same → IsTreeOf text.now (data_of value.now)) }
+{
+    match Value::from_slice(alloc, text) {
+        Ok(again) => Ok(is_same(&again, value)),
+        Err(error) => if error.is_memory() {
+            Err(AllocError)
+        } else {
+            Ok(false)
+        },
+    }
+}
+
+// The text of a tree in a layout.
+//
+// It is printed, read again and compared. If it should have another tree, the compact text is given.
+fn laid(alloc: Global, value: &Value, layout: Layout) -> Result<Vec<u8>, AllocError>
+    requires { depth (data_of value.now) ≤ max_depth }
+    ensures { IfOk result (λ text. IsTreeOf text.items (data_of value.now)) }
+{
+    if layout != Layout::Compact {
+        let style = Style::of(layout);
+        let mut text = Vec::new(alloc);
+        print(alloc, &mut text, &style, Spot::outermost(), value)?;
+        if has_tree(alloc, &text, value)? {
+            return Ok(text);
+        }
+    }
+    value.to_vec(alloc)
+}
+
+/// A text in a layout: one with the same tree.
+pub fn lay_out(alloc: Global, text: &[u8], layout: Layout) -> Result<Vec<u8>, LayoutFault>
+    ensures tree { LaysOut text.now result }
+{
+    let value = read(alloc, text)?;
+    let laid = laid(alloc, &value, layout)?;
+    Ok(laid)
+}
+
+// The tree of a source, if it has one.
+fn source_tree(alloc: Global, source: &[u8]) -> Result<Option<Value>, AllocError>
+    ensures { IfOk result (λ tree. IsTreeOrNone source.now tree) }
+{
+    match Value::from_slice(alloc, source) {
+        Ok(value) => Ok(Some(value)),
+        Err(error) => if error.is_memory() {
+            Err(AllocError)
+        } else {
+            Ok(None)
+        },
+    }
+}
+
+// A tree printed with the bytes of a source, and with what stands around those.
+fn merged(alloc: Global, value: &Value, old: &Value, source: &[u8]) -> Result<Vec<u8>, AllocError> {
+    let style = style_of(source);
+    let all = whole(source);
+    let mut text = Vec::new(alloc);
+    text.extend_from_slice(between(source, 0, all.start))?;
+    let old = Old {
+        value: old,
+        text: between(source, all.start, all.end),
+    };
+    merge(alloc, &mut text, &style, Spot::outermost(), value, old)?;
+    text.extend_from_slice(between(source, all.end, source.len()))?;
+    Ok(text)
+}
+
+/// A text laid out as a source is: one with the same tree, and the source itself if that has this tree.
+///
+/// Each value that the source has, too, keeps its bytes, with the space around it. What is new is laid out as its neighbours are,
+/// or in Tiled's layout if the source has no tree.
+pub fn laid_out_like(alloc: Global, text: &[u8], source: &[u8]) -> Result<Vec<u8>, LayoutFault>
+    ensures tree { LaysOut text.now result }
+    ensures kept { Keeps text.now source.now result }
+{
+    let value = read(alloc, text)?;
+    if let Some(old) = source_tree(alloc, source)? {
+        if is_same(&value, &old) {
+            let kept = source.to_vec(alloc)?;
+            return Ok(kept);
+        }
+        let merged = merged(alloc, &value, &old, source)?;
+        drop(old);
+        if has_tree(alloc, &merged, &value)? {
+            return Ok(merged);
+        }
+    }
+    let laid = laid(alloc, &value, Layout::Tiled(LineEnd::Lf))?;
+    Ok(laid)
+}
