@@ -16,4 +16,4 @@ mod text;
 
 pub use fault::LayoutFault;
 pub use layout::{Layout, LineEnd};
-pub use text::{laid_out_like, lay_out};
+pub use text::{LaidText, laid_out_like, lay_out, value_laid_out_like};

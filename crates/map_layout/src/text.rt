@@ -1,6 +1,6 @@
 //! From text to text. What is printed is read again, and is given only if it has the same tree.
 
-ghost use Rattle.std.specs.Prelude.{◌≤◌, IfOk, IsTrue};
+ghost use Rattle.std.specs.Prelude.{◌≡◌, ◌≤◌, IfOk, IfSome, IsTrue, Some, option_map};
 ghost use Rattle.serde_json.specs.Data.{depth};
 ghost use Rattle.serde_json.specs.Read.{max_depth};
 ghost use Rattle.serde_json.specs.View.{view as data_of};
@@ -51,22 +51,38 @@ fn has_tree(alloc: Global, text: &[u8], value: &Value) -> Result<bool, AllocErro
     }
 }
 
+/// The text of a tree.
+#[derive(Drop)]
+pub struct LaidText {
+    /// The text.
+    pub text: Vec<u8>,
+    /// Whether a text in the layout that was asked for had another tree, so that this one is in Tiled's, or compact.
+    pub fell_back: bool,
+}
+
 // The text of a tree in a layout.
 //
 // It is printed, read again and compared. If it should have another tree, the compact text is given.
-fn laid(alloc: Global, value: &Value, layout: Layout) -> Result<Vec<u8>, AllocError>
+fn laid(alloc: Global, value: &Value, layout: Layout) -> Result<LaidText, AllocError>
     requires { depth (data_of value.now) ≤ max_depth }
-    ensures { IfOk result (λ text. IsTreeOf text.items (data_of value.now)) }
+    ensures { IfOk result (λ laid. IsTreeOf laid.text.items (data_of value.now)) }
 {
     if layout != Layout::Compact {
         let style = Style::of(layout);
         let mut text = Vec::new(alloc);
         print(alloc, &mut text, &style, Spot::outermost(), value)?;
         if has_tree(alloc, &text, value)? {
-            return Ok(text);
+            return Ok(LaidText {
+                text,
+                fell_back: false,
+            });
         }
     }
-    value.to_vec(alloc)
+    let text = value.to_vec(alloc)?;
+    Ok(LaidText {
+        text,
+        fell_back: layout != Layout::Compact,
+    })
 }
 
 /// A text in a layout: one with the same tree.
@@ -75,7 +91,7 @@ pub fn lay_out(alloc: Global, text: &[u8], layout: Layout) -> Result<Vec<u8>, La
 {
     let value = read(alloc, text)?;
     let laid = laid(alloc, &value, layout)?;
-    Ok(laid)
+    Ok(laid.text)
 }
 
 // The tree of a source, if it has one.
@@ -107,26 +123,54 @@ fn merged(alloc: Global, value: &Value, old: &Value, source: &[u8]) -> Result<Ve
     Ok(text)
 }
 
-/// A text laid out as a source is: one with the same tree, and the source itself if that has this tree.
+/// The text of a tree, laid out as a source is: the source itself if that has this tree.
 ///
 /// Each value that the source has, too, keeps its bytes, with the space around it. What is new is laid out as its neighbours are,
 /// or in Tiled's layout if the source has no tree.
+pub fn value_laid_out_like(
+    alloc: Global,
+    value: &Value,
+    source: &[u8],
+    tree: Option<Value>,
+) -> Result<LaidText, AllocError>
+    requires within { depth (data_of value.now) ≤ max_depth }
+    requires source { IfSome tree (λ t. IsTreeOf source.now (data_of t)) }
+    ensures tree { IfOk result (λ laid. IsTreeOf laid.text.items (data_of value.now)) }
+    ensures kept { IfOk result (λ laid. option_map data_of tree ≡ Some (data_of value.now) → laid.text.items ≡ source.now) }
+{
+    let Some(old) = tree else {
+        return laid(alloc, value, Layout::Tiled(LineEnd::Lf));
+    };
+    if is_same(value, &old) {
+        let kept = source.to_vec(alloc)?;
+        return Ok(LaidText {
+            text: kept,
+            fell_back: false,
+        });
+    }
+    let merged = merged(alloc, value, &old, source)?;
+    drop(old);
+    if has_tree(alloc, &merged, value)? {
+        return Ok(LaidText {
+            text: merged,
+            fell_back: false,
+        });
+    }
+    drop(merged);
+    let laid = laid(alloc, value, Layout::Tiled(LineEnd::Lf))?;
+    Ok(LaidText {
+        text: laid.text,
+        fell_back: true,
+    })
+}
+
+/// A text laid out as a source is: one with the same tree, and the source itself if that has this tree. As `value_laid_out_like` does.
 pub fn laid_out_like(alloc: Global, text: &[u8], source: &[u8]) -> Result<Vec<u8>, LayoutFault>
     ensures tree { LaysOut text.now result }
     ensures kept { Keeps text.now source.now result }
 {
     let value = read(alloc, text)?;
-    if let Some(old) = source_tree(alloc, source)? {
-        if is_same(&value, &old) {
-            let kept = source.to_vec(alloc)?;
-            return Ok(kept);
-        }
-        let merged = merged(alloc, &value, &old, source)?;
-        drop(old);
-        if has_tree(alloc, &merged, &value)? {
-            return Ok(merged);
-        }
-    }
-    let laid = laid(alloc, &value, Layout::Tiled(LineEnd::Lf))?;
-    Ok(laid)
+    let tree = source_tree(alloc, source)?;
+    let laid = value_laid_out_like(alloc, &value, source, tree)?;
+    Ok(laid.text)
 }
