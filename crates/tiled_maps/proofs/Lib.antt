@@ -9,3 +9,4 @@ pub mod LookTokens
 pub mod LookBytes
 pub mod LookTexts
 pub mod LookAnswers
+pub mod SourceWalks

@@ -7,3 +7,5 @@ pub mod Trees
 pub mod Texts
 pub mod Look
 pub mod Lexemes
+pub mod Sources
+pub mod Likeness

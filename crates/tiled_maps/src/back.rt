@@ -53,8 +53,8 @@ fn members_restored(
     Ok(all)
 }
 
-// The number that an object stands for, if it is a stand-in.
-fn number_in(members: &Map<String, Value>) -> Option<Number>
+/// The number that an object stands for, if it is a stand-in.
+pub fn number_in(members: &Map<String, Value>) -> Option<Number>
     ensures { option_map number_view result ≡ number_in (members_view members.now.entries) }
 {
     if !is_alone(members) {

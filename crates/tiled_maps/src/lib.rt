@@ -9,9 +9,12 @@ mod fractions;
 mod look;
 mod members;
 mod place;
+mod sources;
 mod text;
 mod tree;
 
+pub use back::number_in;
 pub use fault::Fault;
 pub use look::needs_nothing;
-pub use text::{LONGEST, put_back, set_aside};
+pub use map_layout::LaidText;
+pub use text::{LONGEST, put_back, put_back_like, set_aside};

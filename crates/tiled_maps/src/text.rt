@@ -1,6 +1,7 @@
 // From text to text.
-ghost use Rattle.std.specs.Prelude.{◌≡◌};
+ghost use Rattle.std.specs.Prelude.{◌≡◌, IfOk, option_map};
 ghost use Rattle.serde_json.specs.View.{view as data_of};
+ghost use Rattle.tiled_maps.specs.Likeness.{IsSource, PutsBackLike, PutsTreeBack};
 ghost use Rattle.tiled_maps.specs.Texts.{Reads, SetsAside, PutsBack};
 
 use crate::back::back;
@@ -9,10 +10,12 @@ use crate::fraction::RESERVED_NAME;
 use crate::fractions::{has_few_fractions, has_fraction};
 use crate::members::has_name;
 use crate::place::Place;
+use crate::sources::{as_in, is_map};
 use crate::tree::{MAX_DEPTH, finite, infinite, whole};
 use json_trees::is_within;
+use map_layout::{LaidText, value_laid_out_like};
 use serde_json::Value;
-use std::alloc::Global;
+use std::alloc::{AllocError, Global};
 
 /// The bytes of the longest text that a caller is to take from these calls, or to give them: as of a file that is loaded.
 pub const LONGEST: usize = 67_108_864;
@@ -94,4 +97,56 @@ pub fn put_back(alloc: Global, bytes: &[u8]) -> Result<Option<Vec<u8>>, Fault>
     }
     let text = exact.to_vec(alloc)?;
     Ok(Some(text))
+}
+
+// The tree of a map in which what was set aside is put back.
+fn put_back_tree(alloc: Global, bytes: &[u8]) -> Result<Value, Fault>
+    ensures { PutsTreeBack bytes.now result }
+{
+    let value = read(alloc, bytes)?;
+    if !has_name(RESERVED_NAME, &value) {
+        return Ok(value);
+    }
+    let map = infinite(alloc, value)?;
+    let exact = back(alloc, &map)?;
+    Ok(exact)
+}
+
+// The tree of a source, if it is a map.
+fn source_tree(alloc: Global, source: &[u8]) -> Result<Option<Value>, AllocError>
+    ensures { IfOk result (λ tree. IsSource source.now (option_map data_of tree)) }
+{
+    match Value::from_slice(alloc, source) {
+        Ok(value) => if is_map(&value) {
+            Ok(Some(value))
+        } else {
+            Ok(None)
+        },
+        Err(error) => if error.is_memory() {
+            Err(AllocError)
+        } else {
+            Ok(None)
+        },
+    }
+}
+
+/// The text of a map in which what was set aside is put back, as `put_back` does, laid out as its source is: the bytes of the file
+/// that the map was, or that it replaces.
+///
+/// The version of the map, and the empty compression of a layer, are as the source has them. Where the map is the source's, the
+/// source itself is given. Else each value that the source has, too, keeps its bytes, and what is new is laid out as its neighbours
+/// are. A source that is no map counts for nothing: then the text is in Tiled's layout.
+///
+/// `NotJson`, `TooDeep` and `Memory` come, as of `put_back`. The caller bounds how long the text may be.
+pub fn put_back_like(alloc: Global, bytes: &[u8], source: &[u8]) -> Result<LaidText, Fault>
+    ensures { PutsBackLike bytes.now source.now result }
+{
+    let exact = put_back_tree(alloc, bytes)?;
+    let tree = source_tree(alloc, source)?;
+    let map = as_in(alloc, &tree, exact)?;
+    if !is_within(MAX_DEPTH, &map) {
+        return Err(Fault::TooDeep);
+    }
+    let laid = value_laid_out_like(alloc, &map, source, tree)?;
+    Ok(laid)
 }
