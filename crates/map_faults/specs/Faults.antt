@@ -1,5 +1,5 @@
 -- What is told of the bytes of a file.
-use Rattle.std.specs.Prelude.{◌≡◌, ◌⊎◌, ℕ, List, true, Ok, Err, Option, Some, None}
+use Rattle.std.specs.Prelude.{◌≡◌, ◌⊎◌, ℕ, List, Ok, Err, Option, Some, None}
 use Rattle.map_json.specs.Maps.{Says}
 use Rattle.map_model.specs.declared.parts.MapParts.{MapParts}
 use Rattle.map_values.specs.declared.fault.MapFault.TheVariants.{Refused}
@@ -21,4 +21,4 @@ TellsNotGiven (Some told) = told.refusal ≡ store_failed
 
 -- what is told of a file: what is told of the text that a store gives for it, as one that sets maps aside; or that it refuses the file
 abbrev pub TellsFault : List ℕ → Option ToldFault → Type 0
-TellsFault file told = ((text : List ℕ) × GivesFor file text true × TellsOfText text told) ⊎ (IsRefused file × TellsNotGiven told)
+TellsFault file told = ((text : List ℕ) × GivesFor file text × TellsOfText text told) ⊎ (IsRefused file × TellsNotGiven told)

@@ -73,6 +73,16 @@ impl Members {
         }
     }
 
+    /// A number; `null` where it is none that JSON has.
+    pub fn f64(&mut self, number: f64) {
+        if !number.is_finite() {
+            return self.null();
+        }
+        if !self.is_lost {
+            self.is_lost = self.out.float(number).is_err();
+        }
+    }
+
     pub fn boolean(&mut self, truth: bool) {
         if !self.is_lost {
             self.is_lost = self.out.boolean(truth).is_err();

@@ -7,4 +7,7 @@ pub trait FaultReport {
 
     /// What is set aside of the file of this name, or put back of its text, is longer than 67,108,864 bytes.
     fn too_long(&self, name: &str);
+
+    /// A text in the layout of the file of this name would have had another tree, so a plainer one is stored.
+    fn not_laid_out(&self, name: &str);
 }

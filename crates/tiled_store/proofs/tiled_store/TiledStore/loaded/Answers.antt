@@ -8,7 +8,7 @@ returns-in-None-clause-loads g c honest sets =
     let loaded = c.in_ok-bytes.ensures.loads honest in
     let given : Gives c.as_slice.result.now None = subst (Gives c.as_slice.result.now) c.in-None.is (c.in_ok-text.ensures.gives sets) in
     let same : Gives file None = subst (λ (f : List ℕ). Gives f None) c.as_slice.ensures.value given in
-    ((file, loaded.0, same c.args.self.now.has_set_aside), loaded.1)
+    ((file, loaded.0, same), loaded.1)
 
 pub returns-in-Some-clause-loads : goal.returns-in-Some-clause-loads
 returns-in-Some-clause-loads g c honest sets =

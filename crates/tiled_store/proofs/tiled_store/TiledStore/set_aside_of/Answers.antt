@@ -6,10 +6,10 @@ use Rattle.tiled_store.proofs.tiled_store.TiledStore.set_aside_of.Goals.{then-no
 
 -- the text surely stays as it is
 pub returns-then-not-self-clause-gives : goal.returns-then-not-self-clause-gives
-returns-then-not-self-clause-gives g c sets has_set_aside =
+returns-then-not-self-clause-gives g c sets =
     elim c.then-not-self.branch [
       | then-not-self-via-then-not-self w ↦ search rules
-      | then-not-self-via-else-not-self+then-stays w ↦ w.if-stays.ensures.load refl has_set_aside
+      | then-not-self-via-else-not-self+then-stays w ↦ w.if-stays.ensures refl
     ]
 
 -- the text would be too long
