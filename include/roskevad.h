@@ -58,7 +58,7 @@ extern "C" {
 #define ROSKEVAD_NONE (SIZE_MAX)                     /* there is none: no reply to a quiet line, no such file or place */
 #define ROSKEVAD_IS_CLOSED (SIZE_MAX - 1)            /* the editor is closed */
 #define ROSKEVAD_NO_MEMORY (SIZE_MAX - 2)            /* no memory is left for it, and all is as it was */
-#define ROSKEVAD_TOO_GREAT (SIZE_MAX - 3)            /* the undo limit is above the greatest */
+#define ROSKEVAD_TOO_GREAT (SIZE_MAX - 3)            /* the undo limit is above the greatest, or no layout has the number */
 #define ROSKEVAD_BAD_NAME (SIZE_MAX - 4)             /* no line can spell that name of a file */
 
 /* Why nothing is set aside of a map, or put back. Those from ROSKEVAD_BAD_CHUNK to ROSKEVAD_UNLIKE come for infinite maps alone. */
@@ -70,6 +70,12 @@ extern "C" {
 #define ROSKEVAD_TOO_LARGE (SIZE_MAX - 10)           /* made finite, the layers would have more than 16,777,216 cells */
 #define ROSKEVAD_UNLIKE (SIZE_MAX - 11)              /* made finite, the map would not come back as it was */
 #define ROSKEVAD_TOO_MANY_FRACTIONS (SIZE_MAX - 12)  /* the map has more than 200,000 fractions */
+
+/* How a text is laid out. */
+#define ROSKEVAD_LAYOUT_TILED ROSKEVAD_CAST(size_t, 0)      /* as Tiled does: members on lines of their own, all cells of a layer on one */
+#define ROSKEVAD_LAYOUT_ROWS ROSKEVAD_CAST(size_t, 1)       /* the same, but each row of cells on a line of its own */
+#define ROSKEVAD_LAYOUT_MINIMIZED ROSKEVAD_CAST(size_t, 2)  /* as Tiled does if it is asked to minimize */
+#define ROSKEVAD_LAYOUT_COMPACT ROSKEVAD_CAST(size_t, 3)    /* as the reply to `show` is: no spaces, no lines */
 
 /* What an editor is kept in. Its fields are the library's. */
 typedef struct roskevad_editor {
@@ -235,6 +241,8 @@ size_t roskevad_step_text(roskevad_editor *editor, size_t at, uint8_t *text, siz
 void roskevad_close(roskevad_editor *editor);
 size_t roskevad_set_aside(const uint8_t *bytes, size_t length, uint8_t *text, size_t room);
 size_t roskevad_put_back(const uint8_t *bytes, size_t length, uint8_t *text, size_t room);
+size_t roskevad_put_back_like(const uint8_t *bytes, size_t length, const uint8_t *source, size_t source_length, uint8_t *text, size_t room);
+size_t roskevad_lay_out(const uint8_t *bytes, size_t length, size_t layout, uint8_t *text, size_t room);
 size_t roskevad_map_fault(const uint8_t *bytes, size_t length, uint8_t *text, size_t room);
 size_t roskevad_word_fault(const uint8_t *line, size_t line_length, roskevad_faulty_word *word, uint8_t *text, size_t room);
 size_t roskevad_version(uint8_t *version, size_t room);
@@ -532,6 +540,25 @@ static inline size_t roskevad_editor_set_aside(const void *bytes, size_t length,
 static inline size_t roskevad_editor_put_back(const void *bytes, size_t length, void *text, size_t room)
 {
     return roskevad_put_back(roskevad_bytes_at(bytes), length, roskevad_room_at(text), room);
+}
+
+/* That text, laid out as a source is: the bytes of the file that the map was opened from. Its tree is the one of
+ * `roskevad_editor_put_back`, but `version` of the map and the empty `compression` of a tile layer are as the source has them. Where that
+ * is the source's tree, the text is the source. Else each value that the source has too keeps its bytes, and what is new is laid out as
+ * its neighbours are. A source of no bytes, or of bytes that are no map, counts for nothing: then the text is in Tiled's layout. The
+ * text's size; ROSKEVAD_NO_MEMORY, ROSKEVAD_NOT_JSON or ROSKEVAD_TOO_DEEP. It is made anew at each call; the length of both and 65,536
+ * bytes are room enough for most maps. */
+static inline size_t roskevad_editor_put_back_like(const void *bytes, size_t length, const void *source, size_t source_length,
+                                                   void *text, size_t room)
+{
+    return roskevad_put_back_like(roskevad_bytes_at(bytes), length, roskevad_bytes_at(source), source_length, roskevad_room_at(text), room);
+}
+
+/* A text in JSON in one of the layouts, ROSKEVAD_LAYOUT_TILED and what follows it, with the same tree. The text's size;
+ * ROSKEVAD_TOO_GREAT where no layout has the number; ROSKEVAD_NO_MEMORY, ROSKEVAD_NOT_JSON or ROSKEVAD_TOO_DEEP. */
+static inline size_t roskevad_editor_lay_out(const void *bytes, size_t length, size_t layout, void *text, size_t room)
+{
+    return roskevad_lay_out(roskevad_bytes_at(bytes), length, layout, roskevad_room_at(text), room);
 }
 
 /* Why the bytes of a file are refused as a map, and where: a text in JSON, whose members docs/library.md lists. The map is the one that

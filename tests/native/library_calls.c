@@ -469,6 +469,53 @@ static void check_unmade(size_t (*make)(const void *, size_t, void *, size_t), c
 }
 
 #define HALF_ASIDE "{\"a\":{\"roskevad\":[1071644672,0]}}"
+#define SOURCE "{ \"layers\":[],\n \"a\":0.50,\"version\":1.8}\n"
+
+static size_t put_back_like_source(const void *given, size_t length, void *text, size_t room)
+{
+    return roskevad_editor_put_back_like(given, length, SOURCE, sizeof SOURCE - 1, text, room);
+}
+
+static size_t put_back_like_none(const void *given, size_t length, void *text, size_t room)
+{
+    return roskevad_editor_put_back_like(given, length, NULL, 0, text, room);
+}
+
+static size_t laid_out_as_tiled(const void *given, size_t length, void *text, size_t room)
+{
+    return roskevad_editor_lay_out(given, length, ROSKEVAD_LAYOUT_TILED, text, room);
+}
+
+static size_t laid_out_minimized(const void *given, size_t length, void *text, size_t room)
+{
+    return roskevad_editor_lay_out(given, length, ROSKEVAD_LAYOUT_MINIMIZED, text, room);
+}
+
+static size_t laid_out_compact(const void *given, size_t length, void *text, size_t room)
+{
+    return roskevad_editor_lay_out(given, length, ROSKEVAD_LAYOUT_COMPACT, text, room);
+}
+
+static size_t laid_out_in_no_layout(const void *given, size_t length, void *text, size_t room)
+{
+    return roskevad_editor_lay_out(given, length, ROSKEVAD_LAYOUT_COMPACT + 1, text, room);
+}
+
+/* Texts laid out as a source is, or in a layout of its own. */
+static void check_layouts(void)
+{
+    check_made(put_back_like_source, "{\"a\":{\"roskevad\":[1071644672,0]},\"layers\":[],\"version\":\"1.10\"}", SOURCE);
+    check_made(put_back_like_source, "{\"a\":7,\"layers\":[]}", "{ \"layers\":[],\n \"a\":7,\"version\":1.8}\n");
+    check_made(put_back_like_none, HALF_ASIDE, "{ \"a\":0.5\n}");
+    check_unmade(put_back_like_source, "{\"a\":1", ROSKEVAD_NOT_JSON);
+    check_made(laid_out_as_tiled, "{\"b\":[1,{\"c\":\"/\"}],\"a\":0.5}",
+               "{ \"a\":0.5,\n \"b\":[1, \n        {\n         \"c\":\"\\/\"\n        }]\n}");
+    check_made(laid_out_minimized, "{ \"b\":[1, \"/\"] }", "{\"b\":[1,\"\\/\"]}");
+    check_made(laid_out_compact, "{ \"b\":[1, \"\\/\"] }", "{\"b\":[1,\"/\"]}");
+    check_unmade(laid_out_in_no_layout, "{}", ROSKEVAD_TOO_GREAT);
+    check_unmade(laid_out_as_tiled, "{", ROSKEVAD_NOT_JSON);
+}
+
 #define CHUNK(more) "{\"data\":[1],\"height\":1,\"width\":1,\"x\":0,\"y\":0" more "}"
 #define INFINITE(layers) "{\"infinite\":true,\"layers\":[" layers "]}"
 
@@ -573,6 +620,7 @@ static void run_random(size_t lines)
     check_closed(&editor);
     check_edges(&editor);
     check_asides();
+    check_layouts();
     check_map_faults();
     check_word_faults();
     check_what_lines_did();

@@ -1,6 +1,6 @@
-// What is answered for the text of a map that is set aside or put back, and for what is told of one that is refused.
+// What is answered for the text of a map that is set aside, put back or laid out, and for what is told of one that is refused.
 ghost use Rattle.std.specs.Prelude.{◌≡◌, IfErr, IfOk};
-ghost use Rattle.roskevad_c.specs.Asides.{number_of, made_size, made_bytes, GivesFault};
+ghost use Rattle.roskevad_c.specs.Asides.{number_of, made_size, made_bytes, laid_size, laid_bytes, layout_at, layout_number, layout_size, layout_bytes, GivesFault};
 
 use crate::answers::{
     BAD_CHUNK, NAME_TAKEN, NO_MEMORY, NONE, NOT_JSON, OVERLAP, TOO_DEEP, TOO_LARGE,
@@ -8,8 +8,9 @@ use crate::answers::{
 };
 use crate::copies::copy_text;
 use map_faults::ToldFault;
+use map_layout::{Layout, LayoutFault, LineEnd};
 use std::alloc::AllocError;
-use tiled_maps::Fault;
+use tiled_maps::{Fault, LaidText};
 
 fn number_of(fault: Fault) -> usize
     ensures { result ≡ number_of fault }
@@ -37,6 +38,51 @@ pub fn copy_made(made: Result<Option<Vec<u8>>, Fault>, buffer: &mut [u8]) -> usi
         Ok(Some(text)) => copy_text(text.as_slice(), buffer),
         Ok(None) => NONE,
         Err(fault) => number_of(fault),
+    }
+}
+
+/// Copies a text that was laid out where the buffer has room for all of it, and gives its size, or the number of the fault.
+pub fn copy_laid(made: Result<LaidText, Fault>, buffer: &mut [u8]) -> usize
+    ensures size { result ≡ laid_size made }
+    ensures copied { buffer.new ≡ laid_bytes made buffer.old }
+{
+    match made {
+        Ok(laid) => copy_text(laid.text.as_slice(), buffer),
+        Err(fault) => number_of(fault),
+    }
+}
+
+/// The layout of a number.
+pub fn layout_of(number: usize) -> Option<Layout>
+    ensures { result ≡ layout_at number }
+{
+    match number {
+        0 => Some(Layout::Tiled(LineEnd::Lf)),
+        1 => Some(Layout::Rows(LineEnd::Lf)),
+        2 => Some(Layout::Minimized),
+        3 => Some(Layout::Compact),
+        _ => None,
+    }
+}
+
+fn layout_number(fault: LayoutFault) -> usize
+    ensures { result ≡ layout_number fault }
+{
+    match fault {
+        LayoutFault::Memory => NO_MEMORY,
+        LayoutFault::NotJson => NOT_JSON,
+        LayoutFault::TooDeep => TOO_DEEP,
+    }
+}
+
+/// Copies a text in a layout where the buffer has room for all of it, and gives its size, or the number of the fault.
+pub fn copy_layout(made: Result<Vec<u8>, LayoutFault>, buffer: &mut [u8]) -> usize
+    ensures size { result ≡ layout_size made }
+    ensures copied { buffer.new ≡ layout_bytes made buffer.old }
+{
+    match made {
+        Ok(text) => copy_text(text.as_slice(), buffer),
+        Err(fault) => layout_number(fault),
     }
 }
 

@@ -1,6 +1,6 @@
 //! The editor for C: an editor in memory, behind a type that C can hold.
 //!
-//! Each call but the last four, and `roskevad_word_fault`, takes an editor, which C keeps and never looks into. A call that gives bytes copies them to the
+//! Each call but the last six, and `roskevad_word_fault`, takes an editor, which C keeps and never looks into. A call that gives bytes copies them to the
 //! front of a buffer where the buffer has room for all of them, and else leaves the buffer as it was; it answers how many
 //! there are. What stands in place of a length or a number is one of the constants at the end of the numbers.
 #![tactic(auto)]
@@ -27,20 +27,21 @@ ghost use Rattle.undo_stack.specs.declared.limits.TheConstants.{MAX_LIMIT};
 ghost use Rattle.document_lines.specs.Machine.{active_of};
 ghost use Rattle.memory_editor.specs.Buffers.{filled};
 ghost use Rattle.memory_editor.specs.Parts.{active_map, clean_index_of, has_step};
-ghost use Rattle.roskevad_c.specs.Asides.{TellsAside, TellsBack, TellsMapFault};
+ghost use Rattle.roskevad_c.specs.Asides.{TellsAside, TellsBack, TellsBackLike, TellsLayout, TellsMapFault};
 ghost use Rattle.roskevad_c.specs.Answers.{action_at, cells_at, file_in, is_there, last_reply, macro_number_at, size_of, told_bytes, told_number, told_size, with_file, without, RunsManyLines, Opens, Puts, Steps, TellsCount, TellsOfStep, TellsOutline, TellsRun};
 
 use crate::answers::{BAD_NAME, CLOSED, DONE, NO_MEMORY, NONE, TOO_GREAT};
-use crate::asides::{copy_fault, copy_made};
+use crate::asides::{copy_fault, copy_laid, copy_layout, copy_made, layout_of};
 use crate::c_editor::CEditor;
 use crate::copies::{copy_bytes, copy_outline, copy_reply};
 use crate::done_counts::DoneCounts;
 use crate::names::spelled;
 use crate::runs::SelectionRun;
 use map_faults::map_fault;
+use map_layout::lay_out;
 use memory_editor::{MemoryEditor, Rectangle};
 use std::alloc::Global;
-use tiled_maps::{put_back, set_aside};
+use tiled_maps::{put_back, put_back_like, set_aside};
 
 // The greatest undo limit.
 const GREATEST_LIMIT: usize = 1_000_000;
@@ -441,6 +442,38 @@ pub extern "C" fn roskevad_put_back(alloc: Global, bytes: &[u8], text: &mut [u8]
     ensures { TellsBack bytes.now result text.old text.new }
 {
     copy_made(put_back(alloc, bytes), text)
+}
+
+/// Copies the text of a map in which what was set aside is put back, laid out as a source is, as `tiled_maps::put_back_like` makes it.
+/// The source is the bytes of the file that the map was opened from; one of no bytes is none, and the text is in Tiled's layout.
+/// Answers its size, `NOT_JSON`, `TOO_DEEP` or `NO_MEMORY`. The text is made anew at each call.
+#[unsafe(no_mangle)]
+pub extern "C" fn roskevad_put_back_like(
+    alloc: Global,
+    bytes: &[u8],
+    source: &[u8],
+    text: &mut [u8],
+) -> usize
+    ensures { TellsBackLike bytes.now source.now result text.old text.new }
+{
+    copy_laid(put_back_like(alloc, bytes, source), text)
+}
+
+/// Copies a JSON text in the layout of this number, as `map_layout::lay_out` makes it. Answers its size, `TOO_GREAT` where no layout has
+/// the number, `NOT_JSON`, `TOO_DEEP` or `NO_MEMORY`. The text is made anew at each call.
+#[unsafe(no_mangle)]
+pub extern "C" fn roskevad_lay_out(
+    alloc: Global,
+    bytes: &[u8],
+    layout: usize,
+    text: &mut [u8],
+) -> usize
+    ensures { TellsLayout bytes.now layout result text.old text.new }
+{
+    match layout_of(layout) {
+        Some(layout) => copy_layout(lay_out(alloc, bytes, layout), text),
+        None => TOO_GREAT,
+    }
 }
 
 /// Copies what `map_faults::map_fault` tells of the bytes of a file: why it is refused as a map, and where, as an object of JSON. Answers
