@@ -3,13 +3,15 @@
 files with the plain model of tests/lib/asides.py, which sets fractions aside and puts them back;
 tests/test_infinite_maps.py does so with infinite maps. The
 maps are made here; numbers at the edge of what a float can be stand in one of them. Random edits,
-undos and redos follow in runs of their own. Maps that need nothing set aside are saved as without
-the option: the sessions of `sessions/` are heard with it. What is refused says why on standard
+undos and redos follow in runs of their own. The sessions of `sessions/` are heard with the option,
+too: they have the same replies and the same trees, each with the version of the file that it
+replaces; how they are laid out, tests/test_saved_layouts.py sees. What is refused says why on standard
 error. Maps with as many fractions as can be set aside are opened and saved in less than 1 GiB. Each
 growth of some sessions is refused in turn. Debian's package `tiled` has example maps:
 Tiled exports them, they are opened, edited, undone and saved, and Tiled exports what was saved; with
 that they have the same numbers."""
 import copy
+import functools
 import json
 import os
 import random
@@ -26,17 +28,20 @@ from lib.asides import (
     TOO_DEEP,
     TOO_MANY_FRACTIONS,
     TiledPlay,
+    as_in,
     exact,
     exact_text,
+    fault_of_tiled_files,
     fault_of_tiled_run,
 )
 from lib.cases import CORES, Case, check_each, in_processes, passed, fail_with, unlike
+from lib.growths import REFUSED as NO_MEMORY
 from lib.growths import Refuser, Session
 from lib.json_texts import text_behind, tree_of
 from lib.maps import new_map, objects_in, property_of, text_of, thing, things, tiles
 from lib.places import EXAMPLE_MAPS, TILE_EDITOR
 from lib.refusals import refusal
-from lib.sessions import all_runs, fault_of_run, heard
+from lib.sessions import all_runs, fault_of_reasons, fault_of_replies, heard
 
 IS_LONG = True
 PACKAGES = ('tiled',)
@@ -185,17 +190,36 @@ def test_random_edits():
 
 
 def with_option(run):
-    """A run of `sessions/` with the option: nothing may change."""
+    """A run of `sessions/` with the option."""
     other = copy.copy(run)
     other.options = [*run.options, OPTION]
     return other
+
+
+def saved_over(source, data):
+    """The text of a file that the option saves over another: with what that has."""
+    found = tree_of(data)
+    return text_of(as_in(source, found[0])) if found and source != data else data
+
+
+def fault_of_session(run):
+    """How the program differs from a run, or None. Files that are saved are compared by their trees."""
+    done, files = heard(run.session, run.before, run.options)
+    if done.returncode != 0:
+        return f'exit status {done.returncode}, {done.stderr.decode()[:300]}'
+    wanted = {name: saved_over(run.before.get(name), data) for name, data in run.after.items()}
+    return (
+        fault_of_reasons(run.replies, done.stderr)
+        or fault_of_replies(run.session, run.replies, done.stdout)
+        or fault_of_tiled_files(wanted, files)
+    )
 
 
 def test_sessions_with_the_option():
     """All but those in which a map is refused for a fraction, or since it is infinite."""
     opened = [refusal(code).encode() for code in (61, 64)]
     runs = [run for run in all_runs() if not any(reply in run.replies for reply in opened)]
-    check_each(map(with_option, runs), fault_of_run, CORES)
+    check_each(map(with_option, runs), fault_of_session, CORES)
 
 
 # ---- what is refused
@@ -287,6 +311,26 @@ def test_without_the_option():
 # ---- growths
 
 
+class SavingSession(Session):
+    """A session whose files a save lays out as they were. Where a growth is refused for that, the
+    map is saved all the same, in a plainer layout: only the trees of files are compared."""
+
+    def refused_at(self, growth):
+        done, files = self.refuser.heard(self.lines, growth)
+        if done.returncode == 1 or NO_MEMORY in done.stdout.split(b'\n'):
+            return super().refused_at(growth)
+        replies = done.stdout.split(b'\n')[:-1]
+        self.see(replies == self.replies, growth, f'not the same replies: {replies[-3:]!r}')
+        fault = fault_of_tiled_files(self.files, files)
+        self.see(not fault, growth, fault)
+        return None
+
+    @functools.cached_property
+    def files(self):
+        """Those of the session where no growth is refused."""
+        return self.refuser.heard(self.lines)[1]
+
+
 def begun(name):
     """A session with the option, over a map with fractions."""
     lines = {
@@ -300,7 +344,7 @@ def begun(name):
         'taken.tmj': kept('{"roskevad":1}'),
         'deep.tmj': kept(nested(125)),
     }
-    return Session(name, Refuser(before, [OPTION]), [line.encode() for line in lines])
+    return SavingSession(name, Refuser(before, [OPTION]), [line.encode() for line in lines])
 
 
 def fault_of_growth(each):

@@ -130,6 +130,38 @@ def put_back(tree):
     return back(infinite_of(tree) or tree)
 
 
+# ---- as the file that is replaced
+
+
+def layer_in(olds, layer):
+    """The layer of a list that has the id of another, or nothing."""
+    found = (old for old in olds if isinstance(old, dict) and old.get('id') == layer['id'])
+    return next(found, {})
+
+
+def with_compressions(olds, layers):
+    """Layers with the empty compressions of a list of others."""
+    for layer in layers:
+        old = layer_in(olds, layer)
+        is_left_out = 'compression' not in layer and old.get('compression') == ''
+        more = {'compression': ''} if is_left_out and layer.get('encoding') == 'base64' else {}
+        if 'layers' in layer:
+            olds_inside = old.get('layers', [])
+            more['layers'] = list(with_compressions(olds_inside, layer['layers']))
+        yield {**layer, **more}
+
+
+def as_in(source, tree):
+    """The tree of a map as it is saved over a file: with its version, and its empty compressions."""
+    found = tree_of(source) if source is not None else None
+    old = found[0] if found else None
+    if not isinstance(old, dict) or not isinstance(old.get('layers'), list):
+        return tree
+    others = {name: member for name, member in tree.items() if name != 'version'}
+    version = {'version': old['version']} if 'version' in old else {}
+    return {**others, **version, 'layers': list(with_compressions(old['layers'], tree['layers']))}
+
+
 # ---- what stands in a tree
 
 
@@ -182,8 +214,9 @@ class TiledEditor(Editor):
         self.add(name, text_behind(set_aside(tree)))
 
     def save(self, document, file):
+        source = self.files.get(file)
         reply = super().save(document, file)
-        self.files[file] = text_of(put_back(json.loads(document.now.text)))
+        self.files[file] = text_of(as_in(source, put_back(json.loads(document.now.text))))
         return reply
 
 

@@ -92,9 +92,11 @@ fn main(rt: HostRuntime) -> ExitCode {
     };
     look_at_folder(&rt, chosen.folder);
     let files = FolderStore::new(&rt, chosen.folder).telling("tile_editor");
+    // Where there is no file to be a source, nothing is told of it.
+    let sources = FolderStore::new(&rt, chosen.folder);
     let faults = FolderFaults::new(&rt, chosen.folder);
     // One type of store with and without the option: the compiler folds what `run` calls once into it.
-    let mut store = TiledStore::new(files, faults, chosen.opens_all_maps);
+    let mut store = TiledStore::new(files, sources, faults, chosen.opens_all_maps);
     let ended = if chosen.is_strict {
         let mut report = ErrorLines::new(&rt, rt.alloc());
         run_strict(

@@ -106,6 +106,12 @@ impl<'a, R: Eprint> FaultReport for FolderFaults<'a, R> {
         let reason = "set aside or put back, it would be longer than 67,108,864 bytes";
         let _ = eprintln!(self.rt; "tile_editor: {folder}/{name}: {reason}");
     }
+
+    fn not_laid_out(&self, name: &str) {
+        let folder = self.folder;
+        let reason = "its layout could not be kept, so it is saved in a plainer one";
+        let _ = eprintln!(self.rt; "tile_editor: {folder}/{name}: {reason}");
+    }
 }
 
 /// Says on standard error where there is no such folder. Lines that need no file can be carried out all the same.
