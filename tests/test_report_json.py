@@ -12,10 +12,11 @@ import tempfile
 from pathlib import Path
 
 import test_reports as reports
+from lib.asides import NAME_TAKEN, back, set_aside
 from lib.cases import CORES, Case, check_each, unlike
 from lib.commands import came_of, first_lines
 from lib.maps import cells_of
-from lib.places import MAP_REPORT
+from lib.places import EXAMPLE_MAPS, MAP_REPORT
 from lib.refusals import refusal
 
 NOT_REGULAR = 'not a regular file'
@@ -108,11 +109,25 @@ def object_of_layer(layer, group):
     return told
 
 
+def text_in(owner, name):
+    """A text that an object of JSON has; an empty one, where it has none."""
+    value = owner.get(name)
+    return value if isinstance(value, str) else ''
+
+
+def shape_of(thing):
+    shapes = [shape for shape in ('ellipse', 'point', 'polygon', 'polyline', 'text') if shape in thing]
+    return 'tile' if thing.get('gid') is not None else (shapes or ['rectangle'])[0]
+
+
 def object_of_thing(thing, layer):
     return {
         'id': thing['id'],
         'layer': layer['id'],
         'name': thing.get('name', ''),
+        'class': text_in(thing, 'class') or text_in(thing, 'type'),
+        'shape': shape_of(thing),
+        'rotation': thing.get('rotation', 0),
         **{name: thing.get(name, 0) for name in ('x', 'y', 'width', 'height')},
         'visible': thing.get('visible', True),
         'gid': thing.get('gid'),
@@ -134,6 +149,7 @@ def object_of_map(tree):
     return {
         'refused': None,
         **{name: tree[name] for name in sizes},
+        'orientation': text_in(tree, 'orientation'),
         'properties': properties_of(tree),
         'layers': [object_of_layer(*each) for each in layers],
         'objects': [
@@ -198,6 +214,63 @@ def test_maps_that_are_refused():
 def test_maps_that_are_read():
     cases = [*reports.good_maps(), *reports.reports_of_examples()]
     check_each(map(as_json, cases), fault_of, CORES)
+
+
+# ---- with --all-maps
+
+
+def fault_with_all_maps(case):
+    """What is wrong in the line of one file, or None."""
+    with tempfile.TemporaryDirectory() as folder:
+        (Path(folder) / 'map.tmj').write_bytes(case.given)
+        came = lines_of(['--all-maps', 'map.tmj'], folder)
+    status = 1 if case.wanted['refused'] else 0
+    return unlike((status, [{'file': 'map.tmj', **case.wanted}], ''), came)
+
+
+def with_fractions():
+    """A map with fractions as a rotation, a place and the value of a property."""
+    thing = {'id': 1, 'name': 'a', 'x': 1.5, 'y': -0.25, 'width': 8, 'height': 2.75, 'rotation': 33.75}
+    shown = {**thing, 'type': 'door', 'ellipse': True, 'properties': [{'name': 'b', 'type': 'float', 'value': 0.1}]}
+    line = {'id': 2, 'class': 'path', 'polyline': [{'x': 0, 'y': 0.5}], 'x': 0, 'y': 0, 'width': 0, 'height': 0}
+    layer = {'type': 'objectgroup', 'id': 9, 'name': 'l', 'opacity': 0.5, 'objects': [shown, line]}
+    return reports.changed({'layers': [layer], 'orientation': 'isometric'})
+
+
+def test_maps_that_all_maps_reads():
+    """They are told as they are open: the plain model says how. What was set aside of a rotation or a
+    value is told as it was."""
+    trees = {'fractions': with_fractions()}
+    for name in ('infinite.tmj', 'opacity_half.tmj', 'objects.tmj', 'layers.tmj'):
+        trees[name] = json.loads((EXAMPLE_MAPS / name).read_bytes())
+    check_each(
+        [
+            Case(name, json.dumps(tree).encode(), back(object_of_map(set_aside(tree))))
+            for name, tree in trees.items()
+        ],
+        fault_with_all_maps,
+    )
+
+
+def test_maps_that_all_maps_refuses():
+    taken = json.dumps(reports.changed({'roskevad': 1})).encode()
+    empty = {'line': 1, 'column': 1, 'text': 'line 1, column 1'}
+    compressed = json.loads((EXAMPLE_MAPS / 'zlib.tmj').read_bytes())
+    place = {'path': ['layers', 0, 'compression'], 'text': 'layers[0].compression is "zlib"'}
+    rows = {
+        'a name that is taken': (taken, unread(51, NAME_TAKEN)),
+        'nothing': (b'', {'code': 60, 'words': 'not JSON', 'places': [empty]}),
+        'compressed': (json.dumps(compressed).encode(), {'code': 65, 'words': 'compressed', 'places': [place]}),
+    }
+    check_each(
+        [Case(name, data, {'refused': refused}) for name, (data, refused) in rows.items()],
+        fault_with_all_maps,
+    )
+    with tempfile.TemporaryDirectory() as top:
+        (Path(top) / 'a').write_bytes(taken)
+        came = came_of([MAP_REPORT, '--all-maps', 'a'], top)
+    fault = unlike((1, f'a: {refusal(51)}: {NAME_TAKEN}\n', ''), came)
+    assert not fault, fault
 
 
 def test_what_is_no_json():

@@ -1,13 +1,14 @@
 // The reports of files, one after the other.
 use crate::json_lines::{Outcome, line_of};
 use crate::listing::write_listing;
-use crate::refused::write_refusal;
-use map_faults::{Output, Place};
-use map_json::read_map_along;
+use crate::refused::{write_not_aside, write_refusal};
+use map_faults::{Output, Place, TOO_LONG};
+use map_json::{MapFault, read_map_along};
 use std::alloc::Global;
 use std::fs;
 use std::io::{self, Read, Write};
 use std::rt::Files;
+use tiled_maps::{Fault, LONGEST, set_aside};
 
 /// The name that stands for standard input.
 const INPUT: &str = "-";
@@ -19,6 +20,14 @@ pub enum Form {
     Text,
     /// An object of JSON for each file, one a line.
     Json,
+}
+
+/// How files are reported.
+#[derive(Clone, Copy)]
+pub struct Manner {
+    pub form: Form,
+    /// Whether maps are set aside first, so that infinite ones and those with fractions are read.
+    pub opens_all_maps: bool,
 }
 
 // The bytes of a file. What is no regular file is not opened: to open a pipe would wait for its other end, and a device may
@@ -73,6 +82,12 @@ fn write_lines<W: Write>(
             write_refusal(alloc, bytes, fault, place, out);
             false
         }
+        Outcome::NotAside(why) => {
+            out.text(file);
+            out.text(": ");
+            write_not_aside(why, out);
+            false
+        }
         Outcome::Unread(_) => false,
     }
 }
@@ -107,8 +122,8 @@ fn report_unread<R: Eprint, W: Write>(
     write_outcome(alloc, form, file, Outcome::Unread(error), output)
 }
 
-// Reports the bytes of a file.
-fn report_bytes<W: Write>(
+// Reports the text of a map.
+fn report_text<W: Write>(
     alloc: Global,
     form: Form,
     file: &str,
@@ -125,31 +140,61 @@ fn report_bytes<W: Write>(
     }
 }
 
+// Reports the bytes of a file. A map that needs it is set aside, if all maps are opened.
+fn report_bytes<W: Write>(
+    alloc: Global,
+    manner: Manner,
+    file: &str,
+    bytes: &[u8],
+    output: &mut W,
+) -> io::Result<bool> {
+    let form = manner.form;
+    if !manner.opens_all_maps {
+        return report_text(alloc, form, file, bytes, output);
+    }
+    match set_aside(alloc, bytes) {
+        Ok(Some(text)) if text.len() > LONGEST => {
+            write_outcome(alloc, form, file, Outcome::NotAside(TOO_LONG), output)
+        }
+        Ok(Some(text)) => report_text(alloc, form, file, &text, output),
+        Ok(None) | Err(Fault::NotJson) => report_text(alloc, form, file, bytes, output),
+        Err(Fault::Memory) => {
+            let place = Place::new(alloc);
+            let outcome = Outcome::Refused(bytes, MapFault::Memory, &place);
+            write_outcome(alloc, form, file, outcome, output)
+        }
+        Err(fault) => {
+            let outcome = Outcome::NotAside(fault.words());
+            write_outcome(alloc, form, file, outcome, output)
+        }
+    }
+}
+
 // Reports a file: what is in its map, why that is refused, or why the file can't be read. Gives whether the map was read.
 fn report_file<R: Files + AllocGlobal + Eprint, I: Read, W: Write>(
     rt: &R,
-    form: Form,
+    manner: Manner,
     file: &str,
     input: &mut I,
     output: &mut W,
 ) -> io::Result<bool> {
     match read_file(rt, input, file) {
-        Ok(bytes) => report_bytes(rt.alloc(), form, file, &bytes, output),
-        Err(error) => report_unread(rt, rt.alloc(), form, file, &error, output),
+        Ok(bytes) => report_bytes(rt.alloc(), manner, file, &bytes, output),
+        Err(error) => report_unread(rt, rt.alloc(), manner.form, file, &error, output),
     }
 }
 
 /// Reports files, and gives whether each was read and is a map. The file `-` is the input.
 pub fn report_files<R: Files + AllocGlobal + Eprint, I: Read, W: Write>(
     rt: &R,
-    form: Form,
+    manner: Manner,
     files: &[&str],
     input: &mut I,
     output: &mut W,
 ) -> io::Result<bool> {
     let mut are_all_maps = true;
     for file in files {
-        let is_map = report_file(rt, form, file, input, output)?;
+        let is_map = report_file(rt, manner, file, input, output)?;
         // What was reported stands there before what is said of the next file on standard error.
         output.flush()?;
         are_all_maps = are_all_maps && is_map;

@@ -1,6 +1,6 @@
 // The line of JSON of a file: an object.
 use crate::json_listing::put_map;
-use crate::json_refusal::{put_no_memory, put_refusal, put_unread};
+use crate::json_refusal::{put_no_memory, put_not_aside, put_refusal, put_unread};
 use map_faults::{Members, Place};
 use map_json::MapFault;
 use map_model::Map;
@@ -13,6 +13,8 @@ pub enum Outcome<'a> {
     Map(&'a Map),
     /// It is refused for a fault at a place, with its bytes.
     Refused(&'a [u8], MapFault, &'a Place),
+    /// It can't be set aside, for a reason in words.
+    NotAside(&'a str),
     Unread(&'a io::Error),
 }
 
@@ -33,6 +35,7 @@ fn whole_line(alloc: Global, file: &str, outcome: Outcome<'_>) -> Result<Vec<u8>
             put_map(&mut out, map.parts());
         }
         Outcome::Refused(bytes, fault, place) => put_refusal(alloc, bytes, fault, place, &mut out),
+        Outcome::NotAside(why) => put_not_aside(why, &mut out),
         Outcome::Unread(error) => put_unread(alloc, error, &mut out),
     }
     out.end_object();

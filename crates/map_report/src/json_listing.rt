@@ -6,6 +6,7 @@ use map_model::limits::MAX_GROUPS;
 use map_model::{Body, Layer, MapParts, MapText, Object, PropValue, Property, Tileset, names};
 use serde_json::{Map, Number, Value};
 use tile_id::Gid;
+use tiled_maps::number_in;
 
 // Puts pixels, which are 0 where the file leaves them out.
 fn put_pixels(out: &mut Members, name: &str, pixels: Option<i32>) {
@@ -19,10 +20,10 @@ fn put_json_number(out: &mut Members, number: &Number) {
     if let Some(whole) = number.as_i64() {
         return out.i64(whole);
     }
-    match number.as_u64() {
-        Some(whole) => out.u64(whole),
-        // A map with a fraction is refused.
-        None => out.null(),
+    match (number.as_u64(), number.as_f64()) {
+        (Some(whole), _) => out.u64(whole),
+        (None, Some(fraction)) => out.f64(fraction),
+        (None, None) => out.null(),
     }
 }
 
@@ -48,8 +49,12 @@ fn put_items(items: &Vec<Value>, out: &mut Members) {
     out.end_array();
 }
 
+// A stand-in is put as the fraction that was set aside.
 #[cycle(trees)]
 fn put_members(members: &Map<String, Value>, out: &mut Members) {
+    if let Some(number) = number_in(members) {
+        return put_json_number(out, &number);
+    }
     out.begin_object();
     for (name, member) in members.iter() {
         out.key(name.as_str());
@@ -82,6 +87,47 @@ fn put_properties(out: &mut Members, properties: &Chain<Property>) {
 
 // ---- objects
 
+// A text that the editor keeps; empty where the file has none.
+fn kept_text<'a>(kept: &'a Map<String, Value>, name: &str) -> &'a str {
+    match kept.get(name) {
+        Some(value) => value.as_str().unwrap_or(""),
+        None => "",
+    }
+}
+
+// The class of an object, which one version of Tiled called so and all others its type.
+fn class_of(kept: &Map<String, Value>) -> &str {
+    let class = kept_text(kept, "class");
+    if class.is_empty() {
+        kept_text(kept, "type")
+    } else {
+        class
+    }
+}
+
+// What an object is drawn as.
+fn shape_of(object: &Object) -> &'static str {
+    if object.gid.is_some() {
+        return "tile";
+    }
+    let kept = object.kept.members();
+    for shape in ["ellipse", "point", "polygon", "polyline", "text"] {
+        if kept.get(shape).is_some() {
+            return shape;
+        }
+    }
+    "rectangle"
+}
+
+// Puts by how much an object is turned, in degrees.
+fn put_rotation(out: &mut Members, kept: &Map<String, Value>) {
+    out.key("rotation");
+    match kept.get("rotation") {
+        Some(rotation) => put_tree(rotation, out),
+        None => out.i64(0),
+    }
+}
+
 // Puts an object, with the id of its layer.
 fn put_object(out: &mut Members, layer: u32, object: &Object) {
     let name = match &object.name {
@@ -92,6 +138,9 @@ fn put_object(out: &mut Members, layer: u32, object: &Object) {
     out.number(names::ID, object.id);
     out.number("layer", layer);
     out.text(names::NAME, name);
+    out.text("class", class_of(object.kept.members()));
+    out.text("shape", shape_of(object));
+    put_rotation(out, object.kept.members());
     put_pixels(out, names::X, object.placing.x);
     put_pixels(out, names::Y, object.placing.y);
     put_pixels(out, names::WIDTH, object.placing.width);
@@ -198,6 +247,7 @@ fn put_sizes(out: &mut Members, map: &MapParts) {
 /// order of their layers.
 pub fn put_map(out: &mut Members, map: &MapParts) {
     put_sizes(out, map);
+    out.text("orientation", kept_text(map.kept.members(), "orientation"));
     put_properties(out, &map.properties);
     out.begin_list(names::LAYERS);
     put_layers(out, None, &map.layers, MAX_GROUPS);

@@ -132,7 +132,7 @@ fn put_placeless(out: &mut Members, told: &str, reason: Option<&str>) {
 fn put_not_set_aside(out: &mut Members, why: &str) {
     out.truth("opens", false);
     out.key("refused");
-    put_placeless(out, StoreFault::Device.words(), Some(why));
+    put_not_aside(why, out);
 }
 
 // Puts why the editor does not open a map that is set aside.
@@ -192,6 +192,11 @@ pub fn put_refusal(alloc: Global, bytes: &[u8], fault: MapFault, place: &Place, 
         _ => {}
     }
     out.end_object();
+}
+
+/// Puts why a map can't be set aside.
+pub fn put_not_aside(why: &str, out: &mut Members) {
+    put_placeless(out, StoreFault::Device.words(), Some(why));
 }
 
 /// Puts why a file could not be read.

@@ -82,7 +82,7 @@ fn write_asked(rt: &HostRuntime, options: &Options) -> io::Result<bool> {
         true
     } else {
         let files = options.files.as_slice();
-        report_files(rt, options.form, files, &mut rt.stdin(), &mut output)?
+        report_files(rt, options.manner, files, &mut rt.stdin(), &mut output)?
     };
     output.flush()?;
     Ok(are_all_maps)

@@ -1,5 +1,5 @@
 // The command line.
-use crate::files::Form;
+use crate::files::{Form, Manner};
 use clap::builder::ValueParser;
 use clap::{Arg, ArgAction, ArgMatches, Command, Error};
 use std::alloc::{AllocError, Global};
@@ -27,7 +27,7 @@ pub struct Options<'a> {
     /// Whether standard input has a table of texts; then there are no files.
     pub is_table: bool,
     /// How the files are reported.
-    pub form: Form,
+    pub manner: Manner,
     /// The files of the maps, as they were given.
     pub files: Vec<&'a str>,
 }
@@ -55,6 +55,14 @@ fn json_arg<'a>(alloc: Global) -> Arg<'a> {
         .help("Writes a line of JSON for each map: an object")
 }
 
+// The option that reads infinite maps and maps with fractions.
+fn all_maps_arg<'a>(alloc: Global) -> Arg<'a> {
+    Arg::new(alloc, "all_maps")
+        .long("all-maps")
+        .action(ArgAction::SetTrue)
+        .help("Reads what tile_editor --all-maps opens: infinite maps and maps with fractions, too")
+}
+
 // The option for the table.
 fn table_arg<'a>(alloc: Global) -> Result<Arg<'a>, AllocError> {
     Arg::new(alloc, "table")
@@ -64,7 +72,8 @@ fn table_arg<'a>(alloc: Global) -> Result<Arg<'a>, AllocError> {
             "Reads a table of texts from standard input, and says what is read of each: a test of the reader",
         )
         .conflicts_with("file")?
-        .conflicts_with("json")
+        .conflicts_with("json")?
+        .conflicts_with("all_maps")
 }
 
 // The command without options.
@@ -79,7 +88,8 @@ fn bare_command<'a>(alloc: Global) -> Command<'a> {
 fn all_args<'a>(alloc: Global) -> Result<Vec<Arg<'a>>, AllocError> {
     let table = table_arg(alloc)?;
     let files = file_arg(alloc)?;
-    Ok(Vec::from_array(alloc, [files, json_arg(alloc), table])?)
+    let json = json_arg(alloc);
+    Ok(Vec::from_array(alloc, [files, json, all_maps_arg(alloc), table])?)
 }
 
 // The command with its options. The arguments are made before the command, which has many parts to drop.
@@ -98,7 +108,10 @@ fn options_in<'a>(alloc: Global, matches: &ArgMatches<'a>) -> Result<Options<'a>
     let files = Vec::from_slice(alloc, matches.get_strs("file").unwrap_or(&[]))?;
     Ok(Options {
         is_table: matches.get_flag("table"),
-        form,
+        manner: Manner {
+            form,
+            opens_all_maps: matches.get_flag("all_maps"),
+        },
         files,
     })
 }

@@ -2,7 +2,7 @@
 use crate::fractions::{Fractions, Owner, find_fractions, write_owner};
 use map_faults::{Output, Place, TOO_LONG, place_of_fault};
 use map_json::{MapFault, read_map_along};
-use refusals::{MapRefusal, Refusal};
+use refusals::{MapRefusal, Refusal, StoreFault};
 use serde_json::{Error, Value};
 use std::alloc::Global;
 use std::io::Write;
@@ -89,6 +89,15 @@ fn write_all_fractions<W: Write>(alloc: Global, bytes: &[u8], out: &mut Output<'
     drop(root);
     out.value("\n  fractions: ", &count);
     write_with_all_maps(alloc, bytes, out);
+}
+
+/// Writes the line of a map that can't be set aside.
+pub fn write_not_aside<W: Write>(why: &str, out: &mut Output<'_, W>) {
+    out.text("no ");
+    out.text(StoreFault::Device.words());
+    out.text(": ");
+    out.text(why);
+    out.text("\n");
 }
 
 /// Writes the line of a map that is refused, with the place at which the reader stopped. Where that is lost, there was no
