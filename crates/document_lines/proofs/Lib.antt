@@ -3,3 +3,10 @@ pub mod SteadyPlans
 pub mod Bound
 pub mod Moving
 pub mod Macros
+pub mod KeptCells
+pub mod KeptOutlines
+pub mod Covering
+pub mod PaintedCells
+pub mod ToldAreas
+pub mod PaintCovers
+pub mod Joining
