@@ -7,7 +7,7 @@ import random
 import re
 
 from lib.cases import passed
-from lib.lines_at_fault import a_line_at_fault
+from lib.lines_at_fault import lines_at_fault
 from lib.maps import layers_in
 from lib.refusals import refusal
 from page.bench import Bench, choose, middle_of, object_of, spelled, standing
@@ -102,9 +102,8 @@ def test_words_of_refusals():
 
 
 def test_word_at_fault():
-    """Of lines with one word at fault, made by chance, the page names that word."""
-    chance = random.Random(66)
-    made = [each for each in (a_line_at_fault(chance) for _ in range(1200)) if each]
+    """Of lines with one word at fault, of each form at each word, the page names that word."""
+    made = [*lines_at_fault(random.Random(66))]
     lines = [' '.join(words) for words, _, _ in made]
     with Bench() as page:
         told = page.js(

@@ -13,7 +13,7 @@ import unicodedata
 
 from lib.cases import CORES, Case, check_each, passed, unlike
 from lib.forms import HELP
-from lib.lines_at_fault import a_line_at_fault, told_of
+from lib.lines_at_fault import lines_at_fault, told_of
 from lib.places import TILE_EDITOR
 from lib.refusals import refusal
 from lib.sessions import heard, joined
@@ -137,15 +137,11 @@ def refused_at(line, code, told, forms):
     return Case(line[:200], line, '\n'.join([first, *(f'  {form}' for form in forms), '']))
 
 
-def lines_at_fault(count):
+def lines_refused():
     """Lines with one word at fault. Their forms are those that begin as the one that was taken."""
-    chance = random.Random(63)
-    for _ in range(count):
-        made = a_line_at_fault(chance)
-        if made is not None:
-            words, fault, form = made
-            forms = [other for other in HELP if other.split(' ')[:fault] == form[:fault]]
-            yield refused_at(' '.join(words), 4, told_of(form, fault, words), forms)
+    for words, fault, form in lines_at_fault(random.Random(63)):
+        forms = [other for other in HELP if other.split(' ')[:fault] == form[:fault]]
+        yield refused_at(' '.join(words), 4, told_of(form, fault, words), forms)
 
 
 def fault_of_line(case):
@@ -156,7 +152,7 @@ def fault_of_line(case):
 
 
 def test_the_word_at_fault():
-    check_each(lines_at_fault(1500), fault_of_line, CORES)
+    check_each(lines_refused(), fault_of_line, CORES)
 
 
 def test_lines_of_no_command():

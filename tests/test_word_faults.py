@@ -1,13 +1,13 @@
 # SPDX-License-Identifier: MIT OR Apache-2.0
-"""Compares what both packages tell of the word at which a line is refused with what is wrong with it. Lines are made of the forms by chance, and
-one word of each is changed into one that can't stand there, or the line ends before it, or goes on behind its last word."""
+"""Compares what both packages tell of the word at which a line is refused with what is wrong with it. Lines are made of each form: each of its
+words is changed into ones that can't stand there, or the line ends before it, or goes on behind its last word."""
 import json
 import random
 import subprocess
 import sys
 
 from lib.cases import Case, check_each, unlike
-from lib.lines_at_fault import a_line_at_fault, told_of
+from lib.lines_at_fault import lines_at_fault, told_of
 from lib.places import TOP
 from lib.refusals import refusal
 
@@ -19,17 +19,16 @@ PACKAGES = ('nodejs',)
 WHOLE = ['x' * 65_536, 'undo', 'stamp 9 0 0 1 5', 'use none']
 
 
-def lines_at_fault():
+def lines_refused():
     """Lines, and of each the code, and the place, the word and the words for what is wrong with it."""
-    chance = random.Random(64)
-    for words, fault, form in filter(None, (a_line_at_fault(chance) for _ in range(1500))):
+    for words, fault, form in lines_at_fault(random.Random(64)):
         word = words[fault] if fault < len(words) else None
         yield ' '.join(words), [4, fault + 1, word, told_of(form, fault, words)]
     for line in ('Undo', ' undo', 'frob 1', 'undone'):
         yield line, [3, 1, line.split(' ')[0], 'word 1 is not a command']
 
 
-CASES = [Case(line[:200], line, wanted) for line, wanted in lines_at_fault()]
+CASES = [Case(line[:200], line, wanted) for line, wanted in lines_refused()]
 
 
 def refused(line):

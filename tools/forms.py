@@ -74,6 +74,21 @@ def filled(text):
     return re.sub(r'\{(\w+)\}', lambda name: f'{limits()[name[1]]:,}', text)
 
 
+def wanted(text):
+    """What people are told that a word is to be, with its limits as they are told."""
+    return re.sub(r'\{(\w+)\}', lambda name: str(limits()[name[1]]), text)
+
+
+def kinds():
+    """What people are told that a word of a form is to be, by that word; of others by `*`."""
+    return {word: wanted(told) for words, _, told in parts()['kinds'] for word in words.split(', ')}
+
+
+def types():
+    """The word of a form that a value of each type is, and what people are told where no kind says it."""
+    return {name: (value, wanted(*told) if told else None) for name, value, *told in parts()['types']}
+
+
 def forms(part):
     """The forms of a part."""
     return [Form(form, refusals, does) for form, refusals, does in ([*row, '', ''][:3] for row in parts()[part])]
@@ -89,7 +104,7 @@ def typed(form):
     if not form.endswith(' TYPE VALUE') or '+ ' in form:
         return [form]
     values = {}
-    for name, value in parts()['types']:
+    for name, value, *_ in parts()['types']:
         values.setdefault(value, []).append(name)
     return [form.replace('TYPE VALUE', f'{"|".join(names)} {value}') for value, names in values.items()]
 

@@ -1,99 +1,150 @@
 # SPDX-License-Identifier: MIT OR Apache-2.0
-"""Lines of session with one word at fault, made of the forms of lines by chance, and what is said of that word."""
-from lib.forms import HELP
+"""Lines of session with one word at fault, and what is said of that word. They are made of the table of forms, crates/session/forms.txt: what may
+stand for a word is read off what people are told that it is to be."""
+import functools
+import re
+import sys
 
-# What may stand for a word of a form, and what may not.
-NUMBER = (['0', '7', '4294967295'], ['', '-1', '01', '+1', '1.5', 'x', '7\r', '4294967296', '²'])
-COORDINATE = (
-    ['0', '-1', '1000000000', '-1000000000'],
-    ['', '-', '-0', '01', '+1', '1.5', 'x', '--1', '1000000001', '-1000000001'],
-)
-NAME = ['a', '_x.y-1', 'A' * 64]
-TEXT = (
-    ['a', ' a', 'a b  c', 'ä' * 100, 'x' * 200, 'yes', '|| a'],
-    ['', 'x' * 201, 'a \x1f b', '\x7f', 'a\tb', '\r', 'ä' * 101],
-)
-OWNER = (
-    ['map', 'layer:1', 'object:4294967295'],
-    ['', 'Map', 'map:1', 'layer', 'layer:', 'layer:01', 'object:x', 'object:4294967296', 'tile:1'],
-)
-SIDE = (['1', '2', '4096'], ['', '0', '4097', '-1', '01', 'x'])
-KINDS = {
-    'DOC': (NAME, ['', '.a', '-a', 'A' * 65, 'a/b', 'ä', 'a\r']),
-    'FILE': (NAME + ['a' * 100], ['', '.a', '../a', '-', 'a' * 101, 'ä', 'a/b']),
-    'X': COORDINATE,
-    'Y': COORDINATE,
-    'OWNER': OWNER,
-    'KEY': (['a', 'é', 'k' * 200, '"', '||'], ['', 'k' * 201, 'a\x7f', '\x01', 'a\tb']),
-    'TYPE': (
-        ['string', 'int', 'bool', 'color', 'file', 'object'],
-        ['', 'float', 'String', 'colour', 'class'],
-    ),
-    **dict.fromkeys(['TEXT', 'ACTION', 'NAME', 'SOURCE'], TEXT),
-}
-VALUES = {
-    'string': TEXT,
-    'file': TEXT,
-    'int': COORDINATE,
-    'bool': (['true', 'false'], ['', 'True', '1', 'yes', 'true\r']),
-    'color': (['#012def', '#ff00ff00'], ['', 'ff0000', '#FF0000', '#12345', '#1234567', 'red']),
-    'object': NUMBER,
-}
+from lib.places import TOP
+
+sys.path.insert(0, str(TOP / 'tools'))
+import forms as table  # noqa: E402
+
+FORMS = [form.split(' ') for form in table.help_forms()]
+KINDS, TYPES = table.kinds(), table.types()
+# What no kind says: of the first word, and of a word that differs from form to form.
+A_COMMAND, AN_ACTION, A_DOCUMENT = 'a command', 'a word that a form has there', "a document's name, or -"
 
 
-def words_for(form, at, front):
-    """What may stand as a word of a form behind some words, and what may not."""
-    word = form[at]
+def either(words):
+    return f'{", ".join(words[:-1])} or {words[-1]}'
+
+
+# ---- what may stand for a word, and what may not
+
+
+def numbers(low, high):
+    low, high = int(low), int(high)
+    wrong = ['', '-', '-0', '01', '+1', '1.5', 'x', '--1', '7\r', '²', str(low - 1), str(high + 1)]
+    return [str(low), str(high), '7', '1'], wrong
+
+
+def names(most):
+    wrong = ['', '.a', '-a', '-x', '../a', 'a/b', 'ä', 'a\r', 'A' * (int(most) + 1)]
+    return ['a', '_x.y-1', 'A' * int(most)], wrong
+
+
+def keys(most):
+    most = int(most)
+    return ['a', 'é', '"', '||', 'k' * most], ['', 'k' * (most + 1), 'a\x7f', '\x01', 'a\tb']
+
+
+def texts(most):
+    most = int(most)
+    right = ['a', ' a', 'a b  c', 'yes', '|| a', 'ä' * (most // 2), 'x' * most]
+    return right, ['', 'x' * (most + 1), 'a \x1f b', '\x7f', 'a\tb', '\r', 'ä' * (most // 2 + 1)]
+
+
+def owners():
+    wrong = ['', 'Map', 'map:1', 'layer', 'layer:', 'layer:01', 'object:x', 'object:4294967296', 'tile:1']
+    return ['map', 'layer:1', 'object:4294967295'], wrong
+
+
+def colours():
+    return ['#012def', '#ff00ff00'], ['', 'ff0000', '#FF0000', '#12345', '#1234567', 'red']
+
+
+def tiles(width):
+    row = ','.join(['4294967295'] + ['0'] * (int(width) - 1))
+    short = [] if width == '1' else ['5', f'{row},5']
+    return [row, f'{row},{row}'], ['', f'{row},', f',{row}', f'{row},01', 'x', '1.5', *short]
+
+
+def choices(words):
+    """One of some words. A word with a letter more, in capitals or with a carriage return is another one."""
+    words = re.split(', | or ', words)
+    wrong = ['', *(other for word in words for other in (word.upper(), f'{word}s', f'{word}\r'))]
+    return words, [word for word in wrong if word not in words]
+
+
+# By what people are told, from the first one on that fits.
+MADE = [
+    (r'a whole number from (-?\d+) to (\d+).*', numbers),
+    (r'a name of 1 to (\d+) of A-Z a-z 0-9 _ \. - that begins with neither \. nor -', names),
+    (r'a name of 1 to (\d+) bytes, with no space and no control character', keys),
+    (r'a text of 1 to (\d+) bytes, with no control character', texts),
+    (r'map, or layer: or object: and an id', owners),
+    (r'# and 6 or 8 of the digits 0-9 and a-f', colours),
+    (r'whole numbers joined by commas, which fill rows of (\d+)', tiles),
+    (r'(\w+(?:, \w+)* or \w+)', choices),
+]
+
+
+@functools.cache
+def samples(wanted):
+    """What may stand for a word that is to be this, and what may not."""
+    for pattern, made in MADE:
+        if found := re.fullmatch(pattern, wanted):
+            return made(*found.groups())
+    raise AssertionError(f'crates/session/forms.txt: no test makes lines for {wanted!r}')
+
+
+# ---- what a word of a form is to be
+
+
+def kind_of(word, front):
+    """What people are told that a word in capitals is to be behind some words."""
     if word == 'VALUE':
-        return VALUES[front[-1]]
-    if word == 'TILES':
-        width = int(front[-1])
-        row = ','.join(['4294967295'] + ['0'] * (width - 1))
-        short = [] if width == 1 else ['5', f'{row},5']
-        return [row, f'{row},{row}'], ['', f'{row},', f',{row}', f'{row},01', 'x', '1.5', *short]
-    if word == 'WIDTH' and form[0].startswith('stamp'):
-        return SIDE
-    if word == 'TEXT' and '||' in form:
-        return ['a', 'a b', '||', 'x' * 200], TEXT[1]
-    if word.isupper():
-        return KINDS.get(word, NUMBER)
-    return [word], ['', word.upper(), f'{word}s', f'{word}\r'] if word != '||' else []
+        value, told = TYPES[front[-1]]
+        return told or (either(value.split('|')) if '|' in value else kind_of(value, front))
+    told = KINDS.get(word, KINDS['*'])
+    return told.replace('WIDTH', front[-1]) if word == 'TILES' else told
 
 
-# What people are told that a word is to be, by the word of a form.
-FIELDS = {
-    'DOC': 'a name of 1 to 64 of A-Z a-z 0-9 _ . - that begins with neither . nor -',
-    'FILE': 'a name of 1 to 100 of A-Z a-z 0-9 _ . - that begins with neither . nor -',
-    **dict.fromkeys(['X', 'Y'], 'a whole number from -1000000000 to 1000000000'),
-    'OWNER': 'map, or layer: or object: and an id',
-    'KEY': 'a name of 1 to 200 bytes, with no space and no control character',
-    'TYPE': 'string, int, bool, color, file or object',
-    **dict.fromkeys(['TEXT', 'ACTION', 'NAME', 'SOURCE'], 'a text of 1 to 200 bytes, with no control character'),
-    **dict.fromkeys(['tile', 'object'], 'tile or object'),
-    **dict.fromkeys(['yes', 'no'], 'yes or no'),
-    **dict.fromkeys(['true', 'false'], 'true or false'),
-    'COLOUR': '# and 6 or 8 of the digits 0-9 and a-f',
-}
-A_NUMBER = 'a whole number from 0 to 4294967295, with no zero in front'
-TYPES = {'string': 'TEXT', 'file': 'TEXT', 'int': 'X', 'bool': 'true', 'color': 'COLOUR'}
+def words_at(front):
+    """The words that the forms have behind some words of forms, each once."""
+    at = len(front)
+    return list(dict.fromkeys(form[at] for form in FORMS if form[:at] == front and len(form) > at))
 
 
 def wanted_of(form, at, front):
     """What people are told that a word of a form is to be behind some words."""
-    word = form[at]
+    word, others = form[at], words_at(form[:at])
     if at == 0:
-        return 'a command'
-    if form[0] == 'use':
-        return "a document's name, or -"
-    if at == 1 and form[0] in ('select', 'layer', 'object', 'prop', 'tileset'):
-        return 'a word that a form has there'
-    if word == 'TILES':
-        return f'whole numbers joined by commas, which fill rows of {front[-1]}'
-    if word == 'WIDTH' and form[0].startswith('stamp'):
-        return 'a whole number from 1 to 4096'
-    if word in ('VALUE', 'NUMBER') and front[-1] in TYPES:
-        return FIELDS[TYPES[front[-1]]]
-    return FIELDS['TYPE'] if form[:2] == ['prop', 'set'] and at == 4 else FIELDS.get(word, A_NUMBER)
+        return A_COMMAND
+    if '-' in others:
+        return A_DOCUMENT
+    if word.isupper():
+        is_wide = word == 'WIDTH' and form[at + 1 : at + 2] == ['TILES']
+        return KINDS['WIDTH TILES'] if is_wide else kind_of(word, front)
+    return either(others) if is_choice(form, at) else AN_ACTION
+
+
+@functools.cache
+def one_form_choices():
+    """The words before a choice that one row of the table has, and the choice."""
+    rows = [form.form.replace('[+]', '').split(' ') for part in table.PARTS for form in table.forms(part)]
+    return {(tuple(row[:at]), word) for row in rows for at, word in enumerate(row) if '|' in word and word != '||'}
+
+
+def is_choice(form, at):
+    """Whether a word of a form is one of a choice, and all forms that begin so have that choice."""
+    return (tuple(form[:at]), '|'.join(words_at(form[:at]))) in one_form_choices()
+
+
+def right_of(form, at, front):
+    """What may stand as a word of a form behind some words."""
+    word = form[at]
+    if word == 'TEXT' and '||' in form:
+        return ['a', 'a b', '||', 'x' * 200]
+    return samples(wanted_of(form, at, front) if '-' not in words_at(form[:at]) else kind_of(word, front))[0] if word.isupper() else [word]
+
+
+def wrong_of(form, at, front):
+    """What may not stand as a word of a form behind some words."""
+    word, others = form[at], words_at(form[:at])
+    wrong = samples(kind_of(word, front) if '-' in others else wanted_of(form, at, front))[1] if word.isupper() else choices(word)[1]
+    return [each for each in wrong if each not in others]
 
 
 def told_of(form, place, words):
@@ -106,26 +157,34 @@ def told_of(form, place, words):
 
 def is_text(form, at, front):
     """Whether a word of a form behind some words is a text, which takes all that is left."""
-    return words_for(form, at, front)[1] is TEXT[1]
+    return form[at].isupper() and kind_of(form[at], front).startswith('a text ')
 
 
-def a_line_at_fault(chance):
-    """A line that is refused as 4, by its words, and the form that it leaves; None where chance
-    makes another line."""
-    form = chance.choice(HELP).split(' ')
-    fault = chance.randint(1, len(form))
-    front = []
-    for at in range(fault):
-        front.append(chance.choice(words_for(form, at, front)[0]))
-    if fault == len(form):
-        is_open = is_text(form, fault - 1, front[:-1])
-        return None if is_open else (front + [chance.choice(['', 'x', '7'])], fault, form)
-    wrong = [word for word in words_for(form, fault, front)[1] if word != form[fault]]
-    if not wrong:
-        return None
-    word = chance.choice([None, *wrong])
-    if word is None:
-        # Without the space behind them, bars are part of a text.
-        return None if front[-1] == '||' else (front, fault, form)
-    is_open = word == '' and is_text(form, fault, front)
-    return front + [word] + chance.choice([[], [] if is_open else ['1', 'b']]), fault, form
+# ---- lines
+
+
+def faults_of(form, at, front):
+    """What stands from a word of a form on that is wrong, each as its words: a wrong word, alone and with others behind it, and none."""
+    if at == len(form):
+        is_open = is_text(form, at - 1, front[:-1])
+        return [] if is_open else [[''], ['x'], ['7']]
+    if form[at] == '||':
+        # The text in front of bars takes all that is left.
+        return []
+    # Without the space behind them, bars are part of a text.
+    missing = [] if front[-1] == '||' else [[]]
+    is_open = is_text(form, at, front)
+    wrong = [[word, *rest] for word in wrong_of(form, at, front) for rest in ([], ['1', 'b']) if not (rest and word == '' and is_open)]
+    return missing + wrong
+
+
+def lines_at_fault(chance):
+    """Lines that are refused as 4: each form, left at each of its words in each way, behind words that chance takes. Each is its words, the
+    place of the one at fault, from 0, and the form."""
+    for form in FORMS:
+        for fault in range(1, len(form) + 1):
+            front = []
+            for at in range(fault):
+                front.append(chance.choice(right_of(form, at, front)))
+            for rest in faults_of(form, fault, front):
+                yield front + rest, fault, form

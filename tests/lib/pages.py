@@ -277,6 +277,8 @@ class Clone:
         self.folder = Path(self.top.name) / 'clone'
         ignored = shutil.ignore_patterns('.git', 'crates', 'out', '__pycache__')
         shutil.copytree(TOP, self.folder, ignore=ignored, symlinks=True)
+        # The crates are only read.
+        (self.folder / 'crates').symlink_to(TOP / 'crates')
         return self
 
     def __exit__(self, *_):
