@@ -158,14 +158,16 @@ typedef struct roskevad_status {
 #define ROSKEVAD_BECAME_GONE 4u              /* the same, and nothing was left of that step */
 #define ROSKEVAD_BECAME_TURNED 5u            /* steps were undone or redone, from `before` to `index` */
 
-/* What the last line did. All but `differs` and `refusal` is about the active document. Where the last call of `roskevad_run_lines` did
- * several lines, all may differ, `became` is ROSKEVAD_BECAME_NOTHING, `dropped` 0, and `refusal` that of the last one. */
+/* What the last line did, or the lines of the last call of `roskevad_run_lines`. All but `differs`, `refusal` and `word` is about the
+ * active document. Of several lines it tells what differs between the documents before the first one and behind the last one: an edit
+ * that they made and took back is not told. All may differ where they opened, closed or chose a document, where they dropped or forgot
+ * steps that they had made, and where they are more than 64 steps. `became` is then ROSKEVAD_BECAME_NOTHING. */
 typedef struct roskevad_told {
     size_t before;     /* the index before the lines */
     size_t index;      /* how the document stands now */
     size_t count;
     size_t depth;
-    size_t dropped;    /* how many steps are gone from the beginning, 0 or 1: there were more than the limit */
+    size_t dropped;    /* how many steps are gone from the beginning: there were more than the limit; 0 where documents differ */
     size_t is_clean;   /* 1 or 0 */
     uint32_t refusal;  /* the number of the refusal of the last line, or 0 */
     uint32_t differs;  /* a sum of ROSKEVAD_DIFFERS_* */
@@ -177,6 +179,7 @@ typedef struct roskevad_told {
     int32_t y;
     uint32_t width;
     uint32_t height;
+    uint32_t word;     /* where the refusal is 4: which word of the last line is at fault, from 1; 0: none, or not known */
 } roskevad_told;
 
 /* A step of the active document. */
@@ -498,7 +501,8 @@ static inline size_t roskevad_editor_status_of(roskevad_editor *editor, size_t a
     return roskevad_status_of(editor, at, status);
 }
 
-/* What the last line did. It is looked up in the steps, so ask before the next line. ROSKEVAD_DONE or ROSKEVAD_IS_CLOSED. */
+/* What the last line did, or the lines of the last call of `roskevad_editor_run_lines`. It is looked up in the steps, so ask before the
+ * next line. ROSKEVAD_DONE or ROSKEVAD_IS_CLOSED. */
 static inline size_t roskevad_editor_tell(roskevad_editor *editor, roskevad_told *told)
 {
     return roskevad_tell(editor, told);

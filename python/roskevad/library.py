@@ -76,7 +76,7 @@ class Told(ctypes.Structure):
         *((name, ctypes.c_size_t) for name in ('before', 'index', 'count', 'depth', 'dropped', 'is_clean')),
         *((name, ctypes.c_uint32) for name in ('refusal', 'differs', 'became', 'subject', 'id', 'layer')),
         *((name, ctypes.c_int32) for name in ('x', 'y')),
-        *((name, ctypes.c_uint32) for name in ('width', 'height')),
+        *((name, ctypes.c_uint32) for name in ('width', 'height', 'word')),
     ]
 
 

@@ -56,13 +56,13 @@ static size_t told_by_own_names(const char *name, char *room, size_t size)
 
 static size_t lines_told(char *room, size_t size)
 {
-    roskevad_told told = {0, 0, 0, 0, 0, 0, 0, 0, 0, 0, 0, 0, 0, 0, 0, 0};
+    roskevad_told told = {0, 0, 0, 0, 0, 0, 0, 0, 0, 0, 0, 0, 0, 0, 0, 0, 0};
     roskevad_step_row rows[2] = {{0, 0, 0, 0, 0, 0, 0, 0, 0}, {0, 0, 0, 0, 0, 0, 0, 0, 0}};
     size_t sum = roskevad_editor_tell(&editor, &told) + roskevad_tell(&editor, &told);
     sum += roskevad_editor_steps(&editor, 0, rows, 2) + roskevad_steps(&editor, 0, rows, 2);
     sum += roskevad_editor_step_text(&editor, 0, room, size) + roskevad_step_text(&editor, 0, roskevad_room_at(room), size);
     sum += told.before + told.index + told.count + told.depth + told.dropped + told.is_clean;
-    sum += told.refusal + told.differs + told.became + told.subject + told.id + told.layer + told.width + told.height;
+    sum += told.refusal + told.differs + told.became + told.subject + told.id + told.layer + told.width + told.height + told.word;
     sum += (told.x == rows[0].x ? 1u : 0u) + (told.y == rows[0].y ? 1u : 0u) + rows[0].is_macro + rows[0].differs + rows[0].subject;
     sum += ROSKEVAD_DIFFERS_DOCUMENTS + ROSKEVAD_DIFFERS_OUTLINE + ROSKEVAD_DIFFERS_SELECTION + ROSKEVAD_DIFFERS_CELLS;
     sum += ROSKEVAD_DIFFERS_ALL_CELLS + ROSKEVAD_BECAME_NOTHING + ROSKEVAD_BECAME_ADDED + ROSKEVAD_BECAME_ADDED_AND_DROPPED;

@@ -177,13 +177,13 @@ static bool is_of_cells(roskevad_told told, int32_t x, int32_t y, uint32_t width
 /* What lines did, and the steps that came of them. */
 static void check_what_lines_did(void)
 {
-    static const char MANY[] = "undo\nstamp 1 0 2 1 5\nstamp 1 3 2 1 5\n";
+    static const char MANY[] = "undo\nstamp 1 0 2 1 5\nstamp 1 3 2 1 5\n", TWO[] = "stamp 1 0 2 1 6\nstamp 1 2 2 1 6\n", BACK[] = "undo\nredo\nuse\n";
     roskevad_editor editor = ROSKEVAD_CLOSED;
     roskevad_step_row rows[4];
-    roskevad_told told = {9, 9, 9, 9, 9, 9, 9, 9, 9, 9, 9, 9, 9, 9, 9, 9};
+    roskevad_told told = {9, 9, 9, 9, 9, 9, 9, 9, 9, 9, 9, 9, 9, 9, 9, 9, 9};
     roskevad_lines_done done;
     char room[256];
-    WANT(roskevad_editor_tell(&editor, &told) == ROSKEVAD_IS_CLOSED && told.before == 9 && told.height == 9);
+    WANT(roskevad_editor_tell(&editor, &told) == ROSKEVAD_IS_CLOSED && told.before == 9 && told.height == 9 && told.word == 9);
     WANT(roskevad_editor_steps(&editor, 0, rows, 4) == ROSKEVAD_IS_CLOSED && roskevad_editor_step_text(&editor, 0, NULL, 0) == ROSKEVAD_IS_CLOSED);
     WANT(roskevad_editor_open(&editor, 2) == ROSKEVAD_DONE);
     told = told_of(&editor, "new a 4 3 16 16 a.tsj");
@@ -195,7 +195,11 @@ static void check_what_lines_did(void)
     told = told_of(&editor, "undo");
     WANT(is_of_cells(told, 1, 1, 2, 2) && told.became == ROSKEVAD_BECAME_TURNED && told.before == 1 && told.index == 0 && told.count == 1);
     told = told_of(&editor, "stamp 9 0 0 1 5");
-    WANT(told.differs == 0 && told.refusal == 30 && told.became == ROSKEVAD_BECAME_NOTHING);
+    WANT(told.differs == 0 && told.refusal == 30 && told.became == ROSKEVAD_BECAME_NOTHING && told.word == 0);
+    told = told_of(&editor, "stamp 1 0 x 1 5");
+    WANT(told.differs == 0 && told.refusal == 4 && told.word == 4);
+    told = told_of(&editor, "frob x");
+    WANT(told.refusal == 3 && told.word == 0);
     told = told_of(&editor, "select replace 0 2 4 1");
     WANT(told.differs == ROSKEVAD_DIFFERS_SELECTION && told.became == ROSKEVAD_BECAME_ADDED && told.subject == 0 && told.count == 1);
     told = told_of(&editor, "layer rename 1 Sea");
@@ -204,7 +208,7 @@ static void check_what_lines_did(void)
     WANT((told.differs & ROSKEVAD_DIFFERS_ALL_CELLS) != 0 && told.became == ROSKEVAD_BECAME_ADDED_AND_DROPPED && told.dropped == 1 && told.count == 2);
     WANT(roskevad_editor_run_lines(&editor, MANY, sizeof MANY - 1, false, room, sizeof room, &done) == 3);
     WANT(roskevad_editor_tell(&editor, &told) == ROSKEVAD_DONE && (told.differs & ROSKEVAD_DIFFERS_ALL_CELLS) != 0 && told.before == 2);
-    WANT(told.became == ROSKEVAD_BECAME_NOTHING && told.dropped == 0 && told.refusal == 0);
+    WANT(told.became == ROSKEVAD_BECAME_NOTHING && told.dropped == 1 && told.refusal == 0 && told.word == 0);
     WANT(roskevad_editor_steps(&editor, 0, rows, 4) == 2 && roskevad_editor_steps(&editor, 1, rows + 3, 1) == 1);
     WANT(roskevad_editor_steps(&editor, 2, rows, 4) == 0 && roskevad_editor_steps(&editor, SIZE_MAX, rows, 4) == 0);
     WANT(rows[0].differs == ROSKEVAD_DIFFERS_CELLS && rows[0].layer == 1 && rows[0].x == 0 && rows[0].y == 2 && rows[0].width == 1 && rows[0].is_macro == 0);
@@ -212,6 +216,10 @@ static void check_what_lines_did(void)
     WANT(roskevad_editor_step(&editor, "text 0", 6, room, sizeof room) > 3);
     WANT(roskevad_editor_step_text(&editor, 0, room + 128, 128) < 128 && memcmp(room, "text ", 5) == 0 && memcmp(room + 5, room + 128, 5) == 0);
     WANT(roskevad_editor_step_text(&editor, 2, room, sizeof room) == ROSKEVAD_NONE);
+    WANT(roskevad_editor_run_lines(&editor, TWO, sizeof TWO - 1, false, room, sizeof room, &done) == 2);
+    WANT(roskevad_editor_tell(&editor, &told) == ROSKEVAD_DONE && is_of_cells(told, 0, 2, 3, 1) && told.dropped == 2 && told.index == 2);
+    WANT(roskevad_editor_run_lines(&editor, BACK, sizeof BACK - 1, false, room, sizeof room, &done) == 3);
+    WANT(roskevad_editor_tell(&editor, &told) == ROSKEVAD_DONE && told.differs == 0 && told.refusal == 4 && told.word == 2);
     roskevad_editor_close(&editor);
 }
 

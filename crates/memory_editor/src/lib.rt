@@ -1,6 +1,7 @@
 //! An editor in memory: an editor of maps, the files that its lines open and save, and the reply to the last line.
 #![tactic(auto)]
 
+mod block;
 mod lines_done;
 mod listening;
 mod lookups;
@@ -8,6 +9,7 @@ mod many_lines;
 mod memory_editor;
 mod rectangle;
 mod seen;
+mod standing;
 mod telling;
 mod told;
 

@@ -1,24 +1,14 @@
-// What has to be kept of a line, so that what it did can be told: how the documents stood, and what became of its edit. The rest
-// is read from the steps that stand there when it is asked for.
+// What has to be kept of lines, so that what they did can be told: how the documents stood, and what became of the last edit. The
+// rest is read from the steps that stand there when it is asked for.
 
+use crate::block::{Block, LineDone};
 use crate::seen::{Seen, all_differences, last_seen, steps_seen};
+use crate::standing::Standing;
 use crate::told::Became;
+use command_api::{Command, Offer};
 use document_lines::{Differences, Subject};
 use editor::{Edit, Tell};
 use undo_stack::{Pushed, Stack};
-
-/// How the documents stand.
-#[derive(Clone, Copy)]
-pub struct Standing {
-    /// How many are open.
-    pub documents: usize,
-    /// The place of the active one.
-    pub active: Option<usize>,
-    /// Its index, and 0 where there is none.
-    pub index: usize,
-    /// How many macros are open in it.
-    pub depth: usize,
-}
 
 /// What lines did.
 #[derive(Clone, Copy)]
@@ -30,32 +20,9 @@ pub struct Done {
     pub dropped: usize,
 }
 
-impl Standing {
-    /// No document is open.
-    pub fn empty() -> Standing {
-        Standing {
-            documents: 0,
-            active: None,
-            index: 0,
-            depth: 0,
-        }
-    }
-
-    // What a line did that led on to this one, where it is about the open documents, and else `None`. A document that is opened is
-    // the active one, and where the active one is closed, none is.
-    fn documents_done(self, now: Standing) -> Option<Done> {
-        if now.documents == self.documents && now.active == self.active {
-            return None;
-        }
-        let was_closed = now.documents < self.documents;
-        let is_other = !was_closed || self.active.is_some() && now.active.is_none();
-        Some(Done::of_documents(is_other))
-    }
-}
-
 impl Done {
-    // Nothing.
-    fn nothing() -> Done {
+    /// Nothing.
+    pub fn nothing() -> Done {
         Done {
             documents: false,
             differences: Differences::nothing(),
@@ -79,11 +46,6 @@ impl Done {
         }
     }
 
-    // Several lines: all may differ.
-    fn of_many() -> Done {
-        Done::of_documents(true)
-    }
-
     // What these entries change, which became that.
     fn of_entries(seen: Seen, became: Became) -> Done {
         Done {
@@ -104,118 +66,197 @@ impl Done {
     }
 
     // A macro ended. What it holds was done before.
-    fn of_end(stack: &Stack<Edit>, before: Standing) -> Done {
+    fn of_end(stack: &Stack<Edit>, is_dropped: bool) -> Done {
         let ended = Done {
             differences: Differences::nothing(),
             ..Done::of_entries(last_seen(stack), Became::Added)
         };
-        // It is a step more, unless one was dropped.
-        if stack.depth() == 0 && stack.index() == before.index {
-            ended.dropping()
-        } else {
-            ended
-        }
+        if is_dropped { ended.dropping() } else { ended }
     }
 
     // What a line did that pushed nothing: it turned steps, ended a macro, or changed neither document nor steps.
-    fn of_turn(stack: &Stack<Edit>, before: Standing) -> Done {
-        let index = stack.index();
+    fn of_turn(stack: &Stack<Edit>, before: Standing, now: Standing) -> Done {
         // Where there is no step, all were forgotten.
         if stack.count() == 0 {
             return Done::nothing();
         }
-        if stack.depth() < before.depth {
-            return Done::of_end(stack, before);
+        if now.depth < before.depth {
+            return Done::of_end(stack, before.drops_at_end(now));
         }
-        if index == before.index {
+        if now.index == before.index {
             return Done::nothing();
         }
-        let (low, high) = (index.min(before.index), index.max(before.index));
-        Done::of_entries(steps_seen(stack, low, high), Became::Turned)
+        let (low, high) = (now.index.min(before.index), now.index.max(before.index));
+        let seen = steps_seen(Seen::nothing(), stack, low, high);
+        Done::of_entries(seen, Became::Turned)
     }
 }
 
-/// What is kept of the last call: how the documents stood before it, and what became of the edit of its one line.
+/// What is kept of the last call.
 #[derive(Drop)]
 pub struct Listening {
-    before: Standing,
+    /// How the documents stood before the last line.
+    last: Standing,
+    /// What became of the last line's edit, where it was pushed.
+    pushed: Option<Pushed>,
+    /// What the last line's edit changes, where it may be merged: the step that takes it in changes more.
+    edited: Seen,
     /// Whether the call has done several lines.
     is_many: bool,
-    /// What became of the line's edit, where it was pushed.
-    pushed: Option<Pushed>,
-    /// Of an edit that may be merged: the step that takes it in changes more than the edit.
-    kept: Seen,
+    /// Then, what the lines before the last one did.
+    block: Block,
+    /// Which word of the last line that has a bad word this is, from 1.
+    word: Option<u32>,
 }
 
 impl Listening {
     /// No line yet.
     pub fn new() -> Listening {
         Listening {
-            before: Standing::empty(),
-            is_many: false,
+            last: Standing::empty(),
             pushed: None,
-            kept: Seen::nothing(),
+            edited: Seen::nothing(),
+            is_many: false,
+            block: Block::new(),
+            word: None,
         }
     }
 
     /// The first line of a call is to be done.
     #[inline(always)]
     pub fn begins(&mut self, before: Standing) {
-        self.before = before;
+        self.last = before;
+        self.pushed = None;
         self.is_many = false;
+        self.block.awaits(before);
+    }
+
+    /// Whether no further line of the call changes what is told of its lines: they were about the documents.
+    #[inline(always)]
+    pub fn is_settled(&self) -> bool {
+        self.is_many && self.block.has_other_documents()
+    }
+
+    /// A further line of a call is to be done. The documents stand so before it, and this is the stack of the active one.
+    #[inline(always)]
+    pub fn goes_on(&mut self, now: Standing, stack: Option<&Stack<Edit>>) {
+        if !self.is_many || !self.block.stays(&self.last, &now, self.pushed) {
+            self.look_back(now, stack);
+        }
+        self.last = now;
         self.pushed = None;
     }
 
-    /// A further line of a call is to be done.
-    #[inline(always)]
-    pub fn goes_on(&mut self) {
-        self.is_many = true;
+    // What the line before did is added to what those before it did.
+    fn look_back(&mut self, now: Standing, stack: Option<&Stack<Edit>>) {
+        let line = LineDone {
+            before: self.last,
+            now,
+            pushed: self.pushed,
+            edited: &self.edited,
+        };
+        if !self.is_many {
+            self.is_many = true;
+            self.block = Block::before(&line, stack);
+        }
+        self.block.add(&line, stack);
     }
 
     /// The index before the lines of the call.
     pub fn first(&self) -> usize {
-        self.before.index
+        if self.is_many {
+            self.block.first()
+        } else {
+            self.last.index
+        }
+    }
+
+    /// The line that was done last has a bad word: this one, counted from 1.
+    pub fn has_bad_word(&mut self, word: Option<u32>) {
+        self.word = word;
+    }
+
+    /// The number of the bad word, where the last line has one.
+    pub fn bad_word(&self) -> Option<u32> {
+        self.word
     }
 
     // What the line did to the document of a stack, which was the active one before.
-    fn on_stack(&self, stack: &Stack<Edit>) -> Done {
+    fn on_stack(&self, now: Standing, stack: &Stack<Edit>) -> Done {
         match self.pushed {
             Some(Pushed::Added) => Done::of_entries(last_seen(stack), Became::Added),
             Some(Pushed::AddedAndDropped) => {
                 Done::of_entries(last_seen(stack), Became::Added).dropping()
             }
-            Some(Pushed::Merged) => Done::of_entries(self.kept, Became::Merged),
-            Some(Pushed::Gone) => Done::of_entries(self.kept, Became::Gone),
+            Some(Pushed::Merged) => Done::of_entries(self.edited, Became::Merged),
+            Some(Pushed::Gone) => Done::of_entries(self.edited, Became::Gone),
             Some(Pushed::Nothing) => Done::nothing(),
-            None => Done::of_turn(stack, self.before),
+            None => Done::of_turn(stack, self.last, now),
+        }
+    }
+
+    // What the one line of a call did.
+    fn line_done(&self, now: Standing, stack: Option<&Stack<Edit>>) -> Done {
+        if !self.last.has_documents_of(now) {
+            return Done::of_documents(self.last.leaves(now));
+        }
+        match stack {
+            Some(stack) => self.on_stack(now, stack),
+            None => Done::nothing(),
+        }
+    }
+
+    // What the lines of a call did, where they are several.
+    fn block_done(&self, now: Standing, stack: Option<&Stack<Edit>>) -> Done {
+        let mut block = self.block;
+        let line = LineDone {
+            before: self.last,
+            now,
+            pushed: self.pushed,
+            edited: &self.edited,
+        };
+        block.add(&line, stack);
+        let seen = block.seen(now, stack);
+        Done {
+            documents: block.has_other_documents(),
+            dropped: block.dropped(),
+            ..Done::of_entries(seen, Became::Nothing)
         }
     }
 
     /// What the lines of the call did, where the documents stand so now, and this is the stack of the active one.
     pub fn done(&self, now: Standing, stack: Option<&Stack<Edit>>) -> Done {
         if self.is_many {
-            return Done::of_many();
+            self.block_done(now, stack)
+        } else {
+            self.line_done(now, stack)
         }
-        match (self.before.documents_done(now), stack) {
-            (Some(done), _) => done,
-            (None, Some(stack)) => self.on_stack(stack),
-            (None, None) => Done::nothing(),
-        }
+    }
+}
+
+// Whether an edit may be merged: it offers something to the step below it. Most edits are paints, which say so at less cost.
+#[inline(always)]
+fn may_be_merged(edit: &Edit) -> bool {
+    if let Edit::Paint(paint) = edit {
+        return paint.follows();
+    }
+    match edit.offer() {
+        Offer::Nothing => false,
+        _ => true,
     }
 }
 
 impl Tell for Listening {
     fn edit(&mut self, edit: &Edit) {
-        // A paint that follows nothing is merged into nothing.
-        if let Edit::Paint(paint) = edit {
-            if !paint.follows() {
-                return;
-            }
+        // What a step takes in that the lines made is read from that step.
+        if !self.block.knows_last(&self.last) && may_be_merged(edit) {
+            self.edited = Seen::of_edit(edit);
         }
-        self.kept = Seen::nothing().with_edit(edit);
     }
 
+    #[inline(always)]
     fn pushed(&mut self, pushed: Pushed) {
         self.pushed = Some(pushed);
+        self.block.has_edit();
     }
 }

@@ -104,6 +104,7 @@ impl MemoryEditor {
     {
         self.listen(is_first);
         self.hear(line);
+        self.look_at_word(line);
         put_reply(self.reply(), head, replies)
     }
 

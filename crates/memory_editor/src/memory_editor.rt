@@ -73,6 +73,7 @@ impl MemoryEditor {
     {
         self.listen(true);
         self.hear(line);
+        self.look_at_word(line);
     }
 
     // Does a line.

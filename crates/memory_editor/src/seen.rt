@@ -51,8 +51,8 @@ impl Seen {
         }
     }
 
-    // More entries than are looked at.
-    fn too_many() -> Seen {
+    /// All, of more entries than are looked at, or of entries that are gone.
+    pub fn all() -> Seen {
         Seen {
             differences: all_differences(),
             subject: Some(Subject::Nothing),
@@ -60,11 +60,20 @@ impl Seen {
         }
     }
 
-    /// An edit more.
-    pub fn with_edit(self, edit: &Edit) -> Seen {
+    /// One edit.
+    pub fn of_edit(edit: &Edit) -> Seen {
         Seen {
-            differences: self.differences.joined(edit.differs()),
-            subject: common_subject(self.subject, Some(edit.subject())),
+            differences: edit.differs(),
+            subject: Some(edit.subject()),
+            left: MOST_ENTRIES,
+        }
+    }
+
+    /// What others change too. As many more entries may be looked at.
+    pub fn joined(self, other: &Seen) -> Seen {
+        Seen {
+            differences: self.differences.joined(other.differences),
+            subject: common_subject(self.subject, other.subject),
             left: self.left,
         }
     }
@@ -72,24 +81,46 @@ impl Seen {
     /// An entry more.
     pub fn with_entry(self, entry: &Entry<Edit>) -> Seen {
         if self.left == 0 {
-            return Seen::too_many();
+            return Seen::all();
         }
         let mut seen = Seen {
             left: self.left - 1,
             ..self
         };
         match entry {
-            Entry::Command(edit) => seen.with_edit(edit),
+            Entry::Command(edit) => seen.joined(&Seen::of_edit(edit)),
             Entry::Macro(contents) => {
                 for child in contents.children.iter() {
                     if seen.left == 0 {
-                        return Seen::too_many();
+                        return Seen::all();
                     }
                     seen = seen.with_entry(child);
                 }
                 seen
             }
         }
+    }
+
+    /// The entries of a macro from one number on, which are more.
+    pub fn with_rest(self, ended: &Entry<Edit>, from: usize) -> Seen {
+        let mut seen = self;
+        if let Entry::Macro(contents) = ended {
+            for at in from..contents.children.len() {
+                if seen.left == 0 {
+                    return Seen::all();
+                }
+                seen = seen.with_entry(&contents.children[at]);
+            }
+        }
+        seen
+    }
+}
+
+/// How many entries a macro has.
+pub fn count_of(ended: &Entry<Edit>) -> usize {
+    match ended {
+        Entry::Command(_) => 0,
+        Entry::Macro(contents) => contents.children.len(),
     }
 }
 
@@ -101,12 +132,11 @@ pub fn last_seen(stack: &Stack<Edit>) -> Seen {
     }
 }
 
-/// The steps from one number up to another.
-pub fn steps_seen(stack: &Stack<Edit>, from: usize, to: usize) -> Seen {
-    let mut seen = Seen::nothing();
+/// The steps from one number up to another, beside others.
+pub fn steps_seen(mut seen: Seen, stack: &Stack<Edit>, from: usize, to: usize) -> Seen {
     for at in from..to {
         if seen.left == 0 {
-            return Seen::too_many();
+            return Seen::all();
         }
         if let Some(entry) = stack.entry(at) {
             seen = seen.with_entry(entry);
@@ -115,11 +145,11 @@ pub fn steps_seen(stack: &Stack<Edit>, from: usize, to: usize) -> Seen {
     seen
 }
 
-// The entries of the open macro at a level, beside others.
-fn with_level(mut seen: Seen, stack: &Stack<Edit>, level: usize) -> Seen {
-    for at in 0..stack.open_count(level).unwrap_or(0) {
+// The entries of the open macro at a level from one number on, beside others.
+fn level_seen(mut seen: Seen, stack: &Stack<Edit>, level: usize, from: usize) -> Seen {
+    for at in from..stack.open_count(level).unwrap_or(0) {
         if seen.left == 0 {
-            return Seen::too_many();
+            return Seen::all();
         }
         if let Some(entry) = stack.open_entry(level, at) {
             seen = seen.with_entry(entry);
@@ -128,11 +158,12 @@ fn with_level(mut seen: Seen, stack: &Stack<Edit>, level: usize) -> Seen {
     seen
 }
 
-/// The entries of the open macros.
-pub fn open_seen(stack: &Stack<Edit>) -> Seen {
-    let mut seen = Seen::nothing();
-    for level in 0..stack.depth() {
-        seen = with_level(seen, stack, level);
+/// The entries of the open macro at a level from one number on, and those of the macros in it, beside others.
+pub fn open_seen(mut seen: Seen, stack: &Stack<Edit>, level: usize, from: usize) -> Seen {
+    let mut from = from;
+    for level in level..stack.depth() {
+        seen = level_seen(seen, stack, level, from);
+        from = 0;
     }
     seen
 }

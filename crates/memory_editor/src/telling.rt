@@ -1,14 +1,15 @@
 // What lines did, as it is told when it is asked for, and the steps of the active document.
 ghost use Rattle.std.specs.Prelude.{◌≡◌};
 
-use crate::listening::Standing;
 use crate::memory_editor::MemoryEditor;
 use crate::seen::{Seen, open_seen};
+use crate::standing::Standing;
 use crate::told::{Step, Told};
 use document_lines::{Cells, Subject};
 use edits::Area;
 use map_model::Map;
-use refusals::Refusal;
+use refusals::{LineFault, Refusal};
+use session::{Reply, word_fault};
 
 // The end of so many columns from one on, in a map that has so many.
 fn end_within(from: i32, count: u32, all: u32) -> i64 {
@@ -43,6 +44,15 @@ fn cells_within(map: &Map, cells: Cells) -> Cells {
         },
         Cells::None => Cells::None,
         Cells::All => Cells::All,
+    }
+}
+
+// Which word of a line is bad, counted from 1.
+#[cold]
+fn bad_word(line: &[u8]) -> Option<u32> {
+    match word_fault(line) {
+        Some(fault) => Some(fault.place),
+        None => None,
     }
 }
 
@@ -82,8 +92,28 @@ impl MemoryEditor {
         if is_first {
             let standing = self.standing();
             self.listening.begins(standing);
-        } else {
-            self.listening.goes_on();
+        } else if !self.listening.is_settled() {
+            let standing = self.standing();
+            self.listening
+                .goes_on(standing, self.editor.group().active());
+        }
+    }
+
+    // Which word is bad where the last line has one. That line is read once more for it.
+    #[inline(always)]
+    pub(crate) fn look_at_word(&mut self, line: &[u8])
+        ensures { self.new ≡ self.old }
+    {
+        if let Some(Reply::Refused(Refusal::Line(LineFault::BadWord))) = self.reply() {
+            self.listening.has_bad_word(bad_word(line));
+        }
+    }
+
+    // Which word is bad, where the refusal says that one is.
+    fn bad_word(&self, refusal: Option<Refusal>) -> Option<u32> {
+        match refusal {
+            Some(Refusal::Line(LineFault::BadWord)) => self.listening.bad_word(),
+            _ => None,
         }
     }
 
@@ -95,10 +125,11 @@ impl MemoryEditor {
         }
     }
 
-    /// What the last line did. What it changed is looked up in the steps when this is called: it visits at most 64 entries of steps,
-    /// and of a paint at most 4,096 cells. If the last call of `run_lines` did several lines, all may differ.
+    /// What the last line did, or the lines of the last call of `run_lines`. What they changed is looked up in the steps when this is
+    /// called: it visits at most 64 entries of steps, and of a paint at most 4,096 cells.
     pub fn told(&self) -> Told {
         let done = self.listening.done(self.standing(), self.active());
+        let refusal = self.refusal();
         let (index, count, is_clean, depth, cells) = match self.active() {
             Some(stack) => (
                 stack.index(),
@@ -122,7 +153,8 @@ impl MemoryEditor {
             count,
             depth,
             is_clean,
-            refusal: self.refusal(),
+            refusal,
+            word: self.bad_word(refusal),
         }
     }
 
@@ -133,7 +165,7 @@ impl MemoryEditor {
         let text = stack.text(at)?;
         let (is_macro, seen) = match stack.entry(at) {
             Some(entry) => (entry.is_macro(), Seen::nothing().with_entry(entry)),
-            None => (true, open_seen(stack)),
+            None => (true, open_seen(Seen::nothing(), stack, 0, 0)),
         };
         Some(step_of(stack.document().map(), text, is_macro, seen))
     }

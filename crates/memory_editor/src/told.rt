@@ -23,7 +23,12 @@ pub enum Became {
 /// What the last line did, or the lines of the last call. What is not told to differ is as it was.
 ///
 /// `outline`, `selection` and `cells` are about the active document, and so are `before`, `index`, `count`, `depth` and
-/// `is_clean`. Of several lines all may differ, `became` is `Nothing`, `dropped` is 0, and `refusal` is that of the last one.
+/// `is_clean`.
+///
+/// Of several lines it tells what differs between the documents before the first one and behind the last one, `became` is `Nothing`,
+/// and `refusal` and `word` are those of the last one. An edit that they made and took back is not told. All of the active document
+/// may differ where they opened, closed or chose one, where they dropped or forgot steps that they had made, and where they are more
+/// than 64 steps.
 #[derive(Clone, Copy, PartialEq, Eq, Debug)]
 pub struct Told {
     /// Whether other documents are open, or another one is active.
@@ -34,9 +39,10 @@ pub struct Told {
     /// Which cells differ. An area lies in the map.
     pub cells: Cells,
     pub became: Became,
-    /// What the edits are about that were made or turned, where that is one thing.
+    /// What the edits are about that were made or turned, where that is one thing. Of several lines these are the edits that stand
+    /// behind the last one, and those that were taken back.
     pub subject: Subject,
-    /// How many steps are gone from the beginning, since there were more than the limit: 0 or 1.
+    /// How many steps are gone from the beginning, since there were more than the limit. It is 0 where `documents` is true.
     pub dropped: usize,
     /// The index before the lines, and 0 where no document was active.
     pub before: usize,
@@ -45,6 +51,8 @@ pub struct Told {
     pub depth: usize,
     pub is_clean: bool,
     pub refusal: Option<Refusal>,
+    /// Which word of the last line is bad, counted from 1, where the refusal is that one is. A text counts as one word.
+    pub word: Option<u32>,
 }
 
 /// A step of the active document, as a list of steps shows it.

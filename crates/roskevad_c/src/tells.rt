@@ -23,7 +23,8 @@ const ALL_CELLS: u32 = 16;
 
 /// What lines did: the index before them; how the active document stands now; how many steps were dropped from the beginning; the
 /// number of the refusal of the last line, or 0; what differs, as bits; what became of the last line's edit or step; what the edits
-/// are about, and its id; where cells of one layer alone differ, that layer and the rectangle; and whether the index is clean, 1 or 0.
+/// are about, and its id; where cells of one layer alone differ, that layer and the rectangle; whether the index is clean, 1 or 0; and
+/// which word of the last line is bad, from 1, or 0.
 #[repr(C)]
 #[derive(Clone, Copy)]
 pub struct CTold {
@@ -43,6 +44,7 @@ pub struct CTold {
     pub y: i32,
     pub width: u32,
     pub height: u32,
+    pub word: u32,
 }
 
 /// A step of the active document: whether it is a macro, 1 or 0, and the rest as in `CTold`.
@@ -145,6 +147,7 @@ impl CTold {
             y: area.y,
             width: area.width,
             height: area.height,
+            word: told.word.unwrap_or(0),
         }
     }
 }
@@ -181,8 +184,8 @@ fn put_steps(editor: &MemoryEditor, from: usize, rows: &mut [CStep]) -> usize {
     count
 }
 
-/// Gives out what the last line did. What is not told to differ is as it was. Where the last call of `roskevad_run_lines` did several
-/// lines, all may differ. Answers `DONE`, or `CLOSED`, where nothing is given out.
+/// Gives out what the last line did, or the lines of the last call of `roskevad_run_lines`. What is not told to differ is as it was.
+/// Answers `DONE`, or `CLOSED`, where nothing is given out.
 #[unsafe(no_mangle)]
 pub extern "C" fn roskevad_tell(alloc: Global, editor: &mut CEditor, told: &mut CTold) -> usize
     ensures unchanged { editor.new.held.held_editor ≡ editor.old.held.held_editor }

@@ -123,6 +123,162 @@ fn in_macros_the_last_entry_is_looked_at(rt: HostRuntime) -> Result<(), Fail> {
     Ok(())
 }
 
+// Does the lines of one call, behind lines of calls of their own, and gives what is told.
+fn told_of_block(alloc: Global, limit: u16, before: &str, lines: &str) -> Result<Told, AllocError> {
+    let mut editor = MemoryEditor::new(alloc, usize::from(limit));
+    let _told = told_after(&mut editor, before);
+    let mut replies = vec![in alloc; 0u8; 4_096]?;
+    let _done = editor.run_lines(lines.as_bytes(), false, &mut replies);
+    Ok(editor.told())
+}
+
+/// Of the lines of one call, what is told of the cells, the outline and the selection, and of what they are about.
+type Block = (Cells, bool, bool, Subject);
+
+fn of_block(alloc: Global, before: &str, lines: &str) -> Result<Block, AllocError> {
+    let told = told_of_block(alloc, 0, before, lines)?;
+    Ok((told.cells, told.outline, told.selection, told.subject))
+}
+
+const STEPS: &str = "new m 20 20 16 16 t.tsj
+stamp 1 1 1 1 5
+stamp 1 3 4 1 5";
+
+fn cells_alone(cells: Cells) -> Block {
+    (cells, false, false, Subject::Layer(1))
+}
+
+const NOTHING: Block = (Cells::None, false, false, Subject::Nothing);
+
+// What differs between both ends is told, and no more.
+#[test]
+fn of_a_block_both_ends_are_compared(rt: HostRuntime) -> Result<(), Fail> {
+    let alloc = rt.alloc();
+    let blocks = [
+        (
+            "stamp 1 7 7 1 6\nstamp 1 9 8 1 6",
+            cells_alone(within(1, 7, 7, 3, 2)),
+        ),
+        // What was undone is cut by the stamp.
+        ("undo\nstamp 1 7 7 1 6", cells_alone(within(1, 3, 4, 5, 4))),
+        // The step below takes a stamp in.
+        (
+            "stamp+ 1 7 7 1 6\nstamp+ 1 8 7 1 6",
+            cells_alone(within(1, 7, 7, 2, 1)),
+        ),
+        ("stamp 1 7 7 1 6\nundo", NOTHING),
+        ("undo\nundo\nredo\nredo", NOTHING),
+        ("goto 0\nredo", cells_alone(within(1, 3, 4, 1, 1))),
+        ("undo\nclear", cells_alone(within(1, 3, 4, 1, 1))),
+        ("status\nstamp 9 1 1 1 5", NOTHING),
+        (
+            "select add 1 1 2 2\nlayer rename 1 Sea",
+            (Cells::None, true, true, Subject::Nothing),
+        ),
+    ];
+    for (lines, wanted) in blocks {
+        assert_eq!(rt; of_block(alloc, STEPS, lines)?, wanted, "{lines}");
+    }
+    Ok(())
+}
+
+const OPEN: &str = "new m 20 20 16 16 t.tsj
+stamp 1 1 1 1 5
+begin outer
+stamp 1 3 4 1 5";
+
+// Of an open macro no more is told than what the lines did in it.
+#[test]
+fn of_a_block_in_a_macro_its_entries_are_told(rt: HostRuntime) -> Result<(), Fail> {
+    let alloc = rt.alloc();
+    let painted = cells_alone(within(1, 7, 7, 2, 1));
+    let blocks = [
+        ("stamp 1 7 7 1 6\nstamp+ 1 8 7 1 6", painted),
+        ("stamp+ 1 7 7 1 6\nstamp 1 8 7 1 6\nend", painted),
+        ("begin inner\nstamp 1 7 7 1 6\nstamp 1 8 7 1 6", painted),
+        (
+            "begin inner\nstamp 1 7 7 1 6\nend\nstamp 1 8 7 1 6\nend",
+            painted,
+        ),
+        ("end\nstamp 1 7 7 1 6\nstamp 1 8 7 1 6", painted),
+        (
+            "stamp 1 7 7 1 6\nend\nundo",
+            cells_alone(within(1, 3, 4, 5, 4)),
+        ),
+        // All that the macro has done stays, and nothing more is known of it.
+        (
+            "stamp 1 7 7 1 6\nclear",
+            (Cells::All, true, true, Subject::Nothing),
+        ),
+    ];
+    for (lines, wanted) in blocks {
+        assert_eq!(rt; of_block(alloc, OPEN, lines)?, wanted, "{lines}");
+    }
+    Ok(())
+}
+
+// What was dropped is counted. If it was of the lines, all may differ.
+#[test]
+fn of_a_block_dropped_steps_are_counted(rt: HostRuntime) -> Result<(), Fail> {
+    let alloc = rt.alloc();
+    let told = told_of_block(alloc, 2, STEPS, "stamp 1 7 7 1 6\nstamp 1 9 8 1 6")?;
+    let wanted = (within(1, 7, 7, 3, 2), Became::Nothing, Subject::Layer(1));
+    assert_eq!(rt; seen(&told), wanted);
+    assert_eq!(rt;
+        (told.before, told.index, told.count, told.dropped),
+        (2, 2, 2, 2)
+    );
+    let told = told_of_block(
+        alloc,
+        2,
+        STEPS,
+        "stamp 1 7 7 1 6\nstamp 1 9 8 1 6\nstamp 1 0 0 1 6",
+    )?;
+    assert_eq!(rt;
+        seen(&told),
+        (Cells::All, Became::Nothing, Subject::Nothing)
+    );
+    assert_eq!(rt; (told.documents, told.dropped), (false, 3));
+    let told = told_of_block(alloc, 0, STEPS, "new n 5 5 1 1 t.tsj\nuse m")?;
+    assert_eq!(rt; (told.documents, told.cells), (true, Cells::All));
+    Ok(())
+}
+
+// The word at fault is told of a line that is refused for it, and of no other one.
+#[test]
+fn a_bad_word_is_told(rt: HostRuntime) -> Result<(), Fail> {
+    let alloc = rt.alloc();
+    let lines = [
+        ("stamp 1 1 x 1 5", Some(4)),
+        ("stamp 1 1", Some(4)),
+        ("undo x", Some(2)),
+        ("begin a || ", Some(4)),
+        ("frob x", None),
+        ("stamp 9 1 1 1 5", None),
+        ("stamp 1 1 1 1 5", None),
+    ];
+    for (line, wanted) in lines {
+        assert_eq!(rt;
+            told_of_block(alloc, 0, STEPS, line)?.word,
+            wanted,
+            "{line}"
+        );
+        let many = format!(in alloc; "undo x y\nstamp 1 x\n{line}")?;
+        assert_eq!(rt;
+            told_of_block(alloc, 0, STEPS, many.as_str())?.word,
+            wanted,
+            "{line}"
+        );
+        let many = format!(in alloc; "{line}\nundo")?;
+        assert_eq!(rt;
+            told_of_block(alloc, 0, STEPS, many.as_str())?.word,
+            None,
+            "{line}"
+        );
+    }
+    Ok(())
+}
+
 /// A step, as far as it is compared.
 type Shown = Option<(bool, Subject, Cells)>;
 
