@@ -15,7 +15,8 @@ static const char MAP[] = "{\"height\":1,\"infinite\":false,\"layers\":[{\"data\
     "\"tileheight\":16,\"tilesets\":[{\"firstgid\":1,\"source\":\"a.tsj\"}],\"tilewidth\":16,\"type\":\"map\",\"version\":\"1.10\",\"width\":2}";
 
 static const char *const SCRIPT[] = {
-    "open m m.tmj", "new town 4 3 16 16 town.tsj", "stamp 1 1 1 2 5,6", "begin Fence", "stamp 1 0 0 4 7,7,7,7", "end",
+    "open m m.tmj", "new town 4 3 16 16 town.tsj", "stamp 1 1 1 2 5,6", "stamp+ 1 1 2 1 5", "begin Fence", "stamp 1 0 0 4 7,7,7,7",
+    "stamp+ 1 0 1 4 7,7,7,7", "end",
     "layer add object Doors", "object add 2 16 16 8 8 key", "prop set layer:2 kind string a wall", "undo", "redo", "show",
     "select replace 0 0 4 2", "fill 1 2 1 6", "save town.tmj", "use m", "stamp 1 0 0 1 1", "save m.tmj", "list", "text 0",
     "resize 5 4 1 1", "undo",
@@ -653,6 +654,14 @@ static void run_random(size_t lines)
     check_closed(&editor);
 }
 
+/* A line for which there was no memory is told to have changed nothing. */
+static void see_nothing_told(roskevad_editor *editor)
+{
+    roskevad_told told;
+    WANT(roskevad_editor_tell(editor, &told) == ROSKEVAD_DONE && told.refusal == 90 && told.word == 0 && told.differs == 0);
+    WANT(told.became == ROSKEVAD_BECAME_NOTHING && told.dropped == 0 && told.subject == 0 && told.before == told.index);
+}
+
 /* Steps a line until there is memory for it. */
 static void step_at_last(roskevad_editor *editor, const char *line)
 {
@@ -660,6 +669,8 @@ static void step_at_last(roskevad_editor *editor, const char *line)
     for (int tries = 0; tries < 3; tries++) {
         size_t size = roskevad_editor_step(editor, line, strlen(line), reply, sizeof reply);
         WANT(size >= 2 && size < sizeof reply);
+        if (memcmp(reply, "no 90", 5) == 0)
+            see_nothing_told(editor);
         if (memcmp(reply, "no 90", 5) != 0 || tries == 2) {
             WANT(fwrite(reply, 1, size, stdout) == size);
             putchar('\n');
