@@ -1,5 +1,5 @@
 -- What is told of one thing of a map that may be absent, and of the open documents.
-use Rattle.std.specs.Prelude.{ℕ, ◌==◌, List, length, Bool, false, Option, Some, None, option_and_then, slice_get}
+use Rattle.std.specs.Prelude.{ℕ, ◌==◌, List, length, Bool, true, false, Option, Some, None, option_and_then, slice_get}
 use Rattle.std.specs.List.{flat_map}
 use Rattle.std.specs.Option.{option_map}
 use Rattle.map_model.specs.declared.owner.Owner.{Owner}
@@ -48,6 +48,11 @@ is_place (Some active) place = active == place
 -- how one stands
 abbrev pub status_of : Bool → History → Status
 status_of active h = record { index = h.position; count = count h; depth = length h.levels; is_clean = is_clean h; is_active = active }
+
+-- how the active document stands, where there is one, and else as a new one that is not open
+abbrev pub standing_of : Option History → Status
+standing_of None = record { index = 0; count = 0; depth = 0; is_clean = true; is_active = false }
+standing_of (Some h) = status_of true h
 
 abbrev pub status_at : ℕ → GroupParts → Option Status
 status_at place g = option_map (λ d. status_of (is_place (active_place g) place) d.history) (slice_get g.documents place)

@@ -52,6 +52,11 @@ abbrev pub has_step : Option History → ℕ → Bool
 has_step None at = false
 has_step (Some h) at = is_some (text_at h at)
 
+-- the text of its step with that number, as lists of steps show it
+abbrev pub step_text_of : Option History → ℕ → Option (List ℕ)
+step_text_of None at = None
+step_text_of (Some h) at = text_at h at
+
 -- the action text of its step with that number
 abbrev pub action_text_of : Option History → ℕ → Option (List ℕ)
 action_text_of None at = None

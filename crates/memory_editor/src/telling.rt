@@ -1,15 +1,26 @@
 // What lines did, as it is told when it is asked for, and the steps of the active document.
-ghost use Rattle.std.specs.Prelude.{◌≡◌};
+ghost use Rattle.std.specs.Prelude.{◌≡◌, option_and_then};
+ghost use Rattle.std.specs.Option.{option_map};
+ghost use Rattle.session.specs.Replies.{refusal_of};
+ghost use Rattle.undo_stack.specs.Reading.{text_at};
+ghost use Rattle.undo_stack.specs.Stacks.{history, Holds};
+ghost use Rattle.document_lines.specs.Machine.{active_of};
+ghost use Rattle.document_lines.specs.Planning.{edit_change};
+ghost use Rattle.memory_editor.specs.Lookups.{standing_of};
+ghost use Rattle.memory_editor.specs.Parts.{step_text_of};
 
+use crate::lookups::Status;
 use crate::memory_editor::MemoryEditor;
 use crate::seen::{Seen, open_seen};
 use crate::standing::Standing;
 use crate::told::{Step, Told};
 use document_lines::{Cells, Subject};
+use editor::Edit;
 use edits::Area;
 use map_model::Map;
 use refusals::{LineFault, Refusal};
 use session::{Reply, word_fault};
+use undo_stack::Stack;
 
 // The end of so many columns from one on, in a map that has so many.
 fn end_within(from: i32, count: u32, all: u32) -> i64 {
@@ -57,7 +68,9 @@ fn bad_word(line: &[u8]) -> Option<u32> {
 }
 
 // What a step, or an open macro, that holds these entries is about and changes, where the map is that now.
-fn step_of<'a>(map: &Map, text: &'a str, is_macro: bool, seen: Seen) -> Step<'a> {
+fn step_of<'a>(map: &Map, text: &'a str, is_macro: bool, seen: Seen) -> Step<'a>
+    ensures { result.text.now ≡ text.now }
+{
     let mut differences = seen.differences;
     differences.cells = cells_within(map, differences.cells);
     Step {
@@ -65,6 +78,23 @@ fn step_of<'a>(map: &Map, text: &'a str, is_macro: bool, seen: Seen) -> Step<'a>
         is_macro,
         subject: seen.subject.unwrap_or(Subject::Nothing),
         differences,
+    }
+}
+
+// The step of a stack with this number, and `None` past the last one.
+fn step_in<'a>(stack: &'a Stack<Edit>, at: usize) -> Option<Step<'a>>
+    requires { Holds edit_change stack.now }
+    ensures { option_map (λ step. step.text.now) result ≡ text_at (history edit_change stack.now) at }
+{
+    match stack.text(at) {
+        Some(text) => {
+            let (is_macro, seen) = match stack.entry(at) {
+                Some(entry) => (entry.is_macro(), Seen::nothing().with_entry(entry)),
+                None => (true, open_seen(Seen::nothing(), stack, 0, 0)),
+            };
+            Some(step_of(stack.document().map(), text, is_macro, seen))
+        }
+        None => None,
     }
 }
 
@@ -118,7 +148,9 @@ impl MemoryEditor {
     }
 
     // The refusal that is the reply to the last line.
-    fn refusal(&self) -> Option<Refusal> {
+    fn refusal(&self) -> Option<Refusal>
+        ensures { result ≡ option_and_then refusal_of self.now.reply }
+    {
         match self.reply() {
             Some(reply) => reply.refusal(),
             None => None,
@@ -127,19 +159,17 @@ impl MemoryEditor {
 
     /// What the last line did, or the lines of the last call of `run_lines`. What they changed is looked up in the steps when this is
     /// called: it visits at most 64 entries of steps, and of a paint at most 4,096 cells.
-    pub fn told(&self) -> Told {
+    pub fn told(&self) -> Told
+        ensures index { result.index ≡ (standing_of (active_of self.now.machine)).index }
+        ensures count { result.count ≡ (standing_of (active_of self.now.machine)).count }
+        ensures depth { result.depth ≡ (standing_of (active_of self.now.machine)).depth }
+        ensures clean { result.is_clean ≡ (standing_of (active_of self.now.machine)).is_clean }
+        ensures refusal { result.refusal ≡ option_and_then refusal_of self.now.reply }
+    {
         let done = self.listening.done(self.standing(), self.active());
+        let cells = self.cells_in_map(done.differences.cells);
+        let stands = self.active_status();
         let refusal = self.refusal();
-        let (index, count, is_clean, depth, cells) = match self.active() {
-            Some(stack) => (
-                stack.index(),
-                stack.count(),
-                stack.is_clean(),
-                stack.depth(),
-                cells_within(stack.document().map(), done.differences.cells),
-            ),
-            None => (0, 0, true, 0, done.differences.cells),
-        };
         Told {
             documents: done.documents,
             outline: done.differences.outline,
@@ -149,24 +179,53 @@ impl MemoryEditor {
             subject: done.subject.unwrap_or(Subject::Nothing),
             dropped: done.dropped,
             before: self.listening.first(),
-            index,
-            count,
-            depth,
-            is_clean,
+            index: stands.index,
+            count: stands.count,
+            depth: stands.depth,
+            is_clean: stands.is_clean,
             refusal,
             word: self.bad_word(refusal),
         }
     }
 
+    // Cells as far as they lie in the map of the active document.
+    fn cells_in_map(&self, cells: Cells) -> Cells {
+        match self.active_map() {
+            Some(map) => cells_within(map, cells),
+            None => cells,
+        }
+    }
+
+    // How the active document stands.
+    fn active_status(&self) -> Status
+        ensures { result ≡ standing_of (active_of self.now.machine) }
+    {
+        match self.active() {
+            Some(stack) => Status {
+                index: stack.index(),
+                count: stack.count(),
+                depth: stack.depth(),
+                is_clean: stack.is_clean(),
+                is_active: true,
+            },
+            None => Status {
+                index: 0,
+                count: 0,
+                depth: 0,
+                is_clean: true,
+                is_active: false,
+            },
+        }
+    }
+
     /// The step with this number of the active document, where the first one has 0, and `None` past the last one or where no
     /// document is active. An open macro stands last. It visits at most 64 of its entries.
-    pub fn step_at(&self, at: usize) -> Option<Step<'_>> {
-        let stack = self.active()?;
-        let text = stack.text(at)?;
-        let (is_macro, seen) = match stack.entry(at) {
-            Some(entry) => (entry.is_macro(), Seen::nothing().with_entry(entry)),
-            None => (true, open_seen(Seen::nothing(), stack, 0, 0)),
-        };
-        Some(step_of(stack.document().map(), text, is_macro, seen))
+    pub fn step_at(&self, at: usize) -> Option<Step<'_>>
+        ensures { option_map (λ step. step.text.now) result ≡ step_text_of (active_of self.now.machine) at }
+    {
+        match self.active() {
+            Some(stack) => step_in(stack, at),
+            None => None,
+        }
     }
 }
