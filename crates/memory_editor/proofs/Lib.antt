@@ -4,3 +4,4 @@ mod ManyLinesDone
 mod Numbered
 mod Pieces
 mod Rows
+pub mod OneMore

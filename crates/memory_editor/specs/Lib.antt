@@ -4,3 +4,4 @@ pub mod Lookups
 pub mod ManyLines
 pub mod Parts
 pub mod Rectangles
+pub mod OneMore

@@ -1,4 +1,9 @@
 // What steps change, and what they are about: looked up in their edits, when it is asked for.
+ghost use Rattle.std.specs.Prelude.{◌≡◌};
+ghost use Rattle.undo_stack.specs.Entries.{entry_change};
+ghost use Rattle.document_lines.specs.Differing.{all_differs};
+ghost use Rattle.document_lines.specs.Planning.{edit_change};
+ghost use Rattle.memory_editor.specs.OneMore.{TellsOneMore};
 
 use document_lines::{Cells, Differences, Subject};
 use editor::Edit;
@@ -18,7 +23,9 @@ pub struct Seen {
 }
 
 /// All may differ.
-pub fn all_differences() -> Differences {
+pub fn all_differences() -> Differences
+    ensures { result ≡ all_differs }
+{
     Differences {
         outline: true,
         selection: true,
@@ -52,7 +59,9 @@ impl Seen {
     }
 
     /// All, of more entries than are looked at, or of entries that are gone.
-    pub fn all() -> Seen {
+    pub fn all() -> Seen
+        ensures { result.differences ≡ all_differs }
+    {
         Seen {
             differences: all_differences(),
             subject: Some(Subject::Nothing),
@@ -78,8 +87,21 @@ impl Seen {
         }
     }
 
+    // An edit more.
+    fn with_edit(self, edit: &Edit) -> Seen
+        ensures { TellsOneMore self.differences result.differences (edit_change edit.now) }
+    {
+        Seen {
+            differences: self.differences.joined(edit.differs()),
+            subject: common_subject(self.subject, Some(edit.subject())),
+            left: self.left,
+        }
+    }
+
     /// An entry more.
-    pub fn with_entry(self, entry: &Entry<Edit>) -> Seen {
+    pub fn with_entry(self, entry: &Entry<Edit>) -> Seen
+        ensures { TellsOneMore self.differences result.differences (entry_change edit_change entry.now) }
+    {
         if self.left == 0 {
             return Seen::all();
         }
@@ -88,7 +110,7 @@ impl Seen {
             ..self
         };
         match entry {
-            Entry::Command(edit) => seen.joined(&Seen::of_edit(edit)),
+            Entry::Command(edit) => seen.with_edit(edit),
             Entry::Macro(contents) => {
                 for child in contents.children.iter() {
                     if seen.left == 0 {
