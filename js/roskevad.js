@@ -11,6 +11,7 @@ import { MAX_LIMIT } from "./limits.js";
 import { faultOfFile, faultOfNoJson, isOfMap } from "./map_faults.js";
 import { BAD_NAME, DONE, Module, NONE, OWNERS, bytesOf, textOf } from "./module.js";
 import { Unpackable, packLayers, unpackLayers } from "./compressed_layers.js";
+import { STEP_NUMBERS, TOLD_NUMBERS, stepOf, toldOf } from "./told.js";
 import { Layer } from "./views.js";
 import * as words from "./words.js";
 
@@ -567,6 +568,49 @@ export class Editor {
     return isCount(at)
       ? this.#module.copyText((to, room) => this._call("action_text", at, to, room))
       : null;
+  }
+
+  /**
+   * What the last line did, of the document that is active now. What is not told to differ is as it was. Where the last
+   * call has done several lines, all may differ. Ask before the next line.
+   */
+  told() {
+    const module = this.#module;
+    return toldOf(module.numbers(TOLD_NUMBERS, (to) => {
+      // A module that tells no word at fault leaves its place as it is.
+      module.bytes().fill(0, to, to + TOLD_NUMBERS * NUMBER_BYTES);
+      return this._call("tell", to);
+    }));
+  }
+
+  /**
+   * The steps of the active document with their texts, and what each is about and changes: from one on, up to another,
+   * which is left out, or to the last one. None where no document is active.
+   */
+  steps(start = 0, stop = null) {
+    const steps = [];
+    let rows = null;
+    do {
+      const next = start + steps.length;
+      const wanted = (stop ?? Infinity) - next;
+      rows = wanted > 0 ? this._stepRows(next, wanted) : [];
+      steps.push(...rows.map((row, at) => stepOf(next + at, this._stepText(next + at), row)));
+    } while (rows.length > 0);
+    return steps;
+  }
+
+  // The numbers of some steps from a place on, at most so many.
+  _stepRows(from, most) {
+    const call = (to, room) => this._call("steps", from, to, Math.min(Math.floor(room), most));
+    const bytes = this.#module.copyBytes(call, call, STEP_NUMBERS * NUMBER_BYTES);
+    const numbers = new Uint32Array(bytes.buffer);
+    return Array.from({ length: numbers.length / STEP_NUMBERS }, (_, at) =>
+      numbers.subarray(at * STEP_NUMBERS, (at + 1) * STEP_NUMBERS),
+    );
+  }
+
+  _stepText(at) {
+    return this.#module.copyText((to, room) => this._call("step_text", at, to, room)) ?? "";
   }
 
   // ---- documents, in the words of their callers
