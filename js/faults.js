@@ -1,6 +1,7 @@
 // SPDX-License-Identifier: MIT OR Apache-2.0
 // What an editor throws.
 import { formsOf } from "./forms.js";
+import { REFUSALS } from "./refusals.js";
 
 /**
  * A line was refused, and nothing was done.
@@ -21,9 +22,22 @@ export class Refused extends Error {
   }
 }
 
+/** What is thrown where a call is refused, with the words of its number. */
+export function refusedCall(code, call, more = {}) {
+  return new Refused(code, REFUSALS.get(code), call, null, [], { isCall: true, ...more });
+}
+
 /** The place of a fault in words, with its line where that is known. */
 export function wordsOfPlace({ path, text, line, column }) {
   return path === null || line === null ? text : `${text} (line ${line}, column ${column})`;
+}
+
+/** A callback of a change has called what edits, says a line, or changes which documents are open or active. It may read. */
+export class InCallback extends Error {
+  constructor(call) {
+    super(`a callback of a change may read, and not edit: ${call.slice(0, 200)}`);
+    this.name = "InCallback";
+  }
 }
 
 /** The editor, or the document, was closed. */

@@ -1,6 +1,6 @@
 // SPDX-License-Identifier: MIT OR Apache-2.0
 // The layers of a document, and their objects, as they are at each call.
-import { Refused } from "./faults.js";
+import { refusedCall } from "./faults.js";
 import { KINDS } from "./module.js";
 import { Properties } from "./properties.js";
 import { tileOf } from "./tilesets.js";
@@ -65,7 +65,7 @@ export class MapObject extends View {
   }
 
   _missing() {
-    return new Refused(34, "no such object", `MapObject ${this.id}`);
+    return refusedCall(34, `MapObject ${this.id}`);
   }
 
   get layer() {
@@ -257,7 +257,7 @@ export class Layer extends View {
   }
 
   _missing() {
-    return new Refused(30, "no such layer", `Layer ${this.id}`);
+    return refusedCall(30, `Layer ${this.id}`);
   }
 
   get members() {
@@ -358,7 +358,7 @@ export class Layers {
       return rows;
     }
     if (!rows.some((row) => row.id === this.#group)) {
-      throw new Refused(30, "no such layer", `Layers of ${this.#group}`);
+      throw refusedCall(30, `Layers of ${this.#group}`);
     }
     const groups = new Set([this.#group]);
     return rows.filter((row) => groups.has(row.parent) && groups.add(row.id));

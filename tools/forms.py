@@ -1,5 +1,6 @@
 # SPDX-License-Identifier: MIT OR Apache-2.0
-"""The forms of session lines, and the limits of the editor, as crates/session/forms.txt and the files `limits.rt` have them."""
+"""The forms of session lines, the limits of the editor and the words of refusals, as crates/session/forms.txt, the files `limits.rt`
+and crates/refusals have them."""
 import itertools
 import re
 from dataclasses import dataclass
@@ -67,6 +68,13 @@ def limits():
             number = re.search(rf'^pub const {name}: \w+ = ([\d_]+);', text, re.MULTILINE)[1]
             found[RENAMED.get(name, name)] = int(number.replace('_', ''))
     return {**found, 'MAX_NUMBER': 2**32 - 1}
+
+
+def refusals():
+    """The words of refusals by their numbers, as they stand in replies."""
+    sources = sorted((TOP / 'crates' / 'refusals' / 'src').glob('*.rt'))
+    found = [each for path in sources for each in re.findall(r'"(\d+) (\w[^"]*)"', path.read_text())]
+    return {int(number): words for number, words in sorted(found, key=lambda each: int(each[0]))}
 
 
 def filled(text):

@@ -3,6 +3,7 @@
 from typing import TYPE_CHECKING, Iterable, Optional
 
 from .forms import forms_of
+from .refusals import REFUSALS
 from .word_faults import WordAtFault, word_fault_of
 
 if TYPE_CHECKING:
@@ -45,6 +46,15 @@ class Refused(Exception):
     def __str__(self) -> str:
         more = [str(each) for each in (self.word_at_fault, self.place_in_map, self.why) if each is not None]
         return '\n  '.join([f'{self.code} {self.words}: {self.line[:200]}', *more, *self.forms])
+
+
+def refused_call(code: int, call: str, why: Optional[str] = None, place_in_map: 'Optional[MapPlace]' = None) -> Refused:
+    """What is raised where a call is refused, with the words of its number."""
+    return Refused(code, REFUSALS[code], call, forms=(), why=why, place_in_map=place_in_map)
+
+
+class InCallback(RuntimeError):
+    """A callback of `watch` has called what edits, says a line, or changes which documents are open or active. It may read."""
 
 
 class Closed(Exception):

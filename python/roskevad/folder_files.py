@@ -5,7 +5,7 @@ import stat
 from pathlib import Path
 from typing import TYPE_CHECKING, Optional
 
-from .faults import Refused
+from .faults import refused_call
 from .limits import MAX_FILE_BYTES
 
 if TYPE_CHECKING:
@@ -32,4 +32,4 @@ def refuse_unknown(document: 'Document', path: Path, data: bytes, call: str) -> 
     is_there = there is not None or fault is not None and path.is_file()
     if is_there and there != data and not document._knows(path, there):
         why = f'{path.name} has other bytes than those that were read or saved last: save(.., force=True) replaces them'
-        raise Refused(51, 'store failed', call, forms=(), why=why)
+        raise refused_call(51, call, why)

@@ -5,15 +5,14 @@ from typing import Any, NamedTuple, Optional
 
 from . import library
 from .compressed_layers import PackedLayer, UnpackedMap
-from .faults import Refused
+from .faults import Refused, refused_call
 from .json_scanner import Part, Path
 from .library import LIBRARY
 from .rooms import Room
 
 # The codes of a map that is read and refused, and some of them.
 _CODES = range(60, 70)
-_NOT_JSON, _COMPRESSED, _BAD_DATA = 60, 65, 66
-_WORDS = {_NOT_JSON: 'not JSON', _COMPRESSED: 'compressed', _BAD_DATA: 'bad data'}
+_NOT_JSON, _COMPRESSED = 60, 65
 # Most of what is told is shorter.
 _ROOM = 4096
 # The most letters of a text that are shown.
@@ -65,12 +64,12 @@ def place_in(data: bytes, code: int) -> Optional[MapPlace]:
 def refused_as_no_json(data: bytes, call: str) -> Optional[Refused]:
     """How the bytes of a file are refused that are no JSON; `None` where they are JSON."""
     place = place_in(data, _NOT_JSON)
-    return None if place is None else Refused(_NOT_JSON, _WORDS[_NOT_JSON], call, forms=(), place_in_map=place)
+    return None if place is None else refused_call(_NOT_JSON, call, place_in_map=place)
 
 
 def refused_map(refusal: Refused, data: bytes, unpacked: UnpackedMap, call: str) -> Refused:
     """How the bytes of a file are refused, by the refusal of what was unpacked of them: the place is the one in the file."""
-    code, words, why = refusal.code, refusal.words, refusal.why
+    code, why = refusal.code, refusal.why
     if code not in _CODES:
         return refusal
     place = place_in(data if code == _NOT_JSON else unpacked.data, code)
@@ -79,9 +78,9 @@ def refused_map(refusal: Refused, data: bytes, unpacked: UnpackedMap, call: str)
     if place is not None and place.path is not None and code == _COMPRESSED:
         layer = unpacked.left.get(place.path[:-1])
         if layer is not None:
-            code, words, why = layer.code, _WORDS[layer.code], layer.why
+            code, why = layer.code, layer.why
             place = _place_of_packed(place, layer)
-    return Refused(code, words, call, forms=(), why=why, place_in_map=place)
+    return refused_call(code, call, why, place)
 
 
 def _place_of_packed(place: MapPlace, layer: PackedLayer) -> MapPlace:

@@ -5,7 +5,7 @@ import struct
 from typing import Any, Iterable, Iterator
 
 from . import library
-from .faults import Refused
+from .faults import Refused, refused_call
 from .library import LIBRARY
 from .compressed_layers import Unpackable, UnpackedMap, pack_layers, unpack_layers
 from .json_scanner import NOTE
@@ -29,7 +29,7 @@ _FAULTS = {
 }
 # The longest text that is made, as in the program.
 _TOO_LONG = f'set aside or put back, it would be longer than {MAX_FILE_BYTES:,} bytes'
-_STORE_FAILED, _WORDS = 51, 'store failed'
+_STORE_FAILED = 51
 #: The members of a map, or of a thing of it.
 Members = dict[str, Any]
 
@@ -53,7 +53,7 @@ def put_back(data: bytes, call: str) -> bytes:
 
 
 def _refused(fault: Unpackable, call: str) -> Refused:
-    return Refused(_STORE_FAILED, _WORDS, call, forms=(), why=fault.why)
+    return refused_call(_STORE_FAILED, call, fault.why)
 
 
 def _made(name: str, data: bytes, call: str) -> bytes:
@@ -70,7 +70,7 @@ def _made(name: str, data: bytes, call: str) -> bytes:
     if size in (library.NONE, library.NOT_JSON):
         return data
     if size > MAX_FILE_BYTES:
-        raise Refused(_STORE_FAILED, _WORDS, call, forms=(), why=_FAULTS.get(size, _TOO_LONG))
+        raise refused_call(_STORE_FAILED, call, _FAULTS.get(size, _TOO_LONG))
     text: bytes = room.bytes[:size]
     return text
 

@@ -3,7 +3,7 @@
 from typing import TYPE_CHECKING, Any, Callable, Iterator, Optional, TypeVar, Union, cast
 
 from . import words
-from .faults import Refused
+from .faults import Refused, refused_call
 from .library import KINDS, LayerRow
 from .properties import Properties
 from .tiled_maps import Members
@@ -26,7 +26,7 @@ class _View:
 
     # So that a name that it has not is never set silently.
     __slots__ = '_document', '_id'
-    _subject, _code, _words = 'layer', 30, 'no such layer'
+    _subject, _code = 'layer', 30
 
     def __init__(self, document: 'Document', id: int):
         self._document = document
@@ -40,7 +40,7 @@ class _View:
         return members
 
     def _missing(self) -> Refused:
-        return Refused(self._code, self._words, f'{type(self).__name__} {self.id}', forms=())
+        return refused_call(self._code, f'{type(self).__name__} {self.id}')
 
     def _look(self, answer: Callable[[Members], _Answer]) -> _Answer:
         return self._document._do(lambda: answer(self._now()))
@@ -79,7 +79,7 @@ class MapObject(_View):
     34. Places and sizes are in pixels."""
 
     __slots__ = '_object_id',
-    _subject, _code, _words = 'object', 34, 'no such object'
+    _subject, _code = 'object', 34
 
     def __init__(self, document: 'Document', id: int):
         super().__init__(document, id)
@@ -351,7 +351,7 @@ class Layers:
         if self._group is None:
             return rows
         if self._group not in [row.id for row in rows]:
-            raise Refused(30, 'no such layer', f'Layers of {self._group}', forms=())
+            raise refused_call(30, f'Layers of {self._group}')
         groups, found = {self._group}, []
         for row in rows:
             if row.parent in groups:
