@@ -39,6 +39,74 @@ export interface Step {
   readonly isMacro: boolean;
 }
 
+export interface StepRow {
+  /** Its place, from 0. */
+  readonly at: number;
+  /** Its text. */
+  readonly text: string;
+  /** Whether it is a macro. */
+  readonly isMacro: boolean;
+  /** What it is about. */
+  readonly subject: Subject | null;
+  /** Whether it changes more of the map than cells. */
+  readonly outline: boolean;
+  /** Whether it changes the selection. */
+  readonly selection: boolean;
+  /** Which cells it changes. */
+  readonly cells: CellArea | "all" | null;
+}
+
+export interface Told {
+  /** Whether other documents are open, or another one is active. */
+  readonly documents: boolean;
+  /** Whether the map differs in more than its cells. */
+  readonly outline: boolean;
+  /** Whether the selection differs. */
+  readonly selection: boolean;
+  /** Which cells differ: those of a rectangle, all, or none. */
+  readonly cells: CellArea | "all" | null;
+  /** What became of an edit: nothing, added, added and dropped, merged, gone; or that steps were turned. */
+  readonly became: "nothing" | "added" | "added and dropped" | "merged" | "gone" | "turned";
+  /** What it is about; none for the selection, and for several things. */
+  readonly subject: Subject | null;
+  /** How many steps are gone from the beginning. */
+  readonly dropped: number;
+  /** The index before the line. */
+  readonly before: number;
+  /** How many steps are done. */
+  readonly index: number;
+  /** How many steps there are. */
+  readonly count: number;
+  /** How many macros are open. */
+  readonly depth: number;
+  /** Whether it counts as saved. */
+  readonly isClean: boolean;
+  /** The number of the refusal, if it was refused. */
+  readonly refusal: number | null;
+  /** Which word is at fault, from 1, if that is known. */
+  readonly word: number | null;
+}
+
+export interface Subject {
+  /** Its kind: map, layer, object or tileset. */
+  readonly kind: string;
+  /** Its id; of a tileset its first id. */
+  readonly id: number;
+}
+
+export interface CellArea {
+  /** The id of its layer. */
+  readonly layer: number;
+  /** Its first column. */
+  readonly x: number;
+  /** Its first row. */
+  readonly y: number;
+  /** Its width. */
+  readonly width: number;
+  /** Its height. */
+  readonly height: number;
+}
+
 export interface Run {
   /** Its row. */
   readonly row: number;
@@ -137,6 +205,11 @@ export class Document {
    * whether it is a macro.
    */
   readonly steps: readonly Step[];
+  /**
+   * The steps from an index on, with what each is about and what its undo and its redo change.
+   * Throws TypeError, RangeError.
+   */
+  stepsSince(index: number): StepRow[];
   /** What `undo` would undo; empty for nothing. */
   readonly undoText: string;
   /** What `redo` would redo; empty for nothing. */
@@ -168,6 +241,12 @@ export class Document {
   ): Given;
   /** Merges the stamps and erases in it, as those of a brush. Throws TypeError. */
   stroke<Given>(work: Work<Given>): Given;
+  /**
+   * Has a function called behind each line that changes the map, its selection or how the document
+   * stands, with what the line did; `name` is "change". It may read, and not edit. Gives a
+   * function that ends it. Throws TypeError, RangeError.
+   */
+  on(name: "change", callback: (told: Told) => void): () => void;
   /** The whole map as its file has it, but finite, and with its cells unpacked: a copy. */
   map(): Members;
   /** The same without the cells: a copy. */

@@ -1,19 +1,20 @@
 // SPDX-License-Identifier: MIT OR Apache-2.0
 // A document of an editor, in the words of its caller.
-import { Closed, Refused } from "./faults.js";
+import { Closed, Refused, refusedCall } from "./faults.js";
 import { MAX_COORDINATE, MAX_OPEN_MACROS } from "./limits.js";
+import { savedMap } from "./map_files.js";
 import { Properties } from "./properties.js";
 import { BASE, doubtful, partsOf, rowsOf } from "./rows.js";
 import { Selection } from "./selection.js";
 import { drawn, noteOf, restored, withoutPacking } from "./tiled_maps.js";
 import { Tilesets } from "./tilesets.js";
+import { ADDED, ADDED_AND_DROPPED, BECAME, GONE, standingOf } from "./told.js";
 import { Layer, Layers, Objects, missing } from "./views.js";
 import * as words from "./words.js";
 
 const MODES = ["replace", "add", "subtract", "intersect"];
 // A place past every map: a stamp there changes nothing.
 const NOWHERE = `${MAX_COORDINATE} ${MAX_COORDINATE}`;
-const TEXT = "text ";
 // The numbers of 32 bits of the sizes of a map and of a row of its layers.
 const SIZES_NUMBERS = 10;
 const ROW_NUMBERS = 6;
@@ -59,7 +60,7 @@ export class Document {
     // What a broken module has told is no answer any more.
     if (!this.#editor._isActive(this) || this.#editor._module.isBroken) {
       if (this.#editor._activeName() !== this.#name) {
-        this.#editor.step(`use ${this.#name}`);
+        this.#editor._use(this.#name);
       }
       this.#editor._noteActive(this);
     }
@@ -77,22 +78,37 @@ export class Document {
   _markClosed() {
     this.#isClosed = true;
     this._wait([]);
+    this.#editor._events.drop(this);
   }
 
-  // The reply to a line.
+  // Says a line that is no edit.
   _say(line) {
     this._enter();
-    return this.#editor.step(line);
+    this.#editor._events.refuse(line);
+    this.#editor._said(line, true);
+    if (this.#editor._refusal !== 0) {
+      throw this.#editor._refusedLine(this.#editor._refusal, line);
+    }
   }
 
+  // Says an edit, with which macros begin that wait for their first one.
   _edit(line) {
-    this._say(line);
+    if (this.#begins.length === 0) {
+      this._say(line);
+      return;
+    }
+    this.#editor._behind(() => {
+      this._beginNow();
+      this._say(line);
+    });
   }
 
   // The id of what a line adds.
   _add(kind, line) {
-    this._say(line);
-    return kind === "layer" ? this.#editor.lastLayerId() : this.#editor.lastObjectId();
+    return this.#editor._behind(() => {
+      this._edit(line);
+      return kind === "layer" ? this.#editor.lastLayerId() : this.#editor.lastObjectId();
+    });
   }
 
   // What work gives, for a text of the document: no document becomes active, and nothing is thrown.
@@ -279,19 +295,30 @@ export class Document {
     const { count } = this.status;
     return Array.from({ length: count }, (_, place) =>
       Object.freeze({
-        text: this._say(`text ${place}`).slice(TEXT.length),
+        text: this.#editor._stepText(place),
         action: this.#editor.actionText(place) ?? "",
         isMacro: this.#editor.isMacro(place) === true,
       }),
     );
   }
 
+  stepsSince(index) {
+    this._enter();
+    return this.#editor.steps(index);
+  }
+
   get undoText() {
-    return this._say("undotext").slice(TEXT.length);
+    return this._actionBeside(-1);
   }
 
   get redoText() {
-    return this._say("redotext").slice(TEXT.length);
+    return this._actionBeside(0);
+  }
+
+  // The action text of the step below the index or above it; "" where there is none, or a macro is open.
+  _actionBeside(distance) {
+    const { index, depth } = this._statusNow;
+    return (depth === 0 ? this.#editor.actionText(index + distance) : null) ?? "";
   }
 
   get cleanIndex() {
@@ -319,21 +346,21 @@ export class Document {
   _turn(line) {
     this._enter();
     if (this.#begins.length > 0) {
-      throw new Refused(20, "macro open", line);
+      throw refusedCall(20, line);
     }
     this._say(line);
   }
 
   markDirty() {
-    this._edit("dirty");
+    this._say("dirty");
   }
 
   clear() {
-    this._edit("clear");
+    this._say("clear");
   }
 
   limit(count) {
-    this._edit(`limit ${words.number(count, "a limit")}`);
+    this._say(`limit ${words.number(count, "a limit")}`);
   }
 
   macro(text, work, { action = null, keepEmpty = false } = {}) {
@@ -350,9 +377,10 @@ export class Document {
 
   // The depth of a macro that is opened. It waits for its first edit, unless it is kept without one.
   _openMacro(said, isKept) {
+    this.#editor._events.refuse(`begin ${said}`);
     const { depth } = this.status;
     if (depth >= MAX_OPEN_MACROS) {
-      throw new Refused(24, "too deep", `begin ${said}`);
+      throw refusedCall(24, `begin ${said}`);
     }
     this._wait([...this.#begins, said]);
     if (isKept) {
@@ -387,21 +415,27 @@ export class Document {
 
   // Does work that paints: where it changes nothing, macros wait on for their first edit.
   _beginningIf(changes, work) {
-    const begins = this.#begins;
-    if (begins.length === 0 || changes()) {
-      return work();
-    }
-    this._wait([]);
-    try {
-      return work();
-    } finally {
-      this._wait(begins);
-    }
+    return this.#editor._behind(() => {
+      const begins = this.#begins;
+      if (begins.length === 0 || changes()) {
+        return work();
+      }
+      this._wait([]);
+      try {
+        return work();
+      } finally {
+        this._wait(begins);
+      }
+    });
   }
 
   // Ends the macro of a depth, with those in it that lines have left open, unless lines have ended it. One that waits
   // is none.
   _end(depth, isUndone) {
+    this.#editor._behind(() => this._endNow(depth, isUndone));
+  }
+
+  _endNow(depth, isUndone) {
     const begun = this._statusNow.depth;
     this._wait(this.#begins.slice(0, Math.max(depth - 1 - begun, 0)));
     while (this._statusNow.depth >= depth) {
@@ -434,13 +468,19 @@ export class Document {
     this._beginningIf(() => this._changes(area, listed), () => this._stampParts(area, parts, listed, merge));
   }
 
+  // Says a stamp past every map with the value of rows that is the first to be refused: it changes nothing, and begins no
+  // macro.
+  _tryValues(area, rows) {
+    this._say(`stamp ${area.layer} ${NOWHERE} 1 ${doubtful(rows)}`);
+  }
+
   _stampParts(area, parts, rows, merge) {
     if (parts.length === 1) {
       this._paint("stamp", area, ` ${parts[0].values}`, merge, this.#stroke);
       return;
     }
     // A value that is refused is refused before the first part.
-    this._say(`stamp ${area.layer} ${NOWHERE} 1 ${doubtful(rows)}`);
+    this._tryValues(area, rows);
     const stroke = this.#stroke ?? { hasStep: false };
     for (const [place, { first, height, values }] of parts.entries()) {
       try {
@@ -491,7 +531,8 @@ export class Document {
     const outer = this.#stroke;
     this.#stroke = null;
     try {
-      this._writeNow({ layer: layer.id, left, top, width: listed[0].length, height: listed.length }, listed);
+      const area = { layer: layer.id, left, top, width: listed[0].length, height: listed.length };
+      this.#editor._behind(() => this._writeNow(area, listed));
     } finally {
       this.#stroke = outer;
       if (outer !== null) {
@@ -501,8 +542,8 @@ export class Document {
   }
 
   _writeNow(area, rows) {
-    // A value that is refused is refused before anything is done, and so is a layer; no macro begins for that.
-    this._beginningIf(() => false, () => this._say(`stamp ${area.layer} ${NOWHERE} 1 ${doubtful(rows)}`));
+    // A value that is refused is refused before anything is done, and so is a layer.
+    this._tryValues(area, rows);
     const news = this._differences(area, rows) ?? new Set();
     const [stamp, erase] = [
       () => this._stampParts(area, [...partsOf(rows)], rows, false),
@@ -524,19 +565,12 @@ export class Document {
   _paint(word, area, values, merge, stroke) {
     const { layer, left, top, width, height } = area;
     const rest = `${layer} ${left} ${top} ${width}${word === "stamp" ? values : ` ${height}`}`;
-    if (stroke === null || merge) {
-      this._say(`${word}${merge ? "+" : ""} ${rest}`);
-    } else if (stroke.hasStep) {
-      const { index } = this._statusNow;
-      this._say(`${word}+ ${rest}`);
-      // Where paints have taken each other back, their step is gone.
-      stroke.hasStep = this._statusNow.index >= index;
-    } else {
-      const inside = this._onMap(area);
-      const before = this.#editor.cells(...inside);
-      this._say(`${word} ${rest}`);
-      const after = this.#editor.cells(...inside);
-      stroke.hasStep = before !== null && before.some((value, at) => value !== after[at]);
+    const isMerging = merge || stroke?.hasStep === true;
+    this._edit(`${word}${isMerging ? "+" : ""} ${rest}`);
+    if (stroke !== null && !merge) {
+      // A paint that changes nothing leaves the step. Where paints have taken each other back, it is gone.
+      const became = this.#editor._told[BECAME];
+      stroke.hasStep = became !== GONE && (stroke.hasStep || became === ADDED || became === ADDED_AND_DROPPED);
     }
   }
 
@@ -592,8 +626,8 @@ export class Document {
     const high = height === null ? sizes.height - top : words.coordinate(height, "a height");
     const cells = this.#editor.cells(layer.id, left, top, wide, high);
     if (cells === null) {
-      const [code, why] = layer._now.type === "tilelayer" ? [32, "outside the map"] : [31, "layer of another kind"];
-      throw new Refused(code, why, `Layer ${layer.id}: cells ${x}, ${y}, ${width}, ${height}`);
+      const code = layer._now.type === "tilelayer" ? 32 : 31;
+      throw refusedCall(code, `Layer ${layer.id}: cells ${x}, ${y}, ${width}, ${height}`);
     }
     return { wide, cells };
   }
@@ -621,11 +655,22 @@ export class Document {
     this._edit(`resize ${size} ${words.coordinate(x, "x")} ${words.coordinate(y, "y")}`);
   }
 
+  // ---- what lines did to it
+
+  on(name, callback) {
+    words.oneOf(name, ["change"], "the name of an event");
+    if (typeof callback !== "function") {
+      throw new TypeError(`a callback is a function: ${words.quoted(callback)}`);
+    }
+    this._enter();
+    return this.#editor._events.add(this, standingOf(this.#editor._told), callback);
+  }
+
   // ---- its file
 
   async saveBytes() {
     this._enter();
-    return this.#editor._saved("saveBytes()");
+    return savedMap(this.#editor, "saveBytes()");
   }
 
   close() {
@@ -645,7 +690,10 @@ export class Document {
     if (this.#isClosed) {
       return `Document ${this.#name}, closed`;
     }
-    const standing = this._peek(() => `, ${this.width} by ${this.height}, ${this._say("status").slice(3)}`);
+    const standing = this._peek(() => {
+      const { index, count, clean, depth } = this._statusNow;
+      return `, ${this.width} by ${this.height}, ${index}/${count} ${clean ? "clean" : "dirty"} ${depth}`;
+    });
     return `Document ${this.#name}${standing ?? ""}`;
   }
 

@@ -4,8 +4,6 @@ import { NoMemory } from "./faults.js";
 
 const NOT_JSON = 60;
 const COMPRESSED = 65;
-const BAD_DATA = 66;
-const WORDS = new Map([[NOT_JSON, "not JSON"], [COMPRESSED, "compressed"], [BAD_DATA, "bad data"]]);
 // The most letters of a text that are shown.
 const SHOWN = 40;
 
@@ -39,22 +37,22 @@ function placeIn(module, bytes, code) {
 /** How the bytes of a file are refused that are no JSON; null where they are JSON. */
 export function faultOfNoJson(module, bytes) {
   const placeInMap = placeIn(module, bytes, NOT_JSON);
-  return placeInMap && { code: NOT_JSON, words: WORDS.get(NOT_JSON), why: null, placeInMap };
+  return placeInMap && { code: NOT_JSON, why: null, placeInMap };
 }
 
 /**
- * How the bytes of a file are refused, by the code and the words for what was unpacked of them: { code, words,
- * why, placeInMap }, where the place is the one in the file.
+ * How the bytes of a file are refused, by the code for what was unpacked of them: { code, why, placeInMap }, where the
+ * place is the one in the file.
  */
-export function faultOfFile(module, { code, words }, given, { bytes, left }) {
+export function faultOfFile(module, code, given, { bytes, left }) {
   let place = placeIn(module, code === NOT_JSON ? given : bytes, code);
   if (place !== null && code !== NOT_JSON && bytes !== given) {
     place = { ...place, line: null, column: null };
   }
   const layer = code === COMPRESSED && place !== null ? layerAt(left, place.path.slice(0, -1)) : null;
   return layer === null
-    ? { code, words, why: null, placeInMap: place }
-    : { code: layer.code, words: WORDS.get(layer.code), why: layer.why, placeInMap: placeOfPacked(place, layer) };
+    ? { code, why: null, placeInMap: place }
+    : { code: layer.code, why: layer.why, placeInMap: placeOfPacked(place, layer) };
 }
 
 // The last one, since of members with the same name the last one counts.

@@ -2,6 +2,7 @@
 // The module of the proved library: how it is loaded, and how it is called.
 import { BadModule, Broken, NoMemory } from "./faults.js";
 import { MAX_FILE_BYTES } from "./limits.js";
+import { TOLD_BYTES } from "./told.js";
 
 /** The version of this package, which that of the module must be. */
 export const VERSION = "0.3.0";
@@ -60,6 +61,8 @@ export class Module {
   #line;
   #reply;
   #linesDone;
+  #told;
+  #toldNumbers = new Uint32Array(0);
 
   /** Use `load`. */
   constructor(exports) {
@@ -75,6 +78,7 @@ export class Module {
     this.#line = this.take(ROOM);
     this.#reply = this.take(ROOM);
     this.#linesDone = this.take(LINES_DONE_BYTES);
+    this.#told = this.take(TOLD_BYTES);
   }
 
   /**
@@ -290,6 +294,16 @@ export class Module {
       take(withNewline(this.copyBytes((to, room) => reply(editor, to, room))));
     }
     return { lines, bytes, isRefused: isRefused === 1 };
+  }
+
+  /** What the library tells of the last line of an editor, as numbers of 32 bits: they stay until it is asked again. */
+  tell(editor) {
+    this.#calls.tell(editor, this.#told);
+    // When the memory grows, a view of before has nothing any more.
+    if (this.#toldNumbers.length === 0) {
+      this.#toldNumbers = new Uint32Array(this.#memory.buffer, this.#told, TOLD_BYTES / 4);
+    }
+    return this.#toldNumbers;
   }
 
   /** How many items a call would copy; null where there are none. Throws NoMemory. */

@@ -1,9 +1,10 @@
 // SPDX-License-Identifier: MIT OR Apache-2.0
-import type { Document, Layer } from "./document.js";
+import type { Document, Layer, StepRow, Told } from "./document.js";
 
 export { Document, Layer, Layers, MapObject, Objects, Properties, Selection, Tileset, Tilesets } from "./document.js";
 export type {
-  LayerLike, Members, ObjectLike, PropertyValue, Rows, Run, SelectionMode, Status, Step, Tile, TilesetLike, Work,
+  CellArea, LayerLike, Members, ObjectLike, PropertyValue, Rows, Run, SelectionMode, Status, Step, StepRow, Subject, Tile,
+  TilesetLike, Told, Work,
 } from "./document.js";
 
 /** The version of this package. */
@@ -75,6 +76,9 @@ export interface MapPlace {
  * and so is what follows 64 characters. It is `map` where nothing is left.
  */
 export function documentName(path: string): string;
+
+/** A callback of a change has called what edits, says a line, or changes which documents are open or active. It may read. */
+export class InCallback extends Error {}
 
 /** The editor, or the document, was closed. */
 export class Closed extends Error {}
@@ -245,6 +249,17 @@ export class Editor {
   isMacro(at: number): boolean | null;
   /** The text for the action of the step at this place, from 0; null where there is none. */
   actionText(at: number): string | null;
+  /**
+   * What the last line did, of the document that is active now. What is not told to differ is as it was. Where the last
+   * call has done several lines, all may differ. Ask before the next line.
+   */
+  told(): Told;
+  /**
+   * The steps of the active document, done and undone, with what each is about and changes: from one on, up to another,
+   * which is left out, or to the last; an open macro stands last. None where no document is active. Throws TypeError,
+   * RangeError.
+   */
+  steps(start?: number, stop?: number | null): StepRow[];
 }
 
 declare global {

@@ -5,18 +5,20 @@
 //   editor.step("new town 4 3 16 16 town.tsj");
 import { noteOf, originOf, restored, withoutPacking } from "./tiled_maps.js";
 import { joined } from "./bytes.js";
+import { beginsMacros, partsOf, rangesOf } from "./caller_lines.js";
 import { Document } from "./document.js";
-import { Closed, NoMemory, Refused } from "./faults.js";
+import { Closed, NoMemory, Refused, refusedCall } from "./faults.js";
 import { MAX_LIMIT } from "./limits.js";
-import { faultOfFile, faultOfNoJson, isOfMap } from "./map_faults.js";
+import { openedMap, savedMap } from "./map_files.js";
 import { BAD_NAME, DONE, Module, NONE, OWNERS, bytesOf, textOf } from "./module.js";
-import { Unpackable, packLayers, unpackLayers } from "./compressed_layers.js";
-import { STEP_NUMBERS, TOLD_NUMBERS, stepOf, toldOf } from "./told.js";
+import { REFUSALS } from "./refusals.js";
+import { DIFFERS, DOCUMENTS, REFUSAL, STEP_BYTES, stepOf, toldOf } from "./told.js";
 import { Layer } from "./views.js";
+import { Events } from "./watches.js";
 import * as words from "./words.js";
 
 export { Document } from "./document.js";
-export { BadModule, Broken, Closed, NoMemory, Refused } from "./faults.js";
+export { BadModule, Broken, Closed, InCallback, NoMemory, Refused } from "./faults.js";
 export { FORMS, formsOf } from "./forms.js";
 export { Module, VERSION } from "./module.js";
 export { documentName } from "./names.js";
@@ -27,22 +29,8 @@ export { Layer, Layers, MapObject, Objects } from "./views.js";
 
 // Bytes that are taken beside a file: where it was copied, a text that is a little longer finds room later.
 const SPARE = 65536;
-// The largest outline for which there is room before its size is known.
-const LONGEST_GUESS = 16 * 1024 * 1024;
-// What `show` begins with, and a refusal.
+// What stands before the map in the reply to `show`.
 const MAP = "map ";
-const STORE_FAILED = 51;
-// The bytes of a refusal are fewer.
-const LONGEST_REFUSAL = 200;
-// Lines that may make another document active.
-const ACTIVATION = /^(?:use|new|open|close|discard) /;
-// A line that is an edit, or begins or ends a macro; and one that is refused while a macro is open.
-const EDIT = /^(?:stamp|erase|fill|select|layer|resize|object|prop|tileset|begin|end)\+?(?: |$)/;
-const NOT_IN_MACROS = /^(?:undo|redo|goto|clean|save)(?: |$)/;
-// A line that closes a document, and one that has no reply.
-const CLOSING = /^(?:close|discard) ([A-Za-z0-9_.-]+)$/;
-const QUIET = /^(?: *$|#)/;
-const REFUSAL = /^no (\d+) (.*)$/s;
 // The codes of lines that are no line, at one of their words.
 const OF_A_WORD = new Set([3, 4]);
 // The bytes of the library's own handle of an editor, and of a run of the selection.
@@ -51,8 +39,8 @@ const RUN_BYTES = 12;
 // The numbers of 32 bits of a document's status.
 const STATUS_NUMBERS = 10;
 const NUMBER_BYTES = 4;
-// The characters of lines that are handed on at once.
-const PART = 20_000;
+// Each byte stands for a character of its own.
+const bytewise = new TextDecoder("latin1");
 
 /**
  * An editor of tile maps, in memory, which does the lines that docs/session-lines.md lists.
@@ -62,14 +50,19 @@ const PART = 20_000;
  */
 export class Editor {
   #module;
-  // The open documents that were handed out, by their names; and the one that is known to be active, while no
-  // line has changed that.
+  // The open documents that were handed out, by their names; how many documents are open, while there are any of these;
+  // and the one that is known to be active, while no line has changed that.
   #handles = new Map();
+  #countKnown = 0;
   #activeHandle = null;
   // The names of those that are being opened.
   #opening = new Set();
   // The documents that have macros which wait for their first edit.
   #waiting = new Set();
+  // What lines did to watched documents.
+  #events = new Events();
+  // The number of the refusal of the last line, 0 where it is done.
+  #refusal = 0;
   // About how many bytes an outline has: as many as the last one, or as the file that was opened.
   #outlineSize = 0;
   // The library's own handle; 0 where the editor is closed.
@@ -105,6 +98,7 @@ export class Editor {
     const [module, cEditor] = [this.#module, this.#cEditor];
     this.#cEditor = 0;
     this.#activeHandle = null;
+    this.#events.clear();
     if (cEditor !== 0 && !module.isBroken) {
       module.calls.close(cEditor);
       module.giveBack(cEditor);
@@ -119,6 +113,39 @@ export class Editor {
   // The documents that have macros which wait for their first edit.
   get _waiting() {
     return this.#waiting;
+  }
+
+  // Whether it is not closed, and its module not broken.
+  get _isThere() {
+    return this.#cEditor !== 0 && !this.#module.isBroken;
+  }
+
+  // Notes about how many bytes an outline has.
+  _expectOutline(size) {
+    this.#outlineSize = size;
+  }
+
+  get _events() {
+    return this.#events;
+  }
+
+  // What the last line did, as the numbers of the library.
+  get _told() {
+    return this.#module.tell(this._open());
+  }
+
+  // What work gives. What its lines did is told behind all of it.
+  _behind(work) {
+    return this.#events.behind(work, (call) => this._called(call));
+  }
+
+  // Calls a callback, behind which the same document is active.
+  _called(call) {
+    const active = this._activeName();
+    call();
+    if (this._isThere && this._activeName() !== active) {
+      this._use(active);
+    }
   }
 
   // Whether a document is known to be the active one.
@@ -147,21 +174,18 @@ export class Editor {
 
   /** Does what a line asks for, and gives the reply, "" where the line is quiet. Throws Refused. */
   step(line) {
-    const [call, again] = this._callsFor(line);
-    this._noteActivation(line);
-    const reply = this.#module.copyText(call, again) ?? "";
-    this._forgetIfClosed(line, reply);
-    const refusal = reply.startsWith("no ") && REFUSAL.exec(reply);
-    if (refusal) {
-      throw this._refusedLine(Number(refusal[1]), refusal[2], line);
+    this._meet(line);
+    const reply = this._said(line, true);
+    if (this.#refusal !== 0) {
+      throw this._refusedLine(this.#refusal, line);
     }
-    return reply;
+    return reply ?? "";
   }
 
   // What is thrown for a line that is refused.
-  _refusedLine(code, words, line, place = null, replies = []) {
+  _refusedLine(code, line, place = null, replies = []) {
     const wordAtFault = OF_A_WORD.has(code) ? Object.freeze(this._module.wordFault(line)) : null;
-    return new Refused(code, words, line, place, replies, { wordAtFault });
+    return new Refused(code, REFUSALS.get(code), line, place, replies, { wordAtFault });
   }
 
   /**
@@ -169,24 +193,59 @@ export class Editor {
    * line is quiet.
    */
   stepBytes(line) {
-    const [call, again] = this._callsFor(line);
-    const text = this.#handles.size > 0 ? textOf(bytesOf(line)) : "";
-    this._noteActivation(text);
-    const reply = this.#module.copyBytes(call, again);
-    if (reply !== null) {
-      this._forgetIfClosed(text, textOf(reply.subarray(0, 3)));
-    }
-    return reply;
+    this._meet(line);
+    return this._said(line, false);
   }
 
-  // The call that does a line and copies its reply, and the one that copies the reply again.
-  _callsFor(line) {
-    const [module, cEditor] = [this.#module, this._open()];
+  // The reply to a line, as a text or as bytes, null where it is quiet. What it did is noted, and the number of its
+  // refusal.
+  _said(line, isText) {
+    const module = this.#module;
+    const cEditor = this._open();
     const { step, reply } = module.calls;
-    return [
-      (to, room) => module.given(line, (at, size) => step(cEditor, at, size, to, room)),
-      (to, room) => reply(cEditor, to, room),
-    ];
+    let isDone = false;
+    const call = (to, room) => module.given(line, (at, size) => {
+      const answer = step(cEditor, at, size, to, room);
+      isDone = true;
+      return answer;
+    });
+    const again = (to, room) => reply(cEditor, to, room);
+    try {
+      return isText ? module.copyText(call, again) : module.copyBytes(call, again);
+    } finally {
+      // A line is done also where only its reply has no room.
+      if (isDone) {
+        this._note(cEditor);
+      }
+    }
+  }
+
+  // The number of the refusal of the last line, 0 where it is done.
+  get _refusal() {
+    return this.#refusal;
+  }
+
+  // Makes a document active, or none: "-".
+  _use(name) {
+    const line = `use ${name}`;
+    this._said(line, true);
+    if (this.#refusal !== 0) {
+      throw this._refusedLine(this.#refusal, line);
+    }
+    this.#activeHandle = this.#handles.get(name) ?? null;
+  }
+
+  // Begins macros of the active document that wait for their first edit, where a line of a caller is one. Throws
+  // InCallback.
+  _meet(line) {
+    if (this.#waiting.size === 0 && !this.#events.isTelling) {
+      return;
+    }
+    const text = typeof line === "string" ? line : textOf(bytesOf(line));
+    this.#events.refuse(text);
+    if (beginsMacros(text) && this._waits()) {
+      this.#handles.get(this._activeName())._beginNow();
+    }
   }
 
   /**
@@ -197,26 +256,32 @@ export class Editor {
    */
   runLines(lines) {
     this._open();
+    this.#events.refuse("runLines(..)");
     if (lines.some((line) => line.includes("\n"))) {
       throw new RangeError("a line has no newline in it");
     }
     const replies = [];
+    // Each reply stands before a newline.
     const take = (bytes) => replies.push(...textOf(bytes).split("\n").slice(0, -1));
-    let done = 0;
-    // While macros wait for their first edit, it must be known which document is active at each one.
-    for (const part of partsOf(lines, this.#waiting.size > 0)) {
-      part.forEach((line) => this._noteActivation(line));
-      const came = this._run(`${part.join("\n")}\n`, true, take);
-      if (this.#handles.size > 0) {
-        this._forgetClosed(lines.slice(done, done + came.lines - Number(came.isRefused)));
+    return this._behind(() => {
+      let done = 0;
+      for (const part of this._parted(lines)) {
+        this._meet(part[0]);
+        const { count, refusal } = this._run(`${part.join("\n")}\n`, true, take);
+        done += count;
+        if (refusal !== 0) {
+          replies.pop();
+          throw this._refusedLine(refusal, lines[done - 1], done - 1, replies);
+        }
       }
-      done += came.lines;
-      if (came.isRefused) {
-        const [, code, words] = REFUSAL.exec(replies.pop());
-        throw this._refusedLine(Number(code), words, lines[done - 1], done - 1, replies);
-      }
-    }
-    return replies;
+      return replies;
+    });
+  }
+
+  // Lines in parts, or a session in its ranges. A watch is told of each line, and a macro that waits begins with the
+  // line that is its first edit: each is a part then.
+  _parted(lines) {
+    return (typeof lines === "string" ? rangesOf : partsOf)(lines, () => this.#waiting.size > 0 || this.#events.isWatching);
   }
 
   /**
@@ -224,29 +289,36 @@ export class Editor {
    * with a newline.
    */
   runBytes(session) {
+    this._open();
+    this.#events.refuse("runBytes(..)");
     const parts = [];
-    this._beginMacros();
-    this.#activeHandle = null;
-    this._run(session, false, (bytes) => parts.push(bytes.slice()));
-    const all = joined(parts);
-    this._forgetClosedBySession(session, all);
-    return all;
+    const bytes = bytesOf(session);
+    const ranges = this.#handles.size === 0 ? [[0, bytes.length]] : this._parted(bytewise.decode(bytes));
+    this._behind(() => {
+      for (const [from, to] of ranges) {
+        const part = bytes.subarray(from, to);
+        this._meet(part);
+        this._run(part, false, (each) => parts.push(each.slice()));
+      }
+    });
+    return joined(parts);
   }
 
-  // Does lines that are cut at newlines, perhaps to the first refused one. Gives how many are done, and
-  // whether the last one was refused. `take` gets the replies, part by part.
+  // Does lines that are cut at newlines, perhaps to the first refused one. Gives how many are done, and the number of the
+  // refusal of the last one, 0 where it is done. `take` gets the replies, part by part.
   _run(session, stop, take) {
     const [module, cEditor] = [this.#module, this._open()];
     return module.given(session, (at, size) => {
       const end = at + size;
-      let [lines, isRefused] = [0, false];
-      while (at < end && !(stop && isRefused)) {
+      let [count, refusal] = [0, 0];
+      while (at < end && !(stop && refusal !== 0)) {
         const came = module.runLines(cEditor, at, end - at, stop, take);
         at += came.bytes;
-        lines += came.lines;
-        isRefused = came.isRefused;
+        count += came.lines;
+        this._note(cEditor);
+        refusal = came.isRefused ? this.#refusal : 0;
       }
-      return { lines, isRefused };
+      return { count, refusal };
     });
   }
 
@@ -257,6 +329,7 @@ export class Editor {
    * line can spell that name.
    */
   putFile(name, data) {
+    this.#events.refuse("putFile(..)");
     const module = this.#module;
     const bytes = bytesOf(data);
     const answer = module.given(name, (at, size) =>
@@ -279,6 +352,7 @@ export class Editor {
 
   /** Takes a file out, and says whether there was one of that name. */
   removeFile(name) {
+    this.#events.refuse("removeFile(..)");
     return this.#module.given(name, (at, size) => this._call("remove_file", at, size)) === DONE;
   }
 
@@ -297,39 +371,7 @@ export class Editor {
    * Refused; its `why` says why a map is not set aside or unpacked.
    */
   async openMap(name, data) {
-    return this._opened(name, data, `openMap(${JSON.stringify(name)})`);
-  }
-
-  async _opened(name, data, call) {
-    this._open();
-    const given = bytesOf(data);
-    const unpacked = await this._unpacked(given, call);
-    const text = this._made("set_aside", unpacked.bytes, call);
-    try {
-      const reply = this._openBytes(name, text, call);
-      if (text !== given) {
-        this._handle(name)._markSetAside();
-      }
-      return reply;
-    } catch (fault) {
-      if (fault instanceof Refused && isOfMap(fault.code)) {
-        throw refusedFile(faultOfFile(this.#module, fault, given, unpacked), call);
-      }
-      throw fault;
-    }
-  }
-
-  // What is unpacked of a file. Throws Refused with the call.
-  async _unpacked(given, call) {
-    try {
-      return await unpackLayers(given);
-    } catch (fault) {
-      if (fault instanceof Unpackable) {
-        const first = faultOfNoJson(this.#module, given);
-        throw first ? refusedFile(first, call) : refusedCall(fault.code, "store failed", call, fault.why);
-      }
-      throw fault;
-    }
+    return openedMap(this, name, data, `openMap(${JSON.stringify(name)})`);
   }
 
   /**
@@ -338,65 +380,21 @@ export class Editor {
    * Where the promise is broken, no index is clean. Throws Refused.
    */
   async saveMap() {
-    return this._saved("saveMap()");
+    return savedMap(this, "saveMap()");
   }
 
-  async _saved(call) {
-    if (this._waits()) {
-      throw refusedCall(20, "macro open", call);
-    }
-    const shown = this._replyTo("show", call).slice(MAP.length);
-    const hasSetAside = this._isSetAside();
-    const bytes = hasSetAside ? this._made("put_back", shown, call) : shown;
-    this._replyTo("clean", call);
-    if (!hasSetAside) {
-      return bytes;
-    }
-    const document = this._activeName();
-    try {
-      return await packLayers(bytes);
-    } catch (fault) {
-      this._markDirty(document);
-      throw fault;
-    }
+  // The active document's map as the editor holds it: it stands behind the first word of the reply.
+  _shown(call) {
+    return this._replyTo("show", call).slice(MAP.length);
   }
 
-  // The reply to a line that a call says. Throws Refused with the call.
+  // The bytes of the reply to a line that a call says. Throws Refused with the call.
   _replyTo(line, call) {
-    if (NOT_IN_MACROS.test(line) && this._waits()) {
-      throw refusedCall(20, "macro open", call);
-    }
-    const reply = this.stepBytes(line);
-    const refusal = REFUSAL.exec(textOf(reply.subarray(0, LONGEST_REFUSAL)));
-    if (refusal) {
-      throw refusedCall(Number(refusal[1]), refusal[2], call);
+    const reply = this._said(line, false);
+    if (this.#refusal !== 0) {
+      throw refusedCall(this.#refusal, call);
     }
     return reply;
-  }
-
-  // What a call of the library makes of the text of a map; the same bytes where it makes none.
-  _made(name, bytes, call) {
-    const { text, why } = this.#module.made(name, bytes);
-    if (why !== null) {
-      throw refusedCall(STORE_FAILED, "store failed", call, why);
-    }
-    return text ?? bytes;
-  }
-
-  // Opens bytes, which stand among the files under a free name meanwhile.
-  _openBytes(document, bytes, call) {
-    const taken = new Set(this.files());
-    const names = Array.from({ length: taken.size + 1 }, (_, at) => `roskevad${at}.tmj`);
-    const name = names.find((each) => !taken.has(each));
-    this.putFile(name, bytes);
-    this.#outlineSize = Math.min(bytes.length, LONGEST_GUESS);
-    try {
-      return textOf(this._replyTo(`open ${document} ${name}`, call));
-    } finally {
-      if (!this.#module.isBroken) {
-        this.removeFile(name);
-      }
-    }
   }
 
   // The name of the active document, or "-".
@@ -405,23 +403,11 @@ export class Editor {
     return at === null ? "-" : this._nameAt(at);
   }
 
-  // Leaves no index of a document clean, if it is still there.
-  _markDirty(document) {
-    if (this.#cEditor === 0 || this.#module.isBroken) {
-      return;
-    }
-    const active = this._activeName();
-    if (textOf(this.stepBytes(`use ${document}`)).startsWith("ok")) {
-      this.step("dirty");
-      this.step(`use ${active}`);
-    }
-  }
-
   // ---- the active document
 
   /** The active document's map, as `show` gives it, with its fractions put back as numbers. Throws Refused. */
   map() {
-    return this._tree(this.step("show").slice(MAP.length));
+    return this._tree(textOf(this._shown("map()")));
   }
 
   /** The same without the `data` of tile layers, which is quicker. Throws Refused. */
@@ -436,7 +422,7 @@ export class Editor {
   origin() {
     const head = this._parsed("map_head");
     if (head === null) {
-      throw noDocument("origin()");
+      throw refusedCall(10, "origin()");
     }
     return this._isSetAside() ? originOf(noteOf(head)) : [0, 0];
   }
@@ -445,7 +431,7 @@ export class Editor {
     const call = (to, room) => this._call("outline", to, room);
     const text = this.#module.copyText(call, call, this.#outlineSize + SPARE);
     if (text === null) {
-      throw noDocument(asked);
+      throw refusedCall(10, asked);
     }
     this.#outlineSize = text.length;
     return text;
@@ -499,7 +485,7 @@ export class Editor {
     const id = this._find(subject, name);
     if (id === null) {
       const isNone = this._number("active") === null;
-      throw isNone ? noDocument(`${subject}Id()`) : new RangeError(`nothing has the name ${name}`);
+      throw isNone ? refusedCall(10, `${subject}Id()`) : new RangeError(`nothing has the name ${name}`);
     }
     return id;
   }
@@ -535,7 +521,7 @@ export class Editor {
   _lastId(call, asked) {
     const next = this._number(call);
     if (next === null) {
-      throw noDocument(asked);
+      throw refusedCall(10, asked);
     }
     return next - 1;
   }
@@ -575,24 +561,22 @@ export class Editor {
    * call has done several lines, all may differ. Ask before the next line.
    */
   told() {
-    const module = this.#module;
-    return toldOf(module.numbers(TOLD_NUMBERS, (to) => {
-      // A module that tells no word at fault leaves its place as it is.
-      module.bytes().fill(0, to, to + TOLD_NUMBERS * NUMBER_BYTES);
-      return this._call("tell", to);
-    }));
+    return toldOf(this._told);
   }
 
   /**
-   * The steps of the active document with their texts, and what each is about and changes: from one on, up to another,
-   * which is left out, or to the last one. None where no document is active.
+   * The steps of the active document, done and undone, with what each is about and changes: from one on, up to another,
+   * which is left out, or to the last; an open macro stands last. None where no document is active. Throws TypeError,
+   * RangeError.
    */
   steps(start = 0, stop = null) {
+    const first = words.number(start, "the place of a step");
+    const end = stop === null ? Infinity : words.number(stop, "the place of a step");
     const steps = [];
     let rows = null;
     do {
-      const next = start + steps.length;
-      const wanted = (stop ?? Infinity) - next;
+      const next = first + steps.length;
+      const wanted = end - next;
       rows = wanted > 0 ? this._stepRows(next, wanted) : [];
       steps.push(...rows.map((row, at) => stepOf(next + at, this._stepText(next + at), row)));
     } while (rows.length > 0);
@@ -602,10 +586,9 @@ export class Editor {
   // The numbers of some steps from a place on, at most so many.
   _stepRows(from, most) {
     const call = (to, room) => this._call("steps", from, to, Math.min(Math.floor(room), most));
-    const bytes = this.#module.copyBytes(call, call, STEP_NUMBERS * NUMBER_BYTES);
-    const numbers = new Uint32Array(bytes.buffer);
-    return Array.from({ length: numbers.length / STEP_NUMBERS }, (_, at) =>
-      numbers.subarray(at * STEP_NUMBERS, (at + 1) * STEP_NUMBERS),
+    const bytes = this.#module.copyBytes(call, call, STEP_BYTES);
+    return Array.from({ length: bytes.length / STEP_BYTES }, (_, at) =>
+      new Uint32Array(bytes.buffer, at * STEP_BYTES, STEP_BYTES / NUMBER_BYTES),
     );
   }
 
@@ -634,7 +617,7 @@ export class Editor {
     const opened = name === undefined ? this._freeName() : words.document(name);
     this.#opening.add(opened);
     try {
-      await this._opened(opened, data, call);
+      await openedMap(this, opened, data, call);
     } finally {
       this.#opening.delete(opened);
     }
@@ -664,8 +647,9 @@ export class Editor {
   }
 
   set active(document) {
+    this.#events.refuse("active = ..");
     if (document === null) {
-      this.step("use -");
+      this._use("-");
     } else if (document.editor !== this) {
       throw new RangeError(`${document} is open in another editor`);
     } else {
@@ -683,7 +667,7 @@ export class Editor {
 
   // The names of the documents that are not saved; none of a closed editor or a broken one.
   _unsaved() {
-    if (this.#cEditor === 0 || this.#module.isBroken) {
+    if (!this._isThere) {
       return [];
     }
     return this._names().filter((_, at) => !this._statusOf(at).clean);
@@ -703,67 +687,57 @@ export class Editor {
       return work();
     } finally {
       if (this._activeName() !== active) {
-        this.step(`use ${active}`);
-        this.#activeHandle = this.#handles.get(active) ?? null;
+        this._use(active);
       }
     }
   }
 
   // The document of that name, which is open.
   _handle(name) {
+    if (this.#handles.size === 0) {
+      this.#countKnown = this._call("document_count");
+    }
     if (!this.#handles.has(name)) {
       this.#handles.set(name, new Document(this, name));
     }
     return this.#handles.get(name);
   }
 
-  // Notes that a line may make another document active, or is an edit that a macro waits for, before it is done.
-  _noteActivation(line) {
-    if (this.#handles.size > 0 && ACTIVATION.test(line)) {
-      this.#activeHandle = null;
-    } else if (this.#waiting.size > 0 && (EDIT.test(line) || NOT_IN_MACROS.test(line))) {
-      this._beginMacros();
+  // Notes the number of the refusal of the last line, and what it did to documents that were handed out. Lines that may close
+  // one are done one at a time.
+  _note(cEditor) {
+    const told = this.#module.tell(cEditor);
+    const refusal = told[REFUSAL];
+    if (this.#handles.size > 0) {
+      if ((told[DIFFERS] & DOCUMENTS) !== 0) {
+        this._noteDocuments();
+      } else if (this.#events.isWatching) {
+        const document = this.#activeHandle ?? this.#handles.get(this._activeName());
+        this.#events.note(document, this._told);
+        this.#events.tell((call) => this._called(call));
+      }
+    }
+    // Callbacks may have said lines meanwhile.
+    this.#refusal = refusal;
+  }
+
+  _noteDocuments() {
+    this.#activeHandle = null;
+    const [known, count] = [this.#countKnown, this._call("document_count")];
+    this.#countKnown = count;
+    if (count < known) {
+      const names = new Set(this._names());
+      for (const name of [...this.#handles.keys()].filter((each) => !names.has(each))) {
+        const handle = this.#handles.get(name);
+        this.#handles.delete(name);
+        handle._markClosed();
+      }
     }
   }
 
   // Whether the active document has macros that wait for their first edit.
   _waits() {
     return this.#waiting.size > 0 && this.#waiting.has(this.#handles.get(this._activeName()));
-  }
-
-  // Begins the macros of the active document that wait for their first edit.
-  _beginMacros() {
-    if (this._waits()) {
-      this.#handles.get(this._activeName())._beginNow();
-    }
-  }
-
-  // Notes what a line has done to what was handed out: it may have closed a document.
-  _forgetIfClosed(line, reply) {
-    if (this.#handles.size > 0 && reply.startsWith("ok ")) {
-      this._forgetClosed([line]);
-    }
-  }
-
-  // The same of lines that were done.
-  _forgetClosed(lines) {
-    for (const line of lines) {
-      const closed = CLOSING.exec(line);
-      const handle = closed && this.#handles.get(closed[1]);
-      if (handle) {
-        handle._markClosed();
-        this.#handles.delete(closed[1]);
-      }
-    }
-  }
-
-  // The same of a session, of which each line that is not quiet has its reply.
-  _forgetClosedBySession(session, replies) {
-    if (this.#handles.size > 0) {
-      const answers = textOf(replies).split("\n");
-      const lines = textOf(bytesOf(session)).split("\n").filter((line) => !QUIET.test(line));
-      this._forgetClosed(lines.filter((_, at) => answers[at]?.startsWith("ok ")));
-    }
   }
 
   // What a call says of a thing in JSON; null where there is no such thing.
@@ -799,37 +773,6 @@ if (Symbol.dispose) {
       console.warn(`an Editor is closed, and what was not saved is dropped: ${dropped.join(", ")}`);
     }
   };
-}
-
-/**
- * Lines in parts, each of which has so many that it is handed on quickly; where that is wanted, one ends where a line
- * may make another document active.
- */
-function* partsOf(lines, endsAtActivations) {
-  for (let from = 0; from < lines.length; ) {
-    let [to, length] = [from, 0];
-    do {
-      length += lines[to].length + 1;
-      to += 1;
-    } while (
-      to < lines.length && length + lines[to].length < PART && !(endsAtActivations && ACTIVATION.test(lines[to - 1]))
-    );
-    yield lines.slice(from, to);
-    from = to;
-  }
-}
-
-function noDocument(asked) {
-  return refusedCall(10, "no active document", asked);
-}
-
-function refusedCall(code, words, call, why = null) {
-  return new Refused(code, words, call, null, [], { isCall: true, why });
-}
-
-// A file that is read and refused, as map_faults.js tells it.
-function refusedFile({ code, words, why, placeInMap }, call) {
-  return new Refused(code, words, call, null, [], { isCall: true, why, placeInMap });
 }
 
 /** Whether a value is a number from 0 that a call can be given. */

@@ -1,6 +1,6 @@
 // SPDX-License-Identifier: MIT OR Apache-2.0
 // The tilesets of a document, and the tiles of its cells.
-import { Refused } from "./faults.js";
+import { refusedCall } from "./faults.js";
 import { BASE } from "./rows.js";
 import * as words from "./words.js";
 
@@ -29,7 +29,7 @@ export class Tileset {
   get _members() {
     const members = this.#document._read("tileset", this.firstId);
     if (members === null) {
-      throw new Refused(36, "no such tileset", this.toString());
+      throw refusedCall(36, this.toString());
     }
     return members;
   }
@@ -162,7 +162,7 @@ export class Tilesets {
     if (value !== null) {
       const why = `a tile with the value ${value} is in use, and would be one of it: { renumbers: true } adds it all the same`;
       const call = `tilesets.add(${first}, ${JSON.stringify(source)})`;
-      throw new Refused(37, "tileset in use", call, null, [], { isCall: true, why });
+      throw refusedCall(37, call, { why });
     }
     this.#document._edit(line);
     return new Tileset(this.#document, first);

@@ -157,7 +157,7 @@ def test_records_of_python():
 
 def told_by_node():
     trials = [trial for _, trial, _ in trials_of(JAVASCRIPT)]
-    classes = [kind.name for kind in calls.KINDS]
+    classes = [kind.name for kind in REFERENCE.kinds(JAVASCRIPT)]
     return json.loads(ran('calls.mjs', json.dumps({'lines': calls.LINES, 'trials': trials, 'classes': classes})))
 
 
@@ -242,7 +242,7 @@ def calls_of_documents(language):
     return sorted(call.renamed or REFERENCE.camel(call.name) if language == JAVASCRIPT else call.name for call in named)
 
 
-GIVEN = {'stamp': (1, 0, 0, [[1]]), 'erase': (1, 0, 0, 1, 1), 'macro': ('a',), 'save': ('a.tmj',)}
+GIVEN = {'stamp': (1, 0, 0, [[1]]), 'erase': (1, 0, 0, 1, 1), 'macro': ('a',), 'save': ('a.tmj',), 'watch': (print,)}
 
 
 def fault_of_closed(case):

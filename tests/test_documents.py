@@ -23,6 +23,7 @@ from lib.places import EXAMPLE_MAPS, TOP
 
 sys.path.insert(0, str(TOP / 'python'))
 from roskevad import Closed, Editor, Refused, Status, library, saving  # noqa: E402
+from roskevad import editor as editor_module  # noqa: E402
 from roskevad.forms import FORMS  # noqa: E402
 from roskevad.library import LIBRARY  # noqa: E402
 
@@ -343,20 +344,22 @@ class Calls:
         self.editor = editor
 
     def __enter__(self):
-        self.counts, self.functions = collections.Counter(), {}
-        for name in library._PARAMETERS:
-            self.functions[name] = getattr(LIBRARY, f'roskevad_{name}')
-            setattr(LIBRARY, f'roskevad_{name}', functools.partial(self.call, name))
+        self.counts, self.functions = collections.Counter(), []
+        places = [(LIBRARY, f'roskevad_{name}', name) for name in library._PARAMETERS]
+        for place, attribute, name in [*places, (editor_module, '_STEP', 'step'), (editor_module, '_TELL', 'tell')]:
+            function = getattr(place, attribute)
+            self.functions.append((place, attribute, function))
+            setattr(place, attribute, functools.partial(self.call, name, function))
         return self
 
-    def call(self, name, *words):
+    def call(self, name, function, *words):
         # Editors of other tests may be closed meanwhile.
-        self.counts[name] += words[0] is self.editor._c_editor
-        return self.functions[name](*words)
+        self.counts[name] += words[0] in (self.editor._c_editor, self.editor._at)
+        return function(*words)
 
     def __exit__(self, *_):
-        for name, function in self.functions.items():
-            setattr(LIBRARY, f'roskevad_{name}', function)
+        for place, attribute, function in self.functions:
+            setattr(place, attribute, function)
 
 
 def with_objects(editor):
@@ -364,24 +367,25 @@ def with_objects(editor):
     document = editor.new('a', 100, 100, 16, 16, 'a.tsj')
     things = document.layers.add('object', 'Things')
     editor.run_lines(f'object add {things.id} {at} 0 8 8 thing' for at in range(1000))
+    # Behind many lines it is not known which document is active, until a call has asked.
+    assert document.width == 100
     return document
 
 
 def test_loops_of_stamps():
-    """Stamps by the name of a layer, and strokes, on a map of 1,000 objects: each is a look-up of the name and one line, in a stroke
-    with what tells whether it is a step."""
+    """Stamps by the name of a layer, and strokes, on a map of 1,000 objects: each is a look-up of the name, one line, and what it did."""
     with Editor() as editor:
         document = with_objects(editor)
         with Calls(editor) as calls:
             for at in range(1000):
                 document.stamp('Tile Layer 1', at % 100, at // 100, [[5]])
-        see({'find': 1000, 'step': 1000}, dict(+calls.counts))
+        see({'find': 1000, 'step': 1000, 'tell': 1000}, dict(+calls.counts))
         with Calls(editor) as calls:
             for at in range(100):
                 with document.stroke():
                     document.stamp('Tile Layer 1', at, 20, [[6]])
                     document.stamp('Tile Layer 1', at, 21, [[6]])
-        see({'find': 200, 'sizes_of_map': 100, 'step': 200, 'cells': 400, 'active': 200, 'status_of': 200}, dict(+calls.counts))
+        see({'find': 200, 'step': 200, 'tell': 200}, dict(+calls.counts))
         see(1100 + 1001, document.status.count)
 
 
@@ -393,15 +397,15 @@ def test_loops_of_objects():
         with Calls(editor) as calls:
             for each in document.objects:
                 each.move(int(each.x) + 1, int(each.y))
-        see({'object_ids': 1, 'object': 2000, 'step': 1000}, dict(+calls.counts))
+        see({'object_ids': 1, 'object': 2000, 'step': 1000, 'tell': 1000}, dict(+calls.counts))
         with Calls(editor) as calls:
             for each in document.objects:
                 each.properties['team'] = 1
-        see({'object_ids': 1, 'property': 1000, 'step': 1000}, dict(+calls.counts))
+        see({'object_ids': 1, 'property': 1000, 'step': 1000, 'tell': 1000}, dict(+calls.counts))
         with Calls(editor) as calls:
             for at in range(1000):
                 document.layers['Things'].objects.add('door', at, 9).properties['open'] = True
-        see({'find': 1000, 'next_object_id': 1000, 'property': 1000, 'step': 2000}, dict(+calls.counts))
+        see({'find': 1000, 'next_object_id': 1000, 'property': 1000, 'step': 2000, 'tell': 2000}, dict(+calls.counts))
         with Calls(editor) as calls:
             found = [document.objects[at] for at in range(1, 1001)] + [document.objects['door'] for _ in range(1000)]
         see({'object_layer': 1000, 'find': 1000}, dict(+calls.counts))
@@ -418,9 +422,9 @@ def test_what_needs_no_document():
         see({'document_count', 'document_name', 'status_of', 'active'}, {*+calls.counts})
         with Calls(editor) as calls:
             see(Status(0, 0, True, 0), second.status)
-        see({'active': 2, 'document_name': 1, 'step': 1, 'status_of': 1}, dict(+calls.counts))
+        see({'active': 2, 'document_name': 1, 'document_count': 1, 'step': 1, 'tell': 1, 'status_of': 1}, dict(+calls.counts))
         # What tells of a document says `use` where another one is active, and behind it once more.
-        for document, count in ((second, 1), (first, 3), (second, 1)):
+        for document, count in ((second, 0), (first, 2), (second, 0)):
             with Calls(editor) as calls:
                 repr(document)
             see((count, second), (calls.counts['step'], editor.active))

@@ -25,7 +25,7 @@ from lib.native import c_program
 from lib.places import EXAMPLES, EXAMPLE_MAPS, NATIVE, TOP, example_maps
 
 sys.path.insert(0, str(TOP / 'python'))
-from roskevad import Closed, Editor, Refused, library  # noqa: E402
+from roskevad import Closed, Editor, Refused, library, told  # noqa: E402
 from roskevad.forms import FORMS  # noqa: E402
 
 HEADER = (TOP / 'include' / 'roskevad.h').read_text()
@@ -50,11 +50,10 @@ TYPES = {
     'uint32_t *': ctypes.c_void_p,
     'const uint8_t *': ctypes.c_char_p,
 }
-# A struct that is taken out of bytes, some of its fields. A buffer of it has no type.
+# Structs that are taken out of bytes: of the first one some of its fields. A buffer of them has no type.
 ROW = 'roskevad_layer_row'
-# One that the package does not read.
 STEP_ROW = 'roskevad_step_row'
-LETTERS = {'uint32_t ': 'I', 'size_t ': 'N'}
+LETTERS = {'uint32_t ': 'I', 'int32_t ': 'i', 'size_t ': 'N'}
 SANITIZED = ['-fsanitize=address,undefined', '-fno-sanitize-recover=all', '-g']
 
 
@@ -402,8 +401,11 @@ def test_structs_of_the_package():
     )
     fault = unlike(sorted([*STRUCTS, ROW, STEP_ROW]), sorted(structs))
     assert not fault, fault
-    structs.pop(STEP_ROW)
     fields_in = re.compile(r'^    (\w+ \*?)(\w+);', re.MULTILINE)
+    letters = ''.join(LETTERS[kind] for kind, _ in fields_in.findall(structs.pop(STEP_ROW)))
+    filled = struct.pack(letters, *range(1, 1 + len(letters)))
+    fault = unlike((1, 2, 3, 4, 5, 6, 7, 8, 9), told.STEP_ROW.unpack(filled))
+    assert not fault, f'{STEP_ROW}: {fault}'
     row = fields_in.findall(structs.pop(ROW))
     filled = struct.pack(''.join(LETTERS[kind] for kind, _ in row), *range(len(row)))
     read = library.LayerRow._make(library.LAYER_ROW.unpack(filled))._asdict()

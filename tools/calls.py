@@ -28,7 +28,10 @@ GIVEN = {
     'str?': ('str or None', 'string | null'), 'bool?': ('bool or None', 'boolean | null'), 'strs': ('list of str', 'string[]'),
     'Tile?': ('Tile or None', 'Tile | null'), 'members': ('dict', 'Members'), 'Document?': ('Document or None', 'Document | null'),
     'rows': ('list of lists of int', 'number[][]'), 'Path?': ('Path or None', ''), 'bytes!': ('bytes', 'Promise<Uint8Array>'),
-    'Document!': ('Document', 'Promise<Document>'), 'str!': ('str', 'Promise<string>'),
+    'Document!': ('Document', 'Promise<Document>'), 'str!': ('str', 'Promise<string>'), 'step rows': ('list of StepRow', 'StepRow[]'),
+    'cells of a layer': ('CellArea, "all" or None', 'CellArea | "all" | null'), 'Subject?': ('Subject or None', 'Subject | null'),
+    'became': ('str', '"nothing" | "added" | "added and dropped" | "merged" | "gone" | "turned"'),
+    'end of a watch': ('Watch', '() => void'),
 }
 #: The types of arguments in TypeScript, by their names.
 ARGUMENTS = {
@@ -36,7 +39,7 @@ ARGUMENTS = {
     'mode': 'SelectionMode', 'text': 'string', 'action': 'string | null', 'tileset': 'string', 'source': 'string', 'type': 'string | null',
     'renumbers': 'boolean', 'force': 'boolean', 'keep_empty': 'boolean',
     'flipped_horizontally': 'boolean', 'flipped_vertically': 'boolean', 'flipped_diagonally': 'boolean', 'turned': 'boolean',
-    'work': 'Work<Given>', 'value': 'number',
+    'work': 'Work<Given>', 'value': 'number', 'callback': '(told: Told) => void', 'stop': 'number | null',
 }
 
 
@@ -44,11 +47,11 @@ ARGUMENTS = {
 #: what is given, changed or answered, and `map` for the whole map. All others have the cost 1.
 COSTS = {
     'Editor': {
-        'answer': 'documents unsaved step step_bytes run_lines run_bytes put_file file files cells selection',
+        'answer': 'documents unsaved step step_bytes run_lines run_bytes put_file file files cells selection steps',
         'map': 'new open close open_map save_map open_file save_file map outline object_id',
     },
     'Document': {
-        'answer': 'stamp erase fill selection select select_none steps undo redo goto clear stroke',
+        'answer': 'stamp erase fill selection select select_none steps steps_since undo redo goto clear stroke',
         'map': 'resize map outline save save_bytes close discard to_json',
     },
     'Layers': {'answer': 'find size walk to_json'},
@@ -95,6 +98,8 @@ class Kind:
     name: str
     about: str
     calls: List[Call]
+    #: The one package that has it.
+    only: str = ''
 
 
 def value(name: str, gives: str, does: str, **more: object) -> Call:
@@ -173,6 +178,8 @@ DOCUMENT = Kind('Document', 'A map, its selection and its steps. A call makes th
     value('status', 'Status', 'How it stands: index, count, clean, depth.', line='status'),
     value('steps', 'steps', 'All steps, those from `status.index` on undone: each with its text, its action text, and whether it is a macro.',
           line='text PLACE'),
+    Call('steps_since', 'index', 'The steps from an index on, with what each is about and what its undo and its redo change.', gives='step rows',
+         raises={'type': 'document.steps_since("1")', 'value': 'document.steps_since(-1)'}),
     value('undo_text', 'str', 'What `undo` would undo; empty for nothing.', line='undotext'),
     value('redo_text', 'str', 'What `redo` would redo; empty for nothing.', line='redotext'),
     value('clean_index', 'int?', 'The index that counts as saved; {None} where there is none any more.'),
@@ -197,6 +204,11 @@ DOCUMENT = Kind('Document', 'A map, its selection and its steps. A call makes th
          written=('with document.macro(text, action=None, keep_empty=False):', 'document.macro(text, work, { action, keepEmpty })')),
     Call('stroke', 'work', 'Merges the stamps and erases in it, as those of a brush.', 'stamp+ LAYER X Y WIDTH TILES', 'work',
          {'type': ('', 'document.stroke(async () => 0)')}, written=('with document.stroke():', 'document.stroke(work)')),
+    Call('watch', 'callback', 'Has a function called behind each line that changes the map, its selection or how the document stands, with what '
+         'the line did. It may read, and not edit.', gives='end of a watch', raises={'type': 'document.watch(5)'}, only='python'),
+    Call('on', 'name, callback', 'Has a function called behind each line that changes the map, its selection or how the document stands, with what '
+         'the line did; `name` is "change". It may read, and not edit. Gives a function that ends it.', gives='end of a watch',
+         raises={'type': 'document.on("change", 5)', 'value': 'document.on("click", () => 0)'}, only='javascript', types={'name': '"change"'}),
     Call('map', '', 'The whole map as its file has it, but finite, and with its cells unpacked: a copy.', 'show', 'members'),
     Call('outline', '', 'The same without the cells: a copy.', gives='members'),
     Call('save', 'path=None; force=False', 'Writes the map to a file, or to `document.path`; it counts as saved then. A file whose bytes are not '
@@ -358,8 +370,12 @@ SELECTION = Kind('Selection', 'The cells that were selected when it was asked fo
     value('size', 'int', 'The number of cells.', written=('len(selection)', 'selection.size')),
 ])
 
+WATCH = Kind('Watch', 'A callback that is told of changes, until its end, or the end of a `with`.', [
+    Call('end', '', 'Ends it. Twice is harmless.', only='python'),
+], only='python')
+
 #: The classes of documents and of what they have, in the order of the pages.
-KINDS = [EDITOR, DOCUMENT, LAYERS, LAYER, OBJECTS, OBJECT, PROPERTIES, TILESETS, TILESET, SELECTION]
+KINDS = [EDITOR, DOCUMENT, LAYERS, LAYER, OBJECTS, OBJECT, PROPERTIES, TILESETS, TILESET, SELECTION, WATCH]
 
 #: What is imported beside the classes.
 FUNCTIONS = [
@@ -371,6 +387,21 @@ RECORDS = {
     'Status': [('index', 'int', 'how many steps are done'), ('count', 'int', 'how many steps there are'),
                ('clean', 'bool', 'whether it counts as saved'), ('depth', 'int', 'how many macros are open')],
     'Step': [('text', 'str', 'its text'), ('action', 'str', 'the text of its action'), ('is_macro', 'bool', 'whether it is a macro')],
+    'StepRow': [('at', 'int', 'its place, from 0'), ('text', 'str', 'its text'), ('is_macro', 'bool', 'whether it is a macro'),
+                ('subject', 'Subject?', 'what it is about'), ('outline', 'bool', 'whether it changes more of the map than cells'),
+                ('selection', 'bool', 'whether it changes the selection'), ('cells', 'cells of a layer', 'which cells it changes')],
+    'Told': [('documents', 'bool', 'whether other documents are open, or another one is active'),
+             ('outline', 'bool', 'whether the map differs in more than its cells'), ('selection', 'bool', 'whether the selection differs'),
+             ('cells', 'cells of a layer', 'which cells differ: those of a rectangle, all, or none'),
+             ('became', 'became', 'what became of an edit: nothing, added, added and dropped, merged, gone; or that steps were turned'),
+             ('subject', 'Subject?', 'what it is about; none for the selection, and for several things'),
+             ('dropped', 'int', 'how many steps are gone from the beginning'), ('before', 'int', 'the index before the line'),
+             ('index', 'int', 'how many steps are done'), ('count', 'int', 'how many steps there are'), ('depth', 'int', 'how many macros are open'),
+             ('is_clean', 'bool', 'whether it counts as saved'), ('refusal', 'int?', 'the number of the refusal, if it was refused'),
+             ('word', 'int?', 'which word is at fault, from 1, if that is known')],
+    'Subject': [('kind', 'str', 'its kind: map, layer, object or tileset'), ('id', 'int', 'its id; of a tileset its first id')],
+    'CellArea': [('layer', 'int', 'the id of its layer'), ('x', 'int', 'its first column'), ('y', 'int', 'its first row'),
+                 ('width', 'int', 'its width'), ('height', 'int', 'its height')],
     'Run': [('row', 'int', 'its row'), ('column', 'int', 'its first column'), ('length', 'int', 'its number of cells')],
     'Tile': [('value', 'int', 'the value of the cell'), ('tileset', 'Tileset?', 'its tileset, if there is one'),
              ('local_id', 'int?', 'its ID in Tiled'), ('flipped_horizontally', 'bool', 'whether it is flipped so'),
@@ -386,6 +417,9 @@ LINE_CALLS = [
     Call('run_lines', 'lines', 'Does lines in one call, up to the first that is refused.', gives='strs',
          raises={'value': 'editor.run_lines(["undo\\n"])', 'refused': 'editor.run_lines(["undo", "redo", "redo"])'}),
     Call('run_bytes', 'session', 'Does the lines of a session, whatever the replies.', gives='bytes', only='javascript'),
+    Call('told', '', 'What the last line did, of the active document; of several lines in one call all may differ.', gives='Told'),
+    Call('steps', 'start=0, stop=None', 'The steps of the active document from one on, up to another, which is left out.', gives='step rows',
+         raises={'type': 'editor.steps("1")', 'value': 'editor.steps(-1)'}),
     Call('put_file', 'name, data', 'Puts bytes under a name, for the lines `open` and `save`.',
          raises={'type': ('editor.put_file("a", 5)', ''), 'value': ('editor.put_file("a b", b"")', 'editor.putFile("a b", "")')}),
     Call('file', 'name', 'The bytes under a name.', gives='bytes?'),

@@ -8,7 +8,7 @@
 """
 from .document import Document, Status, Step
 from .editor import Editor
-from .faults import Closed, Refused
+from .faults import Closed, InCallback, Refused
 from .views import Layer, Layers, MapObject, Objects
 from .library import VERSION as __version__
 from .map_faults import MapPlace
@@ -16,9 +16,12 @@ from .names import document_name
 from .properties import Properties
 from .selection import Run, Selection
 from .tilesets import Tile, Tileset, Tilesets
+from .told import CellArea, StepRow, Subject, Told
+from .watches import Watch
 from .word_faults import WordAtFault
 
 __all__ = [
-    'Closed', 'Document', 'Editor', 'Layer', 'Layers', 'MapObject', 'MapPlace', 'Objects', 'Properties', 'Refused', 'Run', 'Selection',
-    'Status', 'Step', 'Tile', 'Tileset', 'Tilesets', 'WordAtFault', '__version__', 'document_name',
+    'CellArea', 'Closed', 'Document', 'Editor', 'InCallback', 'Layer', 'Layers', 'MapObject', 'MapPlace', 'Objects', 'Properties', 'Refused',
+    'Run', 'Selection', 'Status', 'Step', 'StepRow', 'Subject', 'Tile', 'Tileset', 'Tilesets', 'Told', 'Watch', 'WordAtFault', '__version__',
+    'document_name',
 ]

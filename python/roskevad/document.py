@@ -8,10 +8,10 @@ from dataclasses import dataclass, replace
 from hashlib import sha256
 from pathlib import Path
 from types import TracebackType
-from typing import TYPE_CHECKING, Any, Callable, ContextManager, Iterator, NamedTuple, NoReturn, Optional, TypeVar, Union
+from typing import TYPE_CHECKING, Any, Callable, ContextManager, Iterator, NamedTuple, Optional, TypeVar, Union
 
 from . import words
-from .faults import Closed, Refused
+from .faults import Closed, Refused, refused_call
 from .library import LAYER_ROW, LayerRow, MapSizes, SelectionRun
 from .limits import MAX_COORDINATE, MAX_OPEN_MACROS
 from .properties import Properties
@@ -19,7 +19,9 @@ from .rows import BASE, Part, doubtful, parts_of, rows_of
 from .selection import Run, Selection
 from .tiled_maps import Members, drawn, note_of, restored, without_packing
 from .tilesets import Tilesets
+from .told import ADDED, ADDED_AND_DROPPED, GONE, CellArea, StepRow, Told
 from .views import Layer, Layers, Objects
+from .watches import Watch, Watched
 
 if TYPE_CHECKING:
     from .editor import Editor
@@ -49,16 +51,6 @@ class Step(NamedTuple):
     text: str
     action: str
     is_macro: bool
-
-
-class _Area(NamedTuple):
-    """A rectangle of cells of a layer."""
-
-    layer: int
-    x: int
-    y: int
-    width: int
-    height: int
 
 
 class _Stroke:
@@ -100,13 +92,12 @@ class Document:
 
     # ---- what each call does
     def _do(self, work: Callable[[], _Answer]) -> _Answer:
-        """Has work done in one turn of the editor, with this document as the active one."""
+        """Has work done in one turn of the editor, with this document as the active one; in a callback of `watch` only meanwhile."""
+        return self._editor._with_document(self, work)
 
-        def entered() -> _Answer:
-            self._enter()
-            return work()
-
-        return self._editor._in_turn(entered)
+    def _entered(self, work: Callable[[], _Answer]) -> _Answer:
+        self._enter()
+        return work()
 
     def _enter(self) -> None:
         if self._is_closed:
@@ -117,21 +108,42 @@ class Document:
                 self._editor._reply_to(line, line)
             self._editor._active_handle = self
 
-    def _say(self, line: str) -> str:
-        """The reply to a line, in a turn."""
-        reply = self._editor._reply_to(line, line).decode('utf-8', 'replace')
+    def _say(self, line: str) -> None:
+        """Says a line that is no edit, in a turn."""
+        if self._editor._events.is_telling:
+            self._editor._refuse_in_callback(line)
+        reply = self._editor._reply_to(line, line)
         if _LOG.isEnabledFor(logging.DEBUG):
-            _LOG.debug('%s: %.200s: %.200s', self._name, line, reply)
-        return reply
+            _LOG.debug('%s: %.200s: %.200s', self._name, line, reply.decode('utf-8', 'replace'))
+
+    def _say_edit(self, line: str) -> None:
+        """Says an edit, with which macros begin that wait for their first one, in a turn."""
+        if self._begins:
+            self._begin_now()
+        self._say(line)
 
     def _edit(self, line: str) -> None:
+        self._do(lambda: self._say_edit(line))
+
+    def _mark(self, line: str) -> None:
+        """Says a line about the steps, with which no macro begins."""
         self._do(lambda: self._say(line))
+
+    def _turn(self, line: str) -> None:
+        """Says a line that is refused while a macro is open, also one that waits for its first edit."""
+
+        def work() -> None:
+            if self._begins:
+                raise refused_call(20, line)
+            self._say(line)
+
+        self._do(work)
 
     def _add(self, kind: str, line: str) -> int:
         """The id of what a line adds."""
 
         def work() -> int:
-            self._say(line)
+            self._say_edit(line)
             return self._editor._call(f'next_{kind}_id') - 1
 
         return self._do(work)
@@ -139,12 +151,8 @@ class Document:
     def _peek(self, answer: Callable[[], _Answer]) -> Optional[_Answer]:
         """What `_do` gives, for a `repr`: no document becomes active, and nothing is raised."""
 
-        def entered() -> _Answer:
-            self._enter()
-            return answer()
-
         with contextlib.suppress(Exception):
-            return self._editor._in_turn(lambda: self._editor._restored(entered))
+            return self._editor._in_turn(lambda: self._editor._restored(lambda: self._entered(answer)))
         return None
 
     # ---- what is there, in a turn, one thing at a time
@@ -203,6 +211,7 @@ class Document:
     def _close(self) -> None:
         self._is_closed = True
         self._wait([])
+        self._editor._events.watched.pop(self, None)
 
     # ---- what it is
     @property
@@ -300,21 +309,32 @@ class Document:
         """All steps, done and undone; an open macro stands last."""
 
         def step(place: int) -> Step:
-            text = self._say(f'text {place}')[len('text '):]
             action = self._editor._copy_bytes('action_text', place) or b''
-            return Step(text, action.decode('utf-8', 'replace'), self._editor._call('is_macro', place) == 1)
+            return Step(self._editor._step_text(place), action.decode('utf-8', 'replace'), self._editor._call('is_macro', place) == 1)
 
         return self._do(lambda: tuple(map(step, range(self._status_now().count))))
+
+    def steps_since(self, index: int) -> list[StepRow]:
+        """The steps from an index on, done and undone, with what each is about and what its undo and its redo change; an open macro stands
+        last. Raises TypeError, ValueError."""
+        return self._do(lambda: self._editor._steps(index, None))
 
     @property
     def undo_text(self) -> str:
         """The action text of the step that `undo` would undo; '' where there is none."""
-        return self._do(lambda: self._say('undotext')[len('text '):])
+        return self._do(lambda: self._action_beside(-1))
 
     @property
     def redo_text(self) -> str:
         """The action text of the step that `redo` would redo; '' where there is none."""
-        return self._do(lambda: self._say('redotext')[len('text '):])
+        return self._do(lambda: self._action_beside(0))
+
+    def _action_beside(self, distance: int) -> str:
+        """The action text of the step below the index or above it, in a turn; '' where there is none, or a macro is open."""
+        status = self._status_now()
+        at = status.index + distance
+        action = self._editor._copy_bytes('action_text', at) if status.depth == 0 and at >= 0 else None
+        return (action or b'').decode('utf-8', 'replace')
 
     @property
     def clean_index(self) -> Optional[int]:
@@ -323,33 +343,33 @@ class Document:
 
     def undo(self) -> None:
         """Undoes the step below the index. Raises Refused: 21 where there is none."""
-        self._edit('undo')
+        self._turn('undo')
 
     def redo(self) -> None:
         """Redoes the step above the index. Raises Refused: 22 where there is none."""
-        self._edit('redo')
+        self._turn('redo')
 
     def goto(self, index: int) -> None:
         """Undoes or redoes up to an index, or to the count where that is less. Raises TypeError, ValueError; Refused: 20 while a
         macro is open."""
-        self._edit(f'goto {words.number(index, "an index")}')
+        self._turn(f'goto {words.number(index, "an index")}')
 
     def mark_clean(self) -> None:
         """Has the index count as saved. Raises Refused: 20 while a macro is open."""
-        self._edit('clean')
+        self._turn('clean')
 
     def mark_dirty(self) -> None:
         """Has no index count as saved."""
-        self._edit('dirty')
+        self._mark('dirty')
 
     def clear(self) -> None:
         """Drops all steps, and undoes nothing; the document counts as saved then."""
-        self._edit('clear')
+        self._mark('clear')
 
     def limit(self, count: int) -> None:
         """Keeps at most so many steps; 0 is no limit. Raises TypeError, ValueError; Refused: 25 where there are steps, 39 above
         1,000,000."""
-        self._edit(f'limit {words.number(count, "a limit")}')
+        self._mark(f'limit {words.number(count, "a limit")}')
 
     def macro(self, text: str, action: Optional[str] = None, keep_empty: bool = False) -> 'ContextManager[Document]':
         """A `with` whose edits are one step of this text, and of this action text where it is another. It begins with its first edit, or
@@ -371,9 +391,10 @@ class Document:
 
     def _open_macro(self, said: str, keep_empty: bool) -> int:
         """The depth of a macro that is opened, in a turn. It waits for its first edit, unless it is kept without one."""
+        self._editor._refuse_in_callback(f'begin {said}')
         depth = self._status_now().depth + len(self._begins) + 1
         if depth > MAX_OPEN_MACROS:
-            raise Refused(24, 'too deep', f'begin {said}', forms=())
+            raise refused_call(24, f'begin {said}')
         self._wait([*self._begins, said])
         if keep_empty:
             self._begin_now()
@@ -390,8 +411,7 @@ class Document:
         self._wait([])
         try:
             while begins:
-                line = f'begin {begins[0]}'
-                self._editor._reply_to(line, line)
+                self._say(f'begin {begins[0]}')
                 begins = begins[1:]
         finally:
             self._wait(begins)
@@ -444,13 +464,13 @@ class Document:
         words.coordinate(top + parts[-1].first, 'y of the last rows')
 
         def work() -> None:
-            area = _Area(self._id_of(layer), left, top, len(listed[0]), len(listed))
+            area = CellArea(self._id_of(layer), left, top, len(listed[0]), len(listed))
             with self._beginning_if(lambda: self._changes(area, listed)):
                 self._stamp_parts(area, parts, listed, merge)
 
         self._do(work)
 
-    def _differences(self, area: _Area, rows: Optional[list[list[int]]]) -> Optional[Iterator[tuple[int, int]]]:
+    def _differences(self, area: CellArea, rows: Optional[list[list[int]]]) -> Optional[Iterator[tuple[int, int]]]:
         """The old and the new values of the selected cells that rows would change, zeros too, or an erase, where there are none; None
         where it is no tile layer."""
         inside = self._on_map(area)
@@ -469,7 +489,7 @@ class Document:
 
         return each()
 
-    def _changes(self, area: _Area, rows: Optional[list[list[int]]]) -> bool:
+    def _changes(self, area: CellArea, rows: Optional[list[list[int]]]) -> bool:
         """Whether a stamp of rows, or an erase, changes a cell, or is refused."""
         differences = self._differences(area, rows)
         return differences is None or any(new or rows is None for _, new in differences)
@@ -481,15 +501,15 @@ class Document:
         words.coordinate(top + len(listed), 'y of the last rows')
         outer, self._stroke = self._stroke, None
         try:
-            self._do(lambda: self._write_now(_Area(layer.id, left, top, len(listed[0]), len(listed)), listed))
+            self._do(lambda: self._write_now(CellArea(layer.id, left, top, len(listed[0]), len(listed)), listed))
         finally:
             self._stroke = outer
             if outer is not None:
                 outer.has_step = False
 
-    def _write_now(self, area: _Area, rows: list[list[int]]) -> None:
+    def _write_now(self, area: CellArea, rows: list[list[int]]) -> None:
         # A value that is refused is refused before anything is done, and so is a layer.
-        self._say_of(area, rows)
+        self._try_values(area, rows)
         news = {new != 0 for _, new in self._differences(area, rows) or ()}
         if not news:
             return
@@ -508,17 +528,16 @@ class Document:
                 raise
             self._end(depth, is_undone=False)
 
-    def _say_of(self, area: _Area, rows: list[list[int]]) -> None:
+    def _try_values(self, area: CellArea, rows: list[list[int]]) -> None:
         """Says a stamp past every map with the value of rows that is the first to be refused: it changes nothing, and begins no macro."""
-        with self._beginning_if(lambda: False):
-            self._say(f'stamp {area.layer} {_NOWHERE} 1 {doubtful(rows)}')
+        self._say(f'stamp {area.layer} {_NOWHERE} 1 {doubtful(rows)}')
 
-    def _stamp_parts(self, area: _Area, parts: list[Part], rows: list[list[int]], merge: bool) -> None:
+    def _stamp_parts(self, area: CellArea, parts: list[Part], rows: list[list[int]], merge: bool) -> None:
         if len(parts) == 1:
             self._paint(area, f'{area.width} {parts[0].values}', merge, self._stroke)
             return
         # A value that is refused is refused before the first part.
-        self._say(f'stamp {area.layer} {_NOWHERE} 1 {doubtful(rows)}')
+        self._try_values(area, rows)
         stroke = self._stroke or _Stroke()
         for place, part in enumerate(parts):
             at = area._replace(y=area.y + part.first, height=part.height)
@@ -528,29 +547,24 @@ class Document:
                 call = f'stamp: row {part.first} and those below it of {len(rows)} rows; those above it stand, as a step'
                 raise Refused(refusal.code, refusal.words, call, place, forms=()) from None
 
-    def _paint(self, area: _Area, rest: str, merge: bool, stroke: Optional[_Stroke]) -> None:
+    def _paint(self, area: CellArea, rest: str, merge: bool, stroke: Optional[_Stroke]) -> None:
         """Says a stamp, or an erase where the rest has no values."""
         word = 'stamp' if ' ' in rest else 'erase'
         said = f'{area.layer} {area.x} {area.y} {rest if word == "stamp" else f"{area.width} {area.height}"}'
         if stroke is None or merge:
-            self._say(f'{word}{"+" if merge else ""} {said}')
-        elif stroke.has_step:
-            index = self._status_now().index
-            self._say(f'{word}+ {said}')
-            # Where paints have taken each other back, their step is gone.
-            stroke.has_step = self._status_now().index >= index
+            self._say_edit(f'{word}{"+" if merge else ""} {said}')
         else:
-            inside = self._on_map(area)
-            before = self._editor._cells(*inside)
-            self._say(f'{word} {said}')
-            stroke.has_step = self._editor._cells(*inside) != before
+            self._say_edit(f'{word}{"+" if stroke.has_step else ""} {said}')
+            # A paint that changes nothing leaves the step. Where paints have taken each other back, it is gone.
+            became = self._editor._told.became
+            stroke.has_step = became != GONE and (stroke.has_step or became in (ADDED, ADDED_AND_DROPPED))
 
-    def _on_map(self, area: _Area) -> _Area:
+    def _on_map(self, area: CellArea) -> CellArea:
         """A rectangle of cells as far as it is on the map."""
         sizes = self._sizes()
         left, top = min(max(area.x, 0), sizes.width), min(max(area.y, 0), sizes.height)
         right, bottom = min(area.x + area.width, sizes.width), min(area.y + area.height, sizes.height)
-        return _Area(area.layer, left, top, max(right - left, 0), max(bottom - top, 0))
+        return CellArea(area.layer, left, top, max(right - left, 0), max(bottom - top, 0))
 
     def erase(self, layer: LayerLike, x: int, y: int, width: int, height: int, merge: bool = False) -> None:
         """Empties a rectangle of cells of a tile layer; with `merge` it is one step with an erase of the same layer before it.
@@ -559,7 +573,7 @@ class Document:
         size = words.number(width, 'a width'), words.number(height, 'a height')
 
         def work() -> None:
-            area = _Area(self._id_of(layer), left, top, *size)
+            area = CellArea(self._id_of(layer), left, top, *size)
             with self._beginning_if(lambda: self._changes(area, None)):
                 self._paint(area, '', merge, self._stroke)
 
@@ -573,7 +587,7 @@ class Document:
         def work() -> None:
             id = self._id_of(layer)
             with self._beginning_if(lambda: list(self._editor._cells(id, left, top, 1, 1) or ()) != [said]):
-                self._say(f'fill {id} {left} {top} {said}')
+                self._say_edit(f'fill {id} {left} {top} {said}')
 
         self._do(work)
 
@@ -594,17 +608,14 @@ class Document:
         """The width and the cells of a rectangle of a tile layer."""
         left, top = words.coordinate(x, 'x'), words.coordinate(y, 'y')
 
-        def refuse(code: int, what: str) -> NoReturn:
-            raise Refused(code, what, f'Layer {layer.id}: cells {left}, {top}, {width}, {height}', forms=())
-
         def work() -> tuple[int, memoryview]:
             sizes = self._sizes()
             wide = sizes.width - left if width is None else words.coordinate(width, 'a width')
             high = sizes.height - top if height is None else words.coordinate(height, 'a height')
             cells = self._editor._cells(layer.id, left, top, wide, high)
             if cells is None:
-                is_tiles = layer._now()['type'] == 'tilelayer'
-                refuse(*((32, 'outside the map') if is_tiles else (31, 'layer of another kind')))
+                code = 32 if layer._now()['type'] == 'tilelayer' else 31
+                raise refused_call(code, f'Layer {layer.id}: cells {left}, {top}, {width}, {height}')
             return wide, memoryview(cells.tobytes()).cast('I')
 
         return self._do(work)
@@ -639,6 +650,26 @@ class Document:
         Refused: 39 for a size beyond the limits."""
         size = f'{words.number(width, "a width")} {words.number(height, "a height")}'
         self._edit(f'resize {size} {words.coordinate(x, "x")} {words.coordinate(y, "y")}')
+
+    # ---- what lines did to it
+    def watch(self, callback: Callable[[Told], object]) -> Watch:
+        """Has a function called behind each line that changes the map, its selection or how the document stands, with what the line did;
+        also in macros and strokes. It is called behind the call that has said the line, in its thread, until the watch is ended, by `end` or
+        at the end of a `with`, or the document is closed. It may read, and not edit, which raises InCallback. What it raises itself is
+        logged, and goes no further. Raises TypeError."""
+        if not callable(callback):
+            raise TypeError(f'a callback is a function: {type(callback).__name__}')
+
+        def work() -> Watch:
+            status = self._status_now()
+            standing = status.index, status.count, status.depth, int(status.clean)
+            return self._editor._events.watched.setdefault(self, Watched(self, standing)).add(callback)
+
+        return self._do(work)
+
+    def _watched_no_more(self, watched: Watched) -> None:
+        if self._editor._events.watched.get(self) is watched:
+            del self._editor._events.watched[self]
 
     # ---- its file
     def save(self, path: 'Union[str, os.PathLike[str], None]' = None, force: bool = False) -> None:
@@ -681,8 +712,7 @@ class Document:
         self._leave('discard')
 
     def _leave(self, word: str) -> None:
-        self._edit(f'{word} {self._name}')
-        self._editor._forget(self._name)
+        self._mark(f'{word} {self._name}')
         _LOG.info('%s: closed', self._name)
 
     def __enter__(self) -> 'Document':
@@ -698,8 +728,9 @@ class Document:
             return f'<Document {self._name!r}, closed>'
 
         def standing() -> str:
-            sizes, status = self._sizes(), self._say('status')[len('ok '):]
-            return f'{sizes.width} by {sizes.height}, {status}'
+            sizes, status = self._sizes(), self._status_now()
+            clean = 'clean' if status.clean else 'dirty'
+            return f'{sizes.width} by {sizes.height}, {status.index}/{status.count} {clean} {status.depth}'
 
         described = self._peek(standing)
         return f'<Document {self._name!r}>' if described is None else f'<Document {self._name!r}, {described}>'

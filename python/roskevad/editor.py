@@ -2,12 +2,10 @@
 """An editor of tile maps, in memory."""
 import contextlib
 import ctypes
-import functools
 import itertools
 import json
 import logging
 import os
-import re
 import threading
 import warnings
 from array import array
@@ -18,76 +16,34 @@ from typing import TYPE_CHECKING, Any, Callable, ContextManager, Iterable, Itera
 from . import library, words
 from .compressed_layers import UnpackedMap
 from .document import Document
-from .faults import Closed, Refused
+from .faults import Closed, InCallback, Refused, refused_call
 from .folder_files import read, refuse_unknown
 from .library import LIBRARY, OWNERS, CEditor, DocumentStatus, LinesDone, SelectionRun
 from .limits import MAX_LIMIT
-from .line_bytes import EDITS, NOT_IN_MACROS, bytes_of, data_of, word_at_front, word_of
+from .line_bytes import begins_macros, block_ends, bytes_of, data_of, word_of
 from .map_faults import refused_map
 from .names import document_name
+from .refusals import REFUSALS
 from .rooms import Room
 from .saving import Saving
 from .tiled_maps import Members, note_of, origin_of, put_back, restored, set_aside, without_packing
+from .told import DOCUMENTS, STEP_ROW, StepRow, Told, step_of, told_of
+from .turns import busy_fault, fork_fault, forks, turn
 from .unsettled import ActiveDocument, TemporaryFile, Unsettled
 from .views import Layer
+from .watches import Events
 
 if TYPE_CHECKING:
     from _typeshed import ReadableBuffer
 
 _LOG = logging.getLogger('roskevad')
-_REFUSAL = re.compile(r'no (\d+) (.*)', re.DOTALL)
 _STEP = LIBRARY.roskevad_step
-# How many forks lie between this process and the one that loaded the module.
-_forks = [0]
-
-
-def _count_fork() -> None:
-    _forks[0] += 1
-
-
-os.register_at_fork(after_in_child=_count_fork)
-
-
-def _fork_fault() -> Closed:
-    return Closed('an Editor is not used in a fork of its process')
-
-
-def _busy_fault() -> RuntimeError:
-    return RuntimeError('an Editor is not called from a signal handler or a callback while its thread is in a call')
-
-
-_Method = TypeVar('_Method', bound=Callable[..., Any])
+# It takes two addresses, and is called behind each line: so it has no types, and keeps the lock of the interpreter.
+_TELL = ctypes.PyDLL('', handle=LIBRARY._handle).roskevad_tell
+_TELL.restype = ctypes.c_size_t
+# The bytes that a telling has room for, and more.
+_TOLD_ROOM = 128
 _Answer = TypeVar('_Answer')
-# What lines that close a document begin with, and those that may make another one active.
-_CLOSINGS = b'close ', b'discard '
-_ACTIVATIONS = b'use ', b'new ', b'open ', *_CLOSINGS
-
-
-def _turn(method: _Method) -> _Method:
-    """A call of an editor: one at a time, by whatever thread. `step` and `step_bytes` are written out the same way.
-
-    Who has the lock and finds the editor busy is the thread that is in a call: then a signal handler calls in its midst. The
-    mark is taken back twice, since in Python 3.9 the exception of a handler may fall in between."""
-
-    @functools.wraps(method)
-    def call(self: 'Editor', *words: Any, **named: Any) -> Any:
-        if self._process != _forks[0]:
-            raise _fork_fault()
-        with self._lock:
-            if self._is_busy:
-                raise _busy_fault()
-            self._is_busy = True
-            try:
-                try:
-                    if self._unsettled is not None:
-                        self._settle()
-                    return method(self, *words, **named)
-                finally:
-                    self._is_busy = False
-            finally:
-                self._is_busy = False
-
-    return cast(_Method, call)
 
 
 class Editor:
@@ -108,15 +64,21 @@ class Editor:
         self._unsettled: Optional[Unsettled] = None
         # Whether a save has failed: then what is read of a file need not be what the disk has, and is compared no more.
         self._has_failed = False
-        # The open documents that were handed out, by their names; and the one that a call has made active, while no line has changed that.
+        # The open documents that were handed out, by their names; how many documents are open, while there are any of these; and the one
+        # that a call has made active, while no line has changed that.
         self._handles: dict[str, Document] = {}
+        self._count_known = 0
         self._active_handle: Optional[Document] = None
         # The documents that have macros which wait for their first edit.
         self._waiting: set[Document] = set()
+        self._events = Events()
         self._c_editor = CEditor()
-        self._process = _forks[0]
+        self._process = forks[0]
         self._at = ctypes.byref(self._c_editor)
         self._room = Room(4096)
+        # What the last line did: all zero of none.
+        self._told = library.Told.from_buffer(ctypes.create_string_buffer(_TOLD_ROOM))
+        self._told_at = ctypes.byref(self._told)
         self.folder = Path(folder)
         if not 0 <= limit <= MAX_LIMIT:
             raise ValueError(f'a limit is from 0 to {MAX_LIMIT}: {limit}')
@@ -144,7 +106,7 @@ class Editor:
 
     def close(self) -> None:
         """Gives back its memory. Twice is harmless, and so it is in a fork of its process."""
-        if self._process == _forks[0]:
+        if self._process == forks[0]:
             self._close()
 
     def __del__(self) -> None:
@@ -156,9 +118,11 @@ class Editor:
 
     __copy__ = __deepcopy__ = __reduce__ = __reduce_ex__ = _refuse_copy
 
-    @_turn
+    @turn
     def _close(self) -> None:
         self._active_handle = None
+        self._events.clear()
+        ctypes.memset(self._told_at, 0, _TOLD_ROOM)
         LIBRARY.roskevad_close(self._c_editor)
 
     def _settle(self) -> None:
@@ -183,7 +147,7 @@ class Editor:
             return None
         if count > self._room.size // unit:
             self._room = Room(count * unit)
-            self._call('reply' if name == 'step' else name, *(() if name == 'step' else words), self._room.at, count)
+            self._call(name, *words, self._room.at, count)
         copied: bytes = self._room.bytes[:count * unit]
         return copied
 
@@ -198,43 +162,32 @@ class Editor:
 
     def _reply_to(self, line: str, call: str) -> bytes:
         """The reply to a line that a call makes. Raises Refused with the call."""
-        data = bytes_of(line)
-        if self._waiting and word_at_front(data) in NOT_IN_MACROS and self._waits():
-            raise Refused(20, 'macro open', call, forms=())
-        self._note_activation(data)
-        reply = self._copy_bytes('step', data, len(data)) or b''
-        refusal = _REFUSAL.fullmatch(reply.decode()) if reply.startswith(b'no ') else None
+        reply, refusal = self._said(line.encode('utf-8', 'surrogateescape'))
         if refusal:
-            raise Refused(int(refusal[1]), refusal[2], call, forms=())
-        return reply
+            raise refused_call(refusal, call)
+        return reply or b''
+
+    def _said(self, line: bytes) -> tuple[Optional[bytes], int]:
+        """The reply to a line, `None` where it is quiet; and the number of its refusal, 0 where it is done. What it did is noted."""
+        room, told = self._room, self._told
+        size = _STEP(self._at, line, len(line), room.at, room.size)
+        _TELL(self._at, self._told_at)
+        refusal: int = told.refusal
+        try:
+            return room.bytes[:size] if size <= room.size else self._long(size), refusal
+        finally:
+            if self._handles and (told.differs & DOCUMENTS or self._events.watched):
+                self._note()
+
+    def _long(self, size: int) -> Optional[bytes]:
+        """A reply that the room is too small for; `None` where there is none."""
+        return None if size == library.NONE else self._copy_bytes('reply')
 
     # ---- lines
     def step_bytes(self, line: 'ReadableBuffer') -> Optional[bytes]:
         """Does what a line asks for, and gives the reply, whatever it is; `None` where the line is quiet. A byte 10 ends no
         line here: it is a byte like any other."""
-        data = line if isinstance(line, bytes) else data_of(line, 'step_bytes')
-        if self._process != _forks[0]:
-            raise _fork_fault()
-        with self._lock:
-            if self._is_busy:
-                raise _busy_fault()
-            self._is_busy = True
-            try:
-                try:
-                    if self._unsettled is not None:
-                        self._settle()
-                    if self._handles:
-                        self._note_activation(data)
-                    room = self._room
-                    size = _STEP(self._at, data, len(data), room.at, room.size)
-                    reply: Optional[bytes] = room.bytes[:size] if size <= room.size else self._long(size)
-                    if self._handles and data.startswith(_CLOSINGS):
-                        self._forget_if_closed(data, reply)
-                    return reply
-                finally:
-                    self._is_busy = False
-            finally:
-                self._is_busy = False
+        return self._heard(line if isinstance(line, bytes) else data_of(line, 'step_bytes'))[0]
 
     def step(self, line: str) -> str:
         """Does what a line asks for, and gives the reply, '' where the line is quiet. Raises Refused; TypeError where it is no
@@ -245,40 +198,45 @@ class Editor:
             raise TypeError(f'step takes a str, and step_bytes takes bytes: {type(line).__name__}') from None
         if '\n' in line:
             raise ValueError('step takes one line, and there is a newline in it')
-        if self._process != _forks[0]:
-            raise _fork_fault()
+        reply, refusal = self._heard(data)
+        if refusal:
+            raise Refused(refusal, REFUSALS[refusal], line)
+        return '' if reply is None else reply.decode('utf-8', 'replace')
+
+    def _heard(self, line: bytes) -> tuple[Optional[bytes], int]:
+        """What `_said` gives of a line that a caller has written, in a turn."""
+        if self._process != forks[0]:
+            raise fork_fault()
         with self._lock:
             if self._is_busy:
-                raise _busy_fault()
+                raise busy_fault()
             self._is_busy = True
             try:
                 try:
                     if self._unsettled is not None:
                         self._settle()
-                    if self._handles:
-                        self._note_activation(data)
-                    room = self._room
-                    size = _STEP(self._at, data, len(data), room.at, room.size)
-                    reply: bytes = room.bytes[:size] if size <= room.size else self._long(size) or b''
-                    if self._handles and data.startswith(_CLOSINGS):
-                        self._forget_if_closed(data, reply)
+                    if self._waiting or self._events.is_telling:
+                        self._meet(line)
+                    return self._said(line)
                 finally:
                     self._is_busy = False
             finally:
                 self._is_busy = False
-        text = reply.decode('utf-8', 'replace')
-        if text.startswith('no '):
-            refusal = _REFUSAL.fullmatch(text)
-            if refusal:
-                raise Refused(int(refusal[1]), refusal[2], line)
-        return text
+                if self._events.pending:
+                    self._events.tell()
 
-    def _long(self, size: int) -> Optional[bytes]:
-        """A reply that the room is too small for; `None` where there is none."""
-        return None if size == library.NONE else self._copy_bytes('reply')
+    def _meet(self, line: bytes) -> None:
+        """Begins macros of the active document that wait for their first edit, where a line of a caller is one. Raises InCallback."""
+        self._refuse_in_callback(line.decode('utf-8', 'replace'))
+        if begins_macros(line) and self._waits():
+            self._handle(self._active_name())._begin_now()
+
+    def _refuse_in_callback(self, call: str) -> None:
+        if self._events.is_telling:
+            raise InCallback(f'a callback of watch may read, and not edit: {call:.200}')
 
     def run_lines(self, lines: Iterable[str]) -> list[str]:
-        """Does lines, one after another, in one call of the library, and gives the replies to those that are not quiet.
+        """Does lines, one after another, in few calls of the library, and gives the replies to those that are not quiet.
 
         Raises Refused at the first one that is refused: `place` is its place among the lines, from 0, and `replies` are those
         to the lines before it, which are done. Raises ValueError for a line with a newline in it, and does nothing."""
@@ -289,95 +247,105 @@ class Editor:
             raise ValueError('run_lines takes lines, and there is a newline in one')
         return self._run(words)
 
-    @_turn
+    @turn
     def _run(self, words: list[bytes]) -> list[str]:
+        self._refuse_in_callback('run_lines(..)')
         replies: list[str] = []
-        # While macros wait for their first edit, it must be known which document is active at each one.
-        ends = [at for at, word in enumerate(words, 1) if word.startswith(_ACTIVATIONS)] if self._waiting else []
-        for start, end in zip([0, *ends], [*ends, len(words)]):
-            try:
-                replies += self._run_part(words[start:end])
-            except Refused as refusal:
-                raise Refused(refusal.code, refusal.words, refusal.line, start + (refusal.place or 0), replies + refusal.replies) from None
+        done = 0
+        for end in block_ends(words) if self._handles else [len(words)]:
+            while done < end:
+                # A watch is told of each line, and a macro that waits begins with the line that is its first edit.
+                is_single = bool(self._waiting or self._events.watched)
+                if is_single:
+                    self._meet(words[done])
+                count, refusal = self._run_part(words[done:done + 1 if is_single else end], replies)
+                done += count
+                if refusal:
+                    line = words[done - 1].decode('utf-8', 'surrogateescape')
+                    raise Refused(refusal, REFUSALS[refusal], line, done - 1, replies)
         return replies
 
-    def _run_part(self, words: list[bytes]) -> list[str]:
+    def _run_part(self, words: list[bytes], replies: list[str]) -> tuple[int, int]:
+        """Does lines, up to the first that is refused, and takes the replies to those that are not. How many are done, that one too, and the
+        number of its refusal, 0 where there is none."""
         data = b''.join(word + b'\n' for word in words)
         if 32 * len(words) > self._room.size:
             self._room = Room(32 * len(words))
         count, done = 0, LinesDone()
-        replies: list[str] = []
-        for word in words if self._handles else ():
-            self._note_activation(word)
-        try:
-            while data:
-                count += self._call('run_lines', data, len(data), 1, self._room.at, self._room.size, done)
+        while data:
+            count += self._call('run_lines', data, len(data), 1, self._room.at, self._room.size, done)
+            _TELL(self._at, self._told_at)
+            try:
+                # Each reply stands before a newline.
                 replies += self._room.bytes[:done.replies].decode('utf-8', 'replace').split('\n')[:-1]
                 if not done.has_room:
                     replies.append((self._copy_bytes('reply') or b'').decode('utf-8', 'replace'))
-                if done.is_refused:
-                    raise _refused(replies.pop(), words[count - 1], count - 1, replies)
-                data = data[done.bytes:]
-        finally:
-            if self._handles:
-                self._forget_closed(words[:count - done.is_refused])
-        return replies
+            finally:
+                self._note()
+            if done.is_refused:
+                replies.pop()
+                return count, self._told.refusal
+            data = data[done.bytes:]
+        return count, 0
 
     # ---- the files that `open` and `save` find
-    @_turn
+    @turn
     def put_file(self, name: str, data: 'ReadableBuffer') -> None:
         """Puts the bytes of a bytes-like object under a name, in place of those that are there. Raises TypeError where it is
         none, and ValueError where no line can spell that name."""
         self._put(name, data_of(data, 'put_file'))
 
     def _put(self, name: str, data: bytes) -> None:
+        self._refuse_in_callback(f'put_file({name!r}, ..)')
         word = bytes_of(name)
         if self._call('put_file', word, len(word), data, len(data)) == library.BAD_NAME:
             raise ValueError(f'no line can spell the name {name!r}')
 
-    @_turn
+    @turn
     def file(self, name: str) -> Optional[bytes]:
         """The bytes under a name, and `None` where there is no file of that name."""
         word = bytes_of(name)
         return self._copy_bytes('file', word, len(word))
 
-    @_turn
+    @turn
     def remove_file(self, name: str) -> bool:
         """Takes a file out, and says whether there was one of that name."""
+        self._refuse_in_callback(f'remove_file({name!r})')
         return self._removed(name)
 
     def _removed(self, name: str) -> bool:
         word = bytes_of(name)
         return self._call('remove_file', word, len(word)) == library.DONE
 
-    @_turn
+    @turn
     def files(self) -> list[str]:
         """The names of the files, in their order."""
         names = (self._copy_bytes('file_name', at) for at in range(self._call('file_count')))
         return [name.decode() for name in names if name is not None]
 
     # ---- maps as bytes
-    @_turn
+    @turn
     def open_map(self, name: str, data: 'ReadableBuffer', *, all_maps: bool = False) -> str:
         """Opens a document of that name with a map that is given as the bytes of a file, in a bytes-like object; with `all_maps`
         any map that Tiled saves as JSON, as `open_file` does. Raises Refused."""
         given, call = data_of(data, 'open_map'), f'open_map({name!r})'
         return self._open_any(name, given, call) if all_maps else self._open_text(name, given, given, UnpackedMap(given, {}), call)
 
-    @_turn
+    @turn
     def save_map(self, *, all_maps: bool = False) -> bytes:
         """The active document's map as the bytes of a file; its index is the clean one then. With `all_maps` what was set aside
         is put back, as `save_file` does. Raises Refused."""
         return self._saved_bytes('save_map()', all_maps)
 
     def _saved_bytes(self, call: str, all_maps: bool) -> bytes:
+        self._refuse_save(call)
         data = self._shown(call)
         whole = self._whole(data, call) if all_maps else data
         self._reply_to('clean', call)
         return whole
 
     def _shown(self, call: str) -> bytes:
-        """The active document's map as the editor holds it."""
+        """The active document's map as the editor holds it: it stands behind the first word of the reply."""
         return self._reply_to('show', call)[len(b'map '):]
 
     def _whole(self, data: bytes, call: str) -> bytes:
@@ -415,6 +383,7 @@ class Editor:
 
     def _open(self, document: str, data: Optional[bytes], call: str) -> str:
         """Opens a document with these bytes, which stand in the store under a free name meanwhile."""
+        self._refuse_in_callback(call)
         name = next(name for name in map('roskevad{}.tmj'.format, itertools.count()) if not self._has(name))
         self._unsettled = TemporaryFile(self, name)
         try:
@@ -429,7 +398,7 @@ class Editor:
         return self._count('file', word, len(word)) is not None
 
     # ---- maps of a folder
-    @_turn
+    @turn
     def open_file(self, path: Union[str, 'os.PathLike[str]'], name: Optional[str] = None) -> str:
         """Opens a document with the map of a file, any that Tiled saves as JSON: what the editor's format refuses is set aside, as
         fractions, and layers are unpacked. Its name is the one that `document_name` makes from the file's, where none is given.
@@ -445,10 +414,10 @@ class Editor:
             return reply
         except Refused as refusal:
             if fault is not None and refusal.code == 50:
-                raise _failed(call) from fault
+                raise refused_call(51, call) from fault
             raise
 
-    @_turn
+    @turn
     def save_file(self, path: Union[str, 'os.PathLike[str]']) -> str:
         """Writes the active document's map to a file: beside it first, and then in its place; its index is the clean one
         then. What was set aside is put back, if no edit has changed it. A file that has these bytes stays as it is. Raises
@@ -485,33 +454,34 @@ class Editor:
                 raise
         if saving.fault is not None:
             self._has_failed = True
-            raise _failed(call) from saving.fault
+            raise refused_call(51, call) from saving.fault
         return f'saved {place.name} {len(data)}'
 
     def _refuse_save(self, call: str) -> None:
         """Raises what a `save` would be refused with before it writes."""
+        self._refuse_in_callback(call)
         at = self._number('active')
         if at is None:
-            raise _none_active(call)
+            raise refused_call(10, call)
         if self._status_of(at).depth > 0 or self._waits():
-            raise Refused(20, 'macro open', call, forms=())
+            raise refused_call(20, call)
 
     def _mark_clean(self) -> None:
-        self._copy_bytes('step', b'clean', len(b'clean'))
+        self._said(b'clean')
 
     # ---- the active document
-    @_turn
+    @turn
     def map(self) -> dict[str, Any]:
         """The active document's map, as `show` gives it, but with fractions as floats. Raises Refused."""
         return self._tree(self._shown('map()'))
 
-    @_turn
+    @turn
     def outline(self) -> dict[str, Any]:
         """The active document's map as `map` gives it, without the member `data` of tile layers. Raises Refused."""
         return self._tree(self._copied('outline', 'outline()'))
 
     @property
-    @_turn
+    @turn
     def origin(self) -> tuple[int, int]:
         """The column and the row at which the corner of the active document's map lies in the infinite map that it was opened as,
         in cells; 0 and 0 where it was not infinite. Raises Refused."""
@@ -525,10 +495,10 @@ class Editor:
         """The text that a call of the library gives of the active document. Raises Refused, with the caller's own call."""
         text = self._copy_bytes(name)
         if text is None:
-            raise _none_active(call)
+            raise refused_call(10, call)
         return text
 
-    @_turn
+    @turn
     def cells(self, layer: Union[int, Layer], x: int, y: int, width: int, height: int) -> 'Optional[array[int]]':
         """The values of the cells of a rectangle, row by row, in a tile layer of the active document, or the one with this id; `None`
         where none is active, it has no such tile layer, or the rectangle leaves the map."""
@@ -545,12 +515,12 @@ class Editor:
         self._call('cells', *where, values.buffer_info()[0] if values else self._room.at, count)
         return values
 
-    @_turn
+    @turn
     def layer_id(self, name: str) -> int:
         """The id of the first layer of that name, in drawing order, groups and what stands in them too. Raises KeyError where there is none."""
         return self._first_id('layer', name)
 
-    @_turn
+    @turn
     def object_id(self, name: str) -> int:
         """The id of the first object of that name, in drawing order. Raises KeyError where there is none."""
         return self._first_id('object', name)
@@ -559,7 +529,7 @@ class Editor:
         found = self._find(subject, name)
         if found is None:
             if self._number('active') is None:
-                raise _none_active(f'{subject}_id({name!r})')
+                raise refused_call(10, f'{subject}_id({name!r})')
             raise KeyError(name)
         return found
 
@@ -575,12 +545,12 @@ class Editor:
         ids = memoryview(self._copy_bytes('object_ids', 0, unit=4) or b'').cast('I').tolist()
         return next((id for id in ids if json.loads(self._copy_bytes('object', id) or b'{}').get('name', '') == ''), None)
 
-    @_turn
+    @turn
     def last_layer_id(self) -> int:
         """The id of the layer that was added last: the next id less one. Raises Refused."""
         return self._next_id('layer') - 1
 
-    @_turn
+    @turn
     def last_object_id(self) -> int:
         """The id of the object that was added last: the next id less one. Raises Refused."""
         return self._next_id('object') - 1
@@ -588,10 +558,10 @@ class Editor:
     def _next_id(self, kind: str) -> int:
         answer = self._number(f'next_{kind}_id')
         if answer is None:
-            raise _none_active(f'last_{kind}_id()')
+            raise refused_call(10, f'last_{kind}_id()')
         return answer
 
-    @_turn
+    @turn
     def selection(self) -> list[tuple[int, int, int]]:
         """The runs of the active document's selection in row order: row, first column and number of cells of each."""
         run = SelectionRun()
@@ -601,25 +571,50 @@ class Editor:
             runs.append((run.row, run.column, run.count))
         return runs
 
-    @_turn
+    @turn
     def clean_index(self) -> Optional[int]:
         """The index at which the active document counts as clean; `None` where that was lost or none is active."""
         return self._number('clean_index')
 
-    @_turn
+    @turn
     def is_macro(self, at: int) -> Optional[bool]:
         """Whether the step at this place of the active document, from 0, is a macro; `None` where there is none."""
         answer = self._number('is_macro', at)
         return None if answer is None else answer == 1
 
-    @_turn
+    @turn
     def action_text(self, at: int) -> Optional[str]:
         """The text that names the action of the step at this place of the active document, from 0; `None` where there is none."""
         text = self._copy_bytes('action_text', at)
         return None if text is None else text.decode('utf-8', 'replace')
 
+    @turn
+    def told(self) -> Told:
+        """What the last line did, of the document that is active now. Where the last call has done several lines, all may differ."""
+        self._call('tell', self._told)
+        return told_of(self._told)
+
+    @turn
+    def steps(self, start: int = 0, stop: Optional[int] = None) -> list[StepRow]:
+        """The steps of the active document, done and undone, with what each is about and changes: from one on, up to another, which is
+        left out, or to the last; an open macro stands last. None where no document is active. Raises TypeError, ValueError."""
+        return self._steps(start, stop)
+
+    def _steps(self, start: int, stop: Optional[int]) -> list[StepRow]:
+        first, active = words.number(start, 'the place of a step'), self._number('active')
+        there = 0 if active is None else self._status_of(active).count
+        end = there if stop is None else min(words.number(stop, 'the place of a step'), there)
+        if end * STEP_ROW.size > self._room.size:
+            self._room = Room(end * STEP_ROW.size)
+        count = self._call('steps', first, self._room.at, max(end - first, 0))
+        rows = STEP_ROW.iter_unpack(self._room.bytes[:count * STEP_ROW.size])
+        return [step_of(at, self._step_text(at), row) for at, row in enumerate(rows, first)]
+
+    def _step_text(self, at: int) -> str:
+        return (self._copy_bytes('step_text', at) or b'').decode('utf-8', 'replace')
+
     # ---- all documents
-    @_turn
+    @turn
     def unsaved(self) -> list[str]:
         """The names of the open documents that are not clean, in order of opening."""
         return [name for at, name in enumerate(self._names()) if not self._status_of(at).is_clean]
@@ -639,8 +634,8 @@ class Editor:
 
     @contextlib.contextmanager
     def _locked(self) -> Iterator[None]:
-        if self._process != _forks[0]:
-            raise _fork_fault()
+        if self._process != forks[0]:
+            raise fork_fault()
         with self._lock:
             yield
 
@@ -651,7 +646,13 @@ class Editor:
         cells = f'{words.number(width, "a width")} {words.number(height, "a height")}'
         pixels = f'{words.number(tile_width, "a width")} {words.number(tile_height, "a height")}'
         line = f'new {words.document(name)} {cells} {pixels} {words.text(tileset, "the source of a tileset")}'
-        document = self._in_turn(lambda: (self._reply_to(line, line), self._handle(name))[1])
+
+        def work() -> Document:
+            self._refuse_in_callback(line)
+            self._reply_to(line, line)
+            return self._handle(name)
+
+        document = self._in_turn(work)
         _LOG.info('%s: made', name)
         return document
 
@@ -697,14 +698,21 @@ class Editor:
     @active.setter
     def active(self, document: Optional[Document]) -> None:
         if document is None:
-            self._in_turn(lambda: self._reply_to('use -', 'use -'))
+            self.step('use -')
         elif document.editor is not self:
             raise ValueError(f'{document!r} is open in another editor')
         else:
-            document._do(lambda: None)
+            document._do(lambda: self._refuse_in_callback(f'active = {document!r}'))
 
-    @_turn
+    @turn
     def _in_turn(self, work: Callable[[], _Answer]) -> _Answer:
+        return work()
+
+    @turn
+    def _with_document(self, document: Document, work: Callable[[], _Answer]) -> _Answer:
+        if self._events.is_telling:
+            return self._restored(lambda: document._entered(work))
+        document._enter()
         return work()
 
     def _free_name(self) -> str:
@@ -734,54 +742,37 @@ class Editor:
 
     def _handle(self, name: str) -> Document:
         """The document of that name, which is open."""
+        if not self._handles:
+            self._count_known = self._call('document_count')
         if name not in self._handles:
             self._handles[name] = Document(self, name)
         return self._handles[name]
 
-    def _note_activation(self, line: bytes) -> None:
-        """Notes that a line may make another document active, or is an edit that a macro waits for, before it is done."""
-        if line.startswith(_ACTIVATIONS):
-            self._active_handle = None
-        elif self._waiting and word_at_front(line) in EDITS | NOT_IN_MACROS and self._waits():
-            self._handle(self._active_name())._begin_now()
+    def _note(self) -> None:
+        """Notes what was done last to documents that were handed out. Lines that may close one are done one at a time."""
+        if not self._told.differs & DOCUMENTS:
+            if self._events.watched:
+                self._events.note(self._active_handle or self._handles.get(self._active_name()), self._told)
+            return
+        self._active_handle = None
+        count, known = self._call('document_count'), self._count_known
+        self._count_known = count
+        if count < known:
+            names = self._names()
+            for name in [name for name in self._handles if name not in names]:
+                self._handles.pop(name)._close()
 
     def _waits(self) -> bool:
         """Whether the active document has macros that wait for their first edit."""
         return self._handles.get(self._active_name()) in self._waiting
 
-    def _forget(self, name: str) -> None:
-        """Notes that a document was closed."""
-        handle = self._handles.pop(name, None)
-        if handle is not None:
-            handle._close()
-
-    def _forget_if_closed(self, line: bytes, reply: Optional[bytes]) -> None:
-        if reply is not None and reply.startswith(b'ok '):
-            self._forget_closed([line])
-
-    def _forget_closed(self, lines: Iterable[bytes]) -> None:
-        for line in lines:
-            if line.startswith(_CLOSINGS):
-                self._forget(line.partition(b' ')[2].decode())
-
     def __repr__(self) -> str:
+        def listed() -> list[str]:
+            active = self._number('active')
+            return [f'*{name}' if at == active else name for at, name in enumerate(self._names())]
+
         try:
-            names = self._in_turn(lambda: self._reply_to('list', 'list').decode().split(' ')[1:])
+            names = self._in_turn(listed)
         except (Closed, RuntimeError, MemoryError):
             return '<Editor, closed or in a call>'
         return f'<Editor of {", ".join(names) or "no document"}>'
-
-
-def _failed(call: str) -> Refused:
-    return Refused(51, 'store failed', call, forms=())
-
-
-def _refused(reply: str, word: bytes, place: int, replies: list[str]) -> Refused:
-    """What is raised for a line among others that was answered so."""
-    refusal = _REFUSAL.fullmatch(reply)
-    assert refusal
-    return Refused(int(refusal[1]), refusal[2], word.decode('utf-8', 'surrogateescape'), place, replies)
-
-
-def _none_active(call: str) -> Refused:
-    return Refused(10, 'no active document', call, forms=())

@@ -1,13 +1,13 @@
 # SPDX-License-Identifier: MIT OR Apache-2.0
-"""Lines and files as bytes, as the library takes them."""
+"""Lines and files as bytes, as the library takes them; and what is read of a line that a caller has written himself, before it is done."""
 from typing import TYPE_CHECKING, Union
 
 if TYPE_CHECKING:
     from _typeshed import ReadableBuffer
 
-#: The words of lines that are edits, or begin or end a macro; and of those that are refused while one is open.
-EDITS = frozenset(b'stamp erase fill select layer resize object prop tileset begin end'.split())
-NOT_IN_MACROS = frozenset(b'undo redo goto clean save'.split())
+# The words of lines that are edits, or begin or end a macro; and of those that are refused while one is open.
+_EDITS = frozenset(b'stamp erase fill select layer resize object prop tileset begin end'.split())
+_NOT_IN_MACROS = frozenset(b'undo redo goto clean save'.split())
 
 
 def bytes_of(text: Union[str, bytes]) -> bytes:
@@ -24,9 +24,19 @@ def data_of(data: 'ReadableBuffer', call: str) -> bytes:
         raise TypeError(f'{call} takes bytes, or an object like bytes: {type(data).__name__}') from None
 
 
-def word_at_front(line: bytes) -> bytes:
-    """The first word of a line, without a `+`."""
-    return line.partition(b' ')[0].rstrip(b'+')
+def begins_macros(line: bytes) -> bool:
+    """Whether macros that wait for their first edit begin before a line: it is one, or is refused within a macro."""
+    return line.partition(b' ')[0].rstrip(b'+') in _EDITS | _NOT_IN_MACROS
+
+
+def block_ends(lines: list[bytes]) -> list[int]:
+    """Where many lines are cut: a line that may close a document is done by itself, so that the list of documents behind it tells. Another
+    document of its name may be open behind all of them."""
+    whole = b'\n'.join(lines)
+    if b'close ' not in whole and b'discard ' not in whole:
+        return [len(lines)]
+    closings = (at for at, line in enumerate(lines) if b'close ' in line or b'discard ' in line)
+    return sorted({len(lines), *(end for at in closings for end in (at, at + 1))})
 
 
 def word_of(line: str) -> bytes:

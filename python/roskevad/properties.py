@@ -90,7 +90,7 @@ class Properties(MutableMapping[str, Any]):
 
         def work() -> None:
             kind = named or self._type_for(name, value)
-            self._document._say(f'prop set{"+" if merge else ""} {self._owner} {name} {words.setting(name, value, kind)}')
+            self._document._say_edit(f'prop set{"+" if merge else ""} {self._owner} {name} {words.setting(name, value, kind)}')
 
         self._document._do(work)
 

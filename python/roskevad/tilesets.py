@@ -3,7 +3,7 @@
 from typing import TYPE_CHECKING, Iterator, NamedTuple, Optional, Union, cast
 
 from . import words
-from .faults import Refused
+from .faults import refused_call
 from .rows import BASE
 from .tiled_maps import Members
 
@@ -37,7 +37,7 @@ class Tileset:
     def _members(self) -> Members:
         members = self._document._do(lambda: cast(Optional[Members], self._document._read('tileset', self.first_id)))
         if members is None:
-            raise Refused(36, 'no such tileset', repr(self), forms=())
+            raise refused_call(36, repr(self))
         return members
 
     def __int__(self) -> int:
@@ -166,8 +166,8 @@ class Tilesets:
             value = None if renumbers else self._value_above(first)
             if value is not None:
                 why = f'a tile with the value {value} is in use, and would be one of it: renumbers=True adds it all the same'
-                raise Refused(37, 'tileset in use', f'tilesets.add({first}, {source!r})', forms=(), why=why)
-            self._document._say(line)
+                raise refused_call(37, f'tilesets.add({first}, {source!r})', why)
+            self._document._say_edit(line)
 
         self._document._do(work)
         return Tileset(self._document, first)

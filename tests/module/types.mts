@@ -1,8 +1,8 @@
 // SPDX-License-Identifier: MIT OR Apache-2.0
 // What the declarations must take, and what they must not. It is checked, and never run.
 import {
-  BadModule, Broken, Closed, Document, Editor, FORMS, Layer, Module, NoMemory, Refused, Run, Status, Tile,
-  VERSION, documentName, formsOf,
+  BadModule, Broken, CellArea, Closed, Document, Editor, FORMS, InCallback, Layer, Module, NoMemory, Refused, Run, Status,
+  StepRow, Subject, Tile, Told, VERSION, documentName, formsOf,
 } from "../../js/roskevad.js";
 
 async function used(bytes: Uint8Array): Promise<void> {
@@ -74,6 +74,20 @@ async function used(bytes: Uint8Array): Promise<void> {
   // @ts-expect-error: rows are rows of numbers
   town.stamp(1, 0, 0, [["a"]]);
 
+  const end: () => void = town.on("change", ({ cells, became, subject, refusal }) => {
+    const area: CellArea | null = cells === "all" ? null : cells;
+    const place: number[] = area ? [area.layer, area.x, area.y, area.width, area.height] : [];
+    const about: Subject | null = became === "gone" ? null : subject;
+    void [place, about?.kind, refusal ?? 0];
+  });
+  const rows: readonly StepRow[] = [...town.stepsSince(3), ...editor.steps(), ...editor.steps(1, 2)];
+  const last: Told = editor.told();
+  // @ts-expect-error: there is one event
+  town.on("click", () => 0);
+  // @ts-expect-error: what is told is only read
+  last.index = 4;
+  void [end, rows, last];
+
   const module: Module = await Module.load("roskevad.wasm");
   const second = new Editor(module, { limit: 5 });
   const third = await Editor.create({ module });
@@ -81,7 +95,7 @@ async function used(bytes: Uint8Array): Promise<void> {
   const fifth = await Editor.create({ module: { href: "file:///roskevad.wasm" } });
   const isBroken: boolean = module.isBroken;
   const refused = new Refused(4, "bad word", "undo undo");
-  const faults: Error[] = [refused, new Closed(), new NoMemory(), new Broken(), new BadModule()];
+  const faults: Error[] = [refused, new Closed(), new InCallback(), new NoMemory(), new Broken(), new BadModule()];
   const forms: readonly string[] = [...refused.forms, ...(FORMS.get("undo") ?? []), ...formsOf("u")];
   const why: string | null = refused.why;
   const told: [number, string, string, string] = [refused.code, refused.words, refused.line, VERSION];

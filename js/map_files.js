@@ -1,0 +1,105 @@
+// SPDX-License-Identifier: MIT OR Apache-2.0
+// Maps as the bytes of files: how they are opened, and how they are saved.
+import { Unpackable, packLayers, unpackLayers } from "./compressed_layers.js";
+import { Refused, refusedCall } from "./faults.js";
+import { faultOfFile, faultOfNoJson, isOfMap } from "./map_faults.js";
+import { bytesOf, textOf } from "./module.js";
+
+// The largest outline for which there is room before its size is known.
+const LONGEST_GUESS = 16 * 1024 * 1024;
+const STORE_FAILED = 51;
+
+/** Opens a document with any map, and gives the reply to `open`. Throws Refused with the call. */
+export async function openedMap(editor, name, data, call) {
+  editor._open();
+  editor._events.refuse(call);
+  const given = bytesOf(data);
+  const found = await unpacked(editor, given, call);
+  const text = made(editor, "set_aside", found.bytes, call);
+  try {
+    const reply = openBytes(editor, name, text, call);
+    if (text !== given) {
+      editor._handle(name)._markSetAside();
+    }
+    return reply;
+  } catch (fault) {
+    if (fault instanceof Refused && isOfMap(fault.code)) {
+      const { code, ...more } = faultOfFile(editor._module, fault.code, given, found);
+      throw refusedCall(code, call, more);
+    }
+    throw fault;
+  }
+}
+
+// What is unpacked of a file. Throws Refused with the call.
+async function unpacked(editor, given, call) {
+  try {
+    return await unpackLayers(given);
+  } catch (fault) {
+    if (fault instanceof Unpackable) {
+      const { code, ...more } = faultOfNoJson(editor._module, given) ?? { code: fault.code, why: fault.why };
+      throw refusedCall(code, call, more);
+    }
+    throw fault;
+  }
+}
+
+/** The active document's map as the bytes of a file; its index is the clean one at once. Throws Refused with the call. */
+export async function savedMap(editor, call) {
+  editor._events.refuse(call);
+  if (editor._waits()) {
+    throw refusedCall(20, call);
+  }
+  const shown = editor._shown(call);
+  const hasSetAside = editor._isSetAside();
+  const bytes = hasSetAside ? made(editor, "put_back", shown, call) : shown;
+  editor._replyTo("clean", call);
+  if (!hasSetAside) {
+    return bytes;
+  }
+  const document = editor._activeName();
+  try {
+    return await packLayers(bytes);
+  } catch (fault) {
+    markDirty(editor, document);
+    throw fault;
+  }
+}
+
+// What a call of the library makes of the text of a map; the same bytes where it makes none.
+function made(editor, name, bytes, call) {
+  const { text, why } = editor._module.made(name, bytes);
+  if (why !== null) {
+    throw refusedCall(STORE_FAILED, call, { why });
+  }
+  return text ?? bytes;
+}
+
+// Opens bytes, which stand among the files under a free name meanwhile.
+function openBytes(editor, document, bytes, call) {
+  const taken = new Set(editor.files());
+  const names = Array.from({ length: taken.size + 1 }, (_, at) => `roskevad${at}.tmj`);
+  const name = names.find((each) => !taken.has(each));
+  editor.putFile(name, bytes);
+  editor._expectOutline(Math.min(bytes.length, LONGEST_GUESS));
+  try {
+    return textOf(editor._replyTo(`open ${document} ${name}`, call));
+  } finally {
+    if (!editor._module.isBroken) {
+      editor.removeFile(name);
+    }
+  }
+}
+
+// Leaves no index of a document clean, if it is still there.
+function markDirty(editor, document) {
+  if (!editor._isThere) {
+    return;
+  }
+  editor._restored(() => {
+    editor._said(`use ${document}`, true);
+    if (editor._refusal === 0) {
+      editor._said("dirty", true);
+    }
+  });
+}
