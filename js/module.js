@@ -40,8 +40,9 @@ const LINES_DONE_BYTES = 32;
 // The same of the word at which a line is refused.
 const FAULTY_WORD_BYTES = 32;
 const NEWLINE = 10;
-// The characters of a short text.
+// The characters of a short text, and those of most replies.
 const SHORT = 100;
+const SHORTEST = 40;
 
 const encoder = new TextEncoder();
 const decoder = new TextDecoder("utf-8", { ignoreBOM: true });
@@ -235,7 +236,7 @@ export class Module {
 
   /** The same as a text. `guess` is how many bytes it may have: where that is right, the call is made once. */
   copyText(call, again = call, guess = 0) {
-    const decoded = (at, size) => decoder.decode(this.bytes().subarray(at, at + size));
+    const decoded = (at, size) => plainText(this.bytes(), at, size) ?? decoder.decode(this.bytes().subarray(at, at + size));
     const read = (at, room) => {
       const size = this.number(call(at, room));
       return [size, size !== null && size <= room ? decoded(at, size) : null];
@@ -340,6 +341,25 @@ function withNewline(bytes) {
   all.set(bytes);
   all[bytes.length] = NEWLINE;
   return all;
+}
+
+// The text of a few bytes, four at a time, which is quicker than by the decoder. Null where it is longer, or not plain.
+function plainText(bytes, at, size) {
+  if (size > SHORTEST) {
+    return null;
+  }
+  let [text, all, index] = ["", 0, at];
+  const end = at + size;
+  for (; index + 4 <= end; index += 4) {
+    const [first, second, third, fourth] = [bytes[index], bytes[index + 1], bytes[index + 2], bytes[index + 3]];
+    text += String.fromCharCode(first, second, third, fourth);
+    all |= first | second | third | fourth;
+  }
+  for (; index < end; index += 1) {
+    text += String.fromCharCode(bytes[index]);
+    all |= bytes[index];
+  }
+  return all < 128 ? text : null;
 }
 
 /** The text of bytes in UTF-8. */
