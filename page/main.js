@@ -15,7 +15,7 @@ import { LinePanel } from "./panels/line_panel.js";
 import { Look } from "./view/look.js";
 import { MapKeys, TileKeys } from "./tools/map_keys.js";
 import { MapView } from "./view/map_view.js";
-import { Overlay } from "./view/overlay.js";
+import { MOST_WHOLE, Overlay } from "./view/overlay.js";
 import { MiniMap } from "./view/mini_map.js";
 import { undrawnFeatures } from "./view/undrawn_features.js";
 import { endNotice, notice } from "./panels/notice_bars.js";
@@ -147,13 +147,21 @@ class Page {
     if (words) await this.editor.during(new Promise(done => setTimeout(() => done(this.bench.say(words)))));
   }
 
-  // Objects of the map have changed, each from what it was before.
+  // Objects of the map have come, gone or changed, each from what it was before.
   showObjects(changes) {
-    const all = changes.flatMap(({ object, before, layer }) => [{ object: before, layer }, { object, layer }]);
+    const all = changes.flatMap(({ object, before, layer }) => [before, object].filter(each => each).map(each => ({ object: each, layer })));
     this.view.redrawThings(all);
     this.overlay.redrawObjects(all);
     this.objects.showObjects(changes);
-    this.properties.show();
+    if (changes.some(({ object, before }) => !object || !before)) this.showOtherObjects();
+    else this.properties.show();
+  }
+
+  // Other objects are there: one that is chosen may be gone. Where there are many, not all are drawn whole.
+  showOtherObjects() {
+    if (this.editor.map.places.size >= MOST_WHOLE) this.overlay.redraw();
+    this.bench.settle();
+    this.showNotDrawn();
   }
 
   // Resolves when the map that was taken last is drawn, with its tilesets. A window that is not seen draws nothing.

@@ -136,8 +136,8 @@ def test_status():
         page.say('object move 1 8 8')
         page.say('prop set map weather string calm')
         page.say('layer rename 1 Meadow')
-        for name, more in (('Fence', 'erase+ 1 5 20 1 1'), ('Mixed', 'layer show 2 no')):
-            for line in (f'begin {name}', 'erase 1 4 20 1 1', more, 'end'):
+        for name, x, more in (('Fence', 4, 'erase+ 1 5 20 1 1'), ('Mixed', 6, 'layer show 2 no')):
+            for line in (f'begin {name}', f'erase 1 {x} 20 1 1', more, 'end'):
                 page.say(line)
         inn = page.js('return roskevad.editor.map.object(1).object.name')
         names = page.texts('#steps li .name')

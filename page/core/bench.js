@@ -150,7 +150,7 @@ export class Bench extends EventTarget {
   async attempt(lines, fields = {}) {
     const done = await this.editor.send(lines);
     if (done.isAccepted) return this.bubble.hide();
-    return { words: saidOf(done), field: fields[/^no (\d+)/.exec(done.refusal ?? "")?.[1]] };
+    return { words: saidOf(done), field: fields[done.refusal?.code] };
   }
 
   sayRefusal(done) {

@@ -3,18 +3,18 @@
 import { Editor } from "../../js/roskevad.js";
 import { hashOf } from "../files/hashes.js";
 import { OpenDocuments } from "./open_documents.js";
-import { isRefusal, opened, replyOf } from "./replies.js";
+import { answerTo, opened } from "./replies.js";
 
 export class FreshEditor {
   constructor(module, limit) {
-    Object.assign(this, { editor: new Editor(module, { limit }), openDocuments: new OpenDocuments(limit), entries: [] });
+    Object.assign(this, { editor: new Editor(module, { limit }), openDocuments: new OpenDocuments(), entries: [] });
   }
 
   // Opens a map. `file` is the file of its document, or null; what is not saved stays so. Throws where the map is refused.
   async open({ name, isClean, file }, bytes) {
     const [hash, word] = [await hashOf(bytes), file?.word ?? `${name}.tmj`];
-    const [reply, why] = await opened(this.editor, name, bytes);
-    if (isRefusal(reply)) throw new Error(`${name}: ${why ?? reply}`);
+    const { reply, refusal, why } = await opened(this.editor, name, bytes);
+    if (refusal) throw new Error(`${name}: ${why ?? reply}`);
     this.take({ line: `open ${name} ${word}`, reply, file: { path: file?.path ?? null, bytes, hash, size: bytes.length, time: file?.mark?.time ?? 0 } });
     // The file itself may have other bytes.
     if (file && file.mark?.hash !== hash) this.arrive(name, file);
@@ -28,11 +28,11 @@ export class FreshEditor {
   }
 
   say(line) {
-    this.take({ line, reply: replyOf(this.editor, line) });
+    this.take({ line, reply: answerTo(this.editor, line).reply });
   }
 
   take(entry) {
     this.entries.push(entry);
-    this.openDocuments.note(entry);
+    this.openDocuments.note(entry, () => this.editor.told());
   }
 }

@@ -77,18 +77,42 @@ export class MapModel {
     return layer ? { object: layer.data.objects[place], layer } : null;
   }
 
-  // Takes what an object of a layer has by now, and gives it with what it was: { object, before, layer }. null where only the whole outline
-  // tells how the map stands: where the object is new, is in another layer or has another text, or where some member is odd, of which there
-  // is a count.
-  replace(members, layerId) {
-    const [layer, place] = this.places.get(members.id) ?? [];
-    if (layer?.id !== layerId) return null;
+  // Takes how some objects are by now: [id, { members, layer }] of each, with the id of its layer, or [id, null] where there is none.
+  // `nextId` is the next id of an object, and `idsIn(layer)` gives those of a layer in their order. Gives what has come of them, as
+  // { object, before, layer }, where `object` is null of one that is gone, and `before` of one that is new. null where only the whole
+  // outline tells how the map stands.
+  take(found, nextId, idsIn) {
+    const changes = found.map(([id, now]) => this.changeOf(id, now));
+    if (!changes.every(change => change)) return null;
+    const same = changes.filter(each => each.object && each.before);
+    const others = changes.filter(each => !each.object !== !each.before);
+    for (const { object, layer } of same) layer.data.objects[this.places.get(object.id)[1]] = object;
+    for (const layer of new Set(others.map(each => each.layer))) {
+      this.takeList(layer, others.filter(each => each.layer === layer), idsIn(layer.id));
+    }
+    this.data.nextobjectid = nextId;
+    return [...same, ...others];
+  }
+
+  // What has come of an object. null where it is in another layer or has another text, or where some member is odd, of which there is a
+  // count.
+  changeOf(id, now) {
+    const was = this.object(id);
+    const layer = now ? this.layer(now.layer) : was?.layer ?? null;
     const odd = new OddMembers();
-    const [object, before] = [OBJECT.take(members, odd, titleOfObject(members)), layer.data.objects[place]];
+    const object = now && OBJECT.take(now.members, odd, titleOfObject(now.members));
+    const before = was?.object ?? null;
     const isOdd = this.odd.count || this.odd.isCut || odd.count || odd.isCut;
-    if (isOdd || object.text?.text !== before.text?.text) return null;
-    layer.data.objects[place] = object;
+    if (isOdd || (was && was.layer !== layer) || object?.text?.text !== before?.text?.text) return null;
     return { object, before, layer };
+  }
+
+  // Takes which objects a layer has: those that it had, but for some that are gone, and some that have come.
+  takeList(layer, changes, ids) {
+    for (const { before } of changes) if (before) this.places.delete(before.id);
+    const come = new Map(changes.filter(each => each.object).map(({ object }) => [object.id, object]));
+    layer.data.objects = ids.map(id => come.get(id) ?? layer.data.objects[this.places.get(id)[1]]);
+    ids.forEach((id, place) => this.places.set(id, [layer, place]));
   }
 
   // Takes the runs of a selection: [row, first column, number of cells].

@@ -3,12 +3,12 @@
 //
 // Who waits for something of a document (a save, a question, a reload) holds this, and never its name: of two documents that had one name
 // behind one another each has its own life. What comes back for a life that is over changes nothing.
-import { StepParts } from "./step_parts.js";
-import { StepSubjects } from "./step_subjects.js";
+import { DocumentSteps } from "./document_steps.js";
+import { wayOf } from "./step_ways.js";
 
 export class OpenDocument {
   // `life` numbers the documents of a journal in the order in which they were opened, and `line` is the first of its lines.
-  constructor(name, life, line, hasLimit) {
+  constructor(name, life, line) {
     Object.assign(this, { name, life, lines: [line] });
     // { path, word, mark }: the file, the word that lines name it by, and which bytes the document knows it by. Null where it has none.
     this.file = null;
@@ -16,9 +16,16 @@ export class OpenDocument {
     this.sent = [];
     // The saves of it that are under way, each as what it ends with.
     this.saves = new Set();
-    // What its steps have changed, and what they are about.
-    this.parts = new StepParts(hasLimit);
-    this.subjects = new StepSubjects(hasLimit);
+    this.steps = new DocumentSteps();
+  }
+
+  // Takes a line that it was the active document of, and what the hand did by that, or null. `tell` gives what the line did; null where it
+  // is about no step.
+  take(line, gesture, tell) {
+    this.lines.push(line);
+    const way = wayOf(line, gesture);
+    const told = this.steps.isAsked(way) ? tell() : null;
+    if (told) this.steps.take(told, way);
   }
 
   get isWriting() {

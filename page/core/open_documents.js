@@ -4,9 +4,7 @@ import { isAboutDocuments, wordOf } from "./line_kinds.js";
 import { OpenDocument } from "./open_document.js";
 
 export class OpenDocuments {
-  // `limit` is the undo limit of new documents.
-  constructor(limit) {
-    this.limit = limit;
+  constructor() {
     // The name of the active document.
     this.active = null;
     // The open documents by their names, these names in the order of the tabs, and how many documents were opened until now.
@@ -23,10 +21,6 @@ export class OpenDocuments {
   // The file of the active document, or null.
   get file() {
     return this.document?.file ?? null;
-  }
-
-  get partsNow() {
-    return this.document?.parts ?? null;
   }
 
   fileOf(name) {
@@ -49,14 +43,12 @@ export class OpenDocuments {
     return life === undefined || found?.life === life ? found : null;
   }
 
-  // Keeps what an accepted line does that does not only look, and its reply. `file` is what an `open` has read, `gesture` what the hand did,
-  // and `instead` the name of the document in whose place an `open` puts its own.
-  note({ line, reply, file = null, gesture = null, instead = null }) {
+  // Keeps what an accepted line does that does not only look. `file` is what an `open` has read, `gesture` what the hand did, and `instead`
+  // the name of the document in whose place an `open` puts its own. `tell` gives what the editor tells of a line about the active document.
+  note({ line, file = null, gesture = null, instead = null }, tell) {
     const [word, name, source] = [wordOf(line), ...line.split(" ").slice(1)];
     if (isAboutDocuments(line)) this.noteDocument(word, name, line, instead);
-    else this.document?.lines.push(line);
-    this.partsNow?.note(line, reply);
-    this.document?.subjects.note(line, reply, gesture);
+    else this.document?.take(line, gesture, tell);
     // A journal that has begun anew has maps of no file, too.
     if (file && file.path !== null) this.document.file = { path: file.path, word: source, mark: { hash: file.hash, size: file.size, time: file.time } };
   }
@@ -75,7 +67,7 @@ export class OpenDocuments {
   // A document begins; instead of another one it stands in front of that, which has its file no more.
   begin(name, line, instead) {
     this.lives++;
-    this.byName.set(name, new OpenDocument(name, this.lives, line, this.limit > 0));
+    this.byName.set(name, new OpenDocument(name, this.lives, line));
     const at = this.order.indexOf(instead);
     this.order.splice(at < 0 ? this.order.length : at, 0, name);
     if (at >= 0) this.byName.get(instead).file = null;

@@ -3,10 +3,11 @@
 //
 // Lines are done at once, in the order in which they come. Of `open` and `save` the file is read and written beside them.
 import { Broken, Editor, FORMS, NoMemory, VERSION, documentName } from "../../js/roskevad.js";
+import { Changes } from "./changes.js";
 import { FreshEditor } from "./fresh_editor.js";
 import { Journal } from "./journal.js";
 import { cellsIn } from "./log_words.js";
-import { ALL, NOTHING, bothChanges, changesOf, isAboutDocuments, isLook, isTurn, wordOf } from "./line_kinds.js";
+import { isAboutDocuments, isLook, isTurn, wordOf } from "./line_kinds.js";
 import { MapModel } from "./map_model.js";
 import { hashOf } from "../files/hashes.js";
 import { FileNames, freeName } from "../files/names.js";
@@ -15,13 +16,12 @@ import { loadModule } from "./own_module.js";
 import { Changed, ChosenFiles } from "../files/places.js";
 import { wordsOfWord } from "./refusals.js";
 import { Replay } from "./replay.js";
-import { MOST_AT_ONCE, SAVED, cut, isRefusal, opened, pause, replyOf } from "./replies.js";
+import { MOST_AT_ONCE, NO_MEMORY, SAVED, answerTo, cut, opened, pause, refused } from "./replies.js";
 import { sourceOf } from "../files/sources.js";
 
 const OPEN = /^open ([A-Za-z0-9_][A-Za-z0-9_.-]{0,63}) ([A-Za-z0-9_][A-Za-z0-9_.-]{0,99})$/;
 const SAVE = /^save ([A-Za-z0-9_][A-Za-z0-9_.-]{0,99})$/;
-const STATUS = /^ok (\d+)\/(\d+) (clean|dirty) (\d+)$/;
-const IS_OF_WORD = /^no [34] /;
+const STORE_FAILED = refused(51, "store failed");
 const NOT_ACCEPTED = { replies: [], isAccepted: false };
 // How many lines that are played the journal may be behind.
 const MOST_BEHIND = 10_000;
@@ -42,13 +42,18 @@ function whyNotShown(fault) {
   return isMemory ? "it takes more memory than there is" : `the page fails at something in it (${fault.message})`;
 }
 
+// What is wrong with the word at which a line is refused; null where no word is at fault.
+const whyOf = (refusal, line) => (refusal?.wordAtFault ? wordsOfWord(refusal.wordAtFault, line) : null);
+
 // A file that the user has kept as it is.
 class NotReplaced extends Error {}
 
 // Events:
 //   map        the active map is another one, or its outline is
-//   objects    objects of the map have changed, and nothing else of its outline; the detail has what each is and was: { object, before, layer }
-//   cells      cells have changed otherwise than by a stroke of the hand; the detail is the part in which alone, or null
+//   objects    objects of the map have come, gone or changed, and nothing else of its outline; the detail has what each is and was:
+//              { object, before, layer }, where `object` is null of one that is gone, and `before` of one that is new
+//   cells      cells have changed otherwise than by a stroke of the hand; the detail is the parts in which alone, each { layer, box },
+//              or null
 //   selection  the selection has changed
 //   done       lines were done; the detail is the stroke whose edits they are, or null
 //   lines      the lines that were done or refused, each with its number, its reply, what is at fault in it, how many cells it names, and its gesture
@@ -66,7 +71,7 @@ export class PageEditor extends EventTarget {
     this.journal.source = () => sourceOf(this.place);
     this.journal.files = () => [...(this.place.files ?? [])].map(([path, { bytes, time }]) => ({ path, bytes, time }));
     this.names = new FileNames();
-    this.openDocuments = new OpenDocuments(limit);
+    this.openDocuments = new OpenDocuments();
     this.state = { change: 0, documents: [], steps: [], firstStep: 0, index: 0, count: 0, depth: 0, isClean: true, active: null, file: null };
     this.map = null;
     // Whether the active document has a map that cannot be shown, and whether no line is taken, since the journal begins anew.
@@ -74,7 +79,7 @@ export class PageEditor extends EventTarget {
     this.steps = 200;
     this.lineCount = 0;
     this.listed = [];
-    this.changed = NOTHING;
+    this.changes = new Changes();
     // Writes that have not ended, by their paths, and how many calls wait for something.
     this.writes = new Map();
     this.underWay = 0;
@@ -106,21 +111,21 @@ export class PageEditor extends EventTarget {
 
   // Does lines at once, up to the first that is refused, or all of them. `stroke` is the stroke whose edits they are: it draws itself.
   // `gesture` is a word for what the hand did, where the lines do not tell it: `rectangle`, `pattern`, `cut`, `empty`, `paste`.
-  // Gives the replies, how many lines were come to, whether all of these were accepted, and the first refusal with its line. Behind
-  // the time `until`, in milliseconds, no further line is begun.
+  // Gives the replies, how many lines were come to, whether all of these were accepted, the first refusal with its line, and what was
+  // told of the last line, or null. Behind the time `until`, in milliseconds, no further line is begun.
   doLines(lines, { isFree = false, stroke = null, gesture = null, until = Infinity } = {}) {
-    const replies = [];
-    let [count, refusal, refused, why] = [0, null, null, null];
+    const came = { replies: [], count: 0, refusal: null, refused: null, why: null, told: null };
     for (const line of lines) {
-      if (this.isBarred(line)) return { ...NOT_ACCEPTED, replies, count, barred: this.barred };
-      const reply = this.runLine(line, stroke !== null, gesture);
-      count++;
-      if (reply !== null) replies.push(reply);
-      if (isRefusal(reply) && refusal === null) [refusal, refused, why] = [reply, line, this.whyOf(reply, line)];
-      if ((refusal && !isFree) || performance.now() > until) break;
+      if (this.isBarred(line)) return { ...NOT_ACCEPTED, replies: came.replies, count: came.count, barred: this.barred };
+      const { reply, refusal, told } = this.runLine(line, stroke !== null, gesture);
+      came.count++;
+      came.told = told;
+      if (reply !== null) came.replies.push(reply);
+      if (refusal && !came.refusal) Object.assign(came, { refusal, refused: line, why: whyOf(refusal, line) });
+      if ((came.refusal && !isFree) || performance.now() > until) break;
     }
     this.settle(stroke);
-    return { replies, count, isAccepted: refusal === null, refusal, refused, why };
+    return { ...came, isAccepted: came.refusal === null };
   }
 
   // Does lines one behind the other, and waits for the files that they read and write. With `goOn` each part of them takes a short time; behind
@@ -163,28 +168,27 @@ export class PageEditor extends EventTarget {
     return came;
   }
 
-  // Does one line, and gives its reply.
+  // Does one line, and gives what comes of it, with what is told of it where it is accepted and does not only look.
   runLine(line, isDrawn, gesture) {
-    let reply;
-    let changes;
+    let [came, told] = [NO_MEMORY, null];
     try {
-      changes = changesOf(this.editor, line, this.openDocuments.partsNow);
-      reply = this.isHeld(line) ? "no 13 unsaved changes" : replyOf(this.editor, line);
+      came = this.isHeld(line) ? refused(13, "unsaved changes") : answerTo(this.editor, line);
+      if (came.reply !== null && !came.refusal && !isLook(line)) told = this.editor.told();
     } catch (fault) {
       this.break(fault);
-      return "no 90 no memory";
+      return { ...came, told };
     }
-    this.list(line, reply, gesture);
-    if (reply !== null && !isRefusal(reply) && !isLook(line)) this.take(line, reply, isDrawn ? NOTHING : changes, { gesture });
-    return reply;
+    this.list(line, came, gesture);
+    if (told) this.take({ line, reply: came.reply, ...(gesture && { gesture }) }, told, isDrawn);
+    return { ...came, told };
   }
 
-  // Takes an accepted line that does not only look. `file` is what an `open` has read, and `instead` the document whose place it takes.
-  take(line, reply, changes, { file = null, gesture = null, instead = null } = {}) {
-    const entry = { line, reply, ...(file && { file }), ...(gesture && { gesture }), ...(instead && { instead }) };
-    this.openDocuments.note(entry);
+  // Takes an accepted line that does not only look, by its entry in the journal, and what is told of it; of an `open` or a `save`, which
+  // change no step, nothing is.
+  take(entry, told = null, isDrawn = false) {
+    this.openDocuments.note(entry, () => told);
     this.journal.add(entry);
-    this.changed = bothChanges(this.changed, changes);
+    if (told) this.changes.take(told, isDrawn);
   }
 
   // Whether a line would close a document whose save has not ended.
@@ -203,37 +207,25 @@ export class PageEditor extends EventTarget {
     this.tell("broken", fault instanceof Broken ? fault.message : String(fault));
   }
 
-  list(line, reply, gesture = null) {
-    const why = this.whyOf(reply, line)?.split("\n")[0] ?? "";
+  list(line, { reply, refusal }, gesture = null) {
+    const why = whyOf(refusal, line)?.split("\n")[0] ?? "";
     this.listed.push([++this.lineCount, cut(line), reply === null ? null : cut(reply), why, cellsIn(line), gesture]);
-  }
-
-  // What is wrong with the word at which a line is refused; null where no word is at fault.
-  whyOf(reply, line) {
-    if (!IS_OF_WORD.test(reply ?? "")) return null;
-    try {
-      return wordsOfWord(this.module.wordFault(line), line);
-    } catch (fault) {
-      if (fault instanceof NoMemory) return null;
-      throw fault;
-    }
   }
 
   // Takes what the lines have changed.
   settle(stroke = null) {
-    const { outline, cells, selection, objects, part } = this.changed;
-    const { isUnshown } = this;
-    this.changed = NOTHING;
-    const replaced = outline ? null : this.takeObjects(objects);
+    const { changes, isUnshown } = this;
+    this.changes = new Changes();
+    const replaced = changes.hasOutline ? null : this.takeObjects(changes.objects);
     if (!replaced) this.takeMap();
-    else if (selection) this.takeSelection();
+    else if (changes.hasSelection) this.takeSelection();
     if (this.listed.length) this.tell("lines", this.listed.splice(0));
     this.tell("done", stroke);
     const isOther = !replaced || this.isUnshown !== isUnshown;
     if (isOther) this.tell("map");
-    else if (cells) this.tell("cells", part);
+    else if (changes.hasCells) this.tell("cells", changes.parts);
     if (replaced?.length && !isOther) this.tell("objects", replaced);
-    if (selection && !isOther) this.tell("selection");
+    if (changes.hasSelection && !isOther) this.tell("selection");
     this.tellSoon();
   }
 
@@ -254,9 +246,10 @@ export class PageEditor extends EventTarget {
     if (!ids.size) return [];
     if (!this.map) return null;
     try {
-      const { objects } = this.editor.active;
-      const replaced = [...ids].map(id => objects.get(id)).map(({ members, layer }) => this.map.replace(members, layer.id));
-      return replaced.every(each => each) ? replaced : null;
+      const { objects, layers } = this.editor.active;
+      const now = [...ids].map(id => [id, objects.has(id) ? objects.get(id) : null]);
+      const found = now.map(([id, object]) => [id, object && { members: object.members, layer: object.layer.id }]);
+      return this.map.take(found, this.editor.lastObjectId() + 1, layer => Array.from(layers.get(layer).objects, each => each.id));
     } catch {
       // What is wrong comes out again where the whole map is read.
       return null;
@@ -297,10 +290,10 @@ export class PageEditor extends EventTarget {
   }
 
   // A line that has failed before the editor has got it.
-  failed(line, reply, why) {
-    this.list(line, reply);
+  failed(line, came, why) {
+    this.list(line, came);
     this.settle();
-    return { replies: [reply], isAccepted: false, refusal: reply, refused: line, why };
+    return { replies: [came.reply], isAccepted: false, refusal: came.refusal, refused: line, why };
   }
 
   // Opens what a file has.
@@ -311,9 +304,9 @@ export class PageEditor extends EventTarget {
     try {
       found = await this.place.read(path);
     } catch (fault) {
-      return this.failed(line, "no 51 store failed", `${path}: ${fault.message}`);
+      return this.failed(line, STORE_FAILED, `${path}: ${fault.message}`);
     }
-    if (!found) return this.failed(line, "no 50 no such file", path);
+    if (!found) return this.failed(line, refused(50, "no such file"), path);
     return this.openFound(name, word, found);
   }
 
@@ -323,20 +316,23 @@ export class PageEditor extends EventTarget {
     const line = `open ${name} ${word}`;
     const path = this.names.pathOf(word);
     await this.ready();
-    let answer;
+    let came;
     try {
-      answer = await opened(this.editor, name, bytes);
+      came = await opened(this.editor, name, bytes);
     } catch (fault) {
       this.break(fault);
       return { ...NOT_ACCEPTED, barred: this.barred };
     }
-    const [reply, why] = answer;
-    const unshown = isRefusal(reply) ? "" : this.whyUnshown();
+    const { reply, refusal, why } = came;
+    const unshown = refusal ? "" : this.whyUnshown();
     if (unshown) return this.notOpened(line, name, path, unshown);
-    this.list(line, reply);
-    if (!isRefusal(reply)) this.take(line, reply, ALL, { file: { path, bytes, ...mark }, instead });
+    this.list(line, came);
+    if (!refusal) {
+      this.take({ line, reply, file: { path, bytes, ...mark }, ...(instead && { instead }) });
+      this.changes = new Changes(true);
+    }
     this.settle();
-    return { replies: [reply], isAccepted: !isRefusal(reply), refusal: isRefusal(reply) ? reply : null, why };
+    return { replies: [reply], isAccepted: refusal === null, refusal, why };
   }
 
   // Why the map that is active in the editor cannot be shown; "" where it can.
@@ -351,10 +347,10 @@ export class PageEditor extends EventTarget {
   }
 
   notOpened(line, name, path, why) {
-    replyOf(this.editor, `discard ${name}`);
+    answerTo(this.editor, `discard ${name}`);
     this.enter(this.openDocuments.active);
     this.tell("unopened", { path, why });
-    return this.failed(line, "no 51 store failed", `${path} cannot be shown: ${why}.`);
+    return this.failed(line, STORE_FAILED, `${path} cannot be shown: ${why}.`);
   }
 
   // Opens bytes of a document's file in the place of that document, which is still open then, without its file.
@@ -405,9 +401,10 @@ export class PageEditor extends EventTarget {
   async save(word) {
     const [line, path, { document }] = [`save ${word}`, this.names.pathOf(word), this.openDocuments];
     const { depth } = this.stand();
-    if (document === null || depth) return this.failed(line, document === null ? "no 10 no active document" : "no 20 macro open");
+    if (document === null) return this.failed(line, refused(10, "no active document"));
+    if (depth) return this.failed(line, refused(20, "macro open"));
     const saved = this.editor.saveMap();
-    this.take(line, SAVED, NOTHING);
+    this.take({ line, reply: SAVED });
     // Saves of one file come one behind the other.
     const turn = Promise.all([saved, this.writes.get(path)]).then(([bytes]) => this.write(document, path, word, bytes), fault => fault);
     const ended = turn.catch(fault => fault);
@@ -417,20 +414,21 @@ export class PageEditor extends EventTarget {
     const came = await ended;
     document.saves.delete(ended);
     if (this.writes.get(path) === ended) this.writes.delete(path);
-    return this.endSave(line, document, path, came);
+    return this.endSave(document, path, word, came);
   }
 
   // Ends a save: with how many bytes were written, or with a fault.
-  endSave(line, document, path, came) {
+  endSave(document, path, word, came) {
+    const line = `save ${word}`;
     const isWritten = typeof came === "number";
-    const reply = isWritten ? `saved ${line.slice("save ".length)} ${came}` : "no 51 store failed";
-    this.list(line, reply);
+    const answer = isWritten ? { reply: `saved ${word} ${came}`, refusal: null } : STORE_FAILED;
+    this.list(line, answer);
     if (!isWritten && this.openDocuments.isOpen(document)) {
       document.unwritten(line);
       this.unsave(document);
     }
     this.settle();
-    const done = { replies: [reply], isAccepted: isWritten, refusal: isWritten ? null : reply, isKept: came instanceof NotReplaced };
+    const done = { replies: [answer.reply], isAccepted: isWritten, refusal: answer.refusal, isKept: came instanceof NotReplaced };
     return { ...done, why: isWritten ? null : `${path}: ${came.message}` };
   }
 
@@ -528,21 +526,16 @@ export class PageEditor extends EventTarget {
     const stands = this.stand();
     const first = Math.max(0, stands.index - this.steps);
     const last = Math.min(stands.count, stands.index + this.steps);
-    const steps = Array.from({ length: Math.max(0, last - first) }, (_, at) => this.step(first + at));
-    const { active, file } = this.openDocuments;
+    const { active, document, file } = this.openDocuments;
+    const steps = document?.steps.from(first, last, this.editor) ?? [];
     const isWriting = this.isWriting(active);
     return { ...stands, documents: this.documents(), active, file: file?.path ?? null, cleanIndex: this.editor.cleanIndex(), firstStep: first, steps,
       isWriting, isClean: stands.isClean && !isWriting };
   }
 
   stand() {
-    const [, index, count, mark, depth] = STATUS.exec(replyOf(this.editor, "status")) ?? [null, 0, 0, "clean", 0];
-    return { index: Number(index), count: Number(count), isClean: mark === "clean", depth: Number(depth) };
-  }
-
-  step(at) {
-    const subject = this.openDocuments.document?.subjects.at(at) ?? null;
-    return { text: replyOf(this.editor, `text ${at}`).slice("text ".length), isMacro: this.editor.isMacro(at) !== false, subject };
+    const { index, count, isClean, depth } = this.editor.told();
+    return { index, count, isClean, depth };
   }
 
   // The open documents in the order of the tabs. No line tells how one stands that is not active, so each is made the active one for a
@@ -588,7 +581,7 @@ export class PageEditor extends EventTarget {
   // Puts the editor of a replay in the place of this one, and gives the saves of which the journal does not say that they have arrived.
   takeUp({ editor, openDocuments, names, listed, limit, module, pendingSaves }) {
     this.takeOver(editor, openDocuments, limit);
-    Object.assign(this, { names, module, listed, lineCount: listed.length, changed: ALL });
+    Object.assign(this, { names, module, listed, lineCount: listed.length, changes: new Changes(true) });
     return pendingSaves;
   }
 
@@ -634,7 +627,7 @@ export class PageEditor extends EventTarget {
       this.isAside = false;
     }
     await this.journal.restart(made.entries);
-    this.changed = ALL;
+    this.changes = new Changes(true);
     this.settle();
   }
 

@@ -51,15 +51,12 @@ export function wordsOfWord(fault, line) {
   return [wrongWith(fault, line), ...forms].join("\n");
 }
 
-// What is said of a refused line behind the words of its reply; "" where those tell all.
-export function hintOf(reply) {
-  const code = Number(/^no (\d+)/.exec(reply)?.[1] ?? 0);
-  return HINTS[code >= 60 && code <= 69 ? 60 : code] ?? "";
-}
+// What is said of a line that is refused with a code, behind the words for that; "" where those tell all.
+const hintOf = code => HINTS[code >= 60 && code <= 69 ? 60 : code] ?? "";
 
-// All that is said of lines that were refused: the words of the reply, with its number, and what to do.
+// All that is said of lines that were refused: the words of the refusal, with its code, and what to do.
 export function saidOf({ refusal, why, barred }) {
   if (barred) return barred;
-  const [, code, words] = /^no (\d+) (.*)$/.exec(refusal);
-  return `Refused: ${words} (${code}). ${why ?? hintOf(refusal)}`.trim();
+  const { code, words } = refusal;
+  return `Refused: ${words} (${code}). ${why ?? hintOf(code)}`.trim();
 }

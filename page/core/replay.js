@@ -5,7 +5,7 @@ import { isAboutDocuments, wordOf } from "./line_kinds.js";
 import { cellsIn } from "./log_words.js";
 import { FileNames } from "../files/names.js";
 import { OpenDocuments } from "./open_documents.js";
-import { MOST_AT_ONCE, SAVED, cut, isRefusal, opened, pause, replyOf } from "./replies.js";
+import { MOST_AT_ONCE, SAVED, answerTo, cut, opened, pause } from "./replies.js";
 
 const BEGINNINGS = new Set(["new", "open"]);
 
@@ -26,7 +26,7 @@ export class Replay {
   constructor(module, limit, { isLenient = false, without = new Set() } = {}) {
     Object.assign(this, { module, limit, isLenient, fault: null, editor: new Editor(module, { limit }) });
     // The rows of the log, and the saves that are not known to have arrived: a row and what was sent, by their documents.
-    Object.assign(this, { openDocuments: new OpenDocuments(limit), names: new FileNames(), listed: [], pending: new Map() });
+    Object.assign(this, { openDocuments: new OpenDocuments(), names: new FileNames(), listed: [], pending: new Map() });
     // The names of open documents that are left out, whether one of them is the active one, and the entries of the others and of these.
     Object.assign(this, { without, aside: new Set(), isAside: false, entries: [], others: [] });
     // The lives of documents that stay as they are.
@@ -109,7 +109,7 @@ export class Replay {
       return;
     }
     if (file && file.path !== null) this.names.take(line.split(" ")[2], file.path);
-    this.openDocuments.note(entry);
+    this.openDocuments.note(entry, () => this.editor.told());
     const row = [this.listed.length + 1, cut(line), reply === SAVED ? "no 51 store failed" : reply, null, cellsIn(line), gesture];
     if (wordOf(line) === "save") this.pending.set(this.openDocuments.document, { row });
     if (wordOf(line) === "dirty") this.pending.delete(this.openDocuments.document);
@@ -133,9 +133,9 @@ export class Replay {
 
   // Does a line of a journal. A save marks the map, and writes no file.
   async takeLine({ line, reply, file }) {
-    if (reply === SAVED) return this.see(line, replyOf(this.editor, "clean").startsWith("ok "), reply);
-    const came = file ? (await opened(this.editor, line.split(" ")[1], file.bytes))[0] : replyOf(this.editor, line);
-    return this.see(line, came === reply || (this.isLenient && !isRefusal(came)), reply, came);
+    if (reply === SAVED) return this.see(line, answerTo(this.editor, "clean").refusal === null, reply);
+    const came = file ? await opened(this.editor, line.split(" ")[1], file.bytes) : answerTo(this.editor, line);
+    return this.see(line, came.reply === reply || (this.isLenient && came.refusal === null), reply, came.reply);
   }
 
   see(line, isSame, reply, came = "a refusal") {

@@ -1,7 +1,6 @@
 // SPDX-License-Identifier: MIT OR Apache-2.0
-// The replies of an editor to lines, whatever they are.
+// What comes of lines that an editor does: their replies, and refusals.
 import { NoMemory, Refused } from "../../js/roskevad.js";
-import { isQuiet } from "./line_kinds.js";
 import { wordsOfFault } from "./map_refusals.js";
 
 // What the journal has as the reply to a save, whose bytes are reckoned later.
@@ -10,29 +9,39 @@ export const SAVED = "saved";
 const LISTED = 300;
 export const MOST_AT_ONCE = 2000;
 
-export const isRefusal = reply => reply?.startsWith("no ") ?? false;
 export const cut = text => (text.length <= LISTED ? text : `${text.slice(0, LISTED)} ..`);
 export const pause = (time = 0) => new Promise(done => setTimeout(done, time));
 
-// The reply of an editor to a line, whatever it is; null where the line is quiet.
-export function replyOf(editor, line) {
+// What comes of a line: its reply, which is null where it is quiet; and what it is refused with, { code, words }, or null. Where a word is
+// at fault, the refusal has that, too, as `wordAtFault`.
+const accepted = reply => ({ reply, refusal: null });
+
+export function refused(code, words, wordAtFault = null) {
+  return { reply: `no ${code} ${words}`, refusal: { code, words, wordAtFault } };
+}
+
+export const NO_MEMORY = refused(90, "no memory");
+
+function ofFault(fault) {
+  if (fault instanceof Refused) return refused(fault.code, fault.words, fault.wordAtFault);
+  if (fault instanceof NoMemory) return NO_MEMORY;
+  throw fault;
+}
+
+// What comes of a line that an editor does.
+export function answerTo(editor, line) {
   try {
-    const reply = editor.step(line);
-    return reply === "" && isQuiet(line) ? null : reply;
+    return accepted(editor.step(line) || null);
   } catch (fault) {
-    if (fault instanceof Refused) return `no ${fault.code} ${fault.words}`;
-    if (fault instanceof NoMemory) return "no 90 no memory";
-    throw fault;
+    return ofFault(fault);
   }
 }
 
-// The reply to `open` of an editor, and why and where the map was refused, where that is known.
+// What comes of an `open` that an editor does, and why and where the map was refused, where that is known.
 export async function opened(editor, name, bytes) {
   try {
-    return [await editor.openMap(name, bytes), null];
+    return { ...accepted(await editor.openMap(name, bytes)), why: null };
   } catch (fault) {
-    if (fault instanceof Refused) return [`no ${fault.code} ${fault.words}`, wordsOfFault(fault)];
-    if (fault instanceof NoMemory) return ["no 90 no memory", null];
-    throw fault;
+    return { ...ofFault(fault), why: fault instanceof Refused ? wordsOfFault(fault) : null };
   }
 }

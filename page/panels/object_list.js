@@ -69,7 +69,8 @@ export class ObjectList {
   // Shows objects that have changed. As a rule their rows say of each what they said before.
   showObjects(changes) {
     const saidOf = (object, layer) => JSON.stringify(this.entryOf(object, layer));
-    if (changes.some(({ object, before, layer }) => saidOf(object, layer) !== saidOf(before, layer))) this.show();
+    const isOther = ({ object, before, layer }) => !object || !before || saidOf(object, layer) !== saidOf(before, layer);
+    if (changes.some(isOther)) this.show();
   }
 
   // As many rows as the list has: the layers with their objects.

@@ -114,11 +114,10 @@ export class PropertyPanel {
 
   // A line takes whole numbers. A fraction comes back where its whole part is left as it is.
   setPart(part, text) {
-    const { word, data } = this.owner();
-    const id = word.split(":")[1];
+    const { data } = this.owner();
     const of = name => (name === part ? text : Math.floor(data[name] ?? 0));
     const isPlace = part === "x" || part === "y";
-    return this.send(isPlace ? `object move ${id} ${of("x")} ${of("y")}` : `object resize ${id} ${of("width")} ${of("height")}`);
+    return this.send(isPlace ? `object move ${data.id} ${of("x")} ${of("y")}` : `object resize ${data.id} ${of("width")} ${of("height")}`);
   }
 
   // Does a line for a field: gives null, or why it was refused.

@@ -10,18 +10,26 @@ export class StepPanel {
   constructor(bench) {
     this.bench = bench;
     this.editor = bench.editor;
-    // The names that layers and objects have, or had before they were removed, by their documents.
+    // The names that layers, objects and tilesets have, or had before they were removed, by their documents.
     this.names = new Map();
+    this.editor.addEventListener("objects", ({ detail }) => this.keepObjects(detail));
     // The rows that stand there, by what they show.
     this.rows = new Map();
   }
 
-  // What a layer or an object is called, or was before the last line.
+  // What a layer, an object or a tileset is called, or was before the last line.
   nameOf(kind, id) {
-    const { map, editor } = this.bench;
-    const kept = this.names.get(editor.openDocuments.active)?.[`${kind}s`].get(Number(id));
-    const now = () => (kind === "layer" ? map?.layer(Number(id))?.data : map?.object(Number(id))?.object)?.name;
-    return kept || now() || `${kind} ${id}`;
+    const { map } = this.bench;
+    const kept = this.namesNow()[`${kind}s`].get(Number(id));
+    const now = { layer: () => map?.layer(Number(id))?.data.name, object: () => map?.object(Number(id))?.object.name };
+    return kept || now[kind]?.() || `${kind} ${id}`;
+  }
+
+  // The names that are kept of the active document.
+  namesNow() {
+    const { active } = this.editor.openDocuments;
+    if (!this.names.has(active)) this.names.set(active, { layers: new Map(), objects: new Map(), tilesets: new Map() });
+    return this.names.get(active);
   }
 
   show() {
@@ -32,7 +40,7 @@ export class StepPanel {
       list.replaceChildren();
       return;
     }
-    this.keepNames(state.active);
+    this.keepNames();
     const { steps, firstStep, count } = state;
     const later = count - firstStep - steps.length;
     const wanted = [
@@ -57,29 +65,29 @@ export class StepPanel {
     putRows(list, [...rows.values()]);
   }
 
-  keepNames(document) {
+  keepNames() {
     const { map } = this.bench;
     if (!map || this.shown === map) return;
     this.shown = map;
-    if (!this.names.has(document)) this.names.set(document, { layers: new Map(), objects: new Map() });
-    const { layers, objects } = this.names.get(document);
+    const { layers, objects, tilesets } = this.namesNow();
     for (const { id, data } of map.layers) {
       layers.set(id, data.name);
       for (const object of data.objects ?? []) objects.set(object.id, object.name);
     }
+    for (const { firstgid, source, name } of map.data.tilesets) tilesets.set(firstgid, source ?? name);
   }
 
-  // A step, what it is about, and how it was done: `Show Layer · Roof: hidden`.
-  wordsOf({ text, subject }) {
-    const { layers, objects } = this.names.get(this.editor.state.active) ?? {};
-    const named = subject && this.nameIn(subject, layers, objects);
-    const about = [named, subject?.how].filter(each => each).join(": ");
+  // Keeps the names of objects that have come: when they are gone again, no map has them.
+  keepObjects(changes) {
+    const { objects } = this.namesNow();
+    for (const { object } of changes) if (object) objects.set(object.id, object.name);
+  }
+
+  // A step, what it is about, and the way in which it was made: `Show Layer · Roof: hidden`. Of the map it is not said.
+  wordsOf({ text, subject, way }) {
+    const named = subject && subject.kind !== "map" ? this.nameOf(subject.kind, subject.id) : "";
+    const about = [named, way].filter(each => each).join(": ");
     return about ? `${text} · ${about}` : text;
-  }
-
-  nameIn({ name = "", layer, object }, layers, objects) {
-    if (layer) return layers?.get(layer) || `layer ${layer}`;
-    return object ? objects?.get(object) || `object ${object}` : name;
   }
 
   // How a step stands: among those that are done, whether it is an open macro, and whether it is saved.

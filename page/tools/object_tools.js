@@ -112,13 +112,12 @@ export class ObjectTool {
     const moved = (at, by) => (by < 0 ? Math.ceil(at) : Math.floor(at)) + by;
     const [x, y] = [moved(object.x ?? 0, byX), moved(object.y ?? 0, byY)];
     const follows = this.run?.id === object.id;
-    if (!follows) this.run = { id: object.id, x: object.x ?? 0, y: object.y ?? 0 };
-    const run = this.run;
+    if (!follows) this.run = { id: object.id };
     this.isNudging = true;
     const done = bench.sayRefusal(bench.editor.doLines([`object move${follows ? "+" : ""} ${object.id} ${x} ${y}`]));
     this.isNudging = false;
     // Back where the run began its step is gone, and a line that follows would join the step before it.
-    if (!done.isAccepted || (x === run.x && y === run.y)) this.run = null;
+    if (!done.isAccepted || done.told.became === "gone") this.run = null;
     return true;
   }
 

@@ -53,7 +53,7 @@ export function patternOver(stamp, layer, { x, y, width, height, isIn = () => tr
 // Draws a block of any size as one step, or as none where it changes nothing; gives whether it has changed something. `gesture` is what the
 // hand did.
 export function drawBlock(bench, block, gesture) {
-  const runLine = line => bench.sayRefusal(bench.editor.doLines([line], { stroke, gesture })).isAccepted;
+  const runLine = line => bench.sayRefusal(bench.editor.doLines([line], { stroke, gesture })).told ?? null;
   const stroke = new Stroke(bench.map, () => block, runLine);
   const edits = stroke.put(block);
   bench.view.redrawCells(edits);

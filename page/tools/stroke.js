@@ -50,8 +50,8 @@ export function cellsOnLine([fromX, fromY], [x, y]) {
 }
 
 export class Stroke {
-  // `blockAt(x, y)` is the block that the hand leaves at a cell. `runLine(line)` does a line, and tells whether it was accepted. The stroke
-  // begins with a line from a cell `from`, where there is one.
+  // `blockAt(x, y)` is the block that the hand leaves at a cell. `runLine(line)` does a line, and gives what is told of it, or null where it
+  // was refused. The stroke begins with a line from a cell `from`, where there is one.
   constructor(map, blockAt, runLine, from = null) {
     Object.assign(this, { blockAt, runLine, from, last: null, isOver: false });
     this.begin(map);
@@ -59,11 +59,7 @@ export class Stroke {
 
   // The stroke goes on over this map, and has made no step on it.
   begin(map) {
-    this.map = map;
-    // What each cell had that was changed, and which those are.
-    this.first = new Uint32Array(map ? map.width * map.height : 0);
-    this.isChanged = new Uint8Array(this.first.length);
-    this.unlike = 0;
+    Object.assign(this, { map, hasStep: false });
   }
 
   // The cells from the last one to this one, so that a fast hand leaves no gaps.
@@ -84,26 +80,17 @@ export class Stroke {
     return partsOf(block).map(part => this.edit(part)).filter(edit => edit);
   }
 
-  // A line follows only where this stroke has a step: behind a block that changed a cell. Where later blocks have given back all
-  // that it changed, that step is gone, and a line that follows would join the stroke before it.
+  // No line is said that changes nothing. A line follows only where this stroke has a step: where its blocks have given back all that they
+  // changed, that step is gone, and a line that follows would join the stroke before it.
   edit(block) {
     const changed = this.isOver ? null : this.map.changes(block);
     if (!changed?.places.length) return null;
-    if (!this.runLine(lineOf(block, this.unlike > 0))) {
+    const told = this.runLine(lineOf(block, this.hasStep));
+    if (!told) {
       this.isOver = true;
       return null;
     }
-    this.keep(changed);
+    if (told.became !== "nothing") this.hasStep = told.became !== "gone";
     return { block, changed };
-  }
-
-  keep({ places, before, after }) {
-    for (let at = 0; at < places.length; at++) {
-      const place = places[at];
-      if (!this.isChanged[place]) this.first[place] = before[at];
-      this.isChanged[place] = 1;
-      const original = this.first[place];
-      this.unlike += (after[at] !== original) - (before[at] !== original);
-    }
   }
 }

@@ -62,9 +62,9 @@ export class StrokeTool {
     this.stroke = null;
   }
 
-  // Does a line of the stroke. Behind one that is refused the stroke is over.
+  // Does a line of the stroke, and gives what is told of it. Behind one that is refused the stroke is over.
   runLine(line) {
-    return this.bench.sayRefusal(this.bench.editor.doLines([line], { stroke: this.stroke })).isAccepted;
+    return this.bench.sayRefusal(this.bench.editor.doLines([line], { stroke: this.stroke })).told ?? null;
   }
 
   draw(place, event) {

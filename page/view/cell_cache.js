@@ -1,6 +1,12 @@
 // SPDX-License-Identifier: MIT OR Apache-2.0
 // The cells of the tile layers in the part of the map that is seen, as they were drawn last.
 
+// The least box that has both, of which one may not be there.
+export function around(one, other) {
+  if (!one || !other) return one ?? other;
+  return [Math.min(one[0], other[0]), Math.min(one[1], other[1]), Math.max(one[2], other[2]), Math.max(one[3], other[3])];
+}
+
 export class CellCache {
   constructor() {
     this.map = null;
@@ -64,11 +70,14 @@ export class CellCache {
     if (x >= x0 && y >= y0 && x < x1 && y < y1 && this.layers.has(id)) this.layers.get(id)[(y - y0) * (x1 - x0) + x - x0] = value;
   }
 
-  // Asks for the cells anew: of all layers, or of a part of one. Gives the rectangle of those that are others, [x0, y0, x1, y1] with its
+  // Asks for the cells anew: of all layers, or of parts of some. Gives the rectangle of those that are others, [x0, y0, x1, y1] with its
   // last cells; null where none is.
-  refresh(part) {
-    if (part) return this.refreshPart(part);
+  refresh(parts) {
     let found = null;
+    if (parts) {
+      for (const part of parts) found = around(found, this.refreshPart(part));
+      return found;
+    }
     for (const [id, old] of this.layers) {
       const cells = this.fetched(id, ...this.box);
       found = this.widened(found, old, cells);
@@ -95,8 +104,7 @@ export class CellCache {
       if (first === width) continue;
       let last = width - 1;
       while (old[start + last] === cells[start + last]) last--;
-      const at = found ?? [x0 + first, y0 + row, x0 + last, y0 + row];
-      found = [Math.min(at[0], x0 + first), Math.min(at[1], y0 + row), Math.max(at[2], x0 + last), Math.max(at[3], y0 + row)];
+      found = around(found, [x0 + first, y0 + row, x0 + last, y0 + row]);
     }
     return found;
   }

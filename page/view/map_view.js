@@ -2,7 +2,7 @@
 // Shows a part of the map: only what is seen is drawn, and behind a stroke only what it has changed. Lengths are pixels of the screen.
 import { LayerPainter } from "./layer_painter.js";
 import { MapImages } from "./map_images.js";
-import { CellCache } from "./cell_cache.js";
+import { CellCache, around } from "./cell_cache.js";
 import { boxesOn, placeOnScreen } from "./object_boxes.js";
 import { isThing, reachOfThing } from "./thing_painter.js";
 
@@ -17,12 +17,6 @@ const MARGIN = 8;
 const LEAST_SEEN = 48;
 // The largest scale of a map that is fitted.
 const LARGEST_FIT = 4;
-
-// The least box of cells that has both; the first one may be null.
-function joined(one, other) {
-  if (!one) return other;
-  return [Math.min(one[0], other[0]), Math.min(one[1], other[1]), Math.max(one[2], other[2]), Math.max(one[3], other[3])];
-}
 
 export class MapView {
   constructor(box, editor, tilesets) {
@@ -225,10 +219,10 @@ export class MapView {
     this.askFrame();
   }
 
-  // Draws those of the cells that are seen which are others by now; with a part, in which alone any may be: { layer, box }.
-  refresh(part = null) {
+  // Draws those of the cells that are seen which are others by now; with parts, in which alone any may be: { layer, box } of each.
+  refresh(parts = null) {
     if (this.isWhole) this.cache.forget();
-    const box = this.map ? this.cache.refresh(part) : null;
+    const box = this.map ? this.cache.refresh(parts) : null;
     if (box) {
       this.widen(box[0], box[1]);
       this.widen(box[2], box[3]);
@@ -279,7 +273,7 @@ export class MapView {
   }
 
   widen(x, y) {
-    this.changed = joined(this.changed, [x, y, x, y]);
+    this.changed = around(this.changed, [x, y, x, y]);
   }
 
   // Has the browser note how long it took from a moment until the next drawing stood.
@@ -323,7 +317,7 @@ export class MapView {
     else if (isMoved) this.drawMoved(...moved);
     if (!isWhole) for (const box of boxes) this.painter.paint(box);
     if (changed && this.map && !isWhole) this.painter.paint(this.boxOfChanged(changed));
-    if (changed) this.drawn = joined(this.isHeld ? this.drawn : null, changed);
+    if (changed) this.drawn = around(this.isHeld ? this.drawn : null, changed);
     this.endMeasures();
     if (isWhole || isMoved) this.onMove();
     if (changed) this.onDrawn();

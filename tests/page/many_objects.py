@@ -6,14 +6,15 @@ from lib.maps import layers_in, thing
 
 COLUMNS = 80
 FIRST = 10
-# Counts the calls of the library by their names, and keeps what lines are done, until it is called again.
+# Counts the calls of the library by their names, and keeps what lines are done and which cells are read, until it is called again.
 COUNTED = '''
 const {editor} = roskevad.editor, {calls} = editor._module;
 globalThis.counted?.end();
-const [counts, lines, kept, step] = [{}, [], {...calls}, editor.step];
+const [counts, lines, parts, kept, step] = [{}, [], [], {...calls}, editor.step];
 for (const [name, call] of Object.entries(kept)) {
   calls[name] = (...words) => {
     counts[name] = (counts[name] ?? 0) + 1;
+    if (name === "cells") parts.push(words.slice(1, 6));
     return call(...words);
   };
 }
@@ -25,7 +26,7 @@ const end = () => {
   Object.assign(calls, kept);
   delete editor.step;
 };
-globalThis.counted = {counts, lines, end};'''
+globalThis.counted = {counts, lines, parts, end};'''
 
 
 def crates(folder, count, **members):
@@ -48,3 +49,8 @@ def count_calls(page):
 def counted(page):
     """How often each call of the library was made since, and the lines that were done."""
     return page.js('counted.end(); return [counted.counts, counted.lines]')
+
+
+def parts_read(page):
+    """The rectangles of cells that were read since: layer, column, row, width and height of each."""
+    return page.js('return counted.parts')

@@ -1,0 +1,42 @@
+// SPDX-License-Identifier: MIT OR Apache-2.0
+// What lines have changed of the active map, as the editor has told of each: so no more than that is read and drawn anew.
+import { around } from "../view/cell_cache.js";
+
+// Of how many objects each is read alone, at most: where more change, the whole outline is.
+const MOST_ALONE = 64;
+
+export class Changes {
+  // Where `isAll`, all may be otherwise.
+  constructor(isAll = false) {
+    // The ids of objects that have come, gone or changed, where nothing else of the outline did.
+    Object.assign(this, { hasOutline: isAll, hasSelection: isAll, objects: new Set() });
+    // Whether any cell may be another one; else by their layers the boxes in which they may, [x0, y0, x1, y1].
+    Object.assign(this, { hasAllCells: isAll, boxes: new Map() });
+  }
+
+  // Takes what a line did. The cells of a line of a stroke are drawn already.
+  take({ outline, subject, selection, cells }, isDrawn = false) {
+    this.hasSelection ||= selection;
+    if (outline) this.takeOutline(subject);
+    if (cells === "all") this.hasAllCells = true;
+    else if (cells && !isDrawn) this.takeCells(cells);
+  }
+
+  takeOutline(subject) {
+    if (subject?.kind === "object") this.objects.add(subject.id);
+    this.hasOutline ||= subject?.kind !== "object" || this.objects.size > MOST_ALONE;
+  }
+
+  takeCells({ layer, x, y, width, height }) {
+    this.boxes.set(layer, around(this.boxes.get(layer), [x, y, x + width, y + height]));
+  }
+
+  get hasCells() {
+    return this.hasAllCells || this.boxes.size > 0;
+  }
+
+  // The parts of the map in which alone cells may be others, each { layer, box }; null where any may.
+  get parts() {
+    return this.hasAllCells ? null : [...this.boxes].map(([layer, box]) => ({ layer, box }));
+  }
+}

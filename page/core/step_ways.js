@@ -1,0 +1,18 @@
+// SPDX-License-Identifier: MIT OR Apache-2.0
+// The way in which a line makes its step, in words that stand behind what the step is about. They are read from the line, since no step has
+// them: what the hand did, the mode and the size of a selection, whether a layer is shown, and the name of a property.
+import { wordOf } from "./line_kinds.js";
+
+const GESTURES = { rectangle: "rectangle", pattern: "pattern", cut: "cut", empty: "the selected cells", paste: "none, to paste" };
+const SIGNS = { replace: "", add: "+ ", subtract: "− ", intersect: "within " };
+
+const WAYS = {
+  select: ([, how, , , width, height]) => (how === "none" ? how : `${SIGNS[how] ?? ""}${width} × ${height}`),
+  layer: ([, what, , isShown]) => (wordOf(what) === "show" ? (isShown === "no" ? "hidden" : "shown") : null),
+  prop: ([, , , name]) => name,
+};
+
+// The way of a line by which the hand may have done something more; null where there is none.
+export function wayOf(line, gesture) {
+  return GESTURES[gesture] ?? WAYS[wordOf(line)]?.(line.split(" ")) ?? null;
+}
