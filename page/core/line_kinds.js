@@ -1,6 +1,6 @@
 // SPDX-License-Identifier: MIT OR Apache-2.0
-// What each session line is, by its words: asked before it is done, so that a full journal may bar it; for the journal, which keeps no line
-// that only looks; of lines that were kept; and for the log. What a line did, the editor tells.
+// What each session line is, by its words: asked before it is done, so that a full journal may bar it; for the journal, which keeps no
+// line that only looks; of lines that were kept; and for the log. What a line did, the editor tells.
 
 // The lines that only look.
 const LOOKS = new Set(["list", "tile", "show", "status", "undotext", "redotext", "text"]);

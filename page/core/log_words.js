@@ -1,5 +1,6 @@
 // SPDX-License-Identifier: MIT OR Apache-2.0
-// What a line has done, in words for those who draw: `Stamp on Ground: 12 cells`.
+// What a line has done, in words for those who draw: `Stamp on Ground: 12 cells`. It words the line, which has what no step has: new
+// names, sizes, modes, and how many cells it names.
 import { wordOf } from "./line_kinds.js";
 
 // How many cells a line names that it stamps or empties; 0 of any other. (It may be spelled wrong.)

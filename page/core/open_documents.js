@@ -1,5 +1,6 @@
 // SPDX-License-Identifier: MIT OR Apache-2.0
-// What no line tells of an editor: which documents are open, in which order, which one is active, and of each its lines and its file.
+// What no line tells of an editor: which documents are open, in which order, which one is active, and of each its lines and its file. The
+// lines about documents are read for that, and those that were kept, for the names of files.
 import { isAboutDocuments, wordOf } from "./line_kinds.js";
 import { OpenDocument } from "./open_document.js";
 

@@ -1,7 +1,8 @@
 // SPDX-License-Identifier: MIT OR Apache-2.0
 // The editor of this window, with its journal and its files: does lines, keeps them in the journal, and tells what has changed.
 //
-// Lines are done at once, in the order in which they come. Of `open` and `save` the file is read and written beside them.
+// Lines are done at once, in the order in which they come. Of `open` and `save` the file is read and written beside them: these lines are
+// read before they are done, and those that close a document, so that none is closed whose save has not ended.
 import { Broken, Editor, FORMS, NoMemory, VERSION, documentName } from "../../js/roskevad.js";
 import { Changes } from "./changes.js";
 import { FreshEditor } from "./fresh_editor.js";

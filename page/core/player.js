@@ -1,5 +1,6 @@
 // SPDX-License-Identifier: MIT OR Apache-2.0
-// Plays a session: lines from the clipboard or from a file.
+// Plays a session: lines from the clipboard or from a file. They are read before they are played: whether all are edits, and so one step,
+// and which files they save and open.
 import { ask, button, byId, element, shown } from "../panels/dom.js";
 import { pause } from "./replies.js";
 import { isEdit, isQuiet } from "./line_kinds.js";

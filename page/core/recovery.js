@@ -1,7 +1,8 @@
 // SPDX-License-Identifier: MIT OR Apache-2.0
 // What the journals are for: at the start of the page the documents of windows that live no more are offered, with all their steps.
 //
-// A journal that fails, whatever it throws, is told of and kept. It stops neither the page nor another journal.
+// A journal that fails, whatever it throws, is told of and kept. It stops neither the page nor another journal. Where one is kept as a
+// session, its lines are read for the names of files.
 import { brokenJournals, forgetBroken } from "./broken_journals.js";
 import { ask, byId, destroying } from "../panels/dom.js";
 import { HeldEntries } from "./held_entries.js";

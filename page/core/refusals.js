@@ -1,5 +1,6 @@
 // SPDX-License-Identifier: MIT OR Apache-2.0
-// Words for a refused line: which of its words is at fault, what is wanted in its place, and what to do.
+// Words for a refused line: which of its words is at fault, what is wanted in its place, and what to do. The editor tells the word; the
+// line is read for the forms that begin as it does.
 import { FORMS, formsOf } from "../../js/roskevad.js";
 
 const LONGEST_SHOWN = 40;

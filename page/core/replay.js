@@ -1,5 +1,6 @@
 // SPDX-License-Identifier: MIT OR Apache-2.0
 // The lines of a journal, done anew in a module and an editor of their own, which then may stand in the place of those of the window.
+// Which document a line is about is read from the line: one that is left out is never done.
 import { Editor } from "../../js/roskevad.js";
 import { isAboutDocuments, wordOf } from "./line_kinds.js";
 import { cellsIn } from "./log_words.js";

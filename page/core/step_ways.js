@@ -1,6 +1,6 @@
 // SPDX-License-Identifier: MIT OR Apache-2.0
-// The way in which a line makes its step, in words that stand behind what the step is about. They are read from the line, since no step has
-// them: what the hand did, the mode and the size of a selection, whether a layer is shown, and the name of a property.
+// The way in which a line makes its step, in words that stand behind what the step is about. They are read from the line, since no step
+// has them: what the hand did, the mode and the size of a selection, whether a layer is shown, and the name of a property.
 import { wordOf } from "./line_kinds.js";
 
 const GESTURES = { rectangle: "rectangle", pattern: "pattern", cut: "cut", empty: "the selected cells", paste: "none, to paste" };

@@ -1,5 +1,6 @@
 // SPDX-License-Identifier: MIT OR Apache-2.0
-// The log: what was done, in words, beside the lines that were sent, each with its reply; and a box for own ones, with a history and completion.
+// The log: what was done, in words, beside the lines that were sent, each with its reply, by which it is marked; and a box for own ones,
+// which is read for a history and completion.
 import { byId, element } from "./dom.js";
 import { isFollowing } from "../core/line_kinds.js";
 import { LogWords } from "../core/log_words.js";
