@@ -97,7 +97,7 @@ class Page {
   listen() {
     const { bench, editor, overlay, panel, view } = this;
     panel.onTilesets = () => this.showTilesets().catch(fault => console.warn(fault));
-    editor.addEventListener("map", () => (this.showing = this.showMap()));
+    editor.addEventListener("map", ({ detail }) => (this.showing = this.showMap(detail)));
     editor.addEventListener("cells", ({ detail }) => view.refresh(detail));
     editor.addEventListener("objects", ({ detail }) => this.showObjects(detail));
     editor.addEventListener("selection", () => overlay.redraw());
@@ -122,8 +122,9 @@ class Page {
     };
   }
 
-  // Another map: its tilesets may be others. Where its document is another one it is shown as it was left, and whole at first.
-  async showMap() {
+  // Another map, or another outline with other cells in some parts alone, where these are told. Its tilesets may be others. Where its document
+  // is another one it is shown as it was left, and whole at first.
+  async showMap(parts) {
     const { active } = this.editor.openDocuments;
     const isOther = active !== this.shownDocument;
     this.shownDocument = active;
@@ -135,7 +136,7 @@ class Page {
     // Where the map of a document cannot be shown, no hand is on it.
     this.view.box.inert = active !== null && !this.editor.map;
     if (isOther && !kept) this.view.fit();
-    this.view.takeMap();
+    this.view.takeMap(isOther ? null : parts);
     this.showNotDrawn();
     this.overlay.redraw();
     await this.editor.during(this.showTilesets());

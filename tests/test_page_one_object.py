@@ -76,11 +76,17 @@ def test_one_of_many():
 # ---- by chance
 
 MODEL = '''
-const told = map => JSON.stringify([map.data, map.layers.map(({group, ...layer}) => [group?.id, layer]), map.odd, map.runs]);
+const inOrder = (_, each) => each?.constructor === Object ? Object.fromEntries(Object.entries(each).sort(([one], [other]) => one < other ? -1 : 1)) : each;
+const told = map => JSON.stringify([map.data, map.layers.map(({group, ...layer}) => [group?.id, layer]), map.odd, map.runs], inOrder);
+const seeCells = ([id, cells]) => {
+  const [x0, y0, x1, y1] = roskevad.view.cache.box;
+  return JSON.stringify([...cells]) === JSON.stringify([...roskevad.editor.map.cells(id, x0, y0, x1 - x0, y1 - y0)]);
+};
 globalThis.seeModel = () => {
-  const {editor} = roskevad, [has, wanted] = [editor.map, editor.modelNow()];
+  const {editor, view} = roskevad, [has, wanted] = [editor.map, editor.modelNow()];
   const isFound = ({id}) => JSON.stringify(has.object(id)?.object) === JSON.stringify(wanted.object(id)?.object);
-  return told(has) === told(wanted) && wanted.layers.every(layer => (layer.data.objects ?? []).every(isFound));
+  const isKnown = told(has) === told(wanted) && wanted.layers.every(layer => (layer.data.objects ?? []).every(isFound));
+  return isKnown && [...view.cache.layers].every(seeCells);
 };
 const frames = async () => {
   for (let at = 0; at < 3; at++) await new Promise(done => requestAnimationFrame(done));

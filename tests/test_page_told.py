@@ -9,6 +9,8 @@ from page.many_objects import count_calls, counted, crates, parts_read
 NEEDS_BROWSER = True
 IS_LONG = True
 MANY, STEPS, EDITS = 1000, 450, 250
+# The calls that read of a map what is not its cells.
+READS = ('outline', 'object', 'layer', 'map_head')
 # Whether the page has the cells that are in the map.
 SEEN = '''
 const {editor: {map}, view: {cache}} = roskevad, [x0, y0, x1, y1] = cache.box;
@@ -16,7 +18,8 @@ return map.layers.filter(layer => layer.isTiles).every(({id}) =>
   JSON.stringify([...cache.cellsOf(id)]) === JSON.stringify([...map.cells(id, x0, y0, x1 - x0, y1 - y0)]));'''
 # Whether the page has the map that a look at all of it gives.
 KNOWN = '''
-const told = map => JSON.stringify([map.data, map.layers.map(({group, ...layer}) => [group?.id, layer]), map.odd, map.runs]);
+const inOrder = (_, each) => each?.constructor === Object ? Object.fromEntries(Object.entries(each).sort(([one], [other]) => one < other ? -1 : 1)) : each;
+const told = map => JSON.stringify([map.data, map.layers.map(({group, ...layer}) => [group?.id, layer]), map.odd, map.runs], inOrder);
 const {editor} = roskevad, [has, wanted] = [editor.map, editor.modelNow()];
 const isFound = ({id}) => JSON.stringify(has.object(id)?.object) === JSON.stringify(wanted.object(id).object);
 return told(has) === told(wanted) && has.places.size === wanted.places.size
@@ -24,13 +27,13 @@ return told(has) === told(wanted) && has.places.size === wanted.places.size
 
 
 def see_read(page, line, parts=(), **wanted):
-    """Does a line, behind which these rectangles of cells are read, and so many objects and outlines."""
+    """Does a line, behind which these rectangles of cells are read, and so often what else is named."""
     count_calls(page)
     page.editor.lines(line)
     read = parts_read(page)
     counts, _ = counted(page)
-    has = {name: counts.get(name, 0) for name in ('object', 'outline')}
-    assert has == {'object': 0, 'outline': 0, **wanted}, (line, has)
+    has = {name: counts.get(name, 0) for name in READS}
+    assert has == {**dict.fromkeys(READS, 0), **wanted}, (line, has)
     assert sorted(read) == sorted(map(list, parts)), (line, read)
     passed()
 
@@ -41,7 +44,7 @@ def names(page):
 
 def test_turns_of_paints():
     """Behind a paint, and an undo, a redo and a goto of paints, the page reads the rectangle in which cells
-    are others, and no outline: with a limit, too."""
+    are others, and nothing else: with a limit, too."""
     for limit in (0, 4):
         with Bench(empty=True) as page:
             page.editor.lines('new a 30 20 16 16 tiles.tsx', 'layer add tile Roof', 'clear', f'limit {limit}')
@@ -62,6 +65,29 @@ def test_turns_of_paints():
                 page.editor.lines(line)
             see_read(page, 'undo', [(1, 20, 1, 5, 3)])
             assert page.js(SEEN) and page.js(KNOWN), limit
+
+
+def test_own_members():
+    """Behind an edit of a layer, or of the map's properties, its own members are read, and no object and no
+    cell; a group that is hidden hides the layers in it. Layers that come, go or move are read whole."""
+    with Bench() as page:
+        page.click('#fit')
+        for line in ('layer show 1 no', 'layer rename 1 Floor', 'prop set layer:1 a int 1', 'prop remove layer:1 a', 'undo', 'undo', 'redo'):
+            see_read(page, line, layer=1)
+            assert page.js(KNOWN), line
+        assert 'Floor' in page.texts('#layers .name') and names(page)[-1] == 'Remove Property · Floor: a'
+        group = page.js('return roskevad.editor.map.layers.find(each => each.type === "group").id')
+        see_read(page, f'layer show {group} no', layer=1)
+        assert page.js(KNOWN) and page.js('return roskevad.editor.map.layers.filter(each => !each.isSeen).length') > 2
+        for line in ('prop set map weather string calm', 'prop remove map weather', 'undo', 'undo'):
+            see_read(page, line, map_head=1)
+            assert page.js(KNOWN), line
+        for line in ('begin All', 'layer rename 1 Ground', 'stamp 1 22 9 1 5', 'end'):
+            page.editor.lines(line)
+        see_read(page, 'undo', [(1, 22, 9, 1, 1)], layer=1)
+        count_calls(page)
+        page.editor.lines(f'layer move {group} 0')
+        assert counted(page)[0]['outline'] == 1 and page.js(KNOWN) and page.js(SEEN)
 
 
 def test_objects_come_and_go():
@@ -128,6 +154,16 @@ def test_steps_under_a_limit():
         page.ctrl('z')
         page.say('select add 2 2 3 3')
         assert names(page)[1:] == [*wanted[:3], 'Select · + 3 × 3'], names(page)
+        page.say('select none')
+        page.keys('p')
+        page.drag([(3, 25), (5, 26)])
+        assert names(page)[-1] == 'Stamp · Ground: rectangle'
+        page.say('stamp+ 1 9 9 1 5')
+        assert names(page)[-1] == 'Stamp · Ground', 'in part it was made otherwise'
+        page.say('tileset add 5000 more.tsx')
+        assert names(page)[-1] == 'Add Tileset · more.tsx'
+        page.ctrl('z')
+        assert names(page)[-1] == 'Add Tileset · more.tsx', 'it has the name that it had'
 
 
 BY_CHANCE = '''
@@ -158,6 +194,7 @@ for (let at = 0; at < count && !wrong.length; at++) {
   const {count: all} = editor.stand();
   const from = below(all + 1);
   const has = steps.from(from, all, editor.editor);
+  if (has.some(({isMacro, way}) => isMacro && way !== null)) wrong.push([at, lines.slice(-5), "a macro has a way"]);
   if (Object.keys(steps.rows).length > all) wrong.push([at, "rows of steps that are gone"]);
   if (told(has) !== told(editor.editor.steps(from))) wrong.push([at, lines.slice(-5), told(has), told(editor.editor.steps(from))]);
 }

@@ -8,8 +8,9 @@ const MOST_ALONE = 64;
 export class Changes {
   // Where `isAll`, all may be otherwise.
   constructor(isAll = false) {
-    // The ids of objects that have come, gone or changed, where nothing else of the outline did.
-    Object.assign(this, { hasOutline: isAll, hasSelection: isAll, objects: new Set() });
+    // Where not all of the outline may: the ids of objects that have come, gone or changed, those of layers of which their own members
+    // have, and whether the map's own have.
+    Object.assign(this, { hasOutline: isAll, hasSelection: isAll, objects: new Set(), layers: new Set(), hasOwn: false });
     // Whether any cell may be another one; else by their layers the boxes in which they may, [x0, y0, x1, y1].
     Object.assign(this, { hasAllCells: isAll, boxes: new Map() });
   }
@@ -17,14 +18,23 @@ export class Changes {
   // Takes what a line did. The cells of a line of a stroke are drawn already.
   take({ outline, subject, selection, cells }, isDrawn = false) {
     this.hasSelection ||= selection;
-    if (outline) this.takeOutline(subject);
+    if (outline) this.takeOutline(subject, cells === "all");
     if (cells === "all") this.hasAllCells = true;
     else if (cells && !isDrawn) this.takeCells(cells);
   }
 
-  takeOutline(subject) {
+  // Where all cells may be otherwise, layers have come, gone or moved, or the map has another size.
+  takeOutline(subject, hasAllCells) {
     if (subject?.kind === "object") this.objects.add(subject.id);
-    this.hasOutline ||= subject?.kind !== "object" || this.objects.size > MOST_ALONE;
+    else if (subject?.kind === "layer" && !hasAllCells) this.layers.add(subject.id);
+    else if (subject?.kind === "map" && !hasAllCells) this.hasOwn = true;
+    else this.hasOutline = true;
+    this.hasOutline ||= this.objects.size > MOST_ALONE;
+  }
+
+  // Whether own members have changed, of layers or of the map.
+  get hasMembers() {
+    return this.hasOwn || this.layers.size > 0;
   }
 
   takeCells({ layer, x, y, width, height }) {

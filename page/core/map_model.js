@@ -12,14 +12,20 @@ const within = (number, least, most) => Math.max(least, Math.min(most, number));
 // A layer of what the file has: with the group that it stands in, or null, how deep, and whether it is seen.
 function layerOf(members, group, place, siblings, odd) {
   const data = LAYER.take(members, odd, titleOfLayer(members)) ?? {};
-  const isSeen = (group?.isSeen ?? true) && data.visible !== false;
-  const layer = { data, group, depth: group ? group.depth + 1 : 0, place, siblings, id: data.id, type: data.type, isSeen };
+  const { id, type } = data;
+  const layer = { data, group, depth: group ? group.depth + 1 : 0, place, siblings, id, type, isTiles: type === "tilelayer" };
+  derive(layer);
+  return layer;
+}
+
+// What follows for a layer from its own members and from its group.
+function derive(layer) {
+  const { data, group } = layer;
+  layer.isSeen = (group?.isSeen ?? true) && data.visible !== false;
   layer.offsetX = (group?.offsetX ?? 0) + within(data.offsetx ?? 0, -FARTHEST, FARTHEST);
   layer.offsetY = (group?.offsetY ?? 0) + within(data.offsety ?? 0, -FARTHEST, FARTHEST);
   layer.opacity = (group?.opacity ?? 1) * within(data.opacity ?? 1, 0, 1);
   layer.tint = bothTints(group?.tint ?? null, partsOfColour(data.tintcolor));
-  layer.isTiles = data.type === "tilelayer";
-  return layer;
 }
 
 // All layers in the order in which they are drawn, a group before those in it.
@@ -75,6 +81,23 @@ export class MapModel {
   object(id) {
     const [layer, place] = this.places.get(id) ?? [];
     return layer ? { object: layer.data.objects[place], layer } : null;
+  }
+
+  // The same map with other members of its own, if it has others, and of some layers. null where some member is odd, of which there is a
+  // count.
+  renewed(own, layers) {
+    const odd = new OddMembers();
+    const made = Object.assign(Object.create(MapModel.prototype), this);
+    if (own) made.data = { ...MAP.take(own, odd, "the map"), tilesets: this.data.tilesets };
+    const found = layers.map(members => LAYER.take(members, odd, titleOfLayer(members)));
+    if (this.odd.count || odd.count) return null;
+    for (const data of found) {
+      const layer = this.layer(data.id);
+      const { objects } = layer.data;
+      layer.data = objects ? { ...data, objects } : data;
+    }
+    this.layers.forEach(derive);
+    return made;
   }
 
   // Takes how some objects are by now: [id, { members, layer }] of each, with the id of its layer, or [id, null] where there is none.

@@ -50,11 +50,11 @@ const whyOf = (refusal, line) => (refusal?.wordAtFault ? wordsOfWord(refusal.wor
 class NotReplaced extends Error {}
 
 // Events:
-//   map        the active map is another one, or its outline is
+//   map        the active map is another one, or its outline is; the detail is the parts in which alone cells are others, or null
 //   objects    objects of the map have come, gone or changed, and nothing else of its outline; the detail has what each is and was:
 //              { object, before, layer }, where `object` is null of one that is gone, and `before` of one that is new
-//   cells      cells have changed otherwise than by a stroke of the hand; the detail is the parts in which alone, each { layer, box },
-//              or null
+//   cells      cells have changed otherwise than by a stroke of the hand, and nothing of the outline; the detail is the parts in which
+//              alone, each { layer, box }, or null
 //   selection  the selection has changed
 //   done       lines were done; the detail is the stroke whose edits they are, or null
 //   lines      the lines that were done or refused, each with its number, its reply, what is at fault in it, how many cells it names, and its gesture
@@ -217,13 +217,13 @@ export class PageEditor extends EventTarget {
   settle(stroke = null) {
     const { changes, isUnshown } = this;
     this.changes = new Changes();
-    const replaced = changes.hasOutline ? null : this.takeObjects(changes.objects);
+    const replaced = changes.hasOutline ? null : this.takeParts(changes);
     if (!replaced) this.takeMap();
     else if (changes.hasSelection) this.takeSelection();
     if (this.listed.length) this.tell("lines", this.listed.splice(0));
     this.tell("done", stroke);
-    const isOther = !replaced || this.isUnshown !== isUnshown;
-    if (isOther) this.tell("map");
+    const isOther = !replaced || changes.hasMembers || this.isUnshown !== isUnshown;
+    if (isOther) this.tell("map", changes.parts);
     else if (changes.hasCells) this.tell("cells", changes.parts);
     if (replaced?.length && !isOther) this.tell("objects", replaced);
     if (changes.hasSelection && !isOther) this.tell("selection");
@@ -242,19 +242,36 @@ export class PageEditor extends EventTarget {
     if (was && !this.isUnshown) this.tell("unshown");
   }
 
-  // Takes the objects with these ids, each read alone, and gives what has come of them. null where the whole map is to be read.
-  takeObjects(ids) {
-    if (!ids.size) return [];
+  // Takes the parts of the outline that have changed, each read alone, and gives what has come of objects. null where the whole outline is
+  // to be read.
+  takeParts(changes) {
+    if (!changes.objects.size && !changes.hasMembers) return [];
     if (!this.map) return null;
     try {
-      const { objects, layers } = this.editor.active;
-      const now = [...ids].map(id => [id, objects.has(id) ? objects.get(id) : null]);
-      const found = now.map(([id, object]) => [id, object && { members: object.members, layer: object.layer.id }]);
-      return this.map.take(found, this.editor.lastObjectId() + 1, layer => Array.from(layers.get(layer).objects, each => each.id));
+      if (changes.hasMembers && !this.takeMembers(changes)) return null;
+      return changes.objects.size ? this.takeObjects(changes.objects) : [];
     } catch {
       // What is wrong comes out again where the whole map is read.
       return null;
     }
+  }
+
+  // Takes the own members of layers, and of the map. What the package's Layer tells has all that stands in it, too: so these are read as
+  // the package reads them. false where the whole outline is to be read.
+  takeMembers({ hasOwn, layers }) {
+    const { active } = this.editor;
+    const map = this.map.renewed(hasOwn ? active._read("map_head") : null, [...layers].map(id => active._read("layer", id)));
+    if (map) this.map = map;
+    return map !== null;
+  }
+
+  // Takes the objects with these ids, and gives what has come of them. null where the whole outline is to be read.
+  takeObjects(ids) {
+    const { active } = this.editor;
+    const { objects } = active;
+    const now = [...ids].map(id => [id, objects.has(id) ? objects.get(id) : null]);
+    const found = now.map(([id, object]) => [id, object && { members: object.members, layer: object.layer.id }]);
+    return this.map.take(found, this.editor.lastObjectId() + 1, layer => active._ids("object_ids", layer));
   }
 
   takeSelection() {

@@ -14,10 +14,11 @@ export class CellCache {
     this.layers = new Map();
   }
 
-  // Shows another map, or the same one with other layers.
-  takeMap(map) {
+  // Shows another map; or the same one with another outline, which has other cells in some parts alone.
+  takeMap(map, parts = null) {
     this.map = map;
-    this.forget();
+    if (map && parts) this.refresh(parts);
+    else this.forget();
   }
 
   forget() {

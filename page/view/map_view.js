@@ -221,7 +221,7 @@ export class MapView {
 
   // Draws those of the cells that are seen which are others by now; with parts, in which alone any may be: { layer, box } of each.
   refresh(parts = null) {
-    if (this.isWhole) this.cache.forget();
+    if (this.isWhole && !parts) this.cache.forget();
     const box = this.map ? this.cache.refresh(parts) : null;
     if (box) {
       this.widen(box[0], box[1]);
@@ -245,10 +245,10 @@ export class MapView {
     return [x - reach, y - reach, x + reach, y + reach];
   }
 
-  // Shows the map that the editor has.
-  takeMap() {
+  // Shows the map that the editor has. Where parts are told, it has other cells in these alone.
+  takeMap(parts = null) {
     this.drawn = null;
-    this.cache.takeMap(this.map);
+    this.cache.takeMap(this.map, parts);
     this.redraw();
   }
 
