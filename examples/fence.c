@@ -41,12 +41,20 @@ static void write_file(const char *path, const char *bytes, size_t size)
         stop("the map cannot be written");
 }
 
+/* Ends where an answer is a fault. */
+static void check(size_t answer)
+{
+    if (ROSKEVAD_IS_FAULT(answer))
+        stop(roskevad_words_of(answer));
+}
+
 /* Steps a line, shows its reply, and ends where it is refused. */
 static void step(roskevad_editor *editor, const char *line)
 {
     char reply[256];
     size_t size = roskevad_editor_step(editor, line, strlen(line), reply, sizeof reply);
-    if (size == ROSKEVAD_NONE || size == ROSKEVAD_IS_CLOSED || size > sizeof reply)
+    check(size);
+    if (size > sizeof reply)
         stop("a reply of another form");
     printf("%s => %.*s\n", line, (int)size, reply);
     if (size >= 3 && memcmp(reply, "no ", 3) == 0)
@@ -72,12 +80,10 @@ int main(int count, char **words)
     if (count != 3)
         stop("fence MAP FENCED_MAP");
     roskevad_editor editor = ROSKEVAD_CLOSED;
-    if (roskevad_editor_open(&editor, 0) != ROSKEVAD_DONE)
-        stop("no memory");
+    check(roskevad_editor_open(&editor, 0));
     size_t size;
     char *bytes = read_file(words[1], &size);
-    if (roskevad_editor_put_file(&editor, "map.tmj", 7, bytes, size) != ROSKEVAD_DONE)
-        stop("no memory");
+    check(roskevad_editor_put_file(&editor, "map.tmj", 7, bytes, size));
     free(bytes);
     step(&editor, "open map map.tmj");
     step(&editor, "begin Fence");

@@ -251,6 +251,30 @@ size_t roskevad_word_fault(const uint8_t *line, size_t line_length, roskevad_fau
 size_t roskevad_version(uint8_t *version, size_t room);
 
 /* ---- what to call */
+/* Whether an answer says why nothing is given, set aside or put back. ROSKEVAD_NONE is no such answer: there is nothing then. */
+#define ROSKEVAD_IS_FAULT(answer) ((answer) >= ROSKEVAD_TOO_MANY_FRACTIONS && (answer) < ROSKEVAD_NONE)
+
+/* What an answer says, in English, for messages. The text is the library's, and stays. */
+static inline const char *roskevad_words_of(size_t answer)
+{
+    static const char *const words[] = {
+        "there is none",
+        "the editor is closed",
+        "no memory is left",
+        "the undo limit is above the greatest",
+        "no line can spell that name of a file",
+        "this is no JSON in UTF-8, nests too deep, or has too great a number",
+        "a member has the reserved name roskevad",
+        "the text would nest too deep",
+        "a chunk has no place or size, lies too far away, or has not a value for each cell",
+        "two chunks of a layer overlap",
+        "the layers would have more than 16,777,216 cells",
+        "the map would not come back as it was",
+        "the map has more than 200,000 fractions",
+    };
+    return answer >= ROSKEVAD_TOO_MANY_FRACTIONS ? words[ROSKEVAD_NONE - answer] : "it is done";
+}
+
 /* Where bytes stand that are read, or that are written: never null, but the address of a byte of the header's own where there
  * is none. That byte is neither read nor written. */
 static inline const uint8_t *roskevad_bytes_at(const void *bytes)

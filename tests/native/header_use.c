@@ -89,6 +89,8 @@ int main(void)
     const size_t faults[] = {ROSKEVAD_NOT_JSON, ROSKEVAD_NAME_TAKEN, ROSKEVAD_TOO_DEEP, ROSKEVAD_BAD_CHUNK, ROSKEVAD_OVERLAP,
                              ROSKEVAD_TOO_LARGE, ROSKEVAD_UNLIKE, ROSKEVAD_TOO_MANY_FRACTIONS};
     size_t sum = told[0] + faults[0] + sizeof ROSKEVAD_VERSION;
+    if (ROSKEVAD_IS_FAULT(faults[1]))
+        sum += roskevad_words_of(faults[1])[0] == 'a' ? 1u : 0u;
     sum += roskevad_editor_open(&editor, ROSKEVAD_GREATEST_LIMIT);
     sum += roskevad_editor_step(&editor, line, sizeof line - 1, room, sizeof room);
     sum += roskevad_editor_reply(&editor, room, sizeof room);

@@ -102,6 +102,20 @@ static void check_closed(roskevad_editor *editor)
     roskevad_editor_close(editor);
 }
 
+/* Which answers are faults, and what each says. */
+static void check_words(void)
+{
+    const size_t faults[] = {ROSKEVAD_IS_CLOSED, ROSKEVAD_NO_MEMORY, ROSKEVAD_TOO_GREAT, ROSKEVAD_BAD_NAME, ROSKEVAD_NOT_JSON, ROSKEVAD_NAME_TAKEN,
+                             ROSKEVAD_TOO_DEEP, ROSKEVAD_BAD_CHUNK, ROSKEVAD_OVERLAP, ROSKEVAD_TOO_LARGE, ROSKEVAD_UNLIKE, ROSKEVAD_TOO_MANY_FRACTIONS};
+    const char *const words[] = {"closed", "memory", "undo limit", "name of a file", "JSON", "reserved", "too deep", "has no place", "overlap",
+                                 "16,777,216", "come back", "200,000"};
+    for (size_t at = 0; at < sizeof faults / sizeof *faults; at++)
+        WANT(ROSKEVAD_IS_FAULT(faults[at]) && strstr(roskevad_words_of(faults[at]), words[at]));
+    WANT(!ROSKEVAD_IS_FAULT(ROSKEVAD_DONE) && !ROSKEVAD_IS_FAULT(ROSKEVAD_NONE) && !ROSKEVAD_IS_FAULT(ROSKEVAD_TOO_MANY_FRACTIONS - 1));
+    WANT(strcmp(roskevad_words_of(ROSKEVAD_NONE), "there is none") == 0 && strcmp(roskevad_words_of(ROSKEVAD_DONE), "it is done") == 0);
+    WANT(strcmp(roskevad_words_of(12), "it is done") == 0);
+}
+
 /* What an open one answers where there is nothing yet, and at each edge of a buffer. */
 static void check_edges(roskevad_editor *editor)
 {
@@ -627,6 +641,7 @@ static void run_random(size_t lines)
 {
     roskevad_editor editor = ROSKEVAD_CLOSED;
     check_closed(&editor);
+    check_words();
     check_edges(&editor);
     check_asides();
     check_layouts();
