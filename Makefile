@@ -1,7 +1,7 @@
 # Puts what stands in bin/, lib/, include/ and python/ where a Unix person looks for it, and takes it out again. Nothing is built.
 # It is for GNU make.
 #
-#   make install [PREFIX=/usr/local] [DESTDIR=]      programs, library, header, pkg-config file, man pages, licences
+#   make install [PREFIX=/usr/local] [DESTDIR=]      programs, library, header, pkg-config file, man pages, pages of docs, licences
 #   make uninstall [PREFIX=/usr/local] [DESTDIR=]    takes out exactly these
 #
 # DESTDIR stands in front of each path, for who makes a package; what is installed knows nothing of it.
@@ -14,19 +14,23 @@ ROOT = $(DESTDIR)$(PREFIX)
 # The shared library, and what programs that are linked with it look for.
 SHARED := libroskevad.so.$(VERSION)
 SONAME := $(shell sed -n 's/^soname //p' tools/library_names.txt)
-MAN := $(notdir $(wildcard docs/man/*.1))
+MAN_SECTIONS := 1 3 5
+MAN := $(foreach section,$(MAN_SECTIONS),$(patsubst docs/man/%,man$(section)/%,$(wildcard docs/man/*.$(section))))
 LICENCES := LICENSE-APACHE LICENSE-MIT js/NOTICES.txt
+# The pages for those who use what is installed, and the pictures on them.
+PAGES := $(sort $(wildcard docs/*.md docs/tutorials/*.md docs/pictures/*.png docs/plots/*.svg))
 # The Python package, which the page to draw on needs.
 PACKAGE := $(sort $(shell find python/roskevad -type f ! -path '*/__pycache__/*'))
 
 # The folders that are ours alone, those within others first, and all files, by their paths from PREFIX.
 OWN_FOLDERS := $(shell find python/roskevad -depth -type d ! -name __pycache__ | sed 's,^,share/roskevad/,') \
-	share/roskevad/python share/roskevad share/doc/roskevad
-FOLDERS := bin lib/pkgconfig include share/man/man1 $(OWN_FOLDERS)
+	share/roskevad/python share/roskevad \
+	$(patsubst %/,share/doc/roskevad/%,$(sort $(filter-out docs/,$(dir $(PAGES))))) share/doc/roskevad/docs share/doc/roskevad
+FOLDERS := bin lib/pkgconfig include $(MAN_SECTIONS:%=share/man/man%) $(OWN_FOLDERS)
 FILES := bin/tile_editor bin/map_report bin/tile_page \
 	lib/libroskevad.a lib/$(SHARED) lib/$(SONAME) lib/libroskevad.so lib/pkgconfig/roskevad.pc include/roskevad.h \
-	$(MAN:%=share/man/man1/%) $(PACKAGE:%=share/roskevad/%) share/roskevad/python/roskevad/libroskevad.so \
-	$(addprefix share/doc/roskevad/,$(notdir $(LICENCES)))
+	$(MAN:%=share/man/%) $(PACKAGE:%=share/roskevad/%) share/roskevad/python/roskevad/libroskevad.so \
+	$(addprefix share/doc/roskevad/,$(notdir $(LICENCES))) $(PAGES:%=share/doc/roskevad/%)
 
 FILL_IN = sed -e 's|@PREFIX@|$(PREFIX)|' -e 's|@VERSION@|$(VERSION)|'
 
@@ -45,8 +49,9 @@ install:
 	$(FILL_IN) tools/install/roskevad.pc.in >"$(ROOT)/lib/pkgconfig/roskevad.pc"
 	chmod 644 "$(ROOT)/lib/pkgconfig/roskevad.pc"
 	install -m 644 include/roskevad.h "$(ROOT)/include"
-	install -m 644 $(MAN:%=docs/man/%) "$(ROOT)/share/man/man1"
+	for page in $(MAN); do install -m 644 docs/man/$${page#*/} "$(ROOT)/share/man/$$page" || exit 1; done
 	install -m 644 $(LICENCES) "$(ROOT)/share/doc/roskevad"
+	for page in $(PAGES); do install -m 644 $$page "$(ROOT)/share/doc/roskevad/$$page" || exit 1; done
 	for file in $(PACKAGE); do install -m 644 $$file "$(ROOT)/share/roskevad/$$file" || exit 1; done
 	ln -sfn ../../../../lib/$(SHARED) "$(ROOT)/share/roskevad/python/roskevad/libroskevad.so"
 

@@ -1,8 +1,9 @@
 # SPDX-License-Identifier: MIT OR Apache-2.0
 """Installs into an empty folder by the Makefile, and uses what is there: programs, library, header,
-pkg-config file, man pages and the page to draw on. `uninstall` takes out exactly that. The man
-pages have the options that the programs' help has. The example of a Makefile that builds maps is
-run as it stands on its page."""
+pkg-config file, man pages, pages of docs and the page to draw on. `uninstall` takes out exactly
+that. The man pages have the options that the programs' help has, and those that are pages of docs
+are as `tools/man_pages` makes them. The example of a Makefile that builds maps is run as it stands
+on its page."""
 import os
 import re
 import shutil
@@ -18,11 +19,24 @@ from lib.commands import came_of
 from lib.kit import tool
 from lib.places import BIN, EXAMPLES, EXAMPLE_MAPS, MAP_REPORT, TILE_EDITOR, TOP
 
+PACKAGES = ('lowdown',)
+
 VERSION = (TOP / 'VERSION').read_text().strip()
 SHARED, SONAME = f'libroskevad.so.{VERSION}', tool('build_library').soname()
-MAN = TOP / 'docs' / 'man'
+DOCS = TOP / 'docs'
+MAN = DOCS / 'man'
 PROGRAMS = ('tile_editor', 'map_report', 'tile_page')
-LINES = TOP / 'docs' / 'session-lines.md'
+LINES = DOCS / 'session-lines.md'
+# What is installed besides, below these.
+OTHERS = (
+    'share/roskevad/python/roskevad/',
+    *(f'share/doc/roskevad/docs/{name}/' for name in ('pictures', 'plots', 'tutorials')),
+)
+
+
+def made_man_pages():
+    """The man pages that are pages of docs, too."""
+    return sorted(path for path in MAN.iterdir() if path.suffix != '.1')
 
 
 def make(*words, folder=TOP):
@@ -72,6 +86,8 @@ def test_what_is_installed():
             'lib/pkgconfig/roskevad.pc',
             'include/roskevad.h',
             *(f'share/man/man1/{name}.1' for name in PROGRAMS),
+            *(f'share/man/man{path.suffix[1:]}/{path.name}' for path in made_man_pages()),
+            *(f'share/doc/roskevad/docs/{path.name}' for path in DOCS.glob('*.md')),
             *(
                 f'share/doc/roskevad/{name}'
                 for name in ('LICENSE-APACHE', 'LICENSE-MIT', 'NOTICES.txt')
@@ -81,7 +97,7 @@ def test_what_is_installed():
         others = [
             name
             for name in names
-            if name not in wanted and not name.startswith('share/roskevad/python/roskevad/')
+            if name not in wanted and not name.startswith(OTHERS)
         ]
         assert others == [], others
         modes = {name: (place.top / name).lstat().st_mode for name in names}
@@ -192,6 +208,31 @@ def fault_of_options(case):
 
 def test_options_of_the_man_pages():
     check_each([Case(name, f'{name}.1', None) for name in PROGRAMS], fault_of_options)
+
+
+def fault_of_made_page(case):
+    with tempfile.TemporaryDirectory() as folder:
+        tool('man_pages').write_into(Path(folder))
+        return unlike((Path(folder) / case.given.name).read_text(), case.given.read_text())
+
+
+def test_made_man_pages():
+    """They are as the script makes them, and each formatter finds a name and a description."""
+    check_each([Case(path.name, path, None) for path in made_man_pages()], fault_of_made_page)
+    for path in made_man_pages():
+        assert re.findall(r'^ *(NAME|DESCRIPTION|SEE ALSO)$', rendered(path), re.MULTILINE), path.name
+
+
+def test_pages_of_the_help():
+    """Each page of docs that a program's help names is installed."""
+    with Place() as place:
+        for name in PROGRAMS:
+            pages = re.findall(r'docs/[\w-]+\.md', place.run(name, '--help')[1])
+            fail_with(
+                f'{name}: {page}'
+                for page in pages
+                if not (place.top / 'share' / 'doc' / 'roskevad' / page).exists()
+            )
 
 
 def test_man_pages():

@@ -17,6 +17,7 @@ COMMANDS = {
     'chromium-driver': 'chromedriver',
     'esbuild': 'esbuild',
     'firefox-esr': 'firefox-esr',
+    'lowdown': 'lowdown',
     'mypy': 'mypy',
     'node-typescript': 'tsc',
     'nodejs': 'node',
