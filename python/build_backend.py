@@ -18,6 +18,8 @@ PROJECT = (HERE / 'pyproject.toml').read_text()
 SUFFIXES = {'.py', '.html'}
 TAG = 'py3-none-manylinux2014_x86_64'
 EDITABLE_TAG = 'py3-none-any'
+# What an installation has beside the package, and where: scripts, and a map that they work on.
+EXAMPLES, SHARED = ('examples/fence.py', 'examples/spawn_points.py', 'examples/maps/layers.tmj', 'examples/maps/tiles.tsx'), 'share/doc/roskevad'
 # What the package needs besides: a source archive has it among its files, and a clone elsewhere.
 LIBRARY, LICENCES = 'roskevad/libroskevad.so', ('LICENSE-APACHE', 'LICENSE-MIT', 'NOTICES.txt')
 OF_CLONE = {LIBRARY: 'lib/libroskevad.so', 'NOTICES.txt': 'js/NOTICES.txt'}
@@ -33,7 +35,7 @@ def project_field(name: str) -> str:
     return found[1]
 
 
-NAME, VERSION = project_field('name'), project_field('version')
+NAME, VERSION, README = project_field('name'), project_field('version'), project_field('readme')
 INFO = f'{NAME}-{VERSION}.dist-info'
 
 
@@ -42,9 +44,9 @@ def metadata() -> bytes:
     rows = [
         'Metadata-Version: 2.4', f'Name: {NAME}', f'Version: {VERSION}', f'Summary: {project_field("description")}',
         f'License-Expression: {project_field("license")}', *(f'License-File: {name}' for name in LICENCES),
-        f'Requires-Python: {project_field("requires-python")}',
+        f'Requires-Python: {project_field("requires-python")}', 'Description-Content-Type: text/markdown; charset=UTF-8; variant=GFM',
     ]
-    return ('\n'.join(rows) + '\n').encode()
+    return ('\n'.join(rows) + '\n\n').encode() + (HERE / README).read_bytes()
 
 
 def entry_points() -> bytes:
@@ -101,7 +103,8 @@ def write_wheel(folder: str, tag: str, files: Dict[str, bytes]) -> str:
 
 def build_wheel(wheel_directory: str, config_settings: Optional[object] = None, metadata_directory: Optional[str] = None) -> str:
     """Writes the wheel, and gives its name."""
-    return write_wheel(wheel_directory, TAG, {**sources(), LIBRARY: beside(LIBRARY)})
+    examples = {f'{NAME}-{VERSION}.data/data/{SHARED}/{name}': beside(name) for name in EXAMPLES}
+    return write_wheel(wheel_directory, TAG, {**sources(), LIBRARY: beside(LIBRARY), **examples})
 
 
 def build_editable(wheel_directory: str, config_settings: Optional[object] = None, metadata_directory: Optional[str] = None) -> str:
@@ -117,8 +120,8 @@ def get_requires_for_build_editable(config_settings: Optional[object] = None) ->
 def build_sdist(sdist_directory: str, config_settings: Optional[object] = None) -> str:
     """Writes the archive of the sources, and gives its name."""
     top = f'{NAME}-{VERSION}'
-    own = {name: (HERE / name).read_bytes() for name in ('pyproject.toml', 'build_backend.py')}
-    files = {**own, 'PKG-INFO': metadata(), **{name: beside(name) for name in (*LICENCES, LIBRARY)}, **sources()}
+    own = {name: (HERE / name).read_bytes() for name in ('pyproject.toml', 'build_backend.py', README)}
+    files = {**own, 'PKG-INFO': metadata(), **{name: beside(name) for name in (*LICENCES, LIBRARY, *EXAMPLES)}, **sources()}
     with open(Path(sdist_directory) / f'{top}.tar.gz', 'wb') as file, gzip.GzipFile('', 'wb', fileobj=file, mtime=0) as packed:
         with tarfile.open(mode='w', fileobj=cast(IO[bytes], packed), format=tarfile.PAX_FORMAT) as archive:
             for name, data in files.items():

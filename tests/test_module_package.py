@@ -2,7 +2,7 @@
 """Sees that the package for JavaScript in `js/` is whole: its files, its licences, its version, and
 the forms of lines, which are those of the Python package; by the compiler of TypeScript, that its
 declarations are those of its code; and that a project takes it as npm packs it: its links lead to
-files in it, and bundles of esbuild that are modules, and that are none, draw a map in Node, and in
+files in it, its examples run, and bundles of esbuild that are modules, and that are none, draw a map in Node, and in
 Chromium from a disk."""
 import json
 import os
@@ -15,7 +15,7 @@ from contextlib import contextmanager
 from pathlib import Path
 
 from lib.cases import Case, check_each, fail_with, unlike
-from lib.places import TESTS, TOP
+from lib.places import EXAMPLES, EXAMPLE_MAPS, TESTS, TOP
 from module.browsers import WAIT, chromium, opened
 from module.server import Server
 
@@ -56,7 +56,7 @@ def test_files():
 
 
 def names_of(pattern):
-    names = [path.name for path in JS.glob(pattern)]
+    names = [path.relative_to(JS).as_posix() for path in JS.glob(pattern)]
     assert names, f'package.json names {pattern}, and js/ has no such file'
     return names
 
@@ -145,6 +145,7 @@ def project(**files):
         package = Path(folder) / 'node_modules' / 'roskevad'
         package.mkdir(parents=True)
         for name in files_that_are_packed():
+            (package / name).parent.mkdir(exist_ok=True)
             shutil.copy(JS / name, package / name)
         for name, text in files.items():
             (Path(folder) / name.replace('_', '.')).write_text(text)
@@ -171,6 +172,17 @@ def test_links_of_the_packed_package():
         for link in re.findall(r'\]\(([^)]+)\)', (JS / name).read_text())
         if '://' not in link and not link.startswith('#') and os.path.normpath(link.partition('#')[0]) not in packed
     )
+
+
+def test_examples_of_the_packed_package():
+    """Each draws the same map as the example for Python does."""
+    with project() as folder:
+        words = [sys.executable, EXAMPLES / 'fence.py', EXAMPLE_MAPS / 'layers.tmj', folder / 'wanted.tmj']
+        subprocess.run(words, check=True, capture_output=True)
+        for example in sorted((folder / 'node_modules' / 'roskevad' / 'examples').iterdir()):
+            told_by(folder, 'node', example, EXAMPLE_MAPS / 'layers.tmj', 'came.tmj')
+            came, wanted = ((folder / name).read_bytes() for name in ('came.tmj', 'wanted.tmj'))
+            assert came == wanted, example.name
 
 
 def test_bundles_in_node():

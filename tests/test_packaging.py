@@ -87,7 +87,7 @@ def copy_of_the_clone(folder):
     """What the package is built from, elsewhere, with other dates, modes and order of its files."""
     clone = Path(folder) / 'clone'
     ignored = shutil.ignore_patterns('__pycache__')
-    for name in ('js', 'lib', 'python'):
+    for name in ('examples', 'js', 'lib', 'python'):
         shutil.copytree(TOP / name, clone / name, ignore=ignored, copy_function=shutil.copyfile)
     for name in ('LICENSE-APACHE', 'LICENSE-MIT'):
         shutil.copyfile(TOP / name, clone / name)
@@ -125,6 +125,7 @@ def fault_of_wheel(case):
         said['License-Expression'],
         sorted(said.get_all('License-File')),
         bool(said['Summary']),
+        said.get_payload() == (TOP / 'python' / 'README.md').read_text(),
         dict(programs['console_scripts']),
         {
             name: read[f'{INFO}/licenses/{name}'] == path.read_bytes()
@@ -136,6 +137,7 @@ def fault_of_wheel(case):
         VERSION,
         'MIT OR Apache-2.0',
         sorted(LICENCES),
+        True,
         True,
         {'roskevad': 'roskevad.__main__:main'},
         {name: True for name in LICENCES},
@@ -179,6 +181,16 @@ def pip(*words, folder):
     assert done.returncode == 0, f'pip {words}: {done.stderr[-1500:]}'
 
 
+def example_of(folder, env):
+    """What the example tells first of its last line, run as it is installed; `None` where it is not."""
+    example = Path(folder) / 'share' / 'doc' / 'roskevad' / 'examples' / 'fence.py'
+    if not example.exists():
+        return None
+    words = [f'{folder}/bin/python', example, example.parent / 'maps' / 'layers.tmj', Path(folder) / 'fenced.tmj']
+    done = subprocess.run(words, capture_output=True, text=True, env=env, cwd='/')
+    return done.stdout.splitlines()[-1].partition(':')[0] if done.returncode == 0 else done.stderr
+
+
 def test_pip():
     """It installs the package, and leads to the clone with `-e`; and takes all out again."""
     env = {name: value for name, value in os.environ.items() if name != 'PYTHONPATH'}
@@ -194,12 +206,14 @@ def test_pip():
             ]
             where = f'{folder}/bin/python', '-c', 'import roskevad; print(roskevad.__file__)'
             place = subprocess.run(where, capture_output=True, text=True, env=env, cwd='/').stdout
+            told = example_of(folder, env)
             pip('uninstall', '-y', 'roskevad', folder=folder)
-            left = [str(path) for path in Path(folder).rglob('*roskevad*')]
-            wanted = [f'roskevad {VERSION}\n'.encode()] * 2, case.wanted, []
-            return unlike(wanted, (versions, place.startswith(str(TOP)), left))
+            # pip leaves the folders of examples, which are empty then.
+            left = [str(path) for path in Path(folder).rglob('*') if 'roskevad' in str(path) and not path.is_dir()]
+            wanted = [f'roskevad {VERSION}\n'.encode()] * 2, *case.wanted, []
+            return unlike(wanted, (versions, place.startswith(str(TOP)), told, left))
 
-        check_each([Case('a wheel', [], False), Case('the clone', ['-e'], True)], fault_of)
+        check_each([Case('a wheel', [], (False, 'saved')), Case('the clone', ['-e'], (True, None))], fault_of)
 
 
 # ---- types
