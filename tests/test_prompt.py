@@ -31,9 +31,9 @@ def came_of(words, lines='', folder=TOP, **more):
 
 
 def replies(lines, folder):
-    """The replies to lines, without the prompts."""
+    """The replies to lines. Into a pipe nothing else is written."""
     _, output, _ = came_of(['--folder', folder], ''.join(f'{line}\n' for line in lines))
-    return [line.removeprefix('> ') for line in output.split('\n')]
+    return output.splitlines()
 
 
 # ---- command lines, and how it ends

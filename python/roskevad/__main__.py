@@ -167,7 +167,6 @@ class Prompt:
         try:
             if self._is_terminal:
                 return input('> ')
-            self._write('> ')
             line = sys.stdin.readline()
             return line.rstrip('\n') if line else None
         except EOFError:
@@ -179,7 +178,7 @@ class Prompt:
     def _end(self) -> Optional[int]:
         """The exit status at the end of the input. Where work is not saved, the input must end once more."""
         unsaved = self._editor.unsaved()
-        self._write('\n')
+        self._write_to_terminal('\n')
         if not unsaved or self._has_ended:
             return 1 if unsaved else 0
         self._has_ended = True
@@ -192,7 +191,12 @@ class Prompt:
             self._runs_line = False
             say(f'interrupted; now {self._editor.step("status")}')
         else:
-            self._write('\n')
+            self._write_to_terminal('\n')
+
+    def _write_to_terminal(self, text: str) -> None:
+        """Writes what is for eyes alone, and would be one more reply in a pipe."""
+        if self._is_terminal:
+            self._write(text)
 
     def _write(self, text: str) -> None:
         try:
