@@ -133,6 +133,17 @@ export interface Tile {
   readonly turned: boolean;
 }
 
+export interface TilesetTile {
+  /** Its ID in Tiled. */
+  readonly localId: number;
+  /** Its class. */
+  readonly type: string;
+  /** Its properties by their names. */
+  readonly properties: Record<string, PropertyValue>;
+  /** The shapes of its collision, as the file has them. */
+  readonly shapes: readonly Members[];
+}
+
 /**
  * A map, its selection and its steps. A call makes the document active, and leaves it so. Where it
  * was closed, also where another one was opened under its name, a call throws Closed.
@@ -268,15 +279,18 @@ export class Document {
  */
 export class Layers {
   private constructor();
-  /** The layer with an id, or the first of a name. Throws RangeError. */
+  /**
+   * The layer with an id, the first of a name, or the one at a path: names of groups and its own,
+   * joined by slashes. Throws RangeError.
+   */
   get(key: LayerLike): Layer;
   /** Whether there is one with an id, or of a name, of any kind. */
   has(key: LayerLike): boolean;
   /**
-   * The first of a name that is of a kind: tile, object, group or image; null where there is none.
-   * Throws RangeError.
+   * The first of a name that is of a kind, tile, object, group or image, or of any; null where
+   * there is none. Throws RangeError.
    */
-  find(name: string, kind: string): Layer | null;
+  find(name: string, kind?: string | null): Layer | null;
   /** How many there are, a group as one. */
   readonly size: number;
   /** Each layer in drawing order, a group before those in it. */
@@ -308,6 +322,8 @@ export class Layer {
   name: string;
   /** Whether it is shown; set, it shows or hides the layer. */
   visible: boolean;
+  /** The group that it stands in; null where it stands in none. */
+  readonly parent: Layer | null;
   /** The layers in it, where it is a group. */
   readonly layers: Layers;
   /** The objects in it, where it is an object layer. */
@@ -332,6 +348,12 @@ export class Layer {
    */
   write(x: number, y: number, rows: Rows): void;
   /**
+   * Puts a tile in the place of another one in all cells, as one step; flips stay. Both are values
+   * without flips, where 0 is no tile. Gives how many cells it changed. Throws TypeError,
+   * RangeError, Refused (31).
+   */
+  replace(value: number, other: number): number;
+  /**
    * The tile of a cell; null where the cell is empty. Throws TypeError, RangeError, Refused (31,
    * 32).
    */
@@ -355,6 +377,8 @@ export class Objects {
   private constructor();
   /** The object with an id, or the first of a name. Throws RangeError. */
   get(key: ObjectLike): MapObject;
+  /** The same; null where there is none. */
+  find(key: ObjectLike): MapObject | null;
   /** Whether there is one with an id, or of a name. */
   has(key: ObjectLike): boolean;
   /** How many there are. */
@@ -458,6 +482,8 @@ export class Tilesets {
    * name. Throws RangeError.
    */
   get(key: TilesetLike): Tileset;
+  /** The same; null where there is none. */
+  find(key: TilesetLike): Tileset | null;
   /** Whether there is such a one. */
   has(key: TilesetLike): boolean;
   /** The first in order; null where there is none. */
@@ -486,8 +512,12 @@ export class Tileset {
   valueOf(): number;
   /** The path of its file; null where the map has it in itself. */
   readonly source: string | null;
-  /** Its name, where the map has it in itself. No file of a tileset is read. */
+  /** Its name, where the map has it in itself; no file is read for it. */
   readonly name: string | null;
+  /** All that the map says of it, but for its first id: a copy. */
+  readonly members: Members;
+  /** Its tiles by their ids, where the map has it in itself; else null. */
+  readonly tiles: TilesetTile[] | null;
   /**
    * The value of a cell with a tile of this ID in Tiled. Whether the tileset has that tile is not
    * looked at. Throws TypeError, RangeError.

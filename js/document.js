@@ -9,7 +9,7 @@ import { Selection } from "./selection.js";
 import { drawn, noteOf, restored, withoutPacking } from "./tiled_maps.js";
 import { Tilesets } from "./tilesets.js";
 import { ADDED, ADDED_AND_DROPPED, BECAME, GONE, standingOf } from "./told.js";
-import { Layer, Layers, Objects, missing } from "./views.js";
+import { Layer, Layers, Objects } from "./views.js";
 import * as words from "./words.js";
 
 const MODES = ["replace", "add", "subtract", "intersect"];
@@ -608,14 +608,7 @@ export class Document {
       }
       return layer.id;
     }
-    if (typeof layer !== "string") {
-      return words.number(layer, "the id of a layer");
-    }
-    const id = this._find("layer", layer);
-    if (id === null) {
-      throw missing("layer", layer);
-    }
-    return id;
+    return typeof layer === "string" ? this.layers._known(layer) : words.number(layer, "the id of a layer");
   }
 
   // The width and the cells of a rectangle of a tile layer.

@@ -1,10 +1,10 @@
 // SPDX-License-Identifier: MIT OR Apache-2.0
-import type { Document, Layer, StepRow, Told } from "./document.js";
+import type { Document, Layer, Rows, StepRow, Told } from "./document.js";
 
 export { Document, Layer, Layers, MapObject, Objects, Properties, Selection, Tileset, Tilesets } from "./document.js";
 export type {
-  CellArea, LayerLike, Members, ObjectLike, PropertyValue, Rows, Run, SelectionMode, Status, Step, StepRow, Subject, Tile,
-  TilesetLike, Told, Work,
+  AddedLayerKind, CellArea, LayerKind, LayerLike, Members, ObjectLike, PropertyType, PropertyValue, Rows, Run, SelectionMode,
+  SetPropertyType, Status, Step, StepRow, Subject, Tile, TilesetLike, TilesetTile, Told, Work,
 } from "./document.js";
 
 /** The version of this package. */
@@ -76,6 +76,18 @@ export interface MapPlace {
  * and so is what follows 64 characters. It is `map` where nothing is left.
  */
 export function documentName(path: string): string;
+
+/** Rows of values flipped to the side, the tiles in them too. Throws TypeError, RangeError. */
+export function flippedHorizontally(rows: Rows): number[][];
+
+/** The same upside down. */
+export function flippedVertically(rows: Rows): number[][];
+
+/**
+ * Rows of values turned to the right by a quarter, the tiles in them too, as on a map with square
+ * cells. Throws TypeError, RangeError.
+ */
+export function turnedRight(rows: Rows): number[][];
 
 /** A callback of a change has called what edits, says a line, or changes which documents are open or active. It may read. */
 export class InCallback extends Error {}

@@ -17,6 +17,7 @@ import { Layer } from "./views.js";
 import { Events } from "./watches.js";
 import * as words from "./words.js";
 
+export { flippedHorizontally, flippedVertically, turnedRight } from "./blocks.js";
 export { Document } from "./document.js";
 export { BadModule, Broken, Closed, InCallback, NoMemory, Refused } from "./faults.js";
 export { FORMS, formsOf } from "./forms.js";

@@ -1,17 +1,31 @@
 // SPDX-License-Identifier: MIT OR Apache-2.0
 // The tilesets of a document, and the tiles of its cells.
+import { DIAGONALLY, HORIZONTALLY, TURNED, VERTICALLY } from "./blocks.js";
 import { refusedCall } from "./faults.js";
 import { BASE } from "./rows.js";
 import * as words from "./words.js";
 
-// The flags of a value, as Tiled has them.
+// The flags of a value, as a tile tells them.
 const FLAGS = {
-  flippedHorizontally: 0x8000_0000,
-  flippedVertically: 0x4000_0000,
-  flippedDiagonally: 0x2000_0000,
-  turned: 0x1000_0000,
+  flippedHorizontally: HORIZONTALLY,
+  flippedVertically: VERTICALLY,
+  flippedDiagonally: DIAGONALLY,
+  turned: TURNED,
 };
 const INSPECT = Symbol.for("nodejs.util.inspect.custom");
+
+/** What is thrown where there is nothing that a key stands for: it says which ids there are. */
+export function absent(kind, key, ids) {
+  const others = ids.length === 0 ? ", and no other one" : `; its ids are ${words.listed(ids)}`;
+  return new RangeError(`there is no ${kind} ${words.quoted(key)}${others}`);
+}
+
+// A tile of a tileset, by what its tileset says of it.
+function tileOfSet(id, { type, class: kind, properties = [], objectgroup } = {}) {
+  const named = properties.map((each) => [each.name, each.value]);
+  const shapes = Object.freeze(objectgroup?.objects ?? []);
+  return Object.freeze({ localId: id, type: type || kind || "", properties: Object.freeze(Object.fromEntries(named)), shapes });
+}
 
 /**
  * A tileset of a document, by its first id. It stays the same however the map changes; a call throws
@@ -47,6 +61,22 @@ export class Tileset {
   /** Its name, where the map has it in itself; else null: no file of a tileset is read. */
   get name() {
     return this._members.name ?? null;
+  }
+
+  /** All that the map says of it, but for its first id; of a tileset in the map its tiles, too: a copy. */
+  get members() {
+    const { firstgid, ...members } = this._members;
+    return members;
+  }
+
+  /** Its tiles by their ids, where the map has it in itself; else null: no file of a tileset is read. */
+  get tiles() {
+    const { source, tilecount = 0, tiles = [] } = this._members;
+    if (source !== undefined) {
+      return null;
+    }
+    const said = new Map(tiles.map((tile) => [tile.id, tile]));
+    return Array.from({ length: Math.min(tilecount, BASE + 1) }, (_, id) => tileOfSet(id, said.get(id)));
   }
 
   /** The value of a cell with its tile of this id, which Tiled shows as the tile's ID. */
@@ -142,11 +172,17 @@ export class Tilesets {
 
   /** The tileset with a first id, or the first with a source or a name. Throws RangeError. */
   get(key) {
-    const first = this._found(key);
-    if (first === null) {
-      throw new RangeError(`there is no tileset ${words.quoted(key)}`);
+    const found = this.find(key);
+    if (found === null) {
+      throw absent("tileset", key, this.#document._ids("tilesets"));
     }
-    return new Tileset(this.#document, first);
+    return found;
+  }
+
+  /** The same; null where there is none. */
+  find(key) {
+    const first = this._found(key);
+    return first === null ? null : new Tileset(this.#document, first);
   }
 
   /** Whether there is a tileset with a first id, a source or a name. */

@@ -1,9 +1,11 @@
 // SPDX-License-Identifier: MIT OR Apache-2.0
 // The layers of a document, and their objects, as they are at each call.
+import { replaced, tileValue } from "./blocks.js";
 import { refusedCall } from "./faults.js";
 import { KINDS } from "./module.js";
 import { Properties } from "./properties.js";
-import { tileOf } from "./tilesets.js";
+import { BASE } from "./rows.js";
+import { absent, tileOf } from "./tilesets.js";
 import * as words from "./words.js";
 
 // The kinds of layers, by the words of Tiled's files, and those that a line adds.
@@ -156,11 +158,6 @@ function firstNamed(document, subject, ids, name) {
   return ids.find((id) => (document._read(subject, id).name ?? "") === name) ?? null;
 }
 
-/** What is thrown where there is nothing that a key stands for. */
-export function missing(kind, key) {
-  return new RangeError(`there is no ${kind} ${words.quoted(key)}`);
-}
-
 /** The objects of a layer, or of a whole document: in drawing order, by id or by name. */
 export class Objects {
   #document;
@@ -205,11 +202,16 @@ export class Objects {
   }
 
   get(key) {
-    const id = this._found(key);
-    if (id === null) {
-      throw missing("object", key);
+    const found = this.find(key);
+    if (found === null) {
+      throw absent("object", key, this._ids);
     }
-    return new MapObject(this.#document, id);
+    return found;
+  }
+
+  find(key) {
+    const id = this._found(key);
+    return id === null ? null : new MapObject(this.#document, id);
   }
 
   has(key) {
@@ -240,6 +242,19 @@ export class Objects {
   [INSPECT]() {
     return `<${this}>`;
   }
+}
+
+// The first and last columns and rows that have cells of which something holds; where none has, the first are behind the last.
+function boundsOf(cells, wide, holds) {
+  const bounds = { left: Infinity, top: Infinity, right: -1, bottom: -1 };
+  for (const [at, value] of cells.entries()) {
+    if (holds(value)) {
+      const [x, y] = [at % wide, Math.floor(at / wide)];
+      Object.assign(bounds, { left: Math.min(bounds.left, x), right: Math.max(bounds.right, x) });
+      Object.assign(bounds, { top: Math.min(bounds.top, y), bottom: y });
+    }
+  }
+  return bounds;
 }
 
 /**
@@ -294,6 +309,14 @@ export class Layer extends View {
     this.document._edit(`layer show ${this.id} ${visible ? "yes" : "no"}`);
   }
 
+  get parent() {
+    const row = this.document._layerRows.find(({ id }) => id === this.id);
+    if (row === undefined) {
+      throw this._missing();
+    }
+    return row.parent === 0 ? null : new Layer(this.document, row.parent);
+  }
+
   get layers() {
     return new Layers(this.document, this.id);
   }
@@ -319,6 +342,22 @@ export class Layer extends View {
 
   write(x, y, rows) {
     this.document._write(this, x, y, rows);
+  }
+
+  replace(value, other) {
+    const [from, to] = [tileValue(value), tileValue(other)];
+    const { wide, cells: before } = this.document._cellsOf(this, 0, 0, null, null);
+    const { left, top, right, bottom } = boundsOf(before, wide, (cell) => (cell & BASE) === from);
+    if (from === to || left > right) {
+      return 0;
+    }
+    const rows = Array.from({ length: bottom - top + 1 }, (_, at) => {
+      const start = (top + at) * wide;
+      return Array.from(before.subarray(start + left, start + right + 1), (cell) => replaced(cell, from, to));
+    });
+    this.write(left, top, rows);
+    const after = this.cells();
+    return before.reduce((count, cell, at) => count + (cell === after[at] ? 0 : 1), 0);
   }
 
   tile(x, y) {
@@ -391,11 +430,28 @@ export class Layers {
       return key.document === this.#document ? this._found(key.id) : null;
     }
     if (typeof key === "string") {
-      const id = this.#document._find("layer", key);
-      const isHere = id === null || this.#group === null || this._has(id);
-      return isHere ? id : firstNamed(this.#document, "layer", this._walked.map((row) => row.id), key);
+      return this._named(key) ?? (key.includes("/") ? this._atPath(key) : null);
     }
     return words.isId(key) && this._has(key) ? key : null;
+  }
+
+  // The id of the first layer of a name; null where there is none here.
+  _named(name) {
+    const id = this.#document._find("layer", name);
+    const isHere = id === null || this.#group === null || this._has(id);
+    return isHere ? id : firstNamed(this.#document, "layer", this._walked.map((row) => row.id), name);
+  }
+
+  // The id of the first layer at a path, the names of groups from here on and its own; null where there is none.
+  _atPath(path) {
+    const rows = this._walked;
+    let ids = new Set([this.#group ?? 0]);
+    for (const name of path.split("/")) {
+      const fitting = rows.filter((row) => ids.has(row.parent) && this.#document._read("layer", row.id).name === name);
+      ids = new Set(fitting.map((row) => row.id));
+    }
+    const [first = null] = ids;
+    return first;
   }
 
   _has(id) {
@@ -405,18 +461,27 @@ export class Layers {
   }
 
   get(key) {
+    return new Layer(this.#document, this._known(key));
+  }
+
+  // The id of what a key stands for. Throws RangeError where there is none.
+  _known(key) {
     const id = this._found(key);
     if (id === null) {
-      throw missing("layer", key);
+      throw absent("layer", key, this._walked.map((row) => row.id));
     }
-    return new Layer(this.#document, id);
+    return id;
   }
 
   has(key) {
     return this._found(key) !== null;
   }
 
-  find(name, kind) {
+  find(name, kind = null) {
+    if (kind === null) {
+      const id = this._found(name);
+      return id === null ? null : new Layer(this.#document, id);
+    }
     const said = words.oneOf(kind, Object.values(KINDS), "the kind of a layer");
     const first = this.#document._find("layer", name);
     const ids = this._walked.filter((row) => KINDS[row.kind] === said).map((row) => row.id);

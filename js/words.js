@@ -12,6 +12,8 @@ const COLOUR = /^#([0-9a-f]{6}|[0-9a-f]{8})$/;
 const CONTROL = /[\u0000-\u001f\u007f]/;
 const HALF = /\p{Surrogate}/u;
 const SHOWN = 60;
+// How many ids are listed.
+const MOST_LISTED = 12;
 /** What a MapObject has its id under, so that it can be the value of a property. */
 export const OBJECT = Symbol("the id of an object");
 
@@ -22,6 +24,12 @@ function shown(word) {
 /** A value as a fault quotes it. */
 export function quoted(value) {
   return typeof value === "string" ? shown(value) : String(value).slice(0, SHOWN);
+}
+
+/** Ids in a message, the first ones where they are many. */
+export function listed(ids) {
+  const more = ids.length > MOST_LISTED ? ` and ${ids.length - MOST_LISTED} more` : "";
+  return ids.slice(0, MOST_LISTED).join(", ") + more;
 }
 
 /** Whether a value is a text without half of a character: what has a name in a map may have it. */

@@ -3,6 +3,7 @@
 maps, steps and selections are the same then. So it tries stamps of any size, macros that fail,
 strokes, properties of each type, and what the views tell."""
 import json
+import re
 import subprocess
 import sys
 from dataclasses import dataclass, field
@@ -21,6 +22,34 @@ PACKAGES = ('nodejs',)
 LARGE = ['new large 200 200 16 16 town.tsj', 'stamp 1 0 0 1 1']
 
 
+def grouped_map():
+    """A map with groups, an embedded tileset of two tiles, and one that a file has."""
+    shape = {'height': 4, 'id': 1, 'name': '', 'rotation': 0, 'type': '', 'visible': True, 'width': 4, 'x': 0, 'y': 0}
+    tile = {'id': 1, 'objectgroup': {'draworder': 'index', 'name': '', 'objects': [shape]},
+            'properties': [{'name': 'solid', 'type': 'bool', 'value': True}], 'type': 'Wall'}
+    embedded = {'columns': 2, 'firstgid': 1, 'image': 'a.png', 'imageheight': 8, 'imagewidth': 16, 'margin': 0, 'name': 'own', 'spacing': 0,
+                'tilecount': 2, 'tileheight': 8, 'tiles': [tile], 'tilewidth': 8}
+
+    def named(id, name, **more):
+        return {'id': id, 'name': name, 'opacity': 1, 'visible': True, 'x': 0, 'y': 0, **more}
+
+    def group(id, name, *layers):
+        return named(id, name, type='group', layers=list(layers))
+
+    def tiles(id, name):
+        return named(id, name, type='tilelayer', data=[0] * 4, height=2, width=2)
+
+    layers = [group(1, 'Houses', tiles(2, 'Walls'), group(3, 'Smithy', tiles(4, 'Walls'))), tiles(5, 'a/b')]
+    return json.dumps({
+        'height': 2, 'infinite': False, 'layers': layers, 'nextlayerid': 6, 'nextobjectid': 1, 'orientation': 'orthogonal',
+        'renderorder': 'right-down', 'tileheight': 8, 'tilesets': [embedded, {'firstgid': 3, 'source': 'b.tsx'}], 'tilewidth': 8,
+        'type': 'map', 'version': '1.10', 'width': 2,
+    })
+
+
+GROUPED = grouped_map()
+
+
 @dataclass
 class Scenario:
     """Calls in each language, the lines that they stand for, and what the expressions tell behind them."""
@@ -34,8 +63,9 @@ class Scenario:
 
 
 def plain(name, calls, lines, **more):
-    """A scenario whose calls are the same in both, but for the case of their names."""
-    return Scenario(name, calls.replace('; ', '\n'), calls, lines, **more)
+    """A scenario whose calls are the same in both, but for the case of their names, and look-ups by an id in braces."""
+    python, javascript = (re.sub(r'\{(\d)\}', form, calls) for form in (r'[\1]', r'.get(\1)'))
+    return Scenario(name, python.replace('; ', '\n'), javascript, lines, **more)
 
 
 SCENARIOS = [
@@ -176,6 +206,76 @@ SCENARIOS = [
              ' document.layers.get(1).write(1, 1, [[6]]); document.stamp(1, 2, 1, [[7]]); })',
              ['begin A', 'begin Write || write tiles', 'erase 1 0 0 2 1', 'stamp 1 0 0 2 0,5', 'end', 'end', 'stamp 1 0 1 1 5', 'stamp 1 1 1 1 6',
               'stamp 1 2 1 1 7']),
+    # ---- tiles replaced, and blocks turned
+    plain('a tile replaced', 'document.stamp(1, 0, 0, [[5, 2147483653, 6], [0, 6, 5]]); document.layers{1}.replace(5, 7)',
+          ['stamp 1 0 0 3 5,2147483653,6,0,6,5', 'stamp 1 0 0 3 7,2147483655,6,0,6,7']),
+    plain('a tile replaced in the selection', 'document.stamp(1, 0, 0, [[5, 5]]); document.select(1, 0, 1, 1); document.layers{1}.replace(5, 7)',
+          ['stamp 1 0 0 2 5,5', 'select replace 1 0 1 1', 'stamp 1 0 0 2 7,7']),
+    plain('a tile that goes', 'document.stamp(1, 1, 1, [[536870917, 6, 5]]); document.layers{1}.replace(5, 0)',
+          ['stamp 1 1 1 3 536870917,6,5', 'begin Write || write tiles', 'erase 1 1 1 3 1', 'stamp 1 1 1 3 0,6,0', 'end']),
+    plain('a tile that is nowhere', 'document.layers{1}.replace(5, 7); document.layers{1}.replace(1, 1)', []),
+    plain('empty cells replaced', 'document.layers{3}.replace(0, 5)', ['stamp 3 0 0 4 5,5,5,5,5,5,5,5,5,5,5,5']),
+    plain('what a replacement counts', 'document.stamp(1, 0, 0, [[5, 5]]); document.select(1, 0, 1, 1)', ['stamp 1 0 0 2 5,5', 'select replace 1 0 1 1'],
+          values=[('[document.layers[3].replace(5, 7), len(document.layers[1].rows())]',
+                   '[document.layers.get(3).replace(5, 7), document.layers.get(1).rows().length]', [0, 3])]),
+    plain('blocks', 'document.undo()', ['undo'],
+          values=[('roskevad.turned_right([[1, 0x80000002, 0], [0x40000003, 4, 5]])',
+                   'roskevad.turnedRight([[1, 0x80000002, 0], [0x40000003, 4, 5]])',
+                   [[0x20000003, 0xA0000001], [0xA0000004, 0xE0000002], [0xA0000005, 0]]),
+                  ('roskevad.flipped_horizontally([[1, 0], [0x80000002, 3]])', 'roskevad.flippedHorizontally([[1, 0], [0x80000002, 3]])',
+                   [[0, 0x80000001], [0x80000003, 2]]),
+                  ('roskevad.flipped_vertically([[1, 0], [2, 3]])', 'roskevad.flippedVertically([[1, 0], [2, 3]])',
+                   [[0x40000002, 0x40000003], [0x40000001, 0]])]),
+    Scenario('look-ups in groups', f"""groups = editor.open({GROUPED.encode()!r})
+at = groups.layers
+found = [at['Houses/Smithy/Walls'].id, at['Houses/Walls'].id, at['a/b'].id, at['Houses'].layers['Smithy/Walls'].id]
+gone = [at.get('Houses/Inn'), at.get('Smithy/Walls'), at.get(9), at.find('Roof')]
+said = []
+for look in (lambda: at[0], lambda: at['Roof'], lambda: groups.objects[1]):
+    try:
+        look()
+    except KeyError as fault:
+        said.append(fault.args[0])
+assert found == [4, 2, 5, 4] and gone == [None] * 4 and at.find('Walls').id == 2, (found, gone)
+assert said == ['no layer 0; its ids are 1, 2, 3, 4, 5', "no layer 'Roof'; its ids are 1, 2, 3, 4, 5", 'no object 1, and no other one'], said
+assert [layer.parent and layer.parent.id for layer in at.walk()] == [None, 1, 1, 3, None]
+assert [layer.id for layer in reversed(at)] == [5, 1] and [each.first_id for each in reversed(groups.tilesets)] == [3, 1]
+groups.stamp('Houses/Smithy/Walls', 0, 0, [[1]])
+assert at[4].tile(0, 0).value == 1
+groups.discard()
+editor.active = document""", f"""const groups = await editor.open({json.dumps(GROUPED)});
+const at = groups.layers;
+const found = ['Houses/Smithy/Walls', 'Houses/Walls', 'a/b'].map((path) => at.get(path).id);
+found.push(at.get('Houses').layers.get('Smithy/Walls').id);
+const gone = [at.find('Houses/Inn'), at.find('Smithy/Walls'), at.find('Roof'), groups.objects.find(1), groups.tilesets.find(9)];
+const said = [() => at.get(0), () => at.get('Roof'), () => groups.objects.get(1)].map((look) => {{
+  try {{ return look(); }} catch (fault) {{ return fault.message; }}
+}});
+const wanted = ['there is no layer 0; its ids are 1, 2, 3, 4, 5', 'there is no layer "Roof"; its ids are 1, 2, 3, 4, 5',
+  'there is no object 1, and no other one'];
+const parents = [...at.walk()].map((layer) => layer.parent?.id ?? 0);
+const came = JSON.stringify([found, gone, at.find('Walls').id, said, parents]);
+if (came !== JSON.stringify([[4, 2, 5, 4], [null, null, null, null, null], 2, wanted, [0, 1, 1, 3, 0]])) throw new Error(came);
+groups.stamp('Houses/Smithy/Walls', 0, 0, [[1]]);
+if (at.get(4).tile(0, 0).value !== 1) throw new Error('not stamped');
+groups.discard();
+editor.active = document;""", []),
+    Scenario('tiles of tilesets', f"""groups = editor.open({GROUPED.encode()!r})
+own, other = groups.tilesets
+tiles = own.tiles
+assert len(tiles) == 2 and tiles[0] == (0, '', {{}}, []) and tiles[1][:3] == (1, 'Wall', {{'solid': True}}), tiles
+assert tiles[1].shapes[0]['width'] == 4 and other.tiles is None and other.members == {{'source': 'b.tsx'}}
+assert own.members['tilecount'] == 2 and 'firstgid' not in own.members
+groups.discard()
+editor.active = document""", f"""const groups = await editor.open({json.dumps(GROUPED)});
+const [own, other] = groups.tilesets;
+const [first, second] = own.tiles;
+const came = JSON.stringify([own.tiles.length, first, second.type, second.properties, second.shapes[0].width, other.tiles, other.members]);
+const wanted = [2, {{ localId: 0, type: '', properties: {{}}, shapes: [] }}, 'Wall', {{ solid: true }}, 4, null, {{ source: 'b.tsx' }}];
+if (came !== JSON.stringify(wanted)) throw new Error(came);
+if (own.members.tilecount !== 2 || 'firstgid' in own.members) throw new Error('members');
+groups.discard();
+editor.active = document;""", []),
     # ---- strokes
     Scenario('a stroke', 'with document.stroke():\n  document.stamp(1, 0, 0, [[1]])\n  document.stamp(1, 1, 0, [[5]])\n  document.stamp(1, 2, 0, [[5]])',
              'document.stroke(() => { document.stamp(1, 0, 0, [[1]]); document.stamp(1, 1, 0, [[5]]); document.stamp(1, 2, 0, [[5]]); })',

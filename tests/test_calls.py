@@ -136,7 +136,8 @@ def test_functions():
     def fault_of(case):
         came = list(inspect.signature(getattr(roskevad, case.given.name)).parameters)
         declared = (TOP / 'js' / 'roskevad.d.ts').read_text()
-        line = f'export function {REFERENCE.camel(case.given.name)}({case.given.takes}: string): string;'
+        said = f'{case.given.takes}: {REFERENCE.typed(case.given, case.given.takes)}'
+        line = f'export function {REFERENCE.camel(case.given.name)}({said}): {REFERENCE.given(case.given, JAVASCRIPT)};'
         return unlike(case.wanted, came) or (None if line in declared else f'no {line} in js/roskevad.d.ts')
 
     check_each([Case(call.name, call, [call.takes]) for call in calls.FUNCTIONS], fault_of)

@@ -129,6 +129,26 @@ def test_names_that_are_not_there():
         check_each(cases, lambda case: None if raised(AttributeError, setattr, *case.given, True) else 'nothing is raised')
 
 
+def test_tiles_of_files():
+    """Those of a tileset's file as JSON, beside the document's own; none where it is not there, and none of other files."""
+    tiles = [{'id': 2, 'properties': [{'name': 'slow', 'type': 'int', 'value': 3}], 'class': 'Mud'}]
+    with tempfile.TemporaryDirectory() as folder, Editor(folder=folder) as editor:
+        made = editor.new('made', 2, 2, 8, 8, 'sets/mud.tsj')
+        see(None, made.tilesets[1].tiles)
+        made.save(Path(folder) / 'made.tmj')
+        see(None, made.tilesets[1].tiles)
+        path = Path(folder) / 'sets' / 'mud.tsj'
+        path.parent.mkdir()
+        path.write_text(json.dumps({'tilecount': 3, 'tiles': tiles}))
+        see([(0, '', {}, []), (1, '', {}, []), (2, 'Mud', {'slow': 3}, [])], [tuple(tile) for tile in made.tilesets[1].tiles])
+        for text in ('{', '[]', '{"tilecount": "3"}'):
+            path.write_text(text)
+            see(True, str(path) in str(raised(ValueError, lambda: made.tilesets[1].tiles)))
+        made.tilesets.add(9, 'sets/mud.tsx')
+        (path.parent / 'mud.tsx').write_text('<tileset/>')
+        see(None, made.tilesets[9].tiles)
+
+
 def test_properties_of_other_types():
     """A class and a float are read; what is read of a class is a copy."""
     with Editor() as editor:

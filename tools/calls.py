@@ -32,11 +32,13 @@ GIVEN = {
     'cells of a layer': ('CellArea, "all" or None', 'CellArea | "all" | null'), 'Subject?': ('Subject or None', 'Subject | null'),
     'became': ('str', '"nothing" | "added" | "added and dropped" | "merged" | "gone" | "turned"'),
     'end of a watch': ('Watch', '() => void'),
+    'Layer?': ('Layer or None', 'Layer | null'), 'MapObject?': ('MapObject or None', 'MapObject | null'),
+    'Tileset?': ('Tileset or None', 'Tileset | null'), 'tiles': ('list of TilesetTile or None', 'TilesetTile[] | null'),
 }
 #: The types of arguments in TypeScript, by their names.
 ARGUMENTS = {
-    'layer': 'LayerLike', 'rows': 'Rows', 'merge': 'boolean', 'name': 'string', 'kind': 'string', 'key': 'number | string',
-    'mode': 'SelectionMode', 'text': 'string', 'action': 'string | null', 'tileset': 'string', 'source': 'string', 'type': 'string | null',
+    'layer': 'LayerLike', 'rows': 'Rows', 'merge': 'boolean', 'name': 'string', 'kind': 'LayerKind', 'key': 'number | string',
+    'mode': 'SelectionMode', 'text': 'string', 'action': 'string | null', 'tileset': 'string', 'source': 'string', 'type': 'SetPropertyType | null',
     'renumbers': 'boolean', 'force': 'boolean', 'keep_empty': 'boolean',
     'flipped_horizontally': 'boolean', 'flipped_vertically': 'boolean', 'flipped_diagonally': 'boolean', 'turned': 'boolean',
     'work': 'Work<Given>', 'value': 'number', 'callback': '(told: Told) => void', 'stop': 'number | null',
@@ -55,11 +57,11 @@ COSTS = {
         'map': 'resize map outline save save_bytes close discard to_json',
     },
     'Layers': {'answer': 'find size walk to_json'},
-    'Layer': {'answer; once map': 'members to_json', 'answer': 'cells rows write remove'},
+    'Layer': {'answer; once map': 'members to_json', 'answer': 'parent cells rows write remove', 'map': 'replace'},
     'Objects': {'1; by a name map': 'get has', 'answer': 'size to_json'},
     'Properties': {'answer': 'size keys to_json'},
     'Tilesets': {'map': 'add', 'answer': 'to_json'},
-    'Tileset': {'map': 'remove'},
+    'Tileset': {'map': 'remove', 'answer': 'members tiles'},
     'Selection': {'answer': 'runs size'},
 }
 
@@ -225,18 +227,21 @@ DOCUMENT = Kind('Document', 'A map, its selection and its steps. A call makes th
 
 LAYERS = Kind('Layers', 'The layers in no group, or those in a group, as they are at each call. A loop over them goes in drawing '
               'order; `walk` enters groups. A look-up finds a layer by its id, or the first of a name, in groups too.', [
-    Call('get', 'key', 'The layer with an id, or the first of a name.', gives='Layer',
+    Call('get', 'key', 'The layer with an id, the first of a name, or the one at a path: names of groups and its own, joined by slashes.', gives='Layer',
          raises={'key': ('document.layers["Roof"]', 'document.layers.get("Roof")')},
          written=('layers[key]', 'layers.get(key)'), renamed='get', types={'key': 'LayerLike'}),
+    Call('get', 'key, default=None', 'The same; the default where there is none.', gives='Layer?', only='python',
+         written=('layers.get(key, default=None)', '')),
     Call('has', 'key', 'Whether there is one with an id, or of a name, of any kind.', gives='bool', written=('key in layers', 'layers.has(key)'),
          types={'key': 'LayerLike'}),
-    Call('find', 'name, kind', 'The first of a name that is of a kind: tile, object, group or image; {None} where there is none.', gives='Layer?',
+    Call('find', 'name, kind=None', 'The first of a name that is of a kind, tile, object, group or image, or of any; {None} where there is none.',
+         gives='Layer?', types={'kind': 'LayerKind | null'},
          raises={'value': 'document.layers.find("Walls", "wall")'}),
     value('size', 'int', 'How many there are, a group as one.', written=('len(layers)', 'layers.size')),
     Call('walk', '', 'Each layer in drawing order, a group before those in it.', gives='each Layer'),
     Call('add', 'kind, name', 'Adds a layer, `tile` or `object`, in no group, over the others, and gives it.', 'layer add tile|object NAME', 'Layer',
          {'type': 'document.layers.add("tile", 5)', 'value': 'document.layers.add("wall", "a")',
-          'refused 40': 'many("layer add tile a", 253) and document.layers.add("tile", "a")'}),
+          'refused 40': 'many("layer add tile a", 253) and document.layers.add("tile", "a")'}, types={'kind': 'AddedLayerKind'}),
     to_json('layers', 'Layers[]', 'What JSON has of them: the list.'),
 ])
 
@@ -244,11 +249,12 @@ LAYER = Kind('Layer', 'A layer, by its id. Where it was removed, a call raises {
     value('id', 'int', 'Its id.'),
     Call('value_of', '', 'The same.', gives='int', written=('int(layer)', 'layer.valueOf()')),
     value('document', 'Document', 'The document that it belongs to.'),
-    value('kind', 'str', 'Its kind: tile, object, group or image.'),
+    value('kind', 'LayerKind', 'Its kind: tile, object, group or image.'),
     value('name', 'str', 'Its name; set, it renames the layer.', line='layer rename LAYER NAME', is_set=True,
           raises={'type': ('setattr(document.layers[1], "name", 5)', 'Reflect.set(document.layers.get(1), "name", 5)'),
                   'value': ('setattr(document.layers[1], "name", "")', 'Reflect.set(document.layers.get(1), "name", "")')}),
     value('visible', 'bool', 'Whether it is shown; set, it shows or hides the layer.', line='layer show LAYER yes|no', is_set=True),
+    value('parent', 'Layer?', 'The group that it stands in; {None} where it stands in none.'),
     value('layers', 'Layers', 'The layers in it, where it is a group.'),
     value('objects', 'Objects', 'The objects in it, where it is an object layer.'),
     value('properties', 'Properties', 'Its properties.'),
@@ -266,6 +272,10 @@ LAYER = Kind('Layer', 'A layer, by its id. Where it was removed, a call raises {
          'stamp LAYER X Y WIDTH TILES', '',
          {'type': 'document.layers{1}.write(0, 0, [[1.5]])', 'value': 'document.layers{1}.write(0, 0, [[1], [1, 2]])',
           'refused 31': 'document.layers{2}.write(0, 0, [[1]])', 'refused 33': 'document.layers{1}.write(0, 0, [[2147483648]])'}),
+    Call('replace', 'value, other', 'Puts a tile in the place of another one in all cells, as one step; flips stay. Both are values without '
+         'flips, where 0 is no tile. Gives how many cells it changed.', 'stamp LAYER X Y WIDTH TILES', 'int',
+         {'type': 'document.layers{1}.replace(1, "a")', 'value': 'document.layers{1}.replace(1, 4026531841)',
+          'refused 31': 'document.layers{2}.replace(1, 2)'}),
     Call('tile', 'x, y', 'The tile of a cell; {None} where the cell is empty.', 'tile LAYER X Y', 'Tile?',
          {'type': 'document.layers{1}.tile("a", 0)', 'value': 'document.layers{1}.tile(1000000001, 0)',
           'refused 31': 'document.layers{2}.tile(0, 0)', 'refused 32': 'document.layers{1}.tile(4, 0)'}),
@@ -279,6 +289,9 @@ OBJECTS = Kind('Objects', 'The objects of a layer, or of all layers, as they are
     Call('get', 'key', 'The object with an id, or the first of a name.', gives='MapObject',
          raises={'key': ('document.objects["key"]', 'document.objects.get("key")')}, written=('objects[key]', 'objects.get(key)'), renamed='get',
          types={'key': 'ObjectLike'}),
+    Call('get', 'key, default=None', 'The same; the default where there is none.', gives='MapObject?', only='python',
+         written=('objects.get(key, default=None)', '')),
+    Call('find', 'key', 'The same; {None} where there is none.', gives='MapObject?', only='javascript', types={'key': 'ObjectLike'}),
     Call('has', 'key', 'Whether there is one with an id, or of a name.', gives='bool', written=('key in objects', 'objects.has(key)'),
          types={'key': 'ObjectLike'}),
     value('size', 'int', 'How many there are.', written=('len(objects)', 'objects.size')),
@@ -322,7 +335,7 @@ PROPERTIES = Kind('Properties', 'The properties of a map, a layer or an object, 
          types={'key': 'string'}),
     value('size', 'int', 'How many there are.', written=('len(properties)', 'properties.size')),
     Call('keys', '', 'The names, in order.', gives='each str'),
-    Call('type_of', 'key', 'The type of a name: string, int, float, bool, color, file, object or class.', gives='str',
+    Call('type_of', 'key', 'The type of a name: string, int, float, bool, color, file, object or class.', gives='PropertyType',
          raises={'key': 'document.properties.type_of("a")'}, types={'key': 'string'}),
     Call('set', 'key, value; type=None, merge=False', 'Sets one: of a named type, else of the type that is there, else of the value\'s own.',
          'prop set OWNER KEY TYPE VALUE', '',
@@ -339,6 +352,9 @@ TILESETS = Kind('Tilesets', 'The tilesets, as they are at each call. A loop goes
     Call('get', 'key', 'The tileset with a first id, or the first with a source, or, where the map has it in itself, a name.', gives='Tileset',
          raises={'key': ('document.tilesets["a.tsj"]', 'document.tilesets.get("a.tsj")')},
          written=('tilesets[key]', 'tilesets.get(key)'), renamed='get', types={'key': 'TilesetLike'}),
+    Call('get', 'key, default=None', 'The same; the default where there is none.', gives='Tileset?', only='python',
+         written=('tilesets.get(key, default=None)', '')),
+    Call('find', 'key', 'The same; {None} where there is none.', gives='Tileset?', only='javascript', types={'key': 'TilesetLike'}),
     Call('has', 'key', 'Whether there is such a one.', gives='bool', written=('key in tilesets', 'tilesets.has(key)'),
          types={'key': 'TilesetLike'}),
     value('first', 'Tileset?', 'The first in order; {None} where there is none.'),
@@ -356,7 +372,9 @@ TILESET = Kind('Tileset', 'A tileset, by its first id. Where it was removed, a c
     value('first_id', 'int', 'Its first id.'),
     Call('value_of', '', 'The same.', gives='int', written=('int(tileset)', 'tileset.valueOf()')),
     value('source', 'str?', 'The path of its file; {None} where the map has it in itself.'),
-    value('name', 'str?', 'Its name, where the map has it in itself. No file of a tileset is read.'),
+    value('name', 'str?', 'Its name, where the map has it in itself; no file is read for it.'),
+    value('members', 'members', 'All that the map says of it, but for its first id: a copy.'),
+    value('tiles', 'tiles', 'Its tiles by their ids, where the map has it in itself{file}; else {None}.'),
     Call('value', 'local_id; flipped_horizontally=False, flipped_vertically=False, flipped_diagonally=False, turned=False',
          'The value of a cell with a tile of this ID in Tiled. Whether the tileset has that tile is not looked at.', gives='int',
          raises={'type': 'document.tilesets{1}.value("a")', 'value': 'document.tilesets{1}.value(-1)'}),
@@ -380,6 +398,9 @@ KINDS = [EDITOR, DOCUMENT, LAYERS, LAYER, OBJECTS, OBJECT, PROPERTIES, TILESETS,
 #: What is imported beside the classes.
 FUNCTIONS = [
     Call('document_name', 'path', 'The name of a document that is made from that of a file.', gives='str', types={'path': 'string'}),
+    Call('flipped_horizontally', 'rows', 'Rows of values flipped to the side, the tiles in them too.', gives='rows'),
+    Call('flipped_vertically', 'rows', 'The same upside down.', gives='rows'),
+    Call('turned_right', 'rows', 'Rows of values turned by a quarter, the tiles in them too, as on a map with square cells.', gives='rows'),
 ]
 
 #: Records, which have values and no calls.
@@ -407,6 +428,8 @@ RECORDS = {
              ('local_id', 'int?', 'its ID in Tiled'), ('flipped_horizontally', 'bool', 'whether it is flipped so'),
              ('flipped_vertically', 'bool', 'or so'), ('flipped_diagonally', 'bool', 'or so'),
              ('turned', 'bool', 'whether it is turned by 120 degrees, on a hexagonal map')],
+    'TilesetTile': [('local_id', 'int', 'its ID in Tiled'), ('type', 'str', 'its class'), ('properties', 'values', 'its properties by their names'),
+                    ('shapes', 'shapes', 'the shapes of its collision, as the file has them')],
 }
 
 #: The calls of an editor that take lines, or the active document: the name of each, its arguments and what it does.

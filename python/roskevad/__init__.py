@@ -10,18 +10,21 @@ from .document import Document, Status, Step
 from .editor import Editor
 from .faults import Closed, InCallback, Refused
 from .views import Layer, Layers, MapObject, Objects
+from .kinds import AddedLayerKind, LayerKind, PropertyType, Rows, SelectionMode, SetPropertyType
 from .library import VERSION as __version__
 from .map_faults import MapPlace
 from .names import document_name
 from .properties import Properties
+from .rows import flipped_horizontally, flipped_vertically, turned_right
 from .selection import Run, Selection
-from .tilesets import Tile, Tileset, Tilesets
+from .tilesets import Tile, Tileset, Tilesets, TilesetTile
 from .told import CellArea, StepRow, Subject, Told
 from .watches import Watch
 from .word_faults import WordAtFault
 
 __all__ = [
-    'CellArea', 'Closed', 'Document', 'Editor', 'InCallback', 'Layer', 'Layers', 'MapObject', 'MapPlace', 'Objects', 'Properties', 'Refused',
-    'Run', 'Selection', 'Status', 'Step', 'StepRow', 'Subject', 'Tile', 'Tileset', 'Tilesets', 'Told', 'Watch', 'WordAtFault', '__version__',
-    'document_name',
+    'AddedLayerKind', 'CellArea', 'Closed', 'Document', 'Editor', 'InCallback', 'Layer', 'LayerKind', 'Layers', 'MapObject', 'MapPlace', 'Objects',
+    'Properties', 'PropertyType', 'Refused', 'Rows', 'Run', 'Selection', 'SelectionMode', 'SetPropertyType', 'Status', 'Step', 'StepRow', 'Subject',
+    'Tile', 'Tileset', 'TilesetTile', 'Tilesets', 'Told', 'Watch', 'WordAtFault', '__version__', 'document_name', 'flipped_horizontally',
+    'flipped_vertically', 'turned_right',
 ]

@@ -598,10 +598,7 @@ class Document:
                 raise ValueError(f'{layer!r} is no layer of {self._name!r}')
             return layer.id
         if isinstance(layer, str):
-            found = self._editor._find('layer', layer)
-            if found is None:
-                raise KeyError(layer)
-            return found
+            return self.layers._known(layer)
         return words.number(layer, 'the id of a layer')
 
     def _cells_of(self, layer: Layer, x: int, y: int, width: Optional[int], height: Optional[int]) -> tuple[int, memoryview]:

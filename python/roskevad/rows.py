@@ -5,9 +5,10 @@ from typing import Any, Iterable, Iterator, NamedTuple
 
 from .limits import MAX_COORDINATE, MAX_LINE, MAX_NUMBER, MAX_SIDE
 
-#: The most values of a row that a line takes, and the most bytes of a line.
 #: The bits of a value that are no flags.
 BASE = 0x0FFF_FFFF
+#: The flags of a value, as Tiled has them: flipped horizontally, vertically, diagonally, and turned on a hexagonal map.
+HORIZONTALLY, VERTICALLY, DIAGONALLY, TURNED = 0x8000_0000, 0x4000_0000, 0x2000_0000, 0x1000_0000
 # The most bytes of a stamp's line before its values.
 _LONGEST_HEAD = len(f'stamp+ {MAX_NUMBER} -{MAX_COORDINATE} -{MAX_COORDINATE} {MAX_SIDE} ')
 
@@ -73,3 +74,47 @@ def doubtful(rows: list[list[int]]) -> int:
     """The value that is the first to have no tileset, where any has none; 0 where all are empty."""
     values = (value for row in rows for value in row if value)
     return min(values, key=lambda value: value & BASE, default=0)
+
+
+# ---- tiles of a block
+
+
+def tile_value(value: int) -> int:
+    """A value without flips. Raises TypeError, ValueError."""
+    found = operator.index(value)
+    if not 0 <= found <= BASE:
+        raise ValueError(f'a value without flips is from 0 to {BASE}: {found}')
+    return found
+
+
+def replaced(value: int, old: int, new: int) -> int:
+    """A value whose tile, where it is the old one, is the new one. An empty cell has no flips."""
+    if value & BASE != old:
+        return value
+    return (value & ~BASE) | new if new else 0
+
+
+def _flipped(value: int, flag: int) -> int:
+    return value ^ flag if value else 0
+
+
+def flipped_horizontally(rows: Any) -> list[list[int]]:
+    """Rows of values flipped to the side, the tiles in them too. Raises TypeError, ValueError."""
+    return [[_flipped(value, HORIZONTALLY) for value in reversed(row)] for row in rows_of(rows)]
+
+
+def flipped_vertically(rows: Any) -> list[list[int]]:
+    """Rows of values flipped upside down, the tiles in them too. Raises TypeError, ValueError."""
+    return [[_flipped(value, VERTICALLY) for value in row] for row in reversed(rows_of(rows))]
+
+
+def _turned(value: int) -> int:
+    """A tile turned to the right by a quarter: flipped over the diagonal and then to the side, behind the flips that it has."""
+    flips = (0 if value & VERTICALLY else HORIZONTALLY) | (VERTICALLY if value & HORIZONTALLY else 0) | (value ^ DIAGONALLY) & DIAGONALLY
+    return (value & (BASE | TURNED)) | flips if value else 0
+
+
+def turned_right(rows: Any) -> list[list[int]]:
+    """Rows of values turned to the right by a quarter, the tiles in them too, as on a map with square cells. Raises TypeError,
+    ValueError."""
+    return [[_turned(value) for value in column] for column in zip(*reversed(rows_of(rows)))]

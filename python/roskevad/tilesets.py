@@ -1,17 +1,29 @@
 # SPDX-License-Identifier: MIT OR Apache-2.0
 """The tilesets of a document, and the tiles of its cells."""
-from typing import TYPE_CHECKING, Iterator, NamedTuple, Optional, Union, cast
+import json
+from pathlib import Path
+from typing import TYPE_CHECKING, Iterator, NamedTuple, Optional, TypeVar, Union, cast
 
 from . import words
 from .faults import refused_call
-from .rows import BASE
+from .rows import BASE, DIAGONALLY, HORIZONTALLY, TURNED, VERTICALLY
 from .tiled_maps import Members
 
 if TYPE_CHECKING:
     from .document import Document
 
-# The flags of a value, as Tiled has them.
-_HORIZONTALLY, _VERTICALLY, _DIAGONALLY, _TURNED = 0x8000_0000, 0x4000_0000, 0x2000_0000, 0x1000_0000
+_Default = TypeVar('_Default')
+
+
+#: How the names of tilesets as JSON end.
+TILESET_ENDS = ('.tsj', '.json')
+#: The most tiles that are listed: as many as a value can name.
+MOST_TILES = BASE + 1
+
+
+def absent(kind: str, key: object, ids: list[int]) -> KeyError:
+    """What is raised where there is nothing that a key stands for: it says which ids there are."""
+    return KeyError(f'no {kind} {key!r}; its ids are {words.listed(ids)}' if ids else f'no {kind} {key!r}, and no other one')
 
 
 def is_id(key: object) -> bool:
@@ -51,6 +63,22 @@ class Tileset:
         return source
 
     @property
+    def members(self) -> Members:
+        """All that the map says of it, but for its first id; of a tileset in the map its tiles, too: a copy. Raises Refused."""
+        return {name: value for name, value in self._members().items() if name != 'firstgid'}
+
+    @property
+    def tiles(self) -> 'Optional[list[TilesetTile]]':
+        """Its tiles by their ids, as the map has them, or its file as JSON, beside the file that the document was opened from or saved to
+        last; None where no such file is there. Raises Refused; ValueError where the file is no tileset."""
+        said, path = self._members(), self._document.path
+        source: Optional[str] = said.get('source')
+        if source is None:
+            return tiles_of(said)
+        members = None if path is None else tileset_file(path.parent / source)
+        return None if members is None else tiles_of(members)
+
+    @property
     def name(self) -> Optional[str]:
         """Its name, where the map has it in itself; else None: no file of a tileset is read. Raises Refused."""
         name: Optional[str] = self._members().get('name')
@@ -82,7 +110,43 @@ class Tileset:
         return f'<Tileset {self.first_id} of {self._document.name!r}>'
 
 
-_FLAGS = (_HORIZONTALLY, _VERTICALLY, _DIAGONALLY, _TURNED)
+_FLAGS = (HORIZONTALLY, VERTICALLY, DIAGONALLY, TURNED)
+
+
+class TilesetTile(NamedTuple):
+    """A tile of a tileset: its id there; its class; its properties, by their names; and the shapes of its collision, as its file has
+    them."""
+
+    local_id: int
+    type: str
+    properties: Members
+    shapes: list[Members]
+
+
+def tileset_file(path: Path) -> Optional[Members]:
+    """The tileset of a file as JSON; None where there is none. Raises ValueError where it is no tileset."""
+    if path.suffix not in TILESET_ENDS:
+        return None
+    try:
+        members = json.loads(path.read_bytes())
+    except OSError:
+        return None
+    except ValueError as fault:
+        raise ValueError(f'{path} is no tileset: {fault}') from fault
+    if not isinstance(members, dict) or not isinstance(members.get('tilecount'), int):
+        raise ValueError(f'{path} is no tileset: it does not say how many tiles there are')
+    return members
+
+
+def tiles_of(members: Members) -> list[TilesetTile]:
+    """The tiles of a tileset, by its members; those of which it says nothing, too."""
+    said = {tile.get('id'): tile for tile in members.get('tiles') or []}
+    return [_tile_of(id, said.get(id, {})) for id in range(min(members.get('tilecount', 0), MOST_TILES))]
+
+
+def _tile_of(id: int, members: Members) -> TilesetTile:
+    properties = {each['name']: each.get('value') for each in members.get('properties') or []}
+    return TilesetTile(id, str(members.get('type') or members.get('class') or ''), properties, (members.get('objectgroup') or {}).get('objects') or [])
 
 
 class Tile(NamedTuple):
@@ -146,10 +210,19 @@ class Tilesets:
 
     def __getitem__(self, key: Union[int, str, Tileset]) -> Tileset:
         """The tileset with a first id, or the first with a source or a name. Raises KeyError where there is none."""
+        found = self.get(key)
+        if found is None:
+            raise absent('tileset', key, self._firsts())
+        return found
+
+    def get(self, key: Union[int, str, Tileset], default: Optional[_Default] = None) -> Union[Tileset, Optional[_Default]]:
+        """The same; `default` where there is none."""
         first = self._document._do(lambda: self._found(key))
-        if first is None:
-            raise KeyError(key)
-        return Tileset(self._document, first)
+        return default if first is None else Tileset(self._document, first)
+
+    def __reversed__(self) -> Iterator[Tileset]:
+        """Each tileset, the last one first."""
+        return reversed(list(self))
 
     def __contains__(self, key: object) -> bool:
         """Whether there is a tileset with a first id, a source or a name."""

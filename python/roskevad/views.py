@@ -7,12 +7,14 @@ from .faults import Refused, refused_call
 from .library import KINDS, LayerRow
 from .properties import Properties
 from .tiled_maps import Members
-from .tilesets import Tile, is_id, tile_of
+from .rows import BASE, replaced, tile_value
+from .tilesets import Tile, absent, is_id, tile_of
 
 if TYPE_CHECKING:
     from .document import Document
 
 _Answer = TypeVar('_Answer')
+_Default = TypeVar('_Default')
 #: The kinds of layers, by the words of Tiled's files.
 TYPES = {'tilelayer': 'tile', 'objectgroup': 'object', 'group': 'group', 'imagelayer': 'image'}
 #: The kinds of layers that a line adds.
@@ -203,12 +205,21 @@ class Objects:
         layer = self._document._editor._number('object_layer', id)
         return layer is not None and self._layer in (None, layer)
 
+    def __reversed__(self) -> Iterator[MapObject]:
+        """Each object, the one that is drawn last first."""
+        return reversed(list(self))
+
     def __getitem__(self, key: Union[int, str, MapObject]) -> MapObject:
         """The object with an id, or the first of a name. Raises KeyError where there is none."""
+        found = self.get(key)
+        if found is None:
+            raise absent('object', key, self._document._do(self._ids))
+        return found
+
+    def get(self, key: Union[int, str, MapObject], default: Optional[_Default] = None) -> Union[MapObject, Optional[_Default]]:
+        """The object with an id, or the first of a name; `default` where there is none."""
         id = self._document._do(lambda: self._found(key))
-        if id is None:
-            raise KeyError(key)
-        return MapObject(self._document, id)
+        return default if id is None else MapObject(self._document, id)
 
     def __contains__(self, key: object) -> bool:
         """Whether there is an object with an id, or of a name."""
@@ -286,6 +297,19 @@ class Layer(_View):
         self._document._edit(f'layer show {self.id} {"yes" if visible else "no"}')
 
     @property
+    def parent(self) -> Optional['Layer']:
+        """The group that it stands in; None where it stands in none. Raises Refused."""
+
+        def find() -> int:
+            row = next((row for row in self._document._layer_rows() if row.id == self.id), None)
+            if row is None:
+                raise self._missing()
+            return row.parent
+
+        group = self._document._do(find)
+        return Layer(self._document, group) if group else None
+
+    @property
     def layers(self) -> 'Layers':
         """The layers in it, where it is a group; else none: a live view."""
         return Layers(self._document, self.id)
@@ -315,6 +339,19 @@ class Layer(_View):
         """Writes rows of values from a cell on, as `document.stamp` does, but zeros too, which empty their cells: one step, in a stroke
         of its own. Raises TypeError, ValueError; Refused: 31 where it is no tile layer, 33 for a value without a tileset."""
         self._document._write(self, x, y, rows)
+
+    def replace(self, value: int, other: int) -> int:
+        """Puts another tile in the place of a tile in each cell that may change, as one step, and gives how many cells that were. Both
+        are values without flips, and a cell keeps its own; 0 stands for no tile. Raises TypeError, ValueError; Refused: 31 where it is
+        no tile layer, 33 for a value without a tileset."""
+        old, new = tile_value(value), tile_value(other)
+        rows = self.rows()
+        found = [(x, y) for y, row in enumerate(rows) for x, cell in enumerate(row) if cell & BASE == old]
+        if old == new or not found:
+            return 0
+        (left, right), (top, bottom) = ((min(places), max(places) + 1) for places in zip(*found))
+        self.write(left, top, [[replaced(cell, old, new) for cell in row[left:right]] for row in rows[top:bottom]])
+        return sum(cell != now for row, row_now in zip(rows, self.rows()) for cell, now in zip(row, row_now))
 
     def tile(self, x: int, y: int) -> Optional[Tile]:
         """The tile of a cell; None where the cell is empty. Raises TypeError, ValueError; Refused: 31 where it is no tile layer, 32
@@ -384,27 +421,51 @@ class Layers:
 
     def _found(self, key: object) -> Optional[int]:
         """The id of what a key stands for, in a turn; None where there is no such layer here."""
-        return _id_of(self, Layer, key)
+        id = _id_of(self, Layer, key)
+        return self._at_path(key) if id is None and isinstance(key, str) and '/' in key else id
+
+    def _at_path(self, path: str) -> Optional[int]:
+        """The id of the first layer at a path, the names of groups from here on and its own, in a turn; None where there is none."""
+        rows, ids = self._walked(), {self._group or 0}
+        for name in path.split('/'):
+            ids = {row.id for row in rows if row.parent in ids and self._document._read('layer', row.id)['name'] == name}
+        return next((row.id for row in rows if row.id in ids), None)
 
     def _has(self, id: int) -> bool:
         if self._group is None:
             return self._document._editor._count('layer', id) is not None
         return id in self._ids()
 
+    def __reversed__(self) -> Iterator[Layer]:
+        """Each layer, the one that is drawn last first."""
+        return reversed(list(self))
+
     def __getitem__(self, key: Union[int, str, Layer]) -> Layer:
-        """The layer with an id, or the first of a name, in groups too. Raises KeyError where there is none."""
-        id = self._document._do(lambda: self._found(key))
+        """The layer with an id, the first of a name, in groups too, or the one at a path: names of groups and its own, joined by
+        slashes. Raises KeyError where there is none."""
+        return Layer(self._document, self._document._do(lambda: self._known(key)))
+
+    def _known(self, key: object) -> int:
+        """The id of what a key stands for, in a turn. Raises KeyError where there is none."""
+        id = self._found(key)
         if id is None:
-            raise KeyError(key)
-        return Layer(self._document, id)
+            raise absent('layer', key, self._ids())
+        return id
+
+    def get(self, key: Union[int, str, Layer], default: Optional[_Default] = None) -> Union[Layer, Optional[_Default]]:
+        """The same; `default` where there is none."""
+        id = self._document._do(lambda: self._found(key))
+        return default if id is None else Layer(self._document, id)
 
     def __contains__(self, key: object) -> bool:
         """Whether there is a layer with an id, or of a name and of any kind, in groups too."""
         return self._document._do(lambda: self._found(key)) is not None
 
-    def find(self, name: str, kind: str) -> Optional[Layer]:
-        """The first layer of a name that is of a kind: tile, object, group or image; in groups too. None where there is none. Raises
-        ValueError for another kind."""
+    def find(self, name: str, kind: Optional[str] = None) -> Optional[Layer]:
+        """The first layer of a name that is of a kind, tile, object, group or image, or of any; in groups too. None where there is none.
+        Raises ValueError for another kind."""
+        if kind is None:
+            return self.get(name)
         said = words.one_of(kind, tuple(KINDS.values()), 'the kind of a layer')
 
         def find() -> Optional[int]:

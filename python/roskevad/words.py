@@ -8,18 +8,23 @@ from typing import Any, Optional
 from .limits import MAX_COORDINATE, MAX_NUMBER, MAX_TEXT
 from .names import is_document_name
 
-#: The most bytes of a text in a line.
-#: The greatest coordinate, and the greatest number, that a line can have.
 #: What stands between the two texts of a macro.
 DIVIDER = ' || '
 #: What a MapObject has its id under, so that it can be the value of a property.
 OBJECT = '_object_id'
 _COLOUR = re.compile('#([0-9a-f]{6}|[0-9a-f]{8})')
 _SHOWN = 60
+# How many ids are listed.
+_MOST_LISTED = 12
 
 
 def _shown(word: str) -> str:
     return repr(word) if len(word) <= _SHOWN else f'{word[:_SHOWN]!r}..'
+
+
+def listed(ids: list[int]) -> str:
+    """Ids in a message, the first ones where they are many."""
+    return ', '.join(map(str, ids[:_MOST_LISTED])) + (f' and {len(ids) - _MOST_LISTED} more' if len(ids) > _MOST_LISTED else '')
 
 
 def text(word: object, what: str) -> str:
