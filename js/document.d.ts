@@ -14,6 +14,12 @@ export type Rows = Iterable<Iterable<number>>;
 export type Work<Given> = ((document: Document) => Given) & (Given extends PromiseLike<unknown> ? never : unknown);
 /** How a rectangle and the selection become the new one. */
 export type SelectionMode = "replace" | "add" | "subtract" | "intersect";
+/** The kinds of layers, and those that are added. */
+export type LayerKind = "tile" | "object" | "group" | "image";
+export type AddedLayerKind = "tile" | "object";
+/** The types of properties, and those that are set. */
+export type PropertyType = SetPropertyType | "float" | "class";
+export type SetPropertyType = "string" | "int" | "bool" | "color" | "file" | "object";
 /** The members of a map, a layer or an object, as its file has them. */
 export type Members = Record<string, unknown>;
 /** The value of a property. */
@@ -290,7 +296,7 @@ export class Layers {
    * The first of a name that is of a kind, tile, object, group or image, or of any; null where
    * there is none. Throws RangeError.
    */
-  find(name: string, kind?: string | null): Layer | null;
+  find(name: string, kind?: LayerKind | null): Layer | null;
   /** How many there are, a group as one. */
   readonly size: number;
   /** Each layer in drawing order, a group before those in it. */
@@ -299,7 +305,7 @@ export class Layers {
    * Adds a layer, `tile` or `object`, in no group, over the others, and gives it. Throws
    * TypeError, RangeError, Refused (40).
    */
-  add(kind: string, name: string): Layer;
+  add(kind: AddedLayerKind, name: string): Layer;
   /** What JSON has of them: the list. */
   toJSON(): Layer[];
   [Symbol.iterator](): IterableIterator<Layer>;
@@ -317,7 +323,7 @@ export class Layer {
   /** The document that it belongs to. */
   readonly document: Document;
   /** Its kind: tile, object, group or image. */
-  readonly kind: string;
+  readonly kind: LayerKind;
   /** Its name; set, it renames the layer. Throws TypeError, RangeError. */
   name: string;
   /** Whether it is shown; set, it shows or hides the layer. */
@@ -455,13 +461,13 @@ export class Properties {
   /**
    * The type of a name: string, int, float, bool, color, file, object or class. Throws RangeError.
    */
-  typeOf(key: string): string;
+  typeOf(key: string): PropertyType;
   /**
    * Sets one: of a named type, else of the type that is there, else of the value's own. Throws
    * TypeError, RangeError, Refused (40).
    */
   set(
-    key: string, value: string | number | boolean | MapObject, options?: { type?: string | null; merge?: boolean },
+    key: string, value: string | number | boolean | MapObject, options?: { type?: SetPropertyType | null; merge?: boolean },
   ): void;
   /** Removes one. */
   delete(key: string): boolean;

@@ -32,7 +32,8 @@ KINDS = ('build_wheel', 'build_editable', 'build_sdist')
 SCRIPT = '''
 from pathlib import Path
 from typing import Any, Optional
-from roskevad import Closed, Document, Editor, Layer, MapObject, Refused, Run, Status, Tile, document_name
+from roskevad import Closed, Document, Editor, Layer, LayerKind, MapObject, Refused, Rows, Run, SelectionMode, Status, Tile, TilesetTile
+from roskevad import document_name, turned_right
 def run(path: Path) -> Optional[int]:
     with Editor(limit=5, folder='.') as editor:
         reply: str = editor.open_file(path)
@@ -61,6 +62,15 @@ def drawn(editor: Editor, path: Path) -> Status:
     tile: Optional[Tile] = layer.tile(0, 0)
     runs: tuple[Run, ...] = document.selection.runs
     values: list[int] = layer.cells().tolist()
+    kind: LayerKind = layer.kind
+    mode: SelectionMode = 'add'
+    document.select(0, 0, 1, 1, mode)
+    block: Rows = turned_right(layer.rows())
+    layer.write(0, 0, block)
+    parent: Optional[Layer] = layer.parent
+    walls: Optional[Layer] = document.layers.get('Walls') or document.layers.find('Walls', kind)
+    tiles: Optional[list[TilesetTile]] = document.tilesets[1].tiles
+    print(parent, walls, tiles, document.layers.get('Walls', 'none'))
     layer.name = 'Grass'
     with editor.lock:
         editor.active = made

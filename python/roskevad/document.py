@@ -12,6 +12,7 @@ from typing import TYPE_CHECKING, Any, Callable, ContextManager, Iterator, Named
 
 from . import words
 from .faults import Closed, Refused, refused_call
+from .kinds import Rows, SelectionMode
 from .library import LAYER_ROW, LayerRow, MapSizes, SelectionRun
 from .limits import MAX_COORDINATE, MAX_OPEN_MACROS
 from .properties import Properties
@@ -453,7 +454,7 @@ class Document:
         finally:
             self._stroke = outer
 
-    def stamp(self, layer: LayerLike, x: int, y: int, rows: Any, merge: bool = False) -> None:
+    def stamp(self, layer: LayerLike, x: int, y: int, rows: Rows, merge: bool = False) -> None:
         """Writes rows of values into a tile layer, from a cell on; a value 0 leaves its cell as it is. `rows` is any nested
         sequence, or an array with two dimensions; with `merge` it is one step with a stamp of the same layer before it. Raises
         TypeError; ValueError, also for ragged rows and values beyond 32 bits; Refused: 31 where it is no tile layer, 33 for a
@@ -494,7 +495,7 @@ class Document:
         differences = self._differences(area, rows)
         return differences is None or any(new or rows is None for _, new in differences)
 
-    def _write(self, layer: Layer, x: int, y: int, rows: Any) -> None:
+    def _write(self, layer: Layer, x: int, y: int, rows: Rows) -> None:
         """Writes rows of values into a tile layer, zeros too."""
         listed = rows_of(rows)
         left, top = words.coordinate(x, 'x'), words.coordinate(y, 'y')
@@ -631,7 +632,7 @@ class Document:
             runs.append(Run(run.row, run.column, run.count))
         return Selection(tuple(runs))
 
-    def select(self, x: int, y: int, width: int, height: int, mode: str = 'replace') -> None:
+    def select(self, x: int, y: int, width: int, height: int, mode: SelectionMode = 'replace') -> None:
         """Selects a rectangle of cells: it replaces the selection, or is added to it, or taken out of it (subtract), or only what
         is in both stays (intersect). Raises TypeError, ValueError; Refused."""
         how = words.one_of(mode, MODES, 'the mode of a selection')

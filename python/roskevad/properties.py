@@ -3,6 +3,7 @@
 from typing import TYPE_CHECKING, Any, Iterator, MutableMapping, Optional, Union, cast
 
 from . import words
+from .kinds import PropertyType, SetPropertyType
 from .library import OWNERS
 from .tiled_maps import Members
 
@@ -76,12 +77,12 @@ class Properties(MutableMapping[str, Any]):
     def __contains__(self, key: object) -> bool:
         return self._one(key) is not None
 
-    def type_of(self, key: str) -> str:
+    def type_of(self, key: str) -> PropertyType:
         """The type of the property of a name, as Tiled has it: string, int, float, bool, color, file, object or class. Raises
         KeyError where there is none."""
-        return str(self._there(key).get('type', 'string'))
+        return cast(PropertyType, self._there(key).get('type', 'string'))
 
-    def set(self, key: str, value: Any, type: Optional[str] = None, merge: bool = False) -> None:
+    def set(self, key: str, value: Any, type: Optional[SetPropertyType] = None, merge: bool = False) -> None:
         """Sets a property: of this type, or else of the type that is there, or else of the value's own. With `merge` it is one
         step with a setting of the same property before it. Raises TypeError where that type takes no such value; ValueError for
         what no line can say, as a float, an empty text or a name with a space; Refused."""

@@ -3,6 +3,7 @@
 import operator
 from typing import Any, Iterable, Iterator, NamedTuple
 
+from .kinds import Rows
 from .limits import MAX_COORDINATE, MAX_LINE, MAX_NUMBER, MAX_SIDE
 
 #: The bits of a value that are no flags.
@@ -21,7 +22,7 @@ class Part(NamedTuple):
     values: str
 
 
-def rows_of(rows: Any) -> list[list[int]]:
+def rows_of(rows: Rows) -> list[list[int]]:
     """Rows of values, of any nested sequences of whole numbers, or of an array with two dimensions. Raises ValueError where they
     are empty, ragged, too wide or beyond 32 bits, and TypeError where a value is no whole number."""
     listed = [_row_of(row, place) for place, row in enumerate(_listed(rows, 'rows'))]
@@ -98,12 +99,12 @@ def _flipped(value: int, flag: int) -> int:
     return value ^ flag if value else 0
 
 
-def flipped_horizontally(rows: Any) -> list[list[int]]:
+def flipped_horizontally(rows: Rows) -> list[list[int]]:
     """Rows of values flipped to the side, the tiles in them too. Raises TypeError, ValueError."""
     return [[_flipped(value, HORIZONTALLY) for value in reversed(row)] for row in rows_of(rows)]
 
 
-def flipped_vertically(rows: Any) -> list[list[int]]:
+def flipped_vertically(rows: Rows) -> list[list[int]]:
     """Rows of values flipped upside down, the tiles in them too. Raises TypeError, ValueError."""
     return [[_flipped(value, VERTICALLY) for value in row] for row in reversed(rows_of(rows))]
 
@@ -114,7 +115,7 @@ def _turned(value: int) -> int:
     return (value & (BASE | TURNED)) | flips if value else 0
 
 
-def turned_right(rows: Any) -> list[list[int]]:
+def turned_right(rows: Rows) -> list[list[int]]:
     """Rows of values turned to the right by a quarter, the tiles in them too, as on a map with square cells. Raises TypeError,
     ValueError."""
     return [[_turned(value) for value in column] for column in zip(*reversed(rows_of(rows)))]

@@ -1,9 +1,10 @@
 # SPDX-License-Identifier: MIT OR Apache-2.0
 """The layers of a document, and their objects."""
-from typing import TYPE_CHECKING, Any, Callable, Iterator, Optional, TypeVar, Union, cast
+from typing import TYPE_CHECKING, Any, Callable, Iterator, Optional, TypeVar, Union, cast, get_args
 
 from . import words
 from .faults import Refused, refused_call
+from .kinds import AddedLayerKind, LayerKind, Rows
 from .library import KINDS, LayerRow
 from .properties import Properties
 from .tiled_maps import Members
@@ -16,9 +17,9 @@ if TYPE_CHECKING:
 _Answer = TypeVar('_Answer')
 _Default = TypeVar('_Default')
 #: The kinds of layers, by the words of Tiled's files.
-TYPES = {'tilelayer': 'tile', 'objectgroup': 'object', 'group': 'group', 'imagelayer': 'image'}
+TYPES: dict[str, LayerKind] = {'tilelayer': 'tile', 'objectgroup': 'object', 'group': 'group', 'imagelayer': 'image'}
 #: The kinds of layers that a line adds.
-ADDED = ('tile', 'object')
+ADDED = get_args(AddedLayerKind)
 # What the members of an object are where its file leaves them out, as those of a template.
 _ABSENT = {'name': '', 'x': 0, 'y': 0}
 
@@ -274,7 +275,7 @@ class Layer(_View):
         return members
 
     @property
-    def kind(self) -> str:
+    def kind(self) -> LayerKind:
         """Its kind: tile, object, group or image. Raises Refused."""
         return self._look(lambda members: TYPES[members['type']])
 
@@ -335,7 +336,7 @@ class Layer(_View):
         width, cells = self._document._cells_of(self, x, y, width, height)
         return [cells[at:at + width].tolist() for at in range(0, len(cells), width)] if width else []
 
-    def write(self, x: int, y: int, rows: Any) -> None:
+    def write(self, x: int, y: int, rows: Rows) -> None:
         """Writes rows of values from a cell on, as `document.stamp` does, but zeros too, which empty their cells: one step, in a stroke
         of its own. Raises TypeError, ValueError; Refused: 31 where it is no tile layer, 33 for a value without a tileset."""
         self._document._write(self, x, y, rows)
@@ -461,7 +462,7 @@ class Layers:
         """Whether there is a layer with an id, or of a name and of any kind, in groups too."""
         return self._document._do(lambda: self._found(key)) is not None
 
-    def find(self, name: str, kind: Optional[str] = None) -> Optional[Layer]:
+    def find(self, name: str, kind: Optional[LayerKind] = None) -> Optional[Layer]:
         """The first layer of a name that is of a kind, tile, object, group or image, or of any; in groups too. None where there is none.
         Raises ValueError for another kind."""
         if kind is None:
@@ -476,7 +477,7 @@ class Layers:
         id = self._document._do(find)
         return None if id is None else Layer(self._document, id)
 
-    def add(self, kind: str, name: str) -> Layer:
+    def add(self, kind: AddedLayerKind, name: str) -> Layer:
         """Adds a layer, tile or object, in no group, last, which is drawn over the others, and gives it. Raises TypeError;
         ValueError, also for the layers of a group; Refused."""
         if self._group is not None:

@@ -1,0 +1,22 @@
+# SPDX-License-Identifier: MIT OR Apache-2.0
+"""The words that calls take and give, and rows of values, as types."""
+from typing import Iterable, Literal, Protocol, Union
+
+#: The kinds of layers, and those that are added.
+LayerKind = Literal['tile', 'object', 'group', 'image']
+AddedLayerKind = Literal['tile', 'object']
+#: How a rectangle and the selection become the new one.
+SelectionMode = Literal['replace', 'add', 'subtract', 'intersect']
+#: The types of properties, and those that are set.
+PropertyType = Literal['string', 'int', 'float', 'bool', 'color', 'file', 'object', 'class']
+SetPropertyType = Literal['string', 'int', 'bool', 'color', 'file', 'object']
+
+
+class _Listed(Protocol):
+    """What gives its rows as lists: an array of NumPy with two dimensions, or a memoryview that has them."""
+
+    def tolist(self) -> object: ...
+
+
+#: Rows of values: nested sequences, or an array with two dimensions.
+Rows = Union[Iterable[Iterable[int]], _Listed]
