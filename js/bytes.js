@@ -9,3 +9,8 @@ export function joined(parts) {
   }
   return all;
 }
+
+/** Whether two have the same bytes. */
+export function isSame(one, other) {
+  return one.length === other.length && one.every((byte, at) => byte === other[at]);
+}

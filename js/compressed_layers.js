@@ -1,6 +1,6 @@
 // SPDX-License-Identifier: MIT OR Apache-2.0
 // Maps whose layers are compressed: unpacked before the library reads them, and packed again behind it.
-import { joined } from "./bytes.js";
+import { isSame, joined } from "./bytes.js";
 import { MAX_CELLS, MAX_FILE_BYTES } from "./limits.js";
 import { Edit, NOTE, edited, mapAndLayers } from "./json_scanner.js";
 
@@ -60,15 +60,19 @@ export async function unpackLayers(bytes) {
   return { bytes: edits.length > 0 ? new TextEncoder().encode(edited(text, edits)) : bytes, left };
 }
 
-/** The bytes of a map with those layers packed that note how; the same bytes where none does. */
-export async function packLayers(bytes) {
+/**
+ * The bytes of a map with those layers packed that note how; the same bytes where none does. Where the cells of a
+ * layer, or of a chunk, are those that it has in a source, it has the source's text of them.
+ */
+export async function packLayers(bytes, source) {
   const text = decoder.decode(bytes);
   if (!text.includes(`"${NOTE}"`)) {
     return bytes;
   }
+  const olds = new Map(mapAndLayers(textThatMayHavePacked(source) ?? "").layers.map(({ members }) => [idOf(members), members]));
   const edits = [];
   for (const { members } of mapAndLayers(text).layers) {
-    edits.push(...(await packedLayer(members)));
+    edits.push(...(await packedLayer(members, olds.get(idOf(members)) ?? new Map())));
   }
   return new TextEncoder().encode(edited(text, edits));
 }
@@ -138,26 +142,52 @@ async function unpackedLayer(layer, cells, budget) {
   return edits;
 }
 
-async function packedLayer(layer) {
+// What changes in the text of a layer that is packed, if it notes how. The source has another one of its id.
+async function packedLayer(layer, old) {
   const note = layer.get(NOTE);
   const compression = note?.value;
   if (!FORMATS.has(compression)) {
     return [];
   }
   const edits = [new Edit(note.nameStart, note.nameEnd, '"compression"')];
+  const olds = new Map();
+  for (const [holder] of compressionOf(old) === compression ? holdersOf(old, null) : []) {
+    olds.set(placeOf(holder), holder.get("data"));
+  }
   for (const [holder] of holdersOf(layer, null)) {
     const data = holder.get("data")?.value;
     if (typeof data === "string") {
-      const stream = new CompressionStream(FORMATS.get(compression));
-      edits.push(dataEdit(holder, await through(stream, bytesOfBase64(data), Infinity)));
+      const cells = bytesOfBase64(data);
+      const kept = await keptText(olds.get(placeOf(holder)), cells);
+      edits.push(kept === null ? dataEdit(holder, await packed(compression, cells)) : textEdit(holder, kept));
     }
   }
   return edits;
 }
 
+function packed(compression, cells) {
+  return through(new CompressionStream(FORMATS.get(compression)), cells, Infinity);
+}
+
+const idOf = (layer) => layer.get("id")?.value;
+
+// Where a layer or a chunk lies, and how large it is, as a key.
+const placeOf = (holder) => JSON.stringify(["x", "y", "width", "height"].map((name) => holder.get(name)?.value ?? null));
+
+// The text of packed data, if these are its cells; else null.
+async function keptText(old, cells) {
+  const bytes = typeof old?.value === "string" ? bytesOfBase64(old.value) : null;
+  const came = bytes && (await inflated(bytes, cells.length));
+  return came && isSame(came, cells) ? old.text.slice(old.start, old.end) : null;
+}
+
 function dataEdit(holder, bytes) {
+  return textEdit(holder, `"${base64Of(bytes)}"`);
+}
+
+function textEdit(holder, text) {
   const { start, end } = holder.get("data");
-  return new Edit(start, end, `"${base64Of(bytes)}"`);
+  return new Edit(start, end, text);
 }
 
 // The bytes that data unpacks to, which must be so many.

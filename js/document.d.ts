@@ -14,6 +14,8 @@ export type Rows = Iterable<Iterable<number>>;
 export type Work<Given> = ((document: Document) => Given) & (Given extends PromiseLike<unknown> ? never : unknown);
 /** How a rectangle and the selection become the new one. */
 export type SelectionMode = "replace" | "add" | "subtract" | "intersect";
+/** How the text of a map is laid out: as Tiled does, with rows of cells on lines of their own, or without lines and spaces. */
+export type Layout = "tiled" | "rows" | "compact";
 /** The kinds of layers, and those that are added. */
 export type LayerKind = "tile" | "object" | "group" | "image";
 export type AddedLayerKind = "tile" | "object";
@@ -268,8 +270,11 @@ export class Document {
   map(): Members;
   /** The same without the cells: a copy. */
   outline(): Members;
-  /** The map as the bytes of a file; it counts as saved then. Throws Refused (20). */
-  saveBytes(): Promise<Uint8Array>;
+  /**
+   * The map as the bytes of a file, in its own layout, or in one that is named: "tiled", "rows" or
+   * "compact"; it counts as saved then. Throws RangeError, Refused (20).
+   */
+  saveBytes(options?: { layout?: Layout }): Promise<Uint8Array>;
   /** Closes it. Throws Refused (13). */
   close(): void;
   /** Closes it, and drops unsaved changes. */

@@ -1,6 +1,7 @@
 // SPDX-License-Identifier: MIT OR Apache-2.0
 // A document of an editor, in the words of its caller.
 import { Closed, Refused, refusedCall } from "./faults.js";
+import { layoutOf } from "./layouts.js";
 import { MAX_COORDINATE, MAX_OPEN_MACROS } from "./limits.js";
 import { savedMap } from "./map_files.js";
 import { Properties } from "./properties.js";
@@ -15,6 +16,7 @@ import * as words from "./words.js";
 const MODES = ["replace", "add", "subtract", "intersect"];
 // A place past every map: a stamp there changes nothing.
 const NOWHERE = `${MAX_COORDINATE} ${MAX_COORDINATE}`;
+const NOTHING = new Uint8Array(0);
 // The numbers of 32 bits of the sizes of a map and of a row of its layers.
 const SIZES_NUMBERS = 10;
 const ROW_NUMBERS = 6;
@@ -38,6 +40,8 @@ export class Document {
   // Whether anything of its map was set aside or unpacked when it was opened. Else the map is told and saved as the
   // editor holds it.
   #hasSetAside = false;
+  // The bytes that it was opened from, or that were saved last, in whose layout it is saved; none of a new map.
+  #source = NOTHING;
   // What its map says of how it was made finite, once that was asked for.
   #note = null;
   // How the cells of its tile layers are written in its file, by their ids, once that was asked for.
@@ -75,8 +79,18 @@ export class Document {
     this.#hasSetAside = true;
   }
 
+  get _source() {
+    return this.#source;
+  }
+
+  // Keeps the bytes that were opened or saved; a closed document keeps none.
+  _keepSource(bytes) {
+    this.#source = this.#isClosed ? NOTHING : bytes;
+  }
+
   _markClosed() {
     this.#isClosed = true;
+    this._keepSource(NOTHING);
     this._wait([]);
     this.#editor._events.drop(this);
   }
@@ -661,9 +675,10 @@ export class Document {
 
   // ---- its file
 
-  async saveBytes() {
+  async saveBytes({ layout = null } = {}) {
+    const said = layoutOf(layout);
     this._enter();
-    return savedMap(this.#editor, "saveBytes()");
+    return savedMap(this.#editor, "saveBytes()", said);
   }
 
   close() {

@@ -14,7 +14,7 @@ const MOST_LAYERS = 256;
 
 // The members that are looked at. Others are gone over.
 const NAMES = new Set([
-  "chunks", "compression", "compressionlevel", "data", "encoding", "height", "layers", "width", NOTE,
+  "chunks", "compression", "compressionlevel", "data", "encoding", "height", "id", "layers", "width", "x", "y", NOTE,
 ]);
 
 /** A part of a text that is written anew. */

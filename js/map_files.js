@@ -2,6 +2,7 @@
 // Maps as the bytes of files: how they are opened, and how they are saved.
 import { Unpackable, packLayers, unpackLayers } from "./compressed_layers.js";
 import { Refused, refusedCall } from "./faults.js";
+import { laidOut } from "./layouts.js";
 import { faultOfFile, faultOfNoJson, isOfMap } from "./map_faults.js";
 import { bytesOf, textOf } from "./module.js";
 
@@ -13,13 +14,16 @@ const STORE_FAILED = 51;
 export async function openedMap(editor, name, data, call) {
   editor._open();
   editor._events.refuse(call);
-  const given = bytesOf(data);
+  // The document keeps them, and the caller may change his own.
+  const given = typeof data === "string" ? bytesOf(data) : bytesOf(data).slice();
   const found = await unpacked(editor, given, call);
   const text = made(editor, "set_aside", found.bytes, call);
   try {
     const reply = openBytes(editor, name, text, call);
+    const document = editor._handle(name);
+    document._keepSource(given);
     if (text !== given) {
-      editor._handle(name)._markSetAside();
+      document._markSetAside();
     }
     return reply;
   } catch (fault) {
@@ -44,24 +48,28 @@ async function unpacked(editor, given, call) {
   }
 }
 
-/** The active document's map as the bytes of a file; its index is the clean one at once. Throws Refused with the call. */
-export async function savedMap(editor, call) {
+/**
+ * The active document's map as the bytes of a file, in a layout, or in that of its source; its index is the clean one
+ * at once. Throws Refused with the call.
+ */
+export async function savedMap(editor, call, layout = null) {
   editor._events.refuse(call);
   if (editor._waits()) {
     throw refusedCall(20, call);
   }
   const shown = editor._shown(call);
-  const hasSetAside = editor._isSetAside();
-  const bytes = hasSetAside ? made(editor, "put_back", shown, call) : shown;
+  const name = editor._activeName();
+  const document = editor._handle(name);
+  const { _source: source, _hasSetAside: hasSetAside } = document;
+  const text = hasSetAside ? made(editor, "put_back", shown, call) : shown;
   editor._replyTo("clean", call);
-  if (!hasSetAside) {
-    return bytes;
-  }
-  const document = editor._activeName();
   try {
-    return await packLayers(bytes);
+    const packed = hasSetAside ? await packLayers(text, source) : text;
+    const bytes = laidOut(editor._module, packed, { layout, source, hasSetAside });
+    document._keepSource(bytes.slice());
+    return bytes;
   } catch (fault) {
-    markDirty(editor, document);
+    markDirty(editor, name);
     throw fault;
   }
 }

@@ -216,22 +216,58 @@ export class Module {
    */
   made(name, given) {
     const call = this.#calls[name];
-    return this.holding(given.length, (at) => {
-      this.bytes().set(given, at);
-      const copied = (room) => this.holding(room, (to) => {
-        const size = this.number(call(at, given.length, to, room));
-        return [size, size !== null && size <= room ? this.bytes().slice(to, to + size) : null];
-      });
-      const room = Math.min(2 * given.length + ROOM, MAX_FILE_BYTES);
-      const [size, text] = copied(room);
-      // A text that is no JSON is refused by its reader.
-      if (text !== null || size === null || size === NOT_JSON) {
-        return { text, why: null };
+    const { size, text } = this.#made([given], 2 * given.length, (at, to, room) => call(at, given.length, to, room));
+    // A text that is no JSON is refused by its reader.
+    const isNone = text !== null || size === null || size === NOT_JSON;
+    return { text, why: isNone ? null : ASIDE_FAULTS.get(size) ?? TOO_LONG };
+  }
+
+  // The text that a call without an editor makes of parts, which stand one behind the other from a place on, and what it answers;
+  // null where it makes none, or it is longer than a file may be. It is made once more where it has no room. Throws NoMemory.
+  #made(parts, expected, call) {
+    return this.holding(parts.reduce((size, part) => size + part.length, 0), (at) => {
+      let end = at;
+      for (const part of parts) {
+        this.bytes().set(part, end);
+        end += part.length;
       }
-      return size <= MAX_FILE_BYTES
-        ? { text: copied(size)[1], why: null }
-        : { text, why: ASIDE_FAULTS.get(size) ?? TOO_LONG };
+      const copied = (room) => this.holding(room, (to) => {
+        const size = this.number(call(at, to, room));
+        return { size, text: size !== null && size <= room ? this.bytes().slice(to, to + size) : null };
+      });
+      const came = copied(Math.min(expected + ROOM, MAX_FILE_BYTES));
+      return came.text === null && came.size !== null && came.size <= MAX_FILE_BYTES ? copied(came.size) : came;
     });
+  }
+
+  /**
+   * The text of a map in the layout of this number; the same text where it would be longer so than a file may be, or
+   * there is no memory for it.
+   */
+  laidOut(text, layout) {
+    const { lay_out: call } = this.#calls;
+    return this.#laid([text], 2 * text.length, (at, to, room) => call(at, text.length, layout, to, room));
+  }
+
+  /**
+   * The same, laid out as a source; as Tiled does it, where that is no map. What was set aside in the text is put
+   * back.
+   */
+  laidOutLike(text, source) {
+    const { put_back_like: call } = this.#calls;
+    const [size, sourceSize] = [text.length, source.length];
+    return this.#laid([text, source], size + sourceSize, (at, to, room) => call(at, size, at + size, sourceSize, to, room));
+  }
+
+  #laid(parts, expected, call) {
+    try {
+      return this.#made(parts, expected, call).text ?? parts[0];
+    } catch (fault) {
+      if (fault instanceof NoMemory) {
+        return parts[0];
+      }
+      throw fault;
+    }
   }
 
   /** The same as a text. `guess` is how many bytes it may have: where that is right, the call is made once. */

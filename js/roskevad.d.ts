@@ -3,7 +3,7 @@ import type { Document, Layer, Rows, StepRow, Told } from "./document.js";
 
 export { Document, Layer, Layers, MapObject, Objects, Properties, Selection, Tileset, Tilesets } from "./document.js";
 export type {
-  AddedLayerKind, CellArea, LayerKind, LayerLike, Members, ObjectLike, PropertyType, PropertyValue, Rows, Run, SelectionMode,
+  AddedLayerKind, CellArea, LayerKind, LayerLike, Layout, Members, ObjectLike, PropertyType, PropertyValue, Rows, Run, SelectionMode,
   SetPropertyType, Status, Step, StepRow, Subject, Tile, TilesetLike, TilesetTile, Told, Work,
 } from "./document.js";
 
@@ -222,8 +222,8 @@ export class Editor {
    */
   openMap(name: string, data: Data): Promise<string>;
   /**
-   * The active document's map as the bytes of a file, with all put back that was set aside, and packed as
-   * it was. Its index is the clean one at once: what is done until the promise is kept is not called saved.
+   * The active document's map as the bytes of a file, with all put back that was set aside, packed as it was, and in
+   * the layout of the bytes that were opened or saved last; in that of Tiled where it is new. Its index is the clean one at once: what is done until the promise is kept is not called saved.
    * Where the promise is broken, no index is clean. Throws Refused.
    */
   saveMap(): Promise<Uint8Array>;

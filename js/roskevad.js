@@ -376,8 +376,8 @@ export class Editor {
   }
 
   /**
-   * The active document's map as the bytes of a file, with all put back that was set aside, and packed as
-   * it was. Its index is the clean one at once: what is done until the promise is kept is not called saved.
+   * The active document's map as the bytes of a file, with all put back that was set aside, packed as it was, and in
+   * the layout of the bytes that were opened or saved last; in that of Tiled where it is new. Its index is the clean one at once: what is done until the promise is kept is not called saved.
    * Where the promise is broken, no index is clean. Throws Refused.
    */
   async saveMap() {

@@ -18,7 +18,7 @@ import threading
 from pathlib import Path
 
 from lib.cases import Case, check_each, raised, unlike
-from lib.maps import group, map_of, packed, text_of, things, tiles
+from lib.maps import compact, group, map_of, packed, text_of, things, tiles
 from lib.places import EXAMPLE_MAPS, TOP
 
 sys.path.insert(0, str(TOP / 'python'))
@@ -61,7 +61,7 @@ def fault_of_path(case):
         document.stamp('Ground', 0, 0, [[13]])
         document.save()
         shown = editor.step('show')[len('map '):].encode()
-        return unlike(('my_town', True, shown), (document.name, document.status.clean, path.read_bytes()))
+        return unlike(('my_town', True, shown), (document.name, document.status.clean, compact(path.read_bytes())))
 
 
 def test_paths():
@@ -82,7 +82,7 @@ def test_other_files():
         see((51, f'save({folder + "/none/b.tmj"!r})'), (refusal.code, refusal.line))
         see((Path('a.tmj'), False), (document.path, document.status.clean))
         document.save()
-        see(editor.step('show')[len('map '):], (Path(folder) / 'a.tmj').read_text())
+        see(editor.step('show')[len('map '):].encode(), compact((Path(folder) / 'a.tmj').read_bytes()))
         see((50, "open('none.tmj')"), (lambda fault: (fault.code, fault.line))(raised(Refused, editor.open, 'none.tmj')))
 
 
@@ -92,7 +92,7 @@ def test_bytes():
         see(['map', 'map2', 'map3'], list(editor.documents))
         see([None] * 3, [document.path for document in documents])
         data = documents[1].save_bytes()
-        see((documents[1], editor.step('show')[len('map '):].encode()), (editor.active, data))
+        see((documents[1], TOWN.read_bytes()), (editor.active, data))
 
 
 def test_calls_that_refusals_name():

@@ -13,7 +13,8 @@ import time
 from pathlib import Path
 
 from lib.cases import Case, check_each, unlike
-from lib.places import EXAMPLE_MAPS, TOP
+from lib.map_layouts import printed
+from lib.places import BIN, EXAMPLE_MAPS, TOP
 
 WORDS = [sys.executable, '-m', 'roskevad']
 ENV = {**os.environ, 'PYTHONPATH': str(TOP / 'python'), 'TERM': 'dumb', 'LC_ALL': 'C.UTF-8'}
@@ -34,6 +35,12 @@ def replies(lines, folder):
     """The replies to lines. Into a pipe nothing else is written."""
     _, output, _ = came_of(['--folder', folder], ''.join(f'{line}\n' for line in lines))
     return output.splitlines()
+
+
+def size_of_new():
+    """How many bytes the new map has in Tiled's layout."""
+    done = subprocess.run([BIN / 'tile_editor'], input=f'{NEW}\nshow\n'.encode(), capture_output=True, check=True)
+    return len(printed(json.loads(done.stdout.split(b'\n')[1].removeprefix(b'map '))))
 
 
 # ---- command lines, and how it ends
@@ -147,7 +154,7 @@ def test_files_of_any_name():
             (['open deep'], ['no 51 store failed']),
             (
                 [NEW, 'save my a.tmj', 'open my a.tmj'],
-                [opened, 'saved my a.tmj 386', opened, '  document my_a'],
+                [opened, f'saved my a.tmj {size_of_new()}', opened, '  document my_a'],
             ),
             ([NEW, 'save ../a.tmj'], [opened, 'no 4 bad word', '  save FILE']),
             ([NEW, 'save .a.tmj'], [opened, 'no 4 bad word', '  save FILE']),

@@ -19,6 +19,8 @@ from pathlib import Path
 from unittest import mock
 
 from lib.cases import Case, check_each, fail_with, passed, unlike
+from lib.map_layouts import printed
+from lib.maps import compact
 from lib.places import EXAMPLE_MAPS, IN_MEMORY, TILE_EDITOR, TOP
 from lib.readers import Reader
 
@@ -49,10 +51,10 @@ class Saver:
         self.saves = 0
 
     def change(self):
-        """Edits the map; the bytes of its file, and those of the map."""
+        """Edits the map; the bytes of its file, and those that a save writes: a new map gets Tiled's layout."""
         self.saves += 1
         self.editor.step(f'stamp 1 0 0 2 {self.saves % 60000 + 1},{self.saves // 60000 + 1}')
-        return self.file.read_bytes(), self.editor.step('show')[len('map ') :].encode()
+        return self.file.read_bytes(), printed(json.loads(self.editor.step('show')[len('map ') :])).encode()
 
     def fault(self, old, new, is_cut):
         """What is wrong behind a save, or None."""
@@ -401,7 +403,7 @@ def fault_of_name(case):
         documents = editor.step('list')
         editor.step('stamp 1 0 0 1 1')
         editor.save_file(case.given)
-        is_saved = editor.step('show')[len('map ') :].encode() == file.read_bytes()
+        is_saved = editor.step('show')[len('map ') :].encode() == compact(file.read_bytes())
         return unlike((f'docs *{document_name(case.given)}', True), (documents, is_saved))
 
 

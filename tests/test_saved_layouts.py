@@ -18,6 +18,7 @@ from lib import tiled_package
 from lib.asides import OPTION, as_in, exact, exact_text, put_back
 from lib.cases import CORES, Case, check_each, passed, unlike
 from lib.json_texts import tree_of
+from lib.map_layouts import layouts, lines_changed, printed
 from lib.maps import layers_in, text_of
 from lib.places import EXAMPLE_MAPS, SESSION_MAPS, TILE_EDITOR
 from lib.sessions import heard
@@ -26,52 +27,14 @@ IS_LONG = True
 PACKAGES = ('tiled',)
 SEED = 20261129
 
-# ---- Tiled's layout, printed
-
-
-def spelled(value):
-    """A value that stands on no line of its own."""
-    if isinstance(value, str):
-        return json.dumps(value).replace('/', '\\/')
-    return '%.15g' % value if isinstance(value, float) else json.dumps(value)
-
-
-def printed(value, depth=0, is_member=False):
-    """A tree in Tiled's layout."""
-    pad = '    ' * depth
-    if isinstance(value, list):
-        return '[' + ', '.join(printed(entry, depth + 1) for entry in value) + ']'
-    if not isinstance(value, dict):
-        return spelled(value)
-    members = [f'{spelled(name)}:{printed(value[name], depth + 1)}' for name in sorted(value)]
-    if depth == 0:
-        return '{ ' + ',\n '.join(members) + '\n}'
-    rows = ',\n'.join(f'{pad} {member}' for member in members)
-    return f'\n{pad}{{\n{rows}\n{pad}}}' if members else f'\n{pad}{{\n\n{pad}}}'
-
-
 # ---- layouts of a source
 
 
-def minimized(data):
-    """As Tiled does it: no space outside of texts."""
-    texts = re.split(rb'("(?:[^"\\]|\\.)*")', data)
-    return b''.join(text if at % 2 else re.sub(rb'\s', b'', text) for at, text in enumerate(texts))
-
-
-def layouts(data):
+def all_layouts(data):
     """A text in each of the layouts, by a name for each."""
     tree = json.loads(data)
-    node = json.dumps(tree, indent=2, ensure_ascii=False)
     return {
-        'as it is': data,
-        'minimized': minimized(data),
-        'as on Windows': data.replace(b'\n', b'\r\n'),
-        'with a last newline': data + b'\n',
-        "Python's": json.dumps(tree).encode(),
-        "Python's, indented": json.dumps(tree, indent=4).encode() + b'\n',
-        "Python's, sorted": json.dumps(tree, indent='\t', sort_keys=True).encode(),
-        "Node's": node.encode(),
+        **layouts(data),
         "Node's, on one line": json.dumps(tree, ensure_ascii=False, separators=(',', ':')).encode(),
         'members turned round': json.dumps(turned(tree), indent=1).encode(),
     }
@@ -101,7 +64,7 @@ def sources():
     return {
         f'{name}, {layout}': text
         for name, data in opened_maps().items()
-        for layout, text in layouts(data).items()
+        for layout, text in all_layouts(data).items()
     }
 
 
@@ -200,17 +163,6 @@ def test_one_stamp():
     cases = [Case(name, (data, layer), None) for name, data, layer in tiled_sources() if is_alone(data, layer)]
     assert len(cases) >= 5, len(cases)
     check_each(cases, fault_of_stamp, CORES)
-
-
-def lines_changed(before, after):
-    """How many lines of the one text are not in the other, and the other way round, in order."""
-    with tempfile.TemporaryDirectory() as folder:
-        for name, data in (('a', before), ('b', after)):
-            (Path(folder) / name).write_bytes(data)
-        words = ['git', 'diff', '--no-index', '--numstat', 'a', 'b']
-        done = subprocess.run(words, cwd=folder, capture_output=True, text=True)
-        added, removed, *_ = done.stdout.split()
-    return int(removed), int(added)
 
 
 # Each edit of `objects.tmj`, with how many of its lines go and come.
@@ -336,7 +288,7 @@ def fault_of_export(case):
     data = tiled_package.exported(source, source.parent, name)
     if data is None or re.search(rb'"compression": ?"[a-z]', data):
         return None
-    for layout, text in layouts(data).items():
+    for layout, text in all_layouts(data).items():
         fault = unlike(text, saved(text))
         if fault:
             return f'{layout}: {fault}'

@@ -12,7 +12,7 @@ from lib.any_maps import saved_as
 from lib.asides import put_back, set_aside
 from lib.cases import passed
 from lib.edits import find_layer
-from lib.maps import cells_of, property_of, text_of, thing, things, written
+from lib.maps import cells_of, compact, property_of, text_of, thing, things, written
 from lib.pages import Clone, Page
 from lib.places import BIN, EXAMPLES, EXAMPLE_MAPS, TOP, files_in
 
@@ -172,12 +172,20 @@ def see_all_maps(page, folder):
     return files
 
 
+def see_maps(page, folder, wanted):
+    """Sees that each map is the wanted one, whatever its layout. Gives the files."""
+    files = {name: (folder / name).read_bytes() for name in wanted}
+    for name, data in files.items():
+        assert compact(data) == wanted[name], f'{page.name}: {name}: another map'
+    return files
+
+
 def test_spawn_points():
     """The page has the last of the lines that are printed. Without `tail` all of them are compared,
     and the status."""
     page = Page(TOP / 'docs' / 'tutorials' / 'spawn_points.md')
     refused, accepted = page.consoles()
-    changed = {
+    wanted = {
         name: text_of(with_spawn_point(json.loads(written(data))))
         for name, data in files_in(EXAMPLE_MAPS).items()
         if name.endswith('.tmj') and name not in ALL_MAPS
@@ -186,7 +194,7 @@ def test_spawn_points():
         see_console(page, clone, refused)
         see_files(page, clone.maps / 'spawn', {'cut.tmj': (clone.maps / 'spawn' / 'cut.tmj').read_bytes()})
         see_console(page, clone, accepted)
-        changed.update(see_all_maps(page, clone.maps / 'spawn'))
+        changed = {**see_maps(page, clone.maps / 'spawn', wanted), **see_all_maps(page, clone.maps / 'spawn')}
         see_files(page, clone.maps / 'spawn', changed)
     command, _ = accepted[-1]
     assert command.endswith(LAST_LINE), f'{page.name}: {command}'

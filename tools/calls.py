@@ -39,7 +39,7 @@ GIVEN = {
 ARGUMENTS = {
     'layer': 'LayerLike', 'rows': 'Rows', 'merge': 'boolean', 'name': 'string', 'kind': 'LayerKind', 'key': 'number | string',
     'mode': 'SelectionMode', 'text': 'string', 'action': 'string | null', 'tileset': 'string', 'source': 'string', 'type': 'SetPropertyType | null',
-    'renumbers': 'boolean', 'force': 'boolean', 'keep_empty': 'boolean',
+    'renumbers': 'boolean', 'force': 'boolean', 'keep_empty': 'boolean', 'layout': 'Layout',
     'flipped_horizontally': 'boolean', 'flipped_vertically': 'boolean', 'flipped_diagonally': 'boolean', 'turned': 'boolean',
     'work': 'Work<Given>', 'value': 'number', 'callback': '(told: Told) => void', 'stop': 'number | null',
 }
@@ -213,13 +213,15 @@ DOCUMENT = Kind('Document', 'A map, its selection and its steps. A call makes th
          raises={'type': 'document.on("change", 5)', 'value': 'document.on("click", () => 0)'}, only='javascript', types={'name': '"change"'}),
     Call('map', '', 'The whole map as its file has it, but finite, and with its cells unpacked: a copy.', 'show', 'members'),
     Call('outline', '', 'The same without the cells: a copy.', gives='members'),
-    Call('save', 'path=None; force=False', 'Writes the map to a file, or to `document.path`; it counts as saved then. A file whose bytes are not '
-         'those that it has read or saved last is refused, unless it is to `force` them.', 'save FILE',
-         raises={'value': 'document.save()', 'refused 20': 'after("begin A") and document.save("/dev/shm/none/a.tmj")',
+    Call('save', 'path=None; force=False, layout=None', 'Writes the map to a file, or to `document.path`, in its own layout or the one that is '
+         'named; it counts as saved then. A file whose bytes are not those that it has read or saved last is refused, unless it is to `force` them.',
+         'save FILE', raises={'value': 'document.save()', 'refused 20': 'after("begin A") and document.save("/dev/shm/none/a.tmj")',
                  'refused 51': 'document.save("/dev/null/a.tmj")'}, only='python'),
-    Call('save_bytes', '', 'The map as the bytes of a file; it counts as saved then.', 'save FILE', 'bytes!',
-         {'refused 20': ('after("begin A") and document.save_bytes()', 'after("begin A") && await document.saveBytes()')},
-         written=('document.save_bytes()', 'await document.saveBytes()')),
+    Call('save_bytes', '; layout=None', 'The map as the bytes of a file, in its own layout, or in one that is named: "tiled", "rows" or "compact"; '
+         'it counts as saved then.', 'save FILE', 'bytes!',
+         {'value': ('document.save_bytes(layout="xml")', 'await document.saveBytes({ layout: "xml" })'),
+          'refused 20': ('after("begin A") and document.save_bytes()', 'after("begin A") && await document.saveBytes()')},
+         written=('document.save_bytes(layout=None)', 'await document.saveBytes({ layout })')),
     Call('close', '', 'Closes it.', 'close DOC', '', {'refused 13': 'document.close()'}),
     Call('discard', '', 'Closes it, and drops unsaved changes.', 'discard DOC'),
     to_json('document', 'members', 'What JSON has of it: `document.outline()`.'),

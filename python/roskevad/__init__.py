@@ -10,7 +10,7 @@ from .document import Document, Status, Step
 from .editor import Editor
 from .faults import Closed, InCallback, Refused
 from .views import Layer, Layers, MapObject, Objects
-from .kinds import AddedLayerKind, LayerKind, PropertyType, Rows, SelectionMode, SetPropertyType
+from .kinds import AddedLayerKind, LayerKind, Layout, PropertyType, Rows, SelectionMode, SetPropertyType
 from .library import VERSION as __version__
 from .map_faults import MapPlace
 from .names import document_name
@@ -23,8 +23,8 @@ from .watches import Watch
 from .word_faults import WordAtFault
 
 __all__ = [
-    'AddedLayerKind', 'CellArea', 'Closed', 'Document', 'Editor', 'InCallback', 'Layer', 'LayerKind', 'Layers', 'MapObject', 'MapPlace', 'Objects',
-    'Properties', 'PropertyType', 'Refused', 'Rows', 'Run', 'Selection', 'SelectionMode', 'SetPropertyType', 'Status', 'Step', 'StepRow', 'Subject',
-    'Tile', 'Tileset', 'TilesetTile', 'Tilesets', 'Told', 'Watch', 'WordAtFault', '__version__', 'document_name', 'flipped_horizontally',
+    'AddedLayerKind', 'CellArea', 'Closed', 'Document', 'Editor', 'InCallback', 'Layer', 'LayerKind', 'Layers', 'Layout', 'MapObject', 'MapPlace',
+    'Objects', 'Properties', 'PropertyType', 'Refused', 'Rows', 'Run', 'Selection', 'SelectionMode', 'SetPropertyType', 'Status', 'Step', 'StepRow',
+    'Subject', 'Tile', 'Tileset', 'TilesetTile', 'Tilesets', 'Told', 'Watch', 'WordAtFault', '__version__', 'document_name', 'flipped_horizontally',
     'flipped_vertically', 'turned_right',
 ]

@@ -1,8 +1,8 @@
 # SPDX-License-Identifier: MIT OR Apache-2.0
 """Maps whose layers are compressed: unpacked before the library reads them, and packed again behind it.
 
-    data = pack_layers(put_back(..))     what a file has
-    unpack_layers(data).data             what the library reads
+    unpack_layers(data).data                 what the library reads of a file
+    pack_layers(put_back(..), data)          what the file has then
 
 While a layer is unpacked, a member of it notes how it was packed. The level stands in the map's own `compressionlevel`, which the
 library keeps. Layers that are added meanwhile have no such note, and are arrays.
@@ -11,7 +11,7 @@ import base64
 import binascii
 from typing import Any, Iterator, NamedTuple, Optional
 
-from .json_scanner import NOTE, Edit, Members, Path, edited, map_and_layers
+from .json_scanner import NOTE, Edit, Members, Part, Path, edited, map_and_layers
 from .compressions import pack, unpack, why_not
 from .limits import MAX_CELLS, MAX_FILE_BYTES
 
@@ -73,15 +73,16 @@ def unpack_layers(data: bytes) -> UnpackedMap:
     return UnpackedMap(edited(text, edits).encode() if edits else data, left)
 
 
-def pack_layers(data: bytes) -> bytes:
-    """A map with those layers packed that note how. Raises Unpackable: 51 where that can't be done here."""
+def pack_layers(data: bytes, source: bytes = b'') -> bytes:
+    """A map with those layers packed that note how. Where the cells of a layer, or of a chunk, are those that it has in a source, it has
+    the source's text of them. Raises Unpackable: 51 where that can't be done here."""
     text = _text_of(data) if f'"{NOTE}"'.encode() in data else None
     if text is None:
         return data
     members, layers = map_and_layers(text)
     stated = _value_of(members, 'compressionlevel')
-    level = stated if type(stated) is int else -1
-    return edited(text, [edit for layer in layers.values() for edit in _edits_to_pack(layer, level)]).encode()
+    packer = _Packer(stated if type(stated) is int else -1, source)
+    return edited(text, [edit for layer in layers.values() for edit in packer.edits(layer)]).encode()
 
 
 def _text_of(data: bytes) -> Optional[str]:
@@ -154,24 +155,58 @@ class _Unpacker:
         return found
 
 
-def _edits_to_pack(layer: Members, level: int) -> Iterator[Edit]:
-    """What changes in the text of a layer that is packed, if it notes how."""
-    compression = _value_of(layer, NOTE)
-    if not isinstance(compression, str):
-        return
-    why = why_not(compression)
-    if why:
-        raise Unpackable(51, why)
-    note = layer[NOTE]
-    yield Edit(note.name_start, note.name_end, '"compression"')
-    for holder, _ in _holders_of(layer, None):
-        data = _value_of(holder, 'data')
-        if isinstance(data, str):
-            yield _data_edit(holder, pack(compression, _decoded(data) or b'', level))
+class _Packer:
+    """Packs the layers of a map, with a level, or as a source has them."""
+
+    def __init__(self, level: int, source: bytes):
+        self._level = level
+        # The layers of the source, by their ids.
+        self._olds = {_value_of(layer, 'id'): layer for layer in map_and_layers(_text_of(source) or '')[1].values()}
+
+    def edits(self, layer: Members) -> Iterator[Edit]:
+        """What changes in the text of a layer that is packed, if it notes how."""
+        compression = _value_of(layer, NOTE)
+        if not isinstance(compression, str):
+            return
+        why = why_not(compression)
+        if why:
+            raise Unpackable(51, why)
+        note = layer[NOTE]
+        yield Edit(note.name_start, note.name_end, '"compression"')
+        olds = self._olds_of(layer, compression)
+        for holder, _ in _holders_of(layer, None):
+            data = _value_of(holder, 'data')
+            if isinstance(data, str):
+                cells = _decoded(data) or b''
+                kept = _kept_text(olds.get(_place_of(holder)), compression, cells)
+                yield _data_edit(holder, pack(compression, cells, self._level)) if kept is None else _text_edit(holder, kept)
+
+    def _olds_of(self, layer: Members, compression: str) -> dict[tuple[Any, ...], Part]:
+        """The data that a layer has in the source, if it is packed there in the same way, by the places of what holds them."""
+        old = self._olds.get(_value_of(layer, 'id'), {})
+        holders = _holders_of(old, None) if _compression_of(old) == compression else ()
+        return {_place_of(holder): holder['data'] for holder, _ in holders if 'data' in holder}
+
+
+def _place_of(holder: Members) -> tuple[Any, ...]:
+    """Where a layer or a chunk lies, and how large it is."""
+    return tuple(_value_of(holder, name) for name in ('x', 'y', 'width', 'height'))
+
+
+def _kept_text(old: Optional[Part], compression: str, cells: bytes) -> Optional[str]:
+    """The text of packed data, if these are its cells."""
+    packed = None if old is None else old.value()
+    if old is None or not isinstance(packed, str) or unpack(compression, _decoded(packed) or b'', len(cells)) != cells:
+        return None
+    return old.text[old.start:old.end]
 
 
 def _data_edit(holder: Members, data: bytes) -> Edit:
-    return Edit(holder['data'].start, holder['data'].end, f'"{base64.b64encode(data).decode()}"')
+    return _text_edit(holder, f'"{base64.b64encode(data).decode()}"')
+
+
+def _text_edit(holder: Members, text: str) -> Edit:
+    return Edit(holder['data'].start, holder['data'].end, text)
 
 
 def _decoded(text: str) -> Optional[bytes]:

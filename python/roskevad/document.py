@@ -12,7 +12,7 @@ from typing import TYPE_CHECKING, Any, Callable, ContextManager, Iterator, Named
 
 from . import words
 from .faults import Closed, Refused, refused_call
-from .kinds import Rows, SelectionMode
+from .kinds import Layout, Rows, SelectionMode
 from .library import LAYER_ROW, LayerRow, MapSizes, SelectionRun
 from .limits import MAX_COORDINATE, MAX_OPEN_MACROS
 from .properties import Properties
@@ -71,7 +71,7 @@ class Document:
     """
 
     # So that a name that it has not is never set silently.
-    __slots__ = '_editor', '_name', '_is_closed', '_stroke', '_begins', '_path', '_written', '_has_set_aside', '_note', '_encodings'
+    __slots__ = '_editor', '_name', '_is_closed', '_stroke', '_begins', '_path', '_source', '_written', '_has_set_aside', '_note', '_encodings'
 
     def __init__(self, editor: 'Editor', name: str):
         """Editors make it: `new`, `open` and `documents` give it."""
@@ -82,6 +82,8 @@ class Document:
         # The texts of open macros that wait for their first edit: those around them have begun.
         self._begins: list[str] = []
         self._path: Optional[Path] = None
+        # The bytes that it was opened from, or that were saved last, in whose layout it is saved; none of a new map.
+        self._source = b''
         # What was read or saved last under each path, by hashes of the bytes; and behind that what saves have begun to write since.
         self._written: dict[str, list[bytes]] = {}
         # Whether anything of its map was set aside or unpacked when it was opened. Else the map is told and saved as the editor holds it.
@@ -211,6 +213,7 @@ class Document:
 
     def _close(self) -> None:
         self._is_closed = True
+        self._source = b''
         self._wait([])
         self._editor._events.watched.pop(self, None)
 
@@ -670,14 +673,17 @@ class Document:
             del self._editor._events.watched[self]
 
     # ---- its file
-    def save(self, path: 'Union[str, os.PathLike[str], None]' = None, force: bool = False) -> None:
+    def save(
+        self, path: 'Union[str, os.PathLike[str], None]' = None, force: bool = False, layout: Optional[Layout] = None
+    ) -> None:
         """Writes the map to a file, or to `path`, the one that it was opened from or saved to last; it counts as saved then. The
-        file is the old or the new one, whole, whatever falls in between. Raises ValueError where there is no such file, and none
-        is named; Refused: 20 while a macro is open, 51 where it cannot be written, or where the file that is there has other bytes
+        file is the old or the new one, whole, whatever falls in between. It has the layout that was opened or saved last, that of Tiled
+        where it is new, or the one that is named. Raises ValueError where there is no such file, and none is named, and for a layout that
+        there is not; Refused: 20 while a macro is open, 51 where it cannot be written, or where the file that is there has other bytes
         than those that this document has read from it or saved to it last; with `force` it replaces them."""
         if path is None and self._path is None:
             raise ValueError(f'{self._name} has no file yet: save(path) names it')
-        self._save(Path(path or self._path or ''), force)
+        self._save(Path(path or self._path or ''), force, words.layout(layout))
 
     def _note_written(self, path: Path, data: bytes, is_begun: bool = False) -> None:
         """Notes what was read or saved under a path, or what a save has begun to write there."""
@@ -689,17 +695,19 @@ class Document:
         noted = self._written.get(os.path.abspath(path))
         return noted is None or data is not None and sha256(data).digest() in noted
 
-    def _save(self, path: Path, force: bool) -> None:
+    def _save(self, path: Path, force: bool, layout: Optional[str]) -> None:
         try:
-            self._do(lambda: self._editor._saved_file(path, 'save', is_careful=not force))
+            self._do(lambda: self._editor._saved_file(path, 'save', is_careful=not force, layout=layout))
         except Refused as refusal:
             raise refusal._of(f'save({os.fspath(path)!r})') from refusal.__cause__
         self._path = path
         _LOG.info('%s: saved to %s', self._name, path)
 
-    def save_bytes(self) -> bytes:
-        """The map as the bytes of a file; it counts as saved then. Raises Refused: 20 while a macro is open."""
-        return self._do(lambda: self._editor._saved_bytes('save_bytes()', all_maps=True))
+    def save_bytes(self, layout: Optional[Layout] = None) -> bytes:
+        """The map as the bytes of a file, in a layout as `save` has it; it counts as saved then. Raises ValueError for a layout that there
+        is not; Refused: 20 while a macro is open."""
+        said = words.layout(layout)
+        return self._do(lambda: self._editor._saved_bytes('save_bytes()', said))
 
     def close(self) -> None:
         """Closes it. Raises Refused: 13 where it has unsaved changes."""

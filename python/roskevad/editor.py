@@ -26,7 +26,7 @@ from .names import document_name
 from .refusals import REFUSALS
 from .rooms import Room
 from .saving import Saving
-from .tiled_maps import Members, note_of, origin_of, put_back, restored, set_aside, without_packing
+from .tiled_maps import Members, note_of, origin_of, restored, saved_text, set_aside, without_packing
 from .told import DOCUMENTS, STEP_ROW, StepRow, Told, step_of, told_of
 from .turns import busy_fault, fork_fault, forks, turn
 from .unsettled import ActiveDocument, TemporaryFile, Unsettled
@@ -334,23 +334,31 @@ class Editor:
     @turn
     def save_map(self, *, all_maps: bool = False) -> bytes:
         """The active document's map as the bytes of a file; its index is the clean one then. With `all_maps` what was set aside
-        is put back, as `save_file` does. Raises Refused."""
-        return self._saved_bytes('save_map()', all_maps)
+        is put back, in the layout of the file, as `save_file` does. Raises Refused."""
+        return self._saved_bytes('save_map()') if all_maps else self._saved_plain('save_map()')
 
-    def _saved_bytes(self, call: str, all_maps: bool) -> bytes:
+    def _saved_plain(self, call: str) -> bytes:
         self._refuse_save(call)
         data = self._shown(call)
-        whole = self._whole(data, call) if all_maps else data
         self._reply_to('clean', call)
-        return whole
+        return data
+
+    def _saved_bytes(self, call: str, layout: Optional[str] = None) -> bytes:
+        """What `save_map` gives of all maps, in a turn, of a call."""
+        self._refuse_save(call)
+        data, document = self._whole(call, layout)
+        self._reply_to('clean', call)
+        document._source = data
+        return data
 
     def _shown(self, call: str) -> bytes:
         """The active document's map as the editor holds it: it stands behind the first word of the reply."""
         return self._reply_to('show', call)[len(b'map '):]
 
-    def _whole(self, data: bytes, call: str) -> bytes:
-        """A map that the editor holds, with what was set aside put back, and packed as it was."""
-        return put_back(data, call) if self._is_set_aside() else data
+    def _whole(self, call: str, layout: Optional[str]) -> tuple[bytes, Document]:
+        """What a file has of the active document's map, as `saved_text` tells, and the document."""
+        data, document = self._shown(call), self._handle(self._active_name())
+        return saved_text(data, document._has_set_aside, document._source, layout, call), document
 
     def _tree(self, text: bytes) -> Members:
         """The tree of a map that the editor holds, in which nothing is set aside."""
@@ -377,9 +385,11 @@ class Editor:
         """Opens a document with the text of a map. Where it is refused the place is looked for in the file, which has other bytes
         where it was unpacked."""
         try:
-            return self._open(document, text, call)
+            reply = self._open(document, text, call)
         except Refused as refusal:
             raise refused_map(refusal, data, unpacked, call) from None
+        self._handle(document)._source = data
+        return reply
 
     def _open(self, document: str, data: Optional[bytes], call: str) -> str:
         """Opens a document with these bytes, which stand in the store under a free name meanwhile."""
@@ -420,16 +430,19 @@ class Editor:
     @turn
     def save_file(self, path: Union[str, 'os.PathLike[str]']) -> str:
         """Writes the active document's map to a file: beside it first, and then in its place; its index is the clean one
-        then. What was set aside is put back, if no edit has changed it. A file that has these bytes stays as it is. Raises
-        Refused: 51 where it cannot be written, and the clean index stays. Where an exception falls in between, as that of
-        Ctrl+C, the file is the old or the new one, and the index is the clean one if it is the new one."""
+        then. What was set aside is put back, if no edit has changed it, in the layout of the file that it was opened from
+        or saved to last. A file that has these bytes stays as it is. Raises Refused: 51 where it cannot be written, and the
+        clean index stays. Where an exception falls in between, as that of Ctrl+C, the file is the old or the new one, and
+        the index is the clean one if it is the new one."""
         return self._saved_file(path, f'save_file({os.fspath(path)!r})')
 
-    def _saved_file(self, path: Union[str, 'os.PathLike[str]'], call: str, is_careful: bool = False) -> str:
-        """The same, in a turn, of a call. One that is careful replaces nothing that the document has not read or saved."""
+    def _saved_file(
+        self, path: Union[str, 'os.PathLike[str]'], call: str, is_careful: bool = False, layout: Optional[str] = None
+    ) -> str:
+        """The same, in a turn, of a call, perhaps in a layout. One that is careful replaces nothing that the document has not read or saved."""
         self._refuse_save(call)
-        data, place = self._whole(self._shown(call), call), self.folder / path
-        document = self._handle(self._active_name())
+        data, document = self._whole(call, layout)
+        place = self.folder / path
 
         def see(is_locked: bool) -> None:
             if is_careful:
@@ -439,6 +452,7 @@ class Editor:
         def mark() -> None:
             self._mark_clean()
             document._note_written(place, data)
+            document._source = data
 
         saving = self._unsettled = Saving(place, data, mark, not self._has_failed, see)
         try:

@@ -7,6 +7,8 @@ LayerKind = Literal['tile', 'object', 'group', 'image']
 AddedLayerKind = Literal['tile', 'object']
 #: How a rectangle and the selection become the new one.
 SelectionMode = Literal['replace', 'add', 'subtract', 'intersect']
+#: How the text of a map is laid out.
+Layout = Literal['tiled', 'rows', 'compact']
 #: The types of properties, and those that are set.
 PropertyType = Literal['string', 'int', 'float', 'bool', 'color', 'file', 'object', 'class']
 SetPropertyType = Literal['string', 'int', 'bool', 'color', 'file', 'object']

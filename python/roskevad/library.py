@@ -139,6 +139,8 @@ _PARAMETERS = {
     'close': [_EDITOR],
     'set_aside': [_BYTES, _SIZE, _ROOM, _SIZE],
     'put_back': [_BYTES, _SIZE, _ROOM, _SIZE],
+    'put_back_like': [_BYTES, _SIZE, _BYTES, _SIZE, _ROOM, _SIZE],
+    'lay_out': [_BYTES, _SIZE, _SIZE, _ROOM, _SIZE],
     'map_fault': [_BYTES, _SIZE, _ROOM, _SIZE],
     'word_fault': [_BYTES, _SIZE, ctypes.POINTER(FaultyWord), _ROOM, _SIZE],
     'version': [_ROOM, _SIZE],

@@ -2,19 +2,20 @@
 """What the editor's format refuses of a map is set aside before it is read, and put back when it is saved."""
 import math
 import struct
-from typing import Any, Iterable, Iterator
+from typing import Any, Iterable, Iterator, Optional
 
 from . import library
 from .faults import Refused, refused_call
-from .library import LIBRARY
 from .compressed_layers import Unpackable, UnpackedMap, pack_layers, unpack_layers
 from .json_scanner import NOTE
+from .layouts import laid_out, laid_out_like
 from .limits import MAX_FILE_BYTES
+from .made_texts import made
 from .map_faults import refused_as_no_json
-from .rooms import Room
 
 # The name under which it stands, in the map, in layers and objects.
 _RESERVED = 'roskevad'
+_RESERVED_NAME = f'"{_RESERVED}"'.encode()
 # The names of an object's place, with what it was moved by, and of its size.
 _MOVED = {'x': 'movedx', 'y': 'movedy', 'width': None, 'height': None}
 # Why that is refused, in the words of the program.
@@ -44,10 +45,11 @@ def set_aside(data: bytes, call: str) -> tuple[bytes, UnpackedMap]:
     return _made('set_aside', unpacked.data, call), unpacked
 
 
-def put_back(data: bytes, call: str) -> bytes:
-    """The text of a map as it was before. Raises Refused, with the call: 51."""
+def put_back(data: bytes, source: bytes, call: str) -> bytes:
+    """The text of a map as it was before. Packed layers whose cells are those of a source have its text of them. Raises Refused, with the
+    call: 51."""
     try:
-        return pack_layers(_made('put_back', data, call))
+        return pack_layers(_made('put_back', data, call), source)
     except Unpackable as fault:
         raise _refused(fault, call) from None
 
@@ -57,22 +59,24 @@ def _refused(fault: Unpackable, call: str) -> Refused:
 
 
 def _made(name: str, data: bytes, call: str) -> bytes:
-    """What a call of the library makes of a text: the same, where it makes none. The text is made once more, where it has no room."""
-    function = getattr(LIBRARY, f'roskevad_{name}')
-    room = Room(min(2 * len(data) + 65_536, MAX_FILE_BYTES))
-    size: int = function(data, len(data), room.at, room.size)
-    if room.size < size <= MAX_FILE_BYTES:
-        room = Room(size)
-        size = function(data, len(data), room.at, room.size)
-    if size == library.NO_MEMORY:
-        raise MemoryError
+    """What a call of the library makes of a text: the same, where it makes none. Raises Refused, with the call."""
+    text = made(name, 2 * len(data), data, len(data))
+    if isinstance(text, bytes):
+        return text
     # A text that is no JSON is refused by its reader.
-    if size in (library.NONE, library.NOT_JSON):
+    if text in (library.NONE, library.NOT_JSON):
         return data
-    if size > MAX_FILE_BYTES:
-        raise refused_call(_STORE_FAILED, call, _FAULTS.get(size, _TOO_LONG))
-    text: bytes = room.bytes[:size]
-    return text
+    raise refused_call(_STORE_FAILED, call, _FAULTS.get(text, _TOO_LONG))
+
+
+def saved_text(data: bytes, has_set_aside: bool, source: bytes, layout: Optional[str], call: str) -> bytes:
+    """What a file has of a map that an editor holds: with all put back, if anything was set aside of it, packed as it was, and laid out as
+    its source is, or in a layout. Raises Refused, with the call: 51."""
+    text = put_back(data, source, call) if has_set_aside else data
+    if layout is not None:
+        return laid_out(text, layout)
+    # Where nothing was set aside, a member of the reserved name is the map's own.
+    return laid_out(text, 'tiled') if not has_set_aside and _RESERVED_NAME in data else laid_out_like(text, source)
 
 
 # ---- trees

@@ -5,6 +5,7 @@ import re
 from numbers import Integral
 from typing import Any, Optional
 
+from .layouts import LAYOUTS
 from .limits import MAX_COORDINATE, MAX_NUMBER, MAX_TEXT
 from .names import is_document_name
 
@@ -105,6 +106,11 @@ def one_of(word: object, words: tuple[str, ...], what: str) -> str:
     if word not in words:
         raise ValueError(f'{what} is one of {", ".join(words)}: {word!r}')
     return str(word)
+
+
+def layout(word: object) -> Optional[str]:
+    """The name of a layout; `None` where none is named. Raises ValueError for any other word."""
+    return None if word is None else one_of(word, LAYOUTS, 'the layout of a map')
 
 
 # ---- properties

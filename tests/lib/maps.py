@@ -16,6 +16,16 @@ def text_of(tree):
     return json.dumps(tree, sort_keys=True, ensure_ascii=False, separators=(',', ':')).encode()
 
 
+def compact(data):
+    """The text that the editor holds of a map, of the bytes of its file: compact, with the version that
+    it writes. Nothing of it needs to be set aside."""
+    tree = {**json.loads(data), 'version': '1.10'}
+    for layer in layers_in(tree['layers']):
+        if layer.get('compression') == '':
+            del layer['compression']
+    return text_of(tree)
+
+
 def layers_in(layers):
     """The layers of a list and those within its groups, in drawing order."""
     for layer in layers:
