@@ -5,6 +5,7 @@ ones with an open macro. What was done is not lost; where it is, the page says s
 import time
 
 from lib.cases import passed
+from lib.maps import compact
 from lib.places import EXAMPLE_MAPS
 from page.bench import Bench, cell, spelled, standing
 from page.browser import Keys
@@ -544,9 +545,9 @@ def test_a_save_before_a_journal_begins_anew():
         page.js('roskevad.editor.journal.bound = 2 ** 28; globalThis.goOn()')
         page.wait(lambda: page.notices() == [], 'it has begun anew')
         page.settle()
-        assert (bench.folder / 'town.tmj').read_bytes() == page.editor.shown()
+        assert compact((bench.folder / 'town.tmj').read_bytes()) == page.editor.shown()
         page.reload()
         assert page.editor.state()['isClean'] and page.notices() == [] and standing(page) == (0, 0)
         page.editor.lines('stamp 1 4 20 1 12')
         page.ctrl('s')
-        assert (bench.folder / 'town.tmj').read_bytes() == page.editor.shown(), 'its file is known, and nothing is asked'
+        assert compact((bench.folder / 'town.tmj').read_bytes()) == page.editor.shown(), 'its file is known, and nothing is asked'

@@ -12,6 +12,7 @@ import time
 from pathlib import Path
 
 from lib.cases import passed
+from lib.maps import compact
 from lib.places import EXAMPLE_MAPS, TILE_EDITOR
 from page.browser import Server
 from page.lives import Life
@@ -263,7 +264,7 @@ class Chance:
             assert path is None or width_of(found['shown']) == WIDTHS[path], f'{name} has {path}: {self.did}'
             # Of a file that another program has written the page tells, and leaves the document as it was saved.
             if path is not None and found['isClean'] and (data := (self.folder / path).read_bytes()) != self.outside.get(path):
-                assert data == found['shown'].encode(), f'{name} is not in {path}, and is called saved: {self.did}'
+                assert compact(data) == found['shown'].encode(), f'{name} is not in {path}, and is called saved: {self.did}'
         assert len(by_path - {None}) == len([1 for each in now.values() if each['path']]), 'two documents of one file'
 
     def see_files(self):

@@ -51,7 +51,7 @@ def see_saved(fox):
     with tempfile.TemporaryDirectory() as top:
         maps = Path(top) / 'maps'
         shutil.copytree(EXAMPLE_MAPS, maps)
-        words = [BIN / 'tile_editor', '--folder', maps, '--strict']
+        words = [BIN / 'tile_editor', '--folder', maps, '--strict', '--all-maps']
         subprocess.run(words, input=session.encode(), stdout=subprocess.DEVNULL, check=True)
         assert file.read_bytes() == (maps / 'town.tmj').read_bytes()
 

@@ -6,6 +6,7 @@ chooser takes no answer from a test."""
 import json
 import shutil
 
+from lib.maps import compact
 from lib.places import EXAMPLE_MAPS
 from page.bench import Bench, cells_with, draw, focus, spelled, standing
 from page.browser import Keys, Page, Server, browser, started
@@ -60,7 +61,7 @@ def test_a_save_over_a_file_that_has_changed():
         page.ctrl('s')
         answer(page, 'Save as')
         page.fill_in(file='my town.tmj')
-        assert (bench.folder / 'my town.tmj').read_bytes() == page.editor.shown()
+        assert compact((bench.folder / 'my town.tmj').read_bytes()) == page.editor.shown()
         assert (bench.folder / 'town.tmj').read_bytes() == OTHER and not page.texts('.tab.unsaved')
         page.driver.get_log('browser')  # It has logged that saves were refused.
 
@@ -73,7 +74,7 @@ def test_replace_and_save_as():
         (bench.folder / 'town.tmj').write_bytes(OTHER)
         page.ctrl('s')
         answer(page, 'Replace it')
-        assert (bench.folder / 'town.tmj').read_bytes() == page.editor.shown()
+        assert compact((bench.folder / 'town.tmj').read_bytes()) == page.editor.shown()
         assert not page.texts('.tab.unsaved')
         page.ctrl('s', Keys.SHIFT)
         page.fill_in(file='house.tmj')
@@ -83,7 +84,7 @@ def test_replace_and_save_as():
         assert (bench.folder / 'house.tmj').read_bytes() == house
         page.say('save house.tmj')
         answer(page, 'Replace it')
-        assert (bench.folder / 'house.tmj').read_bytes() == page.editor.shown()
+        assert compact((bench.folder / 'house.tmj').read_bytes()) == page.editor.shown()
         page.driver.get_log('browser')
 
 
@@ -120,7 +121,7 @@ def test_a_save_that_takes_time():
         page.wait(lambda: 'is being saved' in page.find('#standing').text, 'the save has begun')
         assert page.texts('.tab.unsaved'), 'what is being written is not saved yet'
         page.stroke([(3, 22), (6, 22)])
-        assert (bench.folder / 'town.tmj').read_bytes() == written
+        assert compact((bench.folder / 'town.tmj').read_bytes()) == written
         state = page.editor.state()
         assert (state['cleanIndex'], state['index'], state['isClean']) == (1, 2, False)
         assert page.texts('.tab.unsaved')
@@ -176,7 +177,7 @@ def test_names_and_folders():
                 page.click(f'.tab[data-document="{document}"]')
                 draw(page, 22)
                 page.ctrl('s')
-                assert (maps / name).read_bytes() == page.editor.shown(), name
+                assert compact((maps / name).read_bytes()) == page.editor.shown(), name
             assert sorted(path.name for path in maps.rglob('*.tmj')) == sorted(
                 name.rpartition('/')[2] for name in names
             )
@@ -230,7 +231,7 @@ def test_a_server_that_ends():
         page.answer('Try again')
         page.wait(lambda: page.notices() == [], 'the server is there again')
         page.ctrl('s')
-        assert (bench.folder / 'town.tmj').read_bytes() == page.editor.shown()
+        assert compact((bench.folder / 'town.tmj').read_bytes()) == page.editor.shown()
         page.driver.get_log('browser')
 
 
@@ -251,7 +252,7 @@ def test_a_server_with_another_key():
         page.open()
         assert standing(page) == (3, 3) and cells_with(page, 'Ground', 12) >= {(3, 21), (6, 22)}
         page.ctrl('s')
-        assert (bench.folder / 'town.tmj').read_bytes() == page.editor.shown()
+        assert compact((bench.folder / 'town.tmj').read_bytes()) == page.editor.shown()
 
 
 def test_two_windows_of_a_folder():
@@ -295,7 +296,7 @@ def test_a_folder_of_the_browser():
         assert page.js('return roskevad.tilesets.all.map(set => set.image !== null)') == [True]
         draw(page)
         page.ctrl('s')
-        assert bytes_in(page, 'deep/my town.tmj') == page.editor.shown()
+        assert compact(bytes_in(page, 'deep/my town.tmj')) == page.editor.shown()
         assert not page.texts('.tab.unsaved') and page.find('#save-hint').text == ''
         page.ctrl('s', Keys.SHIFT)
         page.fill_in(file='layers.tmj')
@@ -311,7 +312,7 @@ def test_a_folder_of_the_browser():
         assert 'deep/my town.tmj has changed outside' in page.notices()[0]
         page.ctrl('s')
         answer(page, 'Replace it')
-        assert bytes_in(page, 'deep/my town.tmj') == page.editor.shown()
+        assert compact(bytes_in(page, 'deep/my town.tmj')) == page.editor.shown()
         page.driver.get('about:blank')
 
 

@@ -5,6 +5,7 @@ slow while their documents are closed and others get their names, questions that
 the browser's own question."""
 import shutil
 
+from lib.maps import compact
 from lib.places import EXAMPLE_MAPS
 from page.bench import Bench, cells_with, draw, focus, spelled, standing
 from page.browser import Keys, browser
@@ -214,13 +215,13 @@ def test_a_save_belongs_to_its_document():
         page.wait(lambda: files_of(page) == {'town': 'sub/town.tmj'}, 'the other one is open')
         end_save(page)
         assert files_of(page) == {'town': 'sub/town.tmj'}
-        assert (bench.folder / 'town.tmj').read_bytes() == town
+        assert compact((bench.folder / 'town.tmj').read_bytes()) == town
         page.reload()
         assert files_of(page) == {'town': 'sub/town.tmj'} and page.notices()[1:] == []
         page.editor.lines('stamp 1 1 1 1 2')
         page.ctrl('s')
-        assert (bench.folder / 'town.tmj').read_bytes() == town
-        assert (bench.folder / 'sub' / 'town.tmj').read_bytes() == page.editor.shown()
+        assert compact((bench.folder / 'town.tmj').read_bytes()) == town
+        assert compact((bench.folder / 'sub' / 'town.tmj').read_bytes()) == page.editor.shown()
         page.driver.get_log('browser')  # The tilesets lie elsewhere.
 
 
@@ -274,7 +275,7 @@ def test_a_save_as_of_the_map_that_was_shown():
         page.wait(lambda: page.js('return "goOn" in roskevad'), 'the page looks for names')
         page.js('document.querySelector(\'.tab[data-document="house"]\').click()')
         end_save(page)
-        assert (bench.folder / 'new town.tmj').read_bytes() == town
+        assert compact((bench.folder / 'new town.tmj').read_bytes()) == town
         assert files_of(page) == {'town': 'new town.tmj', 'house': 'house.tmj'}
         assert page.editor.state()['active'] == 'house'
 
@@ -302,12 +303,12 @@ def test_a_new_start_behind_a_save():
             page.wait(lambda: page.js('return roskevad.isHeld === true'), 'the save has come to the file')
             page.reload()
             assert page.editor.shown() == shown and page.notices() == []
-            assert ((bench.folder / 'town.tmj').read_bytes() == shown) == is_written
+            assert (compact((bench.folder / 'town.tmj').read_bytes()) == shown) == is_written
             assert (page.texts('.tab.unsaved') == []) == is_written
             focus(page)
             assert page.notices() == []
             page.ctrl('s')
-            assert (bench.folder / 'town.tmj').read_bytes() == shown and not page.texts('.tab.unsaved')
+            assert compact((bench.folder / 'town.tmj').read_bytes()) == shown and not page.texts('.tab.unsaved')
         page.driver.get_log('browser')
 
 
@@ -393,7 +394,7 @@ def test_a_save_waits_for_the_browser():
             page.settle()
             assert page.notices() == [] and tabs(page) == ['town']
             is_saved = answer == 'granted'
-            assert bytes_in(page, 'town.tmj') == (drawn if is_saved else TOWN)
+            assert compact(bytes_in(page, 'town.tmj')) == (drawn if is_saved else compact(TOWN))
             assert (page.texts('.tab.unsaved') == []) == is_saved
 
 

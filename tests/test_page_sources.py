@@ -6,6 +6,7 @@ import shutil
 import tempfile
 from pathlib import Path
 
+from lib.maps import compact
 from lib.places import EXAMPLE_MAPS
 from page.bench import standing
 from page.browser import Page, Server, browser
@@ -81,7 +82,7 @@ def test_another_folder():
         assert (folders.two / 'town.tmj').read_bytes() == other
         page.ctrl('s')
         page.fill_in(file='old town.tmj')
-        assert (folders.two / 'old town.tmj').read_bytes() == mine and page.editor.state()['isClean']
+        assert compact((folders.two / 'old town.tmj').read_bytes()) == mine and page.editor.state()['isClean']
         page.reload()
         assert [each['path'] for each in page.editor.state()['documents']] == ['old town.tmj']
 
@@ -114,7 +115,7 @@ def test_another_folder_under_an_open_page():
         assert (folders.two / 'town.tmj').read_bytes() == before and not page.editor.state()['isClean']
         folders.serve(folders.one, page, *key)
         page.ctrl('s')
-        assert (folders.one / 'town.tmj').read_bytes() == page.editor.shown() != before
+        assert compact((folders.one / 'town.tmj').read_bytes()) == page.editor.shown() != before
 
 
 def test_another_folder_of_the_browser():

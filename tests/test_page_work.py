@@ -8,7 +8,8 @@ import subprocess
 from pathlib import Path
 
 from lib.cases import passed
-from lib.maps import layers_in
+from lib.map_layouts import lines_changed
+from lib.maps import compact, layers_in
 from lib.places import BIN, EXAMPLE_MAPS
 from lib.refusals import refusal
 from page.bench import Bench, cell, cells_with, choose, see_colours, spelled, standing, take_tile
@@ -83,14 +84,17 @@ def work_with_files(bench):
         page.ctrl('s')
         assert spelled(page)[-1] == 'save town.tmj' and not page.texts('.tab.unsaved')
         assert page.texts('#steps li .clean')[-1] == 'saved'
-        assert bench.saved('town.tmj') == page.editor.shown()
+        town = bench.saved('town.tmj')
+        assert compact(town) == page.editor.shown()
+        assert lines_changed((EXAMPLE_MAPS / 'town.tmj').read_bytes(), town) == (1, 1), 'its layout stays'
         page.ctrl('s')
         assert spelled(page)[-1] == 'save town.tmj' and len(spelled(page)) == 2
         assert 'saved already' in page.bubble(), 'a map that is saved is not written'
         page.drag([(4, 20)])
         page.ctrl('s', Keys.SHIFT)
         page.fill_in(file='town2.tmj')
-        assert bench.saved('town2.tmj') == page.editor.shown()
+        other = bench.saved('town2.tmj')
+        assert compact(other) == page.editor.shown() and lines_changed(town, other) == (1, 1)
         page.ctrl('o')
         page.fill_in(file='layers.tmj')
         assert [each['name'] for each in page.editor.state()['documents']] == ['town', 'layers']
@@ -107,7 +111,7 @@ def work_with_files(bench):
             lambda: [each['name'] for each in page.editor.state()['documents']] == ['town'],
             'it is closed once it is saved',
         )
-        assert bench.saved('layers.tmj') not in (before, b'')
+        assert lines_changed(before, bench.saved('layers.tmj')) == (1, 1)
         page.click('.tab[data-document="town"]')
         page.drag([(6, 20)])
         page.find('.tab[data-document="town"] .close').click()
@@ -200,7 +204,7 @@ def played(bench, session, before):
     folder = Path(bench.top.name) / 'played'
     shutil.copytree(before, folder)
     done = subprocess.run(
-        [BIN / 'tile_editor', '--folder', folder, *bench.options],
+        [BIN / 'tile_editor', '--all-maps', '--folder', folder, *bench.options],
         input=session,
         capture_output=True,
         timeout=60,
@@ -259,12 +263,12 @@ def copy_and_play(bench):
         )
         folder = played(bench, session.encode(), EXAMPLE_MAPS)
         for name in ('end.tmj', 'town.tmj'):
-            assert (folder / name).read_bytes() == bench.saved(name)
+            assert compact((folder / name).read_bytes()) == compact(bench.saved(name))
         passed(len(session.splitlines()))
 
 
 def test_session():
-    """'Copy as session' is played by the program to the same files."""
+    """'Copy as session' is played by the program to the same maps."""
     copy_and_play(Bench())
 
 
