@@ -18,6 +18,15 @@ static void stop(const char *what)
     exit(1);
 }
 
+/* Room for so many bytes, which the caller frees. */
+static char *take(size_t size)
+{
+    char *room = malloc(size + 1);
+    if (!room)
+        stop("no memory");
+    return room;
+}
+
 /* The bytes of a file, which the caller frees. */
 static char *read_file(const char *path, size_t *size)
 {
@@ -25,9 +34,9 @@ static char *read_file(const char *path, size_t *size)
     if (!file || fseek(file, 0, SEEK_END) != 0)
         stop("the map cannot be read");
     long end = ftell(file);
-    char *bytes = end < 0 ? NULL : malloc((size_t)end + 1);
-    if (!bytes)
-        stop("no memory");
+    if (end < 0)
+        stop("the map cannot be read");
+    char *bytes = take((size_t)end);
     rewind(file);
     *size = fread(bytes, 1, (size_t)end, file);
     fclose(file);
@@ -61,18 +70,21 @@ static void step(roskevad_editor *editor, const char *line)
         stop("a line was refused");
 }
 
-/* Writes a file of the session into a file of the folder. */
-static void save(roskevad_editor *editor, const char *name, const char *path)
+/* Writes a file of the session into a file of the folder, laid out as the map was. */
+static void save(roskevad_editor *editor, const char *name, const char *path, const char *source, size_t source_size)
 {
     size_t size = roskevad_editor_file(editor, name, strlen(name), NULL, 0);
     if (size == ROSKEVAD_NONE)
         stop("nothing was saved");
-    char *bytes = malloc(size + 1);
-    if (!bytes)
-        stop("no memory");
-    roskevad_editor_file(editor, name, strlen(name), bytes, size);
-    write_file(path, bytes, size);
+    char *saved = take(size);
+    roskevad_editor_file(editor, name, strlen(name), saved, size);
+    size_t laid_out = roskevad_editor_put_back_like(saved, size, source, source_size, NULL, 0);
+    check(laid_out);
+    char *bytes = take(laid_out);
+    check(roskevad_editor_put_back_like(saved, size, source, source_size, bytes, laid_out));
+    write_file(path, bytes, laid_out);
     free(bytes);
+    free(saved);
 }
 
 int main(int count, char **words)
@@ -84,7 +96,6 @@ int main(int count, char **words)
     size_t size;
     char *bytes = read_file(words[1], &size);
     check(roskevad_editor_put_file(&editor, "map.tmj", 7, bytes, size));
-    free(bytes);
     step(&editor, "open map map.tmj");
     step(&editor, "begin Fence");
     step(&editor, "stamp 1 0 0 4 7,7,7,7");
@@ -93,7 +104,8 @@ int main(int count, char **words)
     step(&editor, "undo");
     step(&editor, "redo");
     step(&editor, "save map.tmj");
-    save(&editor, "map.tmj", words[2]);
+    save(&editor, "map.tmj", words[2], bytes, size);
     roskevad_editor_close(&editor);
+    free(bytes);
     return 0;
 }
