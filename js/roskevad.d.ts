@@ -262,8 +262,8 @@ export class Editor {
   /** The text for the action of the step at this place, from 0; null where there is none. */
   actionText(at: number): string | null;
   /**
-   * What the last line did, of the document that is active now. What is not told to differ is as it was. Where the last
-   * call has done several lines, all may differ. Ask before the next line.
+   * What the last line did, of the document that is active now. What is not told to differ is as it was. Of several lines in
+   * one call it tells what differs between both ends. Ask before the next line.
    */
   told(): Told;
   /**

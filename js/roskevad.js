@@ -558,8 +558,8 @@ export class Editor {
   }
 
   /**
-   * What the last line did, of the document that is active now. What is not told to differ is as it was. Where the last
-   * call has done several lines, all may differ. Ask before the next line.
+   * What the last line did, of the document that is active now. What is not told to differ is as it was. Of several lines in
+   * one call it tells what differs between both ends. Ask before the next line.
    */
   told() {
     return toldOf(this._told);

@@ -442,7 +442,7 @@ LINE_CALLS = [
     Call('run_lines', 'lines', 'Does lines in one call, up to the first that is refused.', gives='strs',
          raises={'value': 'editor.run_lines(["undo\\n"])', 'refused': 'editor.run_lines(["undo", "redo", "redo"])'}),
     Call('run_bytes', 'session', 'Does the lines of a session, whatever the replies.', gives='bytes', only='javascript'),
-    Call('told', '', 'What the last line did, of the active document; of several lines in one call all may differ.', gives='Told'),
+    Call('told', '', 'What the last line did, of the active document; of several lines in one call, what differs between both ends.', gives='Told'),
     Call('steps', 'start=0, stop=None', 'The steps of the active document from one on, up to another, which is left out.', gives='step rows',
          raises={'type': 'editor.steps("1")', 'value': 'editor.steps(-1)'}),
     Call('put_file', 'name, data', 'Puts bytes under a name, for the lines `open` and `save`.',

@@ -604,7 +604,7 @@ class Editor:
 
     @turn
     def told(self) -> Told:
-        """What the last line did, of the document that is active now. Where the last call has done several lines, all may differ."""
+        """What the last line did, of the document that is active now; of several lines in one call, what differs between both ends."""
         self._call('tell', self._told)
         return told_of(self._told)
 
