@@ -37,3 +37,4 @@ pub mod LayerLaw
 pub mod PutMembers
 pub mod Pieces
 pub mod ObjectHeadLaws
+pub mod HeadedObjects
