@@ -6,3 +6,4 @@ pub mod EditLines
 pub mod Planning
 pub mod Turns
 pub mod Kinds
+pub mod MoreRules

@@ -10,6 +10,9 @@ ghost use Rattle.document_lines.specs.EditLines.{IsOfCells, IsOfLayers, IsOfObje
 ghost use Rattle.document_lines.specs.Planning.{IsOfActive, IsOfHistory, PlansOn, plan_of, refused};
 
 mod edit_plans;
+mod member_plans;
+
+pub use member_plans::on_members;
 
 use crate::planned::{Edit, Planned};
 use crate::planning::edit_plans::{

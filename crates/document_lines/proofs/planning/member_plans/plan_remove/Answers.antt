@@ -1,0 +1,13 @@
+use Rattle.map_model.specs.declared.owner.MemberOwner.TheVariants as owners
+use Rattle.member_commands.specs.Edits.{is_early_named}
+use Rattle.member_commands.specs.Names.{remove_member_names}
+use Rattle.document_lines.specs.declared.planned.Edit.TheVariants.{SetObjectHead}
+use Rattle.document_lines.proofs.MoreEdits.{mapped-PlansMore}
+use Rattle.document_lines.proofs.planning.member_plans.plan_remove.Goals as goal
+
+pub returns : goal.returns
+returns c =
+    let command = rw (c.as_str.ensures) at c.remove.ensures.command in
+    let refusal = rw (c.as_str.ensures) at c.remove.ensures.refusal in
+    rw c.planned.ensures
+    (mapped-PlansMore SetObjectHead remove_member_names c.args.document.now is_early_named _ c.remove.result c.map.result command refusal c.map.ensures.cases)
