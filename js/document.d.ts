@@ -527,7 +527,7 @@ export class Tileset {
   readonly name: string | null;
   /** All that the map says of it, but for its first id: a copy. */
   readonly members: Members;
-  /** Its tiles by their ids, where the map has it in itself; else null. */
+  /** Its tiles by their ids, at most 1,048,576, where the map has it in itself; else null. */
   readonly tiles: TilesetTile[] | null;
   /**
    * The value of a cell with a tile of this ID in Tiled. Whether the tileset has that tile is not

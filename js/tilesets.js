@@ -20,11 +20,20 @@ export function absent(kind, key, ids) {
   return new RangeError(`there is no ${kind} ${words.quoted(key)}${others}`);
 }
 
-// A tile of a tileset, by what its tileset says of it.
-function tileOfSet(id, { type, class: kind, properties = [], objectgroup } = {}) {
-  const named = properties.map((each) => [each.name, each.value]);
-  const shapes = Object.freeze(objectgroup?.objects ?? []);
-  return Object.freeze({ localId: id, type: type || kind || "", properties: Object.freeze(Object.fromEntries(named)), shapes });
+// The most tiles that are listed.
+const MOST_TILES = 1_048_576;
+
+// The JSON objects of an array; none of what is no array.
+function objectsOf(value) {
+  const isObject = (each) => typeof each === "object" && each !== null && !Array.isArray(each);
+  return Array.isArray(value) ? value.filter(isObject) : [];
+}
+
+// A tile of a tileset, by what its tileset says of it. What is of another kind than Tiled's is left out.
+function tileOfSet(id, { type, class: kind, properties, objectgroup } = {}) {
+  const named = objectsOf(properties).filter(({ name }) => typeof name === "string").map(({ name, value }) => [name, value]);
+  const shapes = Object.freeze(objectsOf(objectgroup?.objects));
+  return Object.freeze({ localId: id, type: String(type || kind || ""), properties: Object.freeze(Object.fromEntries(named)), shapes });
 }
 
 /**
@@ -69,14 +78,20 @@ export class Tileset {
     return members;
   }
 
-  /** Its tiles by their ids, where the map has it in itself; else null: no file of a tileset is read. */
+  /**
+   * Its tiles by their ids, where the map has it in itself; else null: no file of a tileset is read. Throws RangeError
+   * where it has too many, or does not say how many.
+   */
   get tiles() {
-    const { source, tilecount = 0, tiles = [] } = this._members;
+    const { source, tilecount = 0, tiles } = this._members;
     if (source !== undefined) {
       return null;
     }
-    const said = new Map(tiles.map((tile) => [tile.id, tile]));
-    return Array.from({ length: Math.min(tilecount, BASE + 1) }, (_, id) => tileOfSet(id, said.get(id)));
+    if (!Number.isInteger(tilecount) || tilecount < 0 || tilecount > MOST_TILES) {
+      throw new RangeError(`a tileset has 0 to ${MOST_TILES} tiles: ${words.quoted(tilecount)}`);
+    }
+    const said = new Map(objectsOf(tiles).map((tile) => [tile.id, tile]));
+    return Array.from({ length: tilecount }, (_, id) => tileOfSet(id, said.get(id)));
   }
 
   /** The value of a cell with its tile of this id, which Tiled shows as the tile's ID. */

@@ -143,7 +143,15 @@ def test_tiles_of_files():
         see([(0, '', {}, []), (1, '', {}, []), (2, 'Mud', {'slow': 3}, [])], [tuple(tile) for tile in made.tilesets[1].tiles])
         for text in ('{', '[]', '{"tilecount": "3"}'):
             path.write_text(text)
-            see(True, str(path) in str(raised(ValueError, lambda: made.tilesets[1].tiles)))
+            raised(ValueError, lambda: made.tilesets[1].tiles)
+        odd = [{'id': []}, 5, {'id': 0, 'properties': [3, {'name': 4}], 'objectgroup': 7}, {'id': 1, 'objectgroup': {'objects': [6, {'x': 1}]}}]
+        path.write_text(json.dumps({'tilecount': 2, 'tiles': odd}))
+        see([(0, '', {}, []), (1, '', {}, [{'x': 1}])], [tuple(tile) for tile in made.tilesets[1].tiles])
+        for count in (-1, 2**28, 1e9):
+            path.write_text(json.dumps({'tilecount': count}))
+            raised(ValueError, lambda: made.tilesets[1].tiles)
+        path.write_text('[' * 100_000)
+        raised(ValueError, lambda: made.tilesets[1].tiles)
         made.tilesets.add(9, 'sets/mud.tsx')
         (path.parent / 'mud.tsx').write_text('<tileset/>')
         see(None, made.tilesets[9].tiles)

@@ -376,7 +376,7 @@ TILESET = Kind('Tileset', 'A tileset, by its first id. Where it was removed, a c
     value('source', 'str?', 'The path of its file; {None} where the map has it in itself.'),
     value('name', 'str?', 'Its name, where the map has it in itself; no file is read for it.'),
     value('members', 'members', 'All that the map says of it, but for its first id: a copy.'),
-    value('tiles', 'tiles', 'Its tiles by their ids, where the map has it in itself{file}; else {None}.'),
+    value('tiles', 'tiles', 'Its tiles by their ids, at most 1,048,576, where the map has it in itself{file}; else {None}.'),
     Call('value', 'local_id; flipped_horizontally=False, flipped_vertically=False, flipped_diagonally=False, turned=False',
          'The value of a cell with a tile of this ID in Tiled. Whether the tileset has that tile is not looked at.', gives='int',
          raises={'type': 'document.tilesets{1}.value("a")', 'value': 'document.tilesets{1}.value(-1)'}),

@@ -17,8 +17,8 @@ _Default = TypeVar('_Default')
 
 #: How the names of tilesets as JSON end.
 TILESET_ENDS = ('.tsj', '.json')
-#: The most tiles that are listed: as many as a value can name.
-MOST_TILES = BASE + 1
+#: The most tiles that are listed.
+MOST_TILES = 1_048_576
 
 
 def absent(kind: str, key: object, ids: list[int]) -> KeyError:
@@ -131,22 +131,33 @@ def tileset_file(path: Path) -> Optional[Members]:
         members = json.loads(path.read_bytes())
     except OSError:
         return None
-    except ValueError as fault:
+    except (ValueError, RecursionError) as fault:
         raise ValueError(f'{path} is no tileset: {fault}') from fault
-    if not isinstance(members, dict) or not isinstance(members.get('tilecount'), int):
+    if not isinstance(members, dict) or 'tilecount' not in members:
         raise ValueError(f'{path} is no tileset: it does not say how many tiles there are')
     return members
 
 
 def tiles_of(members: Members) -> list[TilesetTile]:
-    """The tiles of a tileset, by its members; those of which it says nothing, too."""
-    said = {tile.get('id'): tile for tile in members.get('tiles') or []}
-    return [_tile_of(id, said.get(id, {})) for id in range(min(members.get('tilecount', 0), MOST_TILES))]
+    """The tiles of a tileset, by its members; those of which it says nothing, too. Raises ValueError where it has too many, or does not say
+    how many. What else is of another kind than Tiled's is left out."""
+    count = members.get('tilecount', 0)
+    if not isinstance(count, int) or not 0 <= count <= MOST_TILES:
+        raise ValueError(f'a tileset has 0 to {MOST_TILES} tiles: {count!r}'[:200])
+    said = {tile['id']: tile for tile in _objects(members.get('tiles')) if isinstance(tile.get('id'), int)}
+    return [_tile_of(id, said.get(id, {})) for id in range(count)]
+
+
+def _objects(value: object) -> list[Members]:
+    """The JSON objects of an array; none of what is no array."""
+    return [each for each in value if isinstance(each, dict)] if isinstance(value, list) else []
 
 
 def _tile_of(id: int, members: Members) -> TilesetTile:
-    properties = {each['name']: each.get('value') for each in members.get('properties') or []}
-    return TilesetTile(id, str(members.get('type') or members.get('class') or ''), properties, (members.get('objectgroup') or {}).get('objects') or [])
+    properties = {each['name']: each.get('value') for each in _objects(members.get('properties')) if isinstance(each.get('name'), str)}
+    group = members.get('objectgroup')
+    shapes = _objects(group.get('objects')) if isinstance(group, dict) else []
+    return TilesetTile(id, str(members.get('type') or members.get('class') or ''), properties, shapes)
 
 
 class Tile(NamedTuple):
