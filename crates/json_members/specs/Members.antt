@@ -18,3 +18,8 @@ without_all (k ∷ ks) ms = without_all ks (without k ms)
 abbrev pub put_some : List ℕ → Option Data → Members → Members
 put_some k None ms = ms
 put_some k (Some d) ms = put k d ms
+
+-- the members, with each of these put in
+abbrev pub put_all : Members → Members → Members
+put_all no_members ms = ms
+put_all (member k d more) ms = put_all more (put k d ms)

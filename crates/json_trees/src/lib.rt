@@ -1,8 +1,10 @@
-//! Trees of JSON: how deep they nest, and whether two are the same.
+//! Trees of JSON: how deep they nest, whether a member has a name, and whether two are the same.
 #![tactic(auto)]
 
 mod depth;
+mod names;
 mod same;
 
 pub use depth::is_within;
-pub use same::is_same;
+pub use names::{RESERVED_NAME, has_name};
+pub use same::{is_same, members_are_same};

@@ -36,3 +36,5 @@ pub mod Outlines
 pub mod LayerLaw
 pub mod PutMembers
 pub mod Pieces
+pub mod ObjectHeadLaws
+pub mod HeadedObjects

@@ -87,7 +87,7 @@ placing_sound ms p e =
     } in
     subst IsPlacing (ok_is (record { x = x; y = y; width = width; height = height }) p e4) made))))
 
-gid_sound : (d : Data) (n : ℕ) → whole_at 0 4294967295 d ≡ Ok n → IsTileValue n
+pub gid_sound : (d : Data) (n : ℕ) → whole_at 0 4294967295 d ≡ Ok n → IsTileValue n
 gid_sound d n e = let s = whole_sound 0 4294967295 d n e in let high : n ≤ 4294967295 = s.1 in omega arith
 
 pub object_sound : (tier n : ℕ) → property_tier tier + n ≤ MAX_DEPTH → (d : Data) (o : Object) → IsFine (suc (suc (suc n))) d → object_at d ≡ Ok o

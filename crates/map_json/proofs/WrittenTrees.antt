@@ -44,7 +44,7 @@ use Rattle.map_json.proofs.Orders.{AreReadableMembers-put}
 
 -- ---- own members
 -- the names are ASCII, and a file can say each value
-abbrev AreReadableOwn : Own → Type 0
+abbrev pub AreReadableOwn : Own → Type 0
 AreReadableOwn [] = Unit {0}
 AreReadableOwn (p ∷ ps) = (are_ascii p.0 ≡ true) × IfSome p.1 IsReadable × AreReadableOwn ps
 
@@ -52,7 +52,7 @@ put_readable : (k : List ℕ) (o : Option Data) (ms : Members) → IsUtf8 k → 
 put_readable k None ms name h g = g
 put_readable k (Some d) ms name h g = AreReadableMembers-put k d ms name h g
 
-own_readable : (t : Own) (kept : Members) → AreReadableOwn t → AreReadableMembers kept → AreReadableMembers (with_own t kept)
+pub own_readable : (t : Own) (kept : Members) → AreReadableOwn t → AreReadableMembers kept → AreReadableMembers (with_own t kept)
 own_readable [] kept h g = g
 own_readable (p ∷ ps) kept h g = put_readable p.0 p.1 (with_own ps kept) (IsUtf8-are_ascii p.0 h.0) h.1 (own_readable ps kept h.2 g)
 
@@ -68,15 +68,15 @@ integer_readable : (z : ℤ) → IsWhole z → IsReadable (number (of_integer z)
 integer_readable (pos k) h = let high = h.high in let few : k < 2 ^ 64 = omega (arith, ints) in few
 integer_readable (negsuc k) h = (h.low, omega (arith, ints))
 
-pixels_readable : (o : Option ℤ) → IfSome o IsPixels → IfSome (option_map (λ z. number (of_integer z)) o) IsReadable
+pub pixels_readable : (o : Option ℤ) → IfSome o IsPixels → IfSome (option_map (λ z. number (of_integer z)) o) IsReadable
 pixels_readable None h = tt
 pixels_readable (Some z) h = integer_readable z (pixels_whole z h)
 
-text_readable : (o : Option (List ℕ)) → IfSome o IsUtf8 → IfSome (option_map string o) IsReadable
+pub text_readable : (o : Option (List ℕ)) → IfSome o IsUtf8 → IfSome (option_map string o) IsReadable
 text_readable None h = tt
 text_readable (Some s) h = h
 
-truth_readable : (o : Option Bool) → IfSome (option_map boolean o) IsReadable
+pub truth_readable : (o : Option Bool) → IfSome (option_map boolean o) IsReadable
 truth_readable None = tt
 truth_readable (Some b) = tt
 
@@ -86,7 +86,7 @@ number_below n most low few = omega arith
 value_number : (n : ℕ) → IsTileValue n → IsReadable (whole_tree n)
 value_number n h = let small : n < 2 ^ 32 = h in number_below n (2 ^ 32) (omega arith) (omega arith)
 
-gid_readable : (o : Option ℕ) → IfSome o IsTileValue → IfSome (option_map whole_tree o) IsReadable
+pub gid_readable : (o : Option ℕ) → IfSome o IsTileValue → IfSome (option_map whole_tree o) IsReadable
 gid_readable None h = tt
 gid_readable (Some n) h = value_number n h
 

@@ -9,3 +9,5 @@ pub mod RoundTrip
 pub mod Outlines
 pub mod Details
 pub mod PartTexts
+pub mod ObjectHeads
+pub mod Words

@@ -11,8 +11,9 @@ use map_model::names;
 use map_values::{Segment, Trail};
 use serde_json::{Map, Value};
 
+/// Whether a number that is not whole stands anywhere in a value.
 #[cycle(floats)]
-fn has_float<T: Trail>(value: &Value, trail: &mut T) -> bool
+pub fn has_float<T: Trail>(value: &Value, trail: &mut T) -> bool
     ensures { result ≡ has_float (data_of value.now) }
 {
     match value {

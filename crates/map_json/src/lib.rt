@@ -27,10 +27,18 @@ mod writing;
 // The text of one thing of a map.
 mod part_text;
 
+// What a text of a line says, and the heads that such values go into.
+mod object_head;
+mod same_head;
+mod word;
+
 pub use map_text::{saved_is_opened, write_map, write_outline, written_is_read};
 pub use map_values::{MapFault, NoTrail, Segment, Trail};
+pub use object_head::{object_head_members, read_object_head};
 pub use part_text::{
     write_layer_head, write_map_head, write_object, write_properties, write_property, write_tileset,
 };
 pub use reading::{read_map, read_map_along};
 pub use refusals::MapRefusal;
+pub use same_head::is_object_head;
+pub use word::{MAX_WORD_DEPTH, json_word, json_words};

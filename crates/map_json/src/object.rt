@@ -20,9 +20,9 @@ use serde_json::Value;
 use std::alloc::Global;
 use tile_id::Gid;
 
-// Where an object stands, and how large it is; the members are taken out.
+/// Where an object stands, and how large it is; the members are taken out.
 #[tactic(auto, using(crate::proofs::Lacking::takes), unfolding(crate::specs::Reading::placing_of))]
-fn placing<T: Trail>(members: &mut JsonObject, trail: &mut T) -> Result<Placing, MapRefusal>
+pub fn placing<T: Trail>(members: &mut JsonObject, trail: &mut T) -> Result<Placing, MapRefusal>
     ensures value { result ≡ placing_of members.old }
     ensures left { IfOk result (λ placing. members.new ≡ without HEIGHT.now (without WIDTH.now (without Y.now (without X.now members.old)))) }
 {
@@ -34,8 +34,8 @@ fn placing<T: Trail>(members: &mut JsonObject, trail: &mut T) -> Result<Placing,
     })
 }
 
-// A value of a tile that may be absent; the member is taken out.
-fn optional_gid<T: Trail>(
+/// A value of a tile that may be absent; the member is taken out.
+pub fn optional_gid<T: Trail>(
     members: &mut JsonObject,
     trail: &mut T,
 ) -> Result<Option<Gid>, MapRefusal>

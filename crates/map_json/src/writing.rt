@@ -109,7 +109,10 @@ fn properties_member(
     Ok(Some(array_by(alloc, size, properties)?))
 }
 
-fn optional_text(alloc: Global, text: &Option<MapText>) -> Result<Option<Value>, AllocError>
+pub fn optional_text_tree(
+    alloc: Global,
+    text: &Option<MapText>,
+) -> Result<Option<Value>, AllocError>
     ensures { IfOk result (λ member. option_map data_of member ≡ option_map string text.now) }
 {
     match text {
@@ -118,7 +121,7 @@ fn optional_text(alloc: Global, text: &Option<MapText>) -> Result<Option<Value>,
     }
 }
 
-fn optional_pixels(pixels: Option<i32>) -> Option<Value>
+pub fn optional_pixels_tree(pixels: Option<i32>) -> Option<Value>
     ensures { option_map data_of result ≡ option_map (λ z. number (of_integer z)) pixels }
 {
     match pixels {
@@ -127,7 +130,7 @@ fn optional_pixels(pixels: Option<i32>) -> Option<Value>
     }
 }
 
-fn optional_truth(truth: Option<bool>) -> Option<Value>
+pub fn optional_truth_tree(truth: Option<bool>) -> Option<Value>
     ensures { option_map data_of result ≡ option_map boolean truth }
 {
     match truth {
@@ -136,7 +139,7 @@ fn optional_truth(truth: Option<bool>) -> Option<Value>
     }
 }
 
-fn optional_gid(value: Option<Gid>) -> Option<Value>
+pub fn optional_gid_tree(value: Option<Gid>) -> Option<Value>
     ensures { option_map data_of result ≡ option_map whole_tree value }
 {
     match value {
@@ -153,13 +156,21 @@ impl Tree for Object {
         let mut members = JsonObject::from_kept(alloc, &self.kept)?;
         let properties = properties_member(alloc, size, &self.properties)?;
         members.put_some(alloc, names::PROPERTIES, properties)?;
-        members.put_some(alloc, names::GID, optional_gid(self.gid))?;
-        members.put_some(alloc, names::VISIBLE, optional_truth(self.visible))?;
-        members.put_some(alloc, names::NAME, optional_text(alloc, &self.name)?)?;
-        members.put_some(alloc, names::HEIGHT, optional_pixels(self.placing.height))?;
-        members.put_some(alloc, names::WIDTH, optional_pixels(self.placing.width))?;
-        members.put_some(alloc, names::Y, optional_pixels(self.placing.y))?;
-        members.put_some(alloc, names::X, optional_pixels(self.placing.x))?;
+        members.put_some(alloc, names::GID, optional_gid_tree(self.gid))?;
+        members.put_some(alloc, names::VISIBLE, optional_truth_tree(self.visible))?;
+        members.put_some(alloc, names::NAME, optional_text_tree(alloc, &self.name)?)?;
+        members.put_some(
+            alloc,
+            names::HEIGHT,
+            optional_pixels_tree(self.placing.height),
+        )?;
+        members.put_some(
+            alloc,
+            names::WIDTH,
+            optional_pixels_tree(self.placing.width),
+        )?;
+        members.put_some(alloc, names::Y, optional_pixels_tree(self.placing.y))?;
+        members.put_some(alloc, names::X, optional_pixels_tree(self.placing.x))?;
         members.put(alloc, names::ID, Value::from(self.id))?;
         Ok(members.into_value())
     }
@@ -171,7 +182,11 @@ impl Tree for Tileset {
     #[tactic(auto, unfolding(crate::specs::Trees::tileset_tree))]
     fn tree(&self, alloc: Global, _size: Size) -> Result<Value, AllocError> {
         let mut members = JsonObject::from_kept(alloc, &self.kept)?;
-        members.put_some(alloc, names::SOURCE, optional_text(alloc, &self.source)?)?;
+        members.put_some(
+            alloc,
+            names::SOURCE,
+            optional_text_tree(alloc, &self.source)?,
+        )?;
         members.put(alloc, names::FIRST_ID, Value::from(self.first_id))?;
         Ok(members.into_value())
     }

@@ -32,3 +32,4 @@ pub mod FirstChanges
 pub mod PropertyKeeps
 pub mod PropertyLaws
 pub mod SideBySide
+pub mod HeadLaws

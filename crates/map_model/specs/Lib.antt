@@ -26,3 +26,4 @@ pub mod Refusing
 pub mod Given
 pub mod Groups
 pub mod Ways
+pub mod Heads

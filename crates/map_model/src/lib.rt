@@ -11,6 +11,7 @@ mod create;
 mod document;
 mod edit;
 mod groups;
+mod heads;
 mod here;
 mod layers;
 pub mod limits;
@@ -31,8 +32,9 @@ pub use canvas::{Canvas, LayerCells};
 pub use contents::{Cells, JsonValue, Kept, MapText};
 pub use document::Document;
 pub use edit::{CellEdit, Side};
+pub use heads::ObjectHead;
 pub use map::Map;
-pub use owner::Owner;
+pub use owner::{MemberOwner, Owner};
 pub use parts::{
     Body, Encoding, Layer, LayerKind, MapParts, Object, Placing, PropValue, Property, Tileset,
 };

@@ -7,6 +7,7 @@ ghost use Rattle.map_model.specs.declared.limits.TheConstants.{MAX_GROUPS, MAX_O
 ghost use Rattle.map_model.specs.declared.parts.Object.{Object};
 ghost use Rattle.map_model.specs.Bodies.{body_with_objects, objects_in};
 ghost use Rattle.map_model.specs.Changing.{ChangesObject, ChangesObjectIn};
+ghost use Rattle.map_model.specs.Heads.{object_head, object_with_head};
 ghost use Rattle.map_model.specs.Lists.{Distinct, change_at, first_some};
 ghost use Rattle.map_model.specs.Objects.{found_in_layer, has_object_id, layer_with_objects, object_placing, object_with_placing, objects_of};
 ghost use Rattle.map_model.specs.Groups.{change_among, drawn, layer_among, tree};
@@ -14,6 +15,7 @@ ghost use Rattle.map_model.specs.Keeping.{layer_tier};
 ghost use Rattle.map_model.specs.WellFormed.{layer_ids};
 
 use crate::groups::change_layer;
+use crate::heads::ObjectHead;
 use crate::parts::{Body, Layer, Object, Placing};
 use crate::place::ObjectPlace;
 use link_chain::Chain;
@@ -140,6 +142,16 @@ pub fn place_object_in(layers: &mut Chain<Layer>, place: ObjectPlace, placing: P
     change_object(layers, place, |object| {
         mem::replace(&mut object.placing, placing)
     })
+}
+
+/// Gives the object at a place another head, and hands the old one back.
+pub fn head_object_in(layers: &mut Chain<Layer>, place: ObjectPlace, head: ObjectHead) -> ObjectHead
+    requires distinct { Distinct (layer_ids layers.old) }
+    requires there { IsSomeAnd (option_and_then objects_of (layer_among place.layer MAX_GROUPS layers.old)) (λ os. place.at < length os) }
+    ensures given { option_map object_head (option_and_then (λ os. slice_get os place.at) (option_and_then objects_of (layer_among place.layer MAX_GROUPS layers.old))) ≡ Some result }
+    ensures layers { layers.new ≡ change_among place.layer MAX_GROUPS (layer_with_objects (change_at place.at (object_with_head head))) layers.old }
+{
+    change_object(layers, place, |object| object.replace_head(head))
 }
 
 // The object with an id in a list of objects, behind its place there: one walk.

@@ -3,7 +3,7 @@ ghost use Rattle.std.specs.Prelude.{◌≡◌, option_map, OnOk, IfOk};
 ghost use Rattle.serde_json.specs.Data.{object, put as with_member};
 ghost use Rattle.serde_json.specs.Find.{get_member, as_object};
 ghost use Rattle.serde_json.specs.View.{view as data_of, members_view};
-ghost use Rattle.json_members.specs.Members.{without, put_some};
+ghost use Rattle.json_members.specs.Members.{without, put_all, put_some};
 
 use crate::trail::{Segment, Trail};
 use map_model::Kept;
@@ -103,6 +103,14 @@ impl JsonObject {
         }
     }
 
+    /// Puts each of these members in.
+    pub fn put_all(&mut self, alloc: Global, more: JsonObject) -> Result<(), AllocError>
+        ensures { OnOk result (self.new ≡ put_all more self.old) }
+    {
+        let JsonObject { members } = more;
+        put_each(&mut self.members, alloc, members)
+    }
+
     /// The members, in the order of their names.
     pub fn members(&self) -> &Map<String, Value>
         ensures { members_view result.now.entries ≡ self.now }
@@ -125,6 +133,21 @@ impl JsonObject {
         let JsonObject { members } = self;
         Value::from(members)
     }
+}
+
+// Puts each of these members in.
+fn put_each(
+    members: &mut Map<String, Value>,
+    alloc: Global,
+    more: Map<String, Value>,
+) -> Result<(), AllocError>
+    ensures { OnOk result (members_view members.new.entries
+        ≡ put_all (members_view more.entries) (members_view members.old.entries)) }
+{
+    for (name, value) in more {
+        serde_json::put(members, alloc, name.as_str(), value)?;
+    }
+    Ok(())
 }
 
 // A copy of members.

@@ -6,9 +6,11 @@ use Rattle.refusals.specs.declared.line_fault.LineFault.{LineFault}
 use Rattle.refusals.specs.declared.line_fault.LineFault.TheVariants as line_faults
 use Rattle.refusals.specs.declared.map_refusal.MapRefusal.{MapRefusal}
 use Rattle.refusals.specs.declared.map_refusal.MapRefusal.TheVariants as map_refusals
+use Rattle.refusals.specs.declared.more_fault.MoreFault.{MoreFault}
+use Rattle.refusals.specs.declared.more_fault.MoreFault.TheVariants as more_faults
 use Rattle.refusals.specs.declared.refusal.Refusal.{Refusal}
 use Rattle.refusals.specs.declared.refusal.Refusal.TheVariants.{Line, NoActiveDocument, NameTaken, NoSuchDocument, UnsavedChanges}
-use Rattle.refusals.specs.declared.refusal.Refusal.TheVariants.{Stack, Edit, Store, Map, NoMemory}
+use Rattle.refusals.specs.declared.refusal.Refusal.TheVariants.{Stack, Edit, Store, Map, MemberOfOtherLines, NoSuchMember, NoMemory}
 use Rattle.refusals.specs.declared.stack_fault.StackFault.{StackFault}
 use Rattle.refusals.specs.declared.stack_fault.StackFault.TheVariants as stack_faults
 use Rattle.refusals.specs.declared.store_fault.StoreFault.{StoreFault}
@@ -63,6 +65,18 @@ map_words map_refusals.IdUsedTwice = codes "67 id used twice"
 map_words map_refusals.OverLimit = codes "68 over a limit"
 map_words map_refusals.NotAMap = codes "69 not a map"
 
+abbrev pub other_lines_words : List ℕ
+other_lines_words = codes "41 member of other lines"
+
+abbrev pub no_member_words : List ℕ
+no_member_words = codes "42 no such member"
+
+abbrev pub more_words : MoreFault → List ℕ
+more_words (more_faults.Edit fault) = edit_words fault
+more_words (more_faults.Map refusal) = map_words refusal
+more_words more_faults.MemberOfOtherLines = other_lines_words
+more_words more_faults.NoSuchMember = no_member_words
+
 -- a refusal's number and its words
 abbrev pub refusal_text : Refusal → List ℕ
 refusal_text (Line fault) = line_words fault
@@ -74,4 +88,6 @@ refusal_text (Stack fault) = stack_words fault
 refusal_text (Edit fault) = edit_words fault
 refusal_text (Store fault) = store_words fault
 refusal_text (Map refusal) = map_words refusal
+refusal_text MemberOfOtherLines = other_lines_words
+refusal_text NoSuchMember = no_member_words
 refusal_text NoMemory = memory_words

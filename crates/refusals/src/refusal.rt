@@ -4,6 +4,7 @@ ghost use Rattle.refusals.specs.Words.{refusal_text};
 use crate::edit_fault::EditFault;
 use crate::line_fault::LineFault;
 use crate::map_refusal::MapRefusal;
+use crate::more_fault::{MEMBER_OF_OTHER_LINES, MoreFault, NO_SUCH_MEMBER};
 use crate::stack_fault::StackFault;
 use crate::store_fault::StoreFault;
 
@@ -28,8 +29,12 @@ pub enum Refusal {
     Edit(EditFault),
     /// The store has no such file, or failed.
     Store(StoreFault),
-    /// The file says no map.
+    /// The file says no map, or a line says of an owner what no file may.
     Map(MapRefusal),
+    /// Lines of their own change the member.
+    MemberOfOtherLines,
+    /// The owner has no such member.
+    NoSuchMember,
     NoMemory,
 }
 
@@ -49,6 +54,8 @@ impl Refusal {
             Refusal::Edit(fault) => fault.words(),
             Refusal::Store(fault) => fault.words(),
             Refusal::Map(refusal) => refusal.words(),
+            Refusal::MemberOfOtherLines => MEMBER_OF_OTHER_LINES,
+            Refusal::NoSuchMember => NO_SUCH_MEMBER,
             Refusal::NoMemory => NO_MEMORY,
         }
     }
@@ -76,6 +83,21 @@ impl From<EditFault> for Refusal {
         match fault {
             EditFault::NoMemory => Refusal::NoMemory,
             _ => Refusal::Edit(fault),
+        }
+    }
+}
+
+impl From<MoreFault> for Refusal {
+    ghost use Rattle.refusals.specs.Layers.{refusal_of_more};
+
+    ghost from_gives = { λ fault refusal. refusal ≡ refusal_of_more fault };
+
+    fn from(fault: MoreFault) -> Refusal {
+        match fault {
+            MoreFault::Edit(fault) => Refusal::from(fault),
+            MoreFault::Map(refusal) => Refusal::Map(refusal),
+            MoreFault::MemberOfOtherLines => Refusal::MemberOfOtherLines,
+            MoreFault::NoSuchMember => Refusal::NoSuchMember,
         }
     }
 }

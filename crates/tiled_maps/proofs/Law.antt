@@ -18,7 +18,7 @@ use Rattle.serde_json.proofs.Views.{get_member-put, get_member-put_other}
 use Rattle.tiled_maps.specs.declared.place.Place.{Place}
 use Rattle.tiled_maps.specs.declared.place.Place.TheVariants.{Map, Layer, Object, Coordinate, Version, Elsewhere}
 use Rattle.json_members.specs.Members.{without, put_some}
-use Rattle.tiled_maps.specs.Members.{has_name, items_have_name, members_have_name}
+use Rattle.json_trees.specs.Names.{has_name, items_have_name, members_have_name}
 use Rattle.tiled_maps.specs.Places.{below, inside}
 use Rattle.tiled_maps.specs.Aside.{reserved_name, stand_in, whole_part, fraction_at, note_of, notes_of, with_notes, aside, items_aside, members_aside}
 use Rattle.tiled_maps.specs.Back.{number_of_halves, of_halves, is_alone, is_integer_at, restored, members_restored, joined, back, items_back, members_back}

@@ -13,7 +13,7 @@ use Rattle.infinite_maps.specs.Infinite.{is_true, is_infinite}
 use Rattle.tiled_maps.specs.declared.place.Place.{Place}
 use Rattle.tiled_maps.specs.declared.place.Place.TheVariants.{Map, Layer, Object, Coordinate, Version, Elsewhere}
 use Rattle.tiled_maps.specs.Places.{below, inside}
-use Rattle.tiled_maps.specs.Members.{has_name, items_have_name, members_have_name}
+use Rattle.json_trees.specs.Names.{has_name, items_have_name, members_have_name}
 use Rattle.tiled_maps.specs.Fractions.{is_fraction, has_fraction, items_have_fraction, members_have_fraction}
 use Rattle.tiled_maps.specs.Aside.{reserved_name}
 use Rattle.tiled_maps.specs.Look.{NeedsNothing}

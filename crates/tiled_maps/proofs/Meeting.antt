@@ -8,7 +8,7 @@ use Rattle.serde_json.specs.Find.{get, get_member, as_bool}
 use Rattle.infinite_maps.specs.Infinite.{is_true, is_infinite, infinite_of, map_by}
 use Rattle.tiled_maps.specs.declared.place.Place.{Place}
 use Rattle.tiled_maps.specs.declared.place.Place.TheVariants.{Map, Layer, Object, Coordinate, Version, Elsewhere}
-use Rattle.tiled_maps.specs.Members.{has_name}
+use Rattle.json_trees.specs.Names.{has_name}
 use Rattle.tiled_maps.specs.Places.{below}
 use Rattle.tiled_maps.specs.Aside.{reserved_name, stand_in, aside, members_aside, set_aside_of}
 use Rattle.tiled_maps.specs.Back.{back}

@@ -10,7 +10,7 @@ use Rattle.serde_json.specs.Find.{get_member, is_float, of_integer, to_float}
 use Rattle.tiled_maps.specs.declared.place.Place.{Place}
 use Rattle.tiled_maps.specs.declared.place.Place.TheVariants.{Map, Layer, Object, Coordinate, Version, Elsewhere}
 use Rattle.json_members.specs.Members.{without, put_some}
-use Rattle.tiled_maps.specs.Members.{has_name, items_have_name, members_have_name}
+use Rattle.json_trees.specs.Names.{has_name, items_have_name, members_have_name}
 use Rattle.tiled_maps.specs.Places.{below, inside}
 use Rattle.tiled_maps.specs.Fractions.{is_fraction, has_fraction, items_have_fraction, members_have_fraction}
 use Rattle.tiled_maps.specs.Fractions.{fractions_in, fractions_in_items, fractions_in_members, HasFewFractions}

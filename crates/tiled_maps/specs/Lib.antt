@@ -1,4 +1,3 @@
-pub mod Members
 pub mod Places
 pub mod Fractions
 pub mod Aside

@@ -4,7 +4,7 @@ use Rattle.serde_json.specs.Data.{Data}
 use Rattle.serde_json.specs.Read.{read}
 use Rattle.infinite_maps.specs.Infinite.{is_infinite}
 use Rattle.tiled_maps.specs.declared.place.Place.TheVariants.{Map}
-use Rattle.tiled_maps.specs.Members.{has_name}
+use Rattle.json_trees.specs.Names.{has_name}
 use Rattle.tiled_maps.specs.Fractions.{has_fraction}
 use Rattle.tiled_maps.specs.Aside.{reserved_name}
 

@@ -4,9 +4,10 @@ ghost use Rattle.serde_json.specs.View.{view as data_of, number_view, items_view
 ghost use Rattle.json_members.specs.Members.{put_some};
 ghost use Rattle.tiled_maps.specs.Aside.{aside, items_aside, members_aside, fraction_aside, number_aside, note_of, notes_of, with_notes};
 
-use crate::fraction::{RESERVED_NAME, fraction_at, stand_in, to_float, whole_part};
+use crate::fraction::{fraction_at, stand_in, to_float, whole_part};
 use crate::place::Place;
 use json_members::found;
+use json_trees::RESERVED_NAME;
 use serde_json::{Map, Number, Value};
 use std::alloc::{AllocError, Global};
 

@@ -5,9 +5,10 @@ ghost use Rattle.serde_json.specs.View.{view as data_of, number_view, items_view
 ghost use Rattle.tiled_maps.specs.Aside.{fraction_at};
 ghost use Rattle.tiled_maps.specs.Back.{back, items_back, members_back, joined, restored, members_restored, number_in, notes_in, by_notes};
 
-use crate::fraction::{RESERVED_NAME, fraction_at, number_of_halves, still_is, to_float};
+use crate::fraction::{fraction_at, number_of_halves, still_is, to_float};
 use crate::members::is_alone;
 use json_members::{found, remove};
+use json_trees::RESERVED_NAME;
 use serde_json::{Map, Number, Value};
 use std::alloc::{AllocError, Global};
 

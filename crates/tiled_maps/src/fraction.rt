@@ -5,12 +5,10 @@ ghost use Rattle.serde_json.specs.View.{view as data_of, number_view};
 ghost use Rattle.tiled_maps.specs.Aside.{stand_in, whole_part, fraction_of, fraction_at};
 ghost use Rattle.tiled_maps.specs.Back.{half, of_halves, number_of_halves, still_is};
 
+use json_trees::RESERVED_NAME;
 use serde_json::{Map, Number, Value};
 use std::alloc::{AllocError, Global};
 use std::num::{f64_from_bits_with_nan, f64_to_bits_with_nan, saturating_f64_to_i64};
-
-/// The name that no member of a map may have. Under it stands what is set aside.
-pub const RESERVED_NAME: &str = "roskevad";
 
 /// How many values a half of the bits has. A whole number below 2^53 is one for readers in JavaScript, too.
 const HALF: u64 = 4_294_967_296;

@@ -8,7 +8,7 @@ ghost use Rattle.json.specs.Lex.{lex, between, in_word};
 ghost use Rattle.tiled_maps.specs.Look.{TextNeedsNothing};
 ghost use Rattle.tiled_maps.specs.Lexemes.{IsPlainText, AreFalse, BeginsLiteral, BeginsOther, ArePlain, EndsWell, LeavesText, LeavesEscaped, Ends, Leads};
 
-use crate::fraction::RESERVED_NAME;
+use json_trees::RESERVED_NAME;
 use memchr::memchr2;
 
 /// How many digits a number may have that surely fits 64 bits, with a sign, too.

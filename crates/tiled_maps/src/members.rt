@@ -1,8 +1,7 @@
 // Members of an object, looked through.
 ghost use Rattle.std.specs.Prelude.{◌≡◌};
-ghost use Rattle.serde_json.specs.View.{view as data_of, items_view, members_view};
+ghost use Rattle.serde_json.specs.View.{members_view};
 ghost use Rattle.tiled_maps.specs.Back.{is_alone};
-ghost use Rattle.tiled_maps.specs.Members.{has_name, items_have_name, members_have_name};
 
 use serde_json::{Map, Value};
 
@@ -11,40 +10,4 @@ pub fn is_alone(members: &Map<String, Value>) -> bool
     ensures { result ≡ is_alone (members_view members.now.entries) }
 {
     members.len() == 1
-}
-
-/// Whether a member of this name stands anywhere in a tree.
-#[cycle(names)]
-pub fn has_name(name: &str, value: &Value) -> bool
-    ensures { result ≡ has_name name.now (data_of value.now) }
-{
-    match value {
-        Value::Null | Value::Bool(_) | Value::Number(_) | Value::String(_) => false,
-        Value::Array(items) => items_have_name(name, items),
-        Value::Object(members) => members_have_name(name, members),
-    }
-}
-
-#[cycle(names)]
-fn items_have_name(name: &str, items: &Vec<Value>) -> bool
-    ensures { result ≡ items_have_name name.now (items_view items.now.items) }
-{
-    for item in items {
-        if has_name(name, item) {
-            return true;
-        }
-    }
-    false
-}
-
-#[cycle(names)]
-fn members_have_name(name: &str, members: &Map<String, Value>) -> bool
-    ensures { result ≡ members_have_name name.now (members_view members.now.entries) }
-{
-    for (key, member) in members.iter() {
-        if name == key.as_str() || has_name(name, member) {
-            return true;
-        }
-    }
-    false
 }

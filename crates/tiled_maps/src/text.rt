@@ -6,13 +6,11 @@ ghost use Rattle.tiled_maps.specs.Texts.{Reads, SetsAside, PutsBack};
 
 use crate::back::back;
 use crate::fault::Fault;
-use crate::fraction::RESERVED_NAME;
 use crate::fractions::{has_few_fractions, has_fraction};
-use crate::members::has_name;
 use crate::place::Place;
 use crate::sources::{as_in, is_map};
 use crate::tree::{MAX_DEPTH, finite, infinite, whole};
-use json_trees::is_within;
+use json_trees::{RESERVED_NAME, has_name, is_within};
 use map_layout::{LaidText, value_laid_out_like};
 use serde_json::Value;
 use std::alloc::{AllocError, Global};

@@ -2,12 +2,14 @@
 ghost use Rattle.std.specs.Prelude.{◌≡◌, Some, IsSome, IsSomeAnd};
 ghost use Rattle.std.specs.Option.{option_map};
 ghost use Rattle.map_model.specs.Document.{with_map, IsDocument};
+ghost use Rattle.map_model.specs.Heads.{object_head, object_with_head};
 ghost use Rattle.map_model.specs.Objects.{object_at, object_placing, object_with_placing, with_object, with_object_at, without_object_at, IsObjectPlaceIn};
 ghost use Rattle.map_model.specs.WellFormed.{IsPlacing, IsWellFormed};
 
 use crate::document::Document;
+use crate::heads::ObjectHead;
 use crate::limits::MAX_GROUPS;
-use crate::objects::{insert_object_in, place_object_in, take_object_in};
+use crate::objects::{head_object_in, insert_object_in, place_object_in, take_object_in};
 use crate::parts::{Object, Placing};
 use crate::place::ObjectPlace;
 use crate::seek::{seek_here, seek_in_layers};
@@ -56,5 +58,16 @@ impl Document {
         ensures well_formed { IsDocument self.new }
     {
         place_object_in(&mut self.map.parts.layers, place, placing)
+    }
+
+    /// Gives the object at a place another head, and hands the old one back. The map is well formed with it.
+    pub fn set_object_head(&mut self, place: ObjectPlace, head: ObjectHead) -> ObjectHead
+        requires there { IsSome (object_at self.old.map place) }
+        requires well_formed { IsWellFormed (with_object place (object_with_head head) self.old.map) }
+        ensures given { option_map object_head (object_at self.old.map place) ≡ Some result }
+        ensures document { self.new ≡ with_map (with_object place (object_with_head head)) self.old }
+        ensures well_formed { IsDocument self.new }
+    {
+        head_object_in(&mut self.map.parts.layers, place, head)
     }
 }

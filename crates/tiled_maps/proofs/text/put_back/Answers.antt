@@ -6,7 +6,7 @@ use Rattle.serde_json.proofs.Nesting.{depth-read}
 use Rattle.infinite_maps.specs.Infinite.{infinite_of}
 use Rattle.tiled_maps.specs.Aside.{reserved_name}
 use Rattle.tiled_maps.specs.Back.{back}
-use Rattle.tiled_maps.specs.Members.{has_name}
+use Rattle.json_trees.specs.Names.{has_name}
 use Rattle.json_trees.specs.Texts.{IsTreeOf}
 use Rattle.tiled_maps.specs.Trees.{put_back_of}
 use Rattle.tiled_maps.proofs.Answered.{IsPutBack-none, was_infinite, deeper}

@@ -2,7 +2,7 @@ use Rattle.std.proofs.Common.{◌≡◌, false, ◌∙◌, sym, ap}
 use Rattle.serde_json.specs.View.{view}
 use Rattle.tiled_maps.specs.Aside.{reserved_name}
 use Rattle.tiled_maps.specs.Back.{back}
-use Rattle.tiled_maps.specs.Members.{has_name}
+use Rattle.json_trees.specs.Names.{has_name}
 use Rattle.json_trees.specs.Texts.{IsTreeOf}
 use Rattle.tiled_maps.proofs.Meeting.{put_back_of-free}
 use Rattle.tiled_maps.proofs.Whole.{back-unchanged}

@@ -8,7 +8,7 @@ use Rattle.infinite_maps.specs.Infinite.{is_infinite}
 use Rattle.tiled_maps.specs.declared.place.Place.TheVariants.{Map}
 use Rattle.tiled_maps.specs.Aside.{reserved_name, set_aside_of}
 use Rattle.tiled_maps.specs.Fractions.{has_fraction, HasFewFractions}
-use Rattle.tiled_maps.specs.Members.{has_name}
+use Rattle.json_trees.specs.Names.{has_name}
 use Rattle.json_trees.specs.Texts.{IsTreeOf}
 use Rattle.tiled_maps.specs.Trees.{MakesFinite}
 use Rattle.tiled_maps.proofs.Answered.{few_seen, SetsAside-none, SetsAside-whole, SetsAside-finite, finite_fault}

@@ -10,6 +10,6 @@ returns c =
       c.in_ok-put.ensures,
       c.from.ensures,
       c.in_ok-put_some.ensures,
-      c.in_ok-optional_text.ensures,
+      c.in_ok-optional_text_tree.ensures,
       c.in_ok-members.ensures,
     ) refl

@@ -1,7 +1,7 @@
 use Rattle.std.proofs.Common.{◌≡◌, drop}
 use Rattle.serde_json.specs.View.{items_view, members_view}
-use Rattle.tiled_maps.specs.Members.{items_have_name, members_have_name}
-use Rattle.tiled_maps.proofs.members.+names.Given as goal
+use Rattle.json_trees.specs.Names.{items_have_name, members_have_name}
+use Rattle.json_trees.proofs.names.+names.Given as goal
 
 abbrev pub invariant-items_have_name-loop-item : goal.invariant-items_have_name-loop-item
 invariant-items_have_name-loop-item l = items_have_name l.name (items_view (drop l.item-index l.item-items)) ≡ items_have_name l.name (items_view l.item-items)
