@@ -2,3 +2,4 @@ pub mod Links
 pub mod Offering
 pub mod Swaps
 pub mod Tags
+pub mod ShownHeads

@@ -8,7 +8,7 @@ use Rattle.command_api.specs.Names.{Names, Vanishing, WhenEqual, IsSettled}
 use Rattle.command_api.specs.Making.{Makes}
 use Rattle.command_api.specs.Exchange.{FitsTurn, IsExchanged, change_of}
 use Rattle.command_api.specs.Offers.{FitsPut, IsMerged, Shown, offer_undone}
-use Rattle.command_api.specs.Swap.{swap, swap_where, swap_shown, FitsShown, IsGiven}
+use Rattle.command_api.specs.Swap.{swap, swap_where, swap_shown, swap_held, FitsBack, FitsShown, IsGiven}
 
 -- ---- one turn: the part has the value new, and the held one is put in
 module _ {V : Type 0} {p : Lens DocumentParts V} {held new : V} {d e : DocumentParts} (laws : IsLawfulLens p) (given : p.get d ≡ Some new)
@@ -139,6 +139,56 @@ shown_merged {p = p} true {held = held} {before = before} {newer = newer} {d = d
         record {
           fits = record { given = fits.holds; allowed = stays there.allowed; here = fits.well_formed; there = rw back there.there };
           settled = put-IsSettled laws vanishes newer fits.holds (λ b. sym (equal b)) (λ q. same (sym q));
+        },
+      );
+      undone = back ∙ ap (put p held) (sym is);
+      names = refl;
+    }
+
+-- ---- swaps that show the value from before alone
+-- one turn
+pub held_swapped : {V : Type 0} {names : Names} {p : Lens DocumentParts V} {same : Bool} (made : Bool) {held new : V} {d e : DocumentParts}
+    → IsLawfulLens p → FitsBack p held d → p.get d ≡ Some new → e ≡ put p held d
+    → IsExchanged (swap_held names p same made (Some held)) (swap_held names p same (not made) (Some new)) d e
+held_swapped {p = p} made {held = held} {new = new} {d = d} {e = e} laws fits given is =
+    let back = put-put laws given is in
+    record {
+      document = is;
+      fits = record { well_formed = rw is fits.back; there = get-put laws given is; back = rw back fits.well_formed };
+      back = back;
+      names = refl;
+      obsolete = refl;
+      made = refl;
+    }
+
+-- an edit puts the value in, and a test has told whether it is the part's own
+pub held_made : {V E : Type 0} {names : Names} {p : Lens DocumentParts V} {same : Bool} {held : V} {d : DocumentParts} {after : Result DocumentParts E}
+    → IsLawfulLens p
+    → names.vanishing ≡ WhenEqual → (own : V) → p.get d ≡ Some own → (same ≡ true → own ≡ held) → (own ≡ held → same ≡ true)
+    → FitsBack p held d
+    → after ≡ Ok (put p held d) → Makes names d after (change_of (swap_held names p same false (Some held)))
+held_made laws vanishes own given told found fits is = record {
+  fits = (λ e. cc, record { fits = fits; settled = put-IsSettled laws vanishes own given told found });
+  document = is;
+  names = refl;
+}
+
+-- one that is made takes a newer change of its part in, and a test has told whether the part has the value from before both
+pub held_merged : {V : Type 0} {names : Names} {p : Lens DocumentParts V} {same told : Bool} (made : Bool) {held before : V} {d : DocumentParts}
+    {o : Shown}
+    → IsLawfulLens p → names.vanishing ≡ WhenEqual → (own : V) → p.get d ≡ Some own → (told ≡ true → own ≡ held) → (own ≡ held → told ≡ true)
+    → FitsBack p before d → offer_undone o d ≡ put p before d
+    → FitsTurn false (swap_held names p same made (Some held)) (offer_undone o d)
+    → IsMerged (change_of (swap_held names p same made (Some held))) (change_of (swap_held names p told made (Some held))) o d
+held_merged {p = p} made {held = held} {before = before} {d = d} laws vanishes own given equal same fits is older =
+    let there = (rw is at older).1.fits in
+    let back : put p held d ≡ put p held (put p before d) = sym (laws.update-update (λ own. held) (λ own. before) d) in
+    record {
+      fits = (
+        older.0,
+        record {
+          fits = record { well_formed = fits.well_formed; there = fits.there; back = rw back there.back };
+          settled = put-IsSettled laws vanishes own given equal same;
         },
       );
       undone = back ∙ ap (put p held) (sym is);

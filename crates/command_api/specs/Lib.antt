@@ -4,5 +4,6 @@ pub mod Making
 pub mod Exchange
 pub mod Swap
 pub mod Link
+pub mod Heads
 pub mod Offers
 pub mod Names

@@ -16,20 +16,23 @@ use Rattle.map_model.specs.Lookups.{HasTiles}
 use Rattle.map_model.specs.Properties.{new_property, properties_of, property_at, scalar_value, setting_with}
 use Rattle.map_model.specs.PropertyLenses.{setting_named, setting_place, without_setting}
 use Rattle.map_model.specs.WellFormed.{IsWellFormed}
+use Rattle.command_api.specs.Heads.{ShownHead, FitsHead, head_owner, head_undone, shown_head}
 use Rattle.command_api.specs.Law.{Change}
 use Rattle.command_api.specs.Names.{Names, is_free}
-use Rattle.command_api.specs.Tag.{Tag, OfLayer, OfObject, OfName}
+use Rattle.command_api.specs.Tag.{Tag, OfLayer, OfObject, OfName, member_tag}
 use Rattle.command_api.specs.declared.ids.TheConstants.{MOVE_ID, SET_ID}
 use Rattle.command_api.specs.declared.offer.Offer.{Offer}
 use Rattle.command_api.specs.declared.offer.Offer.TheVariants as offers
 
 -- what is shown: nothing; the cells that a paint with this id changes on a layer; an object, and its placing before and
--- after; or an owner, a name, and the setting of that property before, where there was one, and after
+-- after; an owner, a name, and the setting of that property before, where there was one, and after; or a name, or none, and an
+-- owner's head before its own member of that name, or several at once, were set
 pub data Shown : Type 0 where
   Nothing : Shown
   Cells : ℕ → ℕ → List CellEdit → Shown
   Place : ℕ → Placing → Placing → Shown
   Value : Owner → List ℕ → Option Setting → Setting → Shown
+  Member : Option (List ℕ) → ShownHead → Shown
 
 -- what an offer shows
 abbrev pub shown_of : Offer → Shown
@@ -37,6 +40,7 @@ shown_of offers.Nothing = Nothing
 shown_of (offers.Cells id layer cells) = Cells id layer cells.now
 shown_of (offers.Place object before after) = Place object before after
 shown_of (offers.Value owner name before kind value) = Value owner name.now (option_copied before) (setting_with kind.now (scalar_value value))
+shown_of (offers.Member name before) = Member (option_copied name) (shown_head before)
 
 -- the tag that is shown
 abbrev pub offer_tag : Shown → Option Tag
@@ -44,6 +48,7 @@ offer_tag Nothing = None
 offer_tag (Cells id layer cells) = Some (record { kind = id; subject = OfLayer layer })
 offer_tag (Place object before after) = Some (record { kind = MOVE_ID; subject = OfObject object })
 offer_tag (Value owner name before after) = Some (record { kind = SET_ID; subject = OfName owner name })
+offer_tag (Member name before) = Some (member_tag (head_owner before) name)
 
 -- the document before the property of an owner with this name got a setting
 abbrev pub setting_undone : Owner → List ℕ → Option Setting → DocumentParts → DocumentParts
@@ -56,6 +61,7 @@ offer_undone Nothing d = d
 offer_undone (Cells id layer cells) d = painted layer cells Before d
 offer_undone (Place object before after) d = put (placing_with_id object) before d
 offer_undone (Value owner name before after) d = setting_undone owner name before d
+offer_undone (Member name before) d = head_undone before d
 
 -- the well-formed document has the tile layer, the cells are the difference to it of the document before them, and that
 -- one is well formed too
@@ -87,12 +93,14 @@ abbrev pub FitsSetting : Owner → List ℕ → Option Setting → Setting → D
 FitsSetting owner name None after d = FitsNew owner name after d
 FitsSetting owner name (Some before) after d = FitsPut (setting_named owner name) before after d
 
--- what is shown fits the document for undo: the document holds the new values, and is well formed with the old ones put back
+-- what is shown fits the document for undo: the document is well formed, and is so with the old values put back. It holds the new
+-- values, or, where own members were set, it has their owner
 abbrev pub FitsOffer : Shown → DocumentParts → Type 0
 FitsOffer Nothing d = Unit {0}
 FitsOffer (Cells id layer cells) d = FitsCells layer cells d
 FitsOffer (Place object before after) d = FitsPut (placing_with_id object) before after d
 FitsOffer (Value owner name before after) d = FitsSetting owner name before after d
+FitsOffer (Member name before) d = FitsHead before d
 
 -- what a command shows: nothing exactly where it does not follow, else its tag and its undo
 pub record IsOfferOf (c : Change) (o : Shown) : Type 0 where

@@ -1,5 +1,5 @@
 -- Swaps: exchanges of a part of the document and a value that is held.
-use Rattle.std.specs.Prelude.{◌≡◌, Bool, true, false, Some, None, IsSome}
+use Rattle.std.specs.Prelude.{◌≡◌, Bool, true, false, Option, Some, None, IsSome}
 use Rattle.map_model.specs.Document.{DocumentParts}
 use Rattle.map_model.specs.Lens.{Lens, put}
 use Rattle.map_model.specs.WellFormed.{IsWellFormed}
@@ -42,4 +42,31 @@ swap_shown names p Allows same made after held = record {
   made = Some made;
   exchanged = put p held;
   fits = FitsShown p Allows made after held;
+}
+
+-- ---- swaps that show the value from before alone
+-- the well-formed document has the part, and is well formed with the value put back
+pub record FitsBack {V : Type 0} (p : Lens DocumentParts V) (before : V) (d : DocumentParts) : Type 0 where
+  pub well_formed : IsWellFormed d.map
+  pub there : IsSome (p.get d)
+  pub back : IsWellFormed (put p before d).map
+
+-- the document with the held value put in, where one is held
+abbrev pub put_held : {V : Type 0} → Lens DocumentParts V → Option V → DocumentParts → DocumentParts
+put_held p None d = d
+put_held p (Some held) d = put p held d
+
+-- a value is held, and fits
+abbrev pub FitsHeld : {V : Type 0} → Lens DocumentParts V → Option V → DocumentParts → Type 0
+FitsHeld p None d = ⊥
+FitsHeld p (Some held) d = FitsBack p held d
+
+-- the held value is put in, and the part's own is held
+abbrev pub swap_held : {V : Type 0} → Names → Lens DocumentParts V → Bool → Bool → Option V → Exchange
+swap_held names p same made held = record {
+  names = names;
+  obsolete = same;
+  made = Some made;
+  exchanged = put_held p held;
+  fits = FitsHeld p held;
 }

@@ -11,3 +11,9 @@ pub const MOVE_ID: u32 = 3;
 
 /// Settings of a property.
 pub const SET_ID: u32 = 4;
+
+/// Settings of an own member.
+pub const MEMBER_ID: u32 = 5;
+
+/// Settings of several own members at once.
+pub const MEMBERS_ID: u32 = 6;

@@ -10,5 +10,5 @@ mod offer;
 
 pub use command::Command;
 pub use exchange::{Exchange, Label, Lone};
-pub use offer::Offer;
+pub use offer::{Offer, OwnerHead};
 pub use refusals::EditFault;

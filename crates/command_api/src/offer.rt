@@ -1,4 +1,25 @@
-use map_model::{CellEdit, Owner, Placing, Scalar, Setting};
+use map_model::{CellEdit, MemberOwner, ObjectHead, Owner, Placing, Scalar, Setting};
+
+/// The head of an owner: what it is beside its id and its lists.
+#[derive(Drop)]
+pub enum OwnerHead<'a> {
+    /// That of the object with this id.
+    Object(u32, &'a ObjectHead),
+}
+
+impl<'a> OwnerHead<'a> {
+    ghost use Rattle.std.specs.Prelude.{◌≡◌};
+    ghost use Rattle.command_api.specs.Heads.{head_owner, shown_head};
+
+    /// The owner that has the head.
+    pub fn owner(&self) -> MemberOwner
+        ensures { result ≡ head_owner (shown_head self.now) }
+    {
+        match self {
+            OwnerHead::Object(object, _) => MemberOwner::Object(*object),
+        }
+    }
+}
 
 /// What a command shows to the one before it: its change in the open.
 #[derive(Drop)]
@@ -24,5 +45,10 @@ pub enum Offer<'a> {
         before: Option<&'a Setting>,
         kind: &'a str,
         value: Scalar<'a>,
+    },
+    /// The owner's own member with a name is set, or several are at once. Before, the owner had this head.
+    Member {
+        name: Option<&'a str>,
+        before: OwnerHead<'a>,
     },
 }

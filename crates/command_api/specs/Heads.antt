@@ -1,0 +1,29 @@
+-- The head of an owner, as a command shows it: which owner has it, and the document with it put back.
+use Rattle.std.specs.Prelude.{ℕ}
+use Rattle.map_model.specs.declared.heads.ObjectHead.{ObjectHead}
+use Rattle.map_model.specs.declared.owner.MemberOwner.{MemberOwner}
+use Rattle.map_model.specs.declared.owner.MemberOwner.TheVariants as owners
+use Rattle.map_model.specs.Document.{DocumentParts}
+use Rattle.map_model.specs.Heads.{head_with_id}
+use Rattle.map_model.specs.Lens.{put}
+use Rattle.command_api.specs.Swap.{FitsBack}
+use Rattle.command_api.specs.declared.offer.OwnerHead.{OwnerHead}
+use Rattle.command_api.specs.declared.offer.OwnerHead.TheVariants as heads
+
+-- a head, and which owner has it: the object with the id
+pub data ShownHead : Type 0 where
+  ObjectsHead : ℕ → ObjectHead → ShownHead
+
+abbrev pub shown_head : OwnerHead → ShownHead
+shown_head (heads.Object object head) = ObjectsHead object head.now
+
+abbrev pub head_owner : ShownHead → MemberOwner
+head_owner (ObjectsHead object head) = owners.Object object
+
+-- the document with the head put back
+abbrev pub head_undone : ShownHead → DocumentParts → DocumentParts
+head_undone (ObjectsHead object head) d = put (head_with_id object) head d
+
+-- the well-formed document has the owner, and is well formed with the head put back
+abbrev pub FitsHead : ShownHead → DocumentParts → Type 0
+FitsHead (ObjectsHead object head) d = FitsBack (head_with_id object) head d

@@ -1,0 +1,16 @@
+use Rattle.std.proofs.Common.{refl, sym, ap, ◌∙◌}
+use Rattle.member_commands.specs.Edits.{after_put_members, is_early}
+use Rattle.member_commands.proofs.Members.{absent-refused, ok_then, put_fits}
+use Rattle.member_commands.proofs.set_head.SetHead.put.Goals as goal
+
+pub returns-then-not-is_there-clause-refusal : goal.returns-then-not-is_there-clause-refusal
+returns-then-not-is_there-clause-refusal g c =
+    absent-refused g.H.Head.parts g.met.H.Head.laws c.args.document.now c.args.id c.is_there.result c.is_there.ensures.there c.if-not-is_there.true is_early
+    (after_put_members g.H.Head.parts c.args.document.now c.args.id c.args.json.now) (λ e. rw e refl) c.absence.result c.absence.ensures
+
+pub saying-requires : goal.saying-requires
+saying-requires g c = λ head e.
+    let p = g.H.Head.parts in
+    let is = ok_then c.put_all.result _ c.put_all.ensures c.if-is_err.ensures.value in
+    put_fits p g.met.H.Head.laws c.args.id c.args.document.now c.is_there.ensures.well_formed c.in-Ok.words c.in-Ok-members.members c.in-Ok-members.ensures
+    c.in-Ok.ensures.words head (ap (p.read c.args.document.now) (sym is) ∙ e)

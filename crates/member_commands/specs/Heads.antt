@@ -1,0 +1,39 @@
+-- The heads of one kind of owner: which part of a document they are, and what their members say.
+use Rattle.std.specs.Prelude.{◌≡◌, ◌≢◌, ◌↔◌, ℕ, List, Bool, Some, Result, Ok}
+use Rattle.serde_json.specs.Data.{Members}
+use Rattle.map_model.specs.declared.owner.MemberOwner.{MemberOwner}
+use Rattle.map_model.specs.Document.{DocumentParts}
+use Rattle.map_model.specs.Lens.{Lens, IsLawfulLens, put}
+use Rattle.map_model.specs.WellFormed.{IsWellFormed}
+use Rattle.json_members.specs.Members.{put_all, without}
+use Rattle.map_json.specs.Words.{AreWords}
+use Rattle.refusals.specs.declared.edit_fault.EditFault.{EditFault}
+use Rattle.refusals.specs.declared.edit_fault.EditFault.TheVariants.{NoMemory}
+use Rattle.refusals.specs.declared.map_refusal.MapRefusal.{MapRefusal}
+use Rattle.command_api.specs.Heads.{ShownHead, FitsHead, head_owner, head_undone}
+use Rattle.command_api.specs.Swap.{FitsBack}
+
+-- the owner with an id, its head in a document, and that head as an offer shows it; why an edit is refused where no owner has the
+-- id; which members are own ones; the members of a head, and the head that members say of an owner of a document
+pub record HeadParts (H : Type 0) : Type 0 where
+  pub owner : ℕ → MemberOwner
+  pub lens : ℕ → Lens DocumentParts H
+  pub shown : ℕ → H → ShownHead
+  pub absence : EditFault
+  pub is_own : List ℕ → Bool
+  pub members : H → Members
+  pub read : DocumentParts → Members → Result H MapRefusal
+
+-- a head that was read from an owner's members, with some put in that a line can say, or without one of them, makes a well-formed
+-- map of a well-formed one; and what an offer shows is the owner, and its head put back
+pub record AreHeadParts {H : Type 0} (p : HeadParts H) : Type 0 where
+  pub absence : p.absence ≢ NoMemory
+  pub lawful : (id : ℕ) → IsLawfulLens (p.lens id)
+  pub owned : (id : ℕ) (h : H) → head_owner (p.shown id h) ≡ p.owner id
+  pub only : (id : ℕ) (s : ShownHead) → head_owner s ≡ p.owner id → (h : H) × (s ≡ p.shown id h)
+  pub undone : (id : ℕ) (h : H) (d : DocumentParts) → head_undone (p.shown id h) d ≡ put (p.lens id) h d
+  pub fits : (id : ℕ) (h : H) (d : DocumentParts) → FitsHead (p.shown id h) d ↔ FitsBack (p.lens id) h d
+  pub put_in : (id : ℕ) (words : Members) (own new : H) (d : DocumentParts) → IsWellFormed d.map → (p.lens id).get d ≡ Some own → AreWords words
+      → p.read d (put_all words (p.members own)) ≡ Ok new → IsWellFormed (put (p.lens id) new d).map
+  pub taken_out : (id : ℕ) (name : List ℕ) (own new : H) (d : DocumentParts) → IsWellFormed d.map → (p.lens id).get d ≡ Some own
+      → p.read d (without name (p.members own)) ≡ Ok new → IsWellFormed (put (p.lens id) new d).map

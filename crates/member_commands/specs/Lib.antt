@@ -1,0 +1,5 @@
+pub mod Heads
+pub mod Edits
+pub mod Names
+pub mod Changes
+pub mod Objects

@@ -1,0 +1,11 @@
+//! The commands of own members: some of an owner's are set, or one is taken out, by what a file would then say.
+#![tactic(auto)]
+
+mod command;
+mod head;
+mod making;
+mod object;
+mod set_head;
+
+pub use head::Head;
+pub use set_head::{MemberEdit, SetHead};
