@@ -1,6 +1,7 @@
 -- What is told of an edit covers its change: one lemma for each kind of edit.
 use Rattle.std.proofs.Common.{◌≡◌, ◌⊎◌, inl, inr, ℕ, ◌+◌, ◌-◌, ◌*◌, List, length, true≢false, Option, Some, None, refl, ap, ◌∙◌}
 use Rattle.std.specs.List.{insert, remove}
+use Rattle.map_model.specs.declared.heads.ObjectHead.{ObjectHead}
 use Rattle.map_model.specs.declared.owner.Owner.{Owner}
 use Rattle.map_model.specs.declared.parts.Body.{Body}
 use Rattle.map_model.specs.declared.parts.Body.TheVariants.{Objects}
@@ -13,6 +14,7 @@ use Rattle.map_model.specs.Bodies.{body_with_objects, tile_at}
 use Rattle.map_model.specs.Document.{DocumentParts, with_map}
 use Rattle.map_model.specs.Given.{given_setting}
 use Rattle.map_model.specs.Groups.{inside}
+use Rattle.map_model.specs.Heads.{head, head_with_id}
 use Rattle.map_model.specs.Lens.{Lens, found, layer_objects, name, next_object_id, of_layer, of_object, placing, placing_with_id, siblings, tilesets}
 use Rattle.map_model.specs.Lens.{update_found, visible}
 use Rattle.map_model.specs.Lists.{change_at, or_empty}
@@ -25,6 +27,7 @@ use Rattle.map_model.proofs.ObjectKeeps.{group_in-objects}
 use Rattle.command_api.specs.Exchange.{Exchange, change_of}
 use Rattle.command_api.specs.Link.{linked}
 use Rattle.command_api.specs.Names.{Names}
+use Rattle.command_api.specs.Swap.{put_held}
 use Rattle.layer_commands.specs.declared.add.AddLayer.{AddLayer}
 use Rattle.layer_commands.specs.declared.move_layer.MoveLayer.{MoveLayer}
 use Rattle.layer_commands.specs.declared.remove.RemoveLayer.{RemoveLayer}
@@ -33,6 +36,9 @@ use Rattle.layer_commands.specs.declared.resize.ResizeMap.{ResizeMap}
 use Rattle.layer_commands.specs.declared.show.ShowLayer.{ShowLayer}
 use Rattle.layer_commands.specs.Changes.{add_change, add_exchange, move_change, move_exchange, remove_change, remove_exchange, rename_change, rename_exchange}
 use Rattle.layer_commands.specs.Changes.{resize_change, resize_exchange, show_change, show_exchange}
+use Rattle.member_commands.specs.declared.set_head.SetHead.{SetHead}
+use Rattle.member_commands.specs.Changes.{set_head_change, set_head_exchange}
+use Rattle.member_commands.specs.Objects.{object_heads}
 use Rattle.object_commands.specs.declared.add.AddObject.{AddObject}
 use Rattle.object_commands.specs.declared.place.PlaceObject.{PlaceObject}
 use Rattle.object_commands.specs.declared.remove.RemoveObject.{RemoveObject}
@@ -141,6 +147,15 @@ placing-keeps : (id : ℕ) → KeepsCellsAt (placing_with_id id)
 placing-keeps id = found-keeps-cells (λ d. object_place d.map id) (λ place. of_object place placing)
     (λ place f. layer_objects-keeps place.layer (change_at place.at (placing.update f)))
 
+object_head-keeps : (id : ℕ) → KeepsCellsAt (head_with_id id)
+object_head-keeps id = found-keeps-cells (λ d. object_place d.map id) (λ place. of_object place head)
+    (λ place f. layer_objects-keeps place.layer (change_at place.at (head.update f)))
+
+-- a value that is held is put in
+held-keeps : {V : Type 0} (p : Lens DocumentParts V) (held : Option V) → KeepsCellsAt p → KeepsCells (put_held p held)
+held-keeps p None keeps = same-keeps
+held-keeps p (Some held) keeps = keeps (λ own. held)
+
 properties-keeps : (owner : OwnerPlace) → KeepsCellsAt (properties owner)
 properties-keeps places.Map f =
     record { selection = λ d. refl; layers = λ d. record { width = refl; height = refl; ids = refl }; cells = λ d id x y. refl }
@@ -190,6 +205,9 @@ remove_object-covers c = outline-covers (remove_object_exchange c)
 
 place_object-covers : (c : PlaceObject) → Covers outline_differs (place_object_change c)
 place_object-covers c = outline-covers (place_object_exchange c) (placing-keeps c.object (λ own. c.placing))
+
+set_object_head-covers : (c : SetHead ObjectHead) → Covers outline_differs (set_head_change object_heads c)
+set_object_head-covers c = outline-covers (set_head_exchange object_heads c) (held-keeps (head_with_id c.id) c.head (object_head-keeps c.id))
 
 set-keeps : (names : Names) (owner : Owner) (property : List ℕ) (place : OwnerPlace) (at : ℕ) (after : Setting) (kind : SetKind)
     → KeepsCells (set_kind_exchange names owner property place at after kind).exchanged
@@ -267,7 +285,8 @@ IsOf {C = C} kind e = (command : C) × (e ≡ kind command)
 
 pub outline_edit-covers : (e : Edit)
     → IsOf edits.RenameLayer e ⊎ (IsOf edits.ShowLayer e ⊎ (IsOf edits.AddObject e ⊎ (IsOf edits.RemoveObject e ⊎ (IsOf edits.PlaceObject e
-    ⊎ (IsOf edits.SetProperty e ⊎ (IsOf edits.RemoveProperty e ⊎ (IsOf edits.AddTileset e ⊎ IsOf edits.RemoveTileset e)))))))
+    ⊎ (IsOf edits.SetProperty e ⊎ (IsOf edits.RemoveProperty e ⊎ (IsOf edits.AddTileset e
+    ⊎ (IsOf edits.RemoveTileset e ⊎ IsOf edits.SetObjectHead e))))))))
     → Covers outline_differs (edit_change e)
 outline_edit-covers e (inl h) = rw h.1 (rename-covers h.0)
 outline_edit-covers e (inr (inl h)) = rw h.1 (show-covers h.0)
@@ -277,7 +296,8 @@ outline_edit-covers e (inr (inr (inr (inr (inl h))))) = rw h.1 (place_object-cov
 outline_edit-covers e (inr (inr (inr (inr (inr (inl h)))))) = rw h.1 (set_property-covers h.0)
 outline_edit-covers e (inr (inr (inr (inr (inr (inr (inl h))))))) = rw h.1 (remove_property-covers h.0)
 outline_edit-covers e (inr (inr (inr (inr (inr (inr (inr (inl h)))))))) = rw h.1 (add_tileset-covers h.0)
-outline_edit-covers e (inr (inr (inr (inr (inr (inr (inr (inr h)))))))) = rw h.1 (remove_tileset-covers h.0)
+outline_edit-covers e (inr (inr (inr (inr (inr (inr (inr (inr (inl h))))))))) = rw h.1 (remove_tileset-covers h.0)
+outline_edit-covers e (inr (inr (inr (inr (inr (inr (inr (inr (inr h))))))))) = rw h.1 (set_object_head-covers h.0.value)
 
 pub layer_edit-covers : (e : Edit) → IsOf edits.AddLayer e ⊎ (IsOf edits.RemoveLayer e ⊎ IsOf edits.MoveLayer e) → Covers layers_differ (edit_change e)
 layer_edit-covers e (inl h) = rw h.1 (add_layer-covers h.0)

@@ -1,4 +1,5 @@
 pub mod Edits
+pub mod MoreEdits
 pub mod SteadyPlans
 pub mod Bound
 pub mod Moving

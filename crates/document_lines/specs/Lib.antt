@@ -7,3 +7,4 @@ pub mod Planning
 pub mod Turns
 pub mod Kinds
 pub mod Differing
+pub mod MoreRules

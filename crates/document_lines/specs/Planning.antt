@@ -1,10 +1,14 @@
 -- What planning a line says of one document.
 use Rattle.std.specs.Prelude.{◌≡◌, Some, Result, Ok, Err, ◌⊎◌, ⊤}
 use Rattle.map_model.specs.Document.{DocumentParts}
+use Rattle.map_model.specs.declared.heads.ObjectHead.{ObjectHead}
 use Rattle.refusals.specs.declared.edit_fault.EditFault.{EditFault}
 use Rattle.command_api.specs.Law.{Change}
 use Rattle.command_api.specs.Offers.{Shown, Nothing}
 use Rattle.layer_commands.specs.Changes.{add_change, remove_change, rename_change, show_change, move_change, resize_change}
+use Rattle.member_commands.specs.declared.set_head.SetHead.{SetHead}
+use Rattle.member_commands.specs.Changes.{set_head_change, set_head_shown}
+use Rattle.member_commands.specs.Objects.{object_heads}
 use Rattle.object_commands.specs.Changes.{add_object_change, remove_object_change, place_object_change, place_object_shown}
 use Rattle.property_commands.specs.PropertyChanges.{set_property_change, set_property_shown, remove_property_change}
 use Rattle.property_commands.specs.TilesetChanges.{add_tileset_change, remove_tileset_change}
@@ -15,15 +19,19 @@ use Rattle.undo_stack.specs.History as histories
 use Rattle.undo_stack.specs.Pushing.{step_of}
 use Rattle.refusals.specs.declared.refusal.Refusal.{Refusal}
 use Rattle.refusals.specs.declared.refusal.Refusal.TheVariants as refusals
-use Rattle.refusals.specs.Layers.{refusal_of_edit}
+use Rattle.refusals.specs.declared.more_fault.MoreFault.{MoreFault}
+use Rattle.refusals.specs.Layers.{refusal_of_edit, refusal_of_more}
 use Rattle.session.specs.declared.reply.Reply.{Reply}
 use Rattle.session.specs.declared.reply.Reply.TheVariants as replies
 use Rattle.document_lines.specs.declared.planned.Edit.{Edit}
 use Rattle.document_lines.specs.declared.planned.Edit.TheVariants.{Paint, AddLayer, RemoveLayer, RenameLayer, ShowLayer, MoveLayer, Select, ResizeMap}
 use Rattle.document_lines.specs.declared.planned.Edit.TheVariants.{AddObject, RemoveObject, PlaceObject, SetProperty, RemoveProperty, AddTileset, RemoveTileset}
+use Rattle.document_lines.specs.declared.planned.Edit.TheVariants.{SetObjectHead}
 use Rattle.document_lines.specs.declared.planned.Planned.{Planned}
 use Rattle.document_lines.specs.declared.planned.Planned.TheVariants as planned
 use Rattle.document_lines.specs.Acts.{Act, answer_of}
+use Rattle.session.specs.declared.more_line.MoreLine.{MoreLine}
+use Rattle.document_lines.specs.MoreRules.{answer_of_more}
 use Rattle.document_lines.specs.Rules.{Rule, OnFiles, OnDocuments, OnActive, Edits}
 
 -- what a planned edit does
@@ -43,12 +51,14 @@ edit_change (SetProperty command) = set_property_change command
 edit_change (RemoveProperty command) = remove_property_change command
 edit_change (AddTileset command) = add_tileset_change command
 edit_change (RemoveTileset command) = remove_tileset_change command
+edit_change (SetObjectHead command) = set_head_change object_heads command.value
 
 -- what a planned edit shows to the step before it
 abbrev pub edit_shown : Edit → Shown
 edit_shown (Paint command) = paint_shown command
 edit_shown (PlaceObject command) = place_object_shown command
 edit_shown (SetProperty command) = set_property_shown command
+edit_shown (SetObjectHead command) = set_head_shown object_heads command.value
 edit_shown edit = Nothing
 
 -- a refusal has left all as it was
@@ -64,6 +74,12 @@ refused refusal = planned.Reply (replies.Refused refusal)
 abbrev pub plan_of : Result Edit EditFault → Planned
 plan_of (Ok edit) = planned.Push edit
 plan_of (Err fault) = refused (refusal_of_edit fault)
+
+-- the plan of a command of own members, or of its refusal: it is the edit's, or there is no memory for the edit
+abbrev pub PlansHead : Result (SetHead ObjectHead) MoreFault → Planned → Type 0
+PlansHead (Ok command) (planned.Push (SetObjectHead edit)) = edit.value ≡ command
+PlansHead (Ok command) plan = plan ≡ refused refusals.NoMemory
+PlansHead (Err fault) plan = plan ≡ refused (refusal_of_more fault)
 
 -- the plan of an edit: its command, whose step is the answer, or its refusal, or out of memory
 abbrev pub PlansEdit : Result histories.Step Refusal → DocumentParts → Planned → Type 0
@@ -94,3 +110,7 @@ abbrev pub PlansOn : Rule → History → Planned → History → Type 0
 PlansOn (OnActive act) h plan n = IsDone act h plan n
 PlansOn (Edits names edit) h plan n = PlansEdit (answer_of names (edit (current h))) (current h) plan × (n ≡ h)
 PlansOn rule h plan n = ⊥
+
+-- what a plan says of a line of own members: its edit, with nothing changed yet, or its refusal
+abbrev pub PlansMore : MoreLine → History → Planned → History → Type 0
+PlansMore line h plan n = PlansEdit (answer_of_more line (current h)) (current h) plan × (n ≡ h)

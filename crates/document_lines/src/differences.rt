@@ -234,7 +234,8 @@ impl Edit {
             | Edit::SetProperty(_)
             | Edit::RemoveProperty(_)
             | Edit::AddTileset(_)
-            | Edit::RemoveTileset(_) => Differences::of_outline(),
+            | Edit::RemoveTileset(_)
+            | Edit::SetObjectHead(_) => Differences::of_outline(),
         }
     }
 }

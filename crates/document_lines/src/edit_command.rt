@@ -26,6 +26,7 @@ macro_rules! with_command {
             Edit::RemoveProperty($command) => $call,
             Edit::AddTileset($command) => $call,
             Edit::RemoveTileset($command) => $call,
+            Edit::SetObjectHead($command) => $call,
         }
     };
 }

@@ -1,6 +1,7 @@
 //! What a line does to one document: plans its edit, or does what it asks of the history.
 #![tactic(auto)]
 
+mod dialect;
 mod differences;
 mod edit_command;
 mod planned;
@@ -9,8 +10,9 @@ mod steps;
 mod subject;
 mod tile;
 
+pub use dialect::Dialect;
 pub use differences::{Cells, Differences};
 pub use planned::{Edit, Planned};
-pub use planning::{on_document, refused};
+pub use planning::{on_document, on_members, refused};
 pub use steps::{answered, state_of, text_reply};
 pub use subject::Subject;

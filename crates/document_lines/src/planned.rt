@@ -1,4 +1,6 @@
 use layer_commands::{AddLayer, MoveLayer, RemoveLayer, RenameLayer, ResizeMap, ShowLayer};
+use map_model::ObjectHead;
+use member_commands::SetHead;
 use object_commands::{AddObject, PlaceObject, RemoveObject};
 use paint_commands::{PaintCommand, SelectCommand};
 use property_commands::{AddTileset, RemoveProperty, RemoveTileset, SetProperty};
@@ -22,6 +24,7 @@ pub enum Edit {
     RemoveProperty(RemoveProperty),
     AddTileset(AddTileset),
     RemoveTileset(RemoveTileset),
+    SetObjectHead(Box<SetHead<ObjectHead>>),
 }
 
 /// What is to be done for a line.

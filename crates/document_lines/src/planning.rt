@@ -10,6 +10,7 @@ ghost use Rattle.document_lines.specs.EditLines.{IsOfCells, IsOfLayers, IsOfObje
 ghost use Rattle.document_lines.specs.Planning.{IsOfActive, IsOfHistory, PlansOn, plan_of, refused};
 
 mod edit_plans;
+mod member_plans;
 
 use crate::planned::{Edit, Planned};
 use crate::planning::edit_plans::{
@@ -23,6 +24,7 @@ use crate::tile;
 use command_api::Command;
 use edits::{Area, Selecting};
 use map_model::Owner;
+pub use member_plans::on_members;
 use refusals::{EditFault, Refusal};
 use session::{Line, Reply};
 use std::alloc::Global;

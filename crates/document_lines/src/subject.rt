@@ -1,7 +1,7 @@
 // What an edit is about.
 
 use crate::planned::Edit;
-use map_model::Owner;
+use map_model::{MemberOwner, Owner};
 
 /// What an edit is about: what a list of steps names beside the step's text.
 #[derive(Clone, Copy, PartialEq, Eq, Debug)]
@@ -26,10 +26,20 @@ impl Subject {
             Owner::Object(object) => Subject::Object(object),
         }
     }
+
+    // What own members belong to.
+    fn of_members(owner: MemberOwner) -> Subject {
+        match owner {
+            MemberOwner::Map => Subject::Map,
+            MemberOwner::Layer(layer) => Subject::Layer(layer),
+            MemberOwner::Object(object) => Subject::Object(object),
+            MemberOwner::Tileset(first_id) => Subject::Tileset(first_id),
+        }
+    }
 }
 
 impl Edit {
-    /// What the edit is about. A property's is its owner. What it names need not be in the map now.
+    /// What the edit is about. A property's and an own member's is its owner. What it names need not be in the map now.
     pub fn subject(&self) -> Subject {
         match self {
             Edit::Paint(command) => Subject::Layer(command.layer()),
@@ -47,6 +57,7 @@ impl Edit {
             Edit::RemoveProperty(command) => Subject::of_owner(command.owner()),
             Edit::AddTileset(command) => Subject::Tileset(command.first_id()),
             Edit::RemoveTileset(command) => Subject::Tileset(command.first_id()),
+            Edit::SetObjectHead(command) => Subject::of_members(command.owner()),
         }
     }
 }

@@ -1,5 +1,5 @@
 -- The step of a line that was planned as an edit.
-use Rattle.std.proofs.Common.{◌≡◌, Option, Some, None, Result, refl, sym, subst, inl, inr}
+use Rattle.std.proofs.Common.{◌≡◌, Option, Some, None, Result, Ok, refl, sym, subst, inl, inr}
 use Rattle.map_model.specs.Document.{DocumentParts}
 use Rattle.map_store.specs.Files.{StoreParts}
 use Rattle.command_api.specs.Law.{Change, IsSame}
@@ -11,7 +11,7 @@ use Rattle.refusals.specs.declared.refusal.Refusal.{Refusal}
 use Rattle.refusals.specs.declared.refusal.Refusal.TheVariants.{NoMemory}
 use Rattle.session.specs.declared.reply.Reply.{Reply}
 use Rattle.session.specs.declared.reply.Reply.TheVariants.{Refused}
-use Rattle.document_lines.specs.Acts.{Pushes}
+use Rattle.document_lines.specs.Acts.{OrNoMemory, Pushes, WithActive, answer_of}
 use Rattle.document_lines.specs.Answers.{state_reply}
 use Rattle.document_lines.specs.Machine.{Machine, active_of, with_active, workspace}
 use Rattle.document_lines.specs.Rules.{Allows, Edits, OnActive, OnDocuments, OnFiles, Rule, MachineStep, rule_of}
@@ -21,20 +21,26 @@ use Rattle.editor.specs.Planning.{Commits, IsEditOf}
 pub step_of-same : (c w : Change) (d : DocumentParts) → IsSame c w → step_of w d ≡ step_of c d
 step_of-same c w d same = rw (same.names, same.redone d) refl
 
--- an edit that was committed, where the command that it was put into does the same
+-- an edit with this answer that was committed, where the command that it was put into does the same
+pub committed-WithActive : (answer : DocumentParts → Result histories.Step Refusal) (h : History) (old new : Machine) (c w : Change) (reply : Reply)
+    → answer (current h) ≡ Ok (step_of c (current h)) → IsSame c w → Commits (Some h) w reply old new
+    → WithActive (OrNoMemory (λ k. Pushes (answer (current k)) k)) (Some h) old (Some reply) new
+committed-WithActive answer h old new c w reply asks same (inl p) =
+    let Q : histories.Step → Type 0 = λ s. IsPushed h s p.0 in
+    let P : Result histories.Step Refusal → Type 0 = λ a. Pushes a h (Some (state_reply p.0)) p.0 in
+    rw p.2 (p.0, inl (subst P (sym asks) (subst Q (step_of-same c w (current h) same) p.1, refl)), p.3)
+committed-WithActive answer h old new c w reply asks same (inr p) =
+    let Q : Option Reply → Type 0 = λ r. WithActive (OrNoMemory (λ k. Pushes (answer (current k)) k)) (Some h) old r new in
+    subst Q (sym p.0) (rw p.1 (h, inr (refl, refl), refl))
+
 commit_by : (rule : Rule) (active : Option History) (old new : Machine) (stored : StoreParts) (c w : Change) (reply : Reply) → active_of old ≡ active
     → IsEditOf rule active c → IsSame c w → Commits active w reply old new → Allows rule (workspace old stored) (Some reply) (workspace new stored)
 commit_by (OnFiles act) active old new stored c w reply e asks same p = absurd asks
 commit_by (OnDocuments act) active old new stored c w reply e asks same p = absurd asks
 commit_by (OnActive act) active old new stored c w reply e asks same p = absurd asks
 commit_by (Edits names edit) None old new stored c w reply e asks same p = absurd p
-commit_by (Edits names edit) (Some h) old new stored c w reply e asks same (inl p) =
-    let Q : histories.Step → Type 0 = λ s. IsPushed h s p.0 in
-    let P : Result histories.Step Refusal → Type 0 = λ a. Pushes a h (Some (state_reply p.0)) p.0 in
-    rw (e, p.2) ((p.0, inl (subst P (sym asks) (subst Q (step_of-same c w (current h) same) p.1, refl)), p.3), refl)
-commit_by (Edits names edit) (Some h) old new stored c w reply e asks same (inr p) =
-    let Q : Option Reply → Type 0 = λ r. Allows (Edits names edit) (workspace old stored) r (workspace new stored) in
-    subst Q (sym p.0) (rw (e, p.1) ((h, inr (refl, refl), refl), refl))
+commit_by (Edits names edit) (Some h) old new stored c w reply e asks same p =
+    rw e (committed-WithActive (λ d. answer_of names (edit d)) h old new c w reply asks same p, refl)
 
 -- a command that was pushed
 pub Commits-pushed : (c : Change) (h n : History) (old new : Machine) (reply : Reply) → active_of old ≡ Some h → IsPushed h (step_of c (current h)) n

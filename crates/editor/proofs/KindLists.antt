@@ -226,12 +226,12 @@ module _ {C : Type 0} (f : C → Change) (old new : Editor C) (s t : Stack C) (s
       push_kept (Edits names other) d = d
 
 -- ---- an edit that was committed in a command w that does the same as c
-weaker-UnlessRefused : (reply : Reply) (P Q : List Kinds → List Kinds → Type 0) (old new : List Kinds) → (P old new → Q old new)
+pub weaker-UnlessRefused : (reply : Reply) (P Q : List Kinds → List Kinds → Type 0) (old new : List Kinds) → (P old new → Q old new)
     → UnlessRefused reply P old new → UnlessRefused reply Q old new
 weaker-UnlessRefused (Refused refusal) P Q old new more k = k
 weaker-UnlessRefused reply P Q old new more k = more k
 
-weaker-ActiveKinds : (P Q : History → History → List Bool → List Bool → Type 0) (name : Option (List ℕ)) (o k : Option History) (old new : List Kinds)
+pub weaker-ActiveKinds : (P Q : History → History → List Bool → List Bool → Type 0) (name : Option (List ℕ)) (o k : Option History) (old new : List Kinds)
     → ((h n : History) (ks ns : List Bool) → o ≡ Some h → P h n ks ns → Q h n ks ns) → ActiveKinds P name o k old new → ActiveKinds Q name o k old new
 weaker-ActiveKinds P Q (Some name) (Some h) (Some n) old new more a = record {
   before = a.before;

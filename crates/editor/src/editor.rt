@@ -15,6 +15,7 @@ ghost use Rattle.document_lines.specs.Turns.{turning_rule_of};
 ghost use Rattle.editor.specs.Asking.{PlanAsks};
 ghost use Rattle.editor.specs.Editors.{machine_of, stacks_in, IsHeld, IsSound};
 ghost use Rattle.editor.specs.Kinds.{CommitKinds, PlanKinds, StepKinds, kinds_in};
+ghost use Rattle.editor.specs.MorePlanning.{PlansMoreIn};
 ghost use Rattle.editor.specs.Planning.{Commits, FitsActive, FitsPlan, KeepsPlan, Plans};
 ghost use Rattle.editor.specs.Turns.{PlansTurns, ReportsPush};
 
@@ -23,10 +24,10 @@ mod files;
 
 use crate::tell::{NoTell, Tell};
 use command_api::Command;
-use document_lines::{Planned, answered, on_document, refused, state_of};
+use document_lines::{Planned, answered, on_document, on_members, refused, state_of};
 use map_store::MapStore;
 use refusals::Refusal;
-use session::{Line, Reply};
+use session::{Line, MoreLine, Reply};
 use std::alloc::Global;
 use undo_group::Group;
 
@@ -124,6 +125,22 @@ impl<C: Command> Editor<C> {
                 Some(stack) => on_document(alloc, stack, line),
                 None => refused(Refusal::NoActiveDocument),
             },
+        }
+    }
+
+    /// Plans the edit that a line of own members asks for, which is left to be put into a box and committed. The editor is as it was.
+    pub fn plan_more(&mut self, alloc: Global, line: &MoreLine<'_>) -> Planned
+        requires { IsHeld C.change self.old }
+        ensures held { IsHeld C.change self.new }
+        ensures sound { IsSound C.change self.old → IsSound C.change self.new }
+        ensures machine { machine_of C.change self.new ≡ machine_of C.change self.old }
+        ensures kinds { kinds_in self.new ≡ kinds_in self.old }
+        ensures fits { FitsPlan (machine_of C.change self.new) result }
+        ensures plans { PlansMoreIn line.now (active_of (machine_of C.change self.old)) result }
+    {
+        match self.group.active_mut() {
+            Some(stack) => on_members(alloc, stack, line),
+            None => refused(Refusal::NoActiveDocument),
         }
     }
 

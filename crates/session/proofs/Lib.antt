@@ -21,3 +21,6 @@ pub mod Places
 pub mod Others
 pub mod Faults
 pub mod Joined
+pub mod MoreOwners
+pub mod MoreCutting
+pub mod MoreForms

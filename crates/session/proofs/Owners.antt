@@ -23,7 +23,7 @@ use Rattle.session.proofs.SpacedWords.{IsPlain, Plain, plain_literal, plain_numb
 no_colon : (id : ℕ) → IsNumber id → AllByRecursion (λ b. eqb b 58 ≡ false) (decimal id)
 no_colon id h = no_separator 58 (decimal id) refl (digits_decimal decimal_numerals id (omega (arith, h)))
 
-colon_pieces : (kind : List ℕ) (id : ℕ) → AllByRecursion (λ b. eqb b 58 ≡ false) kind → IsNumber id
+pub colon_pieces : (kind : List ℕ) (id : ℕ) → AllByRecursion (λ b. eqb b 58 ≡ false) kind → IsNumber id
     → slice_split (λ b. eqb b 58) (colons (kind ∷ decimal id ∷ [])) ≡ kind ∷ decimal id ∷ []
 colon_pieces kind id k h =
     slice_split_at (λ b. eqb b 58) kind 58 (decimal id) (All-from_recursion _ kind k) refl
@@ -68,7 +68,7 @@ pub owner_from : (word : List ℕ) (owner : Owner) → owner_of word ≡ Some ow
 owner_from word owner e = let found = pieces_from (slice_split (λ b. eqb b 58) word) owner e in (found.0 ∙ join_with_byte-slice_split 58 word, found.1)
 
 -- ---- plain bytes
-plain_append : (a b : List ℕ) → AllByRecursion IsPlain a → AllByRecursion IsPlain b → AllByRecursion IsPlain (a ++ b)
+pub plain_append : (a b : List ℕ) → AllByRecursion IsPlain a → AllByRecursion IsPlain b → AllByRecursion IsPlain (a ++ b)
 plain_append [] b h k = k
 plain_append (x ∷ a) b h k = (h.0, plain_append a b h.1 k)
 

@@ -28,7 +28,7 @@ use Rattle.session.proofs.Bars.{cut_at_bars-joined}
 use Rattle.session.proofs.Owners.{owner_of-word, plain_owner}
 
 -- the word of a value is read as that value
-word_at-word : {A : Type 0} (value_of : List ℕ → Option A) (w : List ℕ) (x : A) (ws : List (List ℕ)) → value_of w ≡ Some x
+pub word_at-word : {A : Type 0} (value_of : List ℕ → Option A) (w : List ℕ) (x : A) (ws : List (List ℕ)) → value_of w ≡ Some x
     → word_at value_of (w ∷ ws) ≡ Ok (x, ws)
 unfolding word_at
 word_at-word value_of w x ws e = rw e refl

@@ -6,3 +6,5 @@ pub mod Replies
 pub mod WordFaults
 pub mod Left
 pub mod Faults
+pub mod MoreGrammar
+pub mod MoreSpelling

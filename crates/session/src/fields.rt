@@ -4,6 +4,7 @@ ghost use Rattle.refusals.specs.declared.line_fault.LineFault.TheVariants.{BadWo
 ghost use Rattle.std.specs.Prelude.{◌≡◌, ◌∷◌, [], IfOk, IfErr, if◌then◌else◌};
 ghost use Rattle.session.specs.Words.{words_left, are_rows, choice_of, coordinate_of, is_name, is_text, number_of};
 ghost use Rattle.session.specs.Grammar.{Block};
+ghost use Rattle.session.specs.MoreGrammar.{last_json_at};
 ghost use Rattle.session.specs.Left.{field_fault, is_side, next, texts_fault};
 
 use crate::gids::Gids;
@@ -231,6 +232,21 @@ impl<'a, T: Trail + Copy> Fields<'a, T> {
             return Err(LineFault::BadWord);
         }
         Ok(Some(Text::new(word)))
+    }
+
+    /// The JSON text that is left.
+    pub fn json(&mut self) -> Result<Text<'a>, LineFault>
+        ensures value { Gives (λ x. x) result (last_json_at self.old.words) }
+        ensures place { self.new.place ≡ next self.old.place }
+    {
+        self.trail.wants(Expected::Json);
+        let Some(text) = self.rest else {
+            return Err(LineFault::BadWord);
+        };
+        if text.len() == 0 {
+            return Err(LineFault::BadWord);
+        }
+        Ok(Text::new(text))
     }
 
     /// The text that is left.

@@ -34,8 +34,8 @@ fn is_key_word(word: &[u8]) -> bool
     has_only_key_bytes(word)
 }
 
-// The property's name that a word is.
-fn key(word: &str) -> Option<Text<'_>>
+/// The property's name that a word is.
+pub fn key(word: &str) -> Option<Text<'_>>
     ensures { result ≡ passing is_key word.now }
 {
     if !is_key_word(word.as_bytes()) {
@@ -96,8 +96,8 @@ fn owner_of_kind(kind: &str, id: u32) -> Option<Owner>
     }
 }
 
-// The owner that a word is.
-fn owner(word: &str) -> Option<Owner>
+/// The owner that a word is.
+pub fn owner(word: &str) -> Option<Owner>
     ensures { result ≡ owner_of word.now }
 {
     let (kind, id) = cut(word, b':');

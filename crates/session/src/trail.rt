@@ -42,6 +42,8 @@ pub enum Expected {
     Text,
     /// The bars between the text of a macro and that of its action.
     Bars,
+    /// A JSON text of one byte or more: all that is left of the line.
+    Json,
     /// No word: the line has ended.
     End,
 }
@@ -81,6 +83,7 @@ impl Display for Expected {
                 "a text of 1 to {MAX_TEXT} bytes, with no control character"
             ),
             Expected::Bars => f.pad("|| and another text"),
+            Expected::Json => f.pad("a JSON text"),
             Expected::End => f.pad("the end of the line"),
         }
     }

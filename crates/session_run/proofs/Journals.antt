@@ -89,7 +89,7 @@ line-leads line old mid (Some reply) step = by_reply Leads of_refusal of_accepte
         (noted.0 ∷ [], noted-entry line old.stored r noted.0 accepted noted.1, entry-leads old.machine mid.machine r noted.0 accepted noted.2)
 
 -- ---- each run has a journal
-run-replayed : (lines : List (List ℕ)) (old new : Workspace) (replies : List Reply) (run : Run old lines replies new)
+run-replayed : (lines : List (List ℕ)) (old new : Workspace) (replies : List Reply) (run : Run MachineStepIn old lines replies new)
     → (entries : List Entry) × (replayed : List Reply) × IsJournal old lines replies new run entries × Replays old.machine entries replayed new.machine
     × AreReplayed replies replayed × AreSure replayed
 run-replayed [] old new replies run =
@@ -204,9 +204,10 @@ line-led line old mid (Some reply) first rest replayed there tame honest step no
         let own = subst (λ es. Replays old.machine (es ++ rest) replayed there) noted.2 replays in
         entry-led old.machine mid.machine r noted.0 rest replayed there tame accepted can own sure
 
-run-led : (lines : List (List ℕ)) (old new : Workspace) (replies : List Reply) (run : Run old lines replies new) (entries : List Entry) (replayed : List Reply)
-    (there : Machine) → IsTameMachine old.machine → IsTrue old.stored.honest → IsJournal old lines replies new run entries
-    → Replays old.machine entries replayed there → AreSure replayed → (there ≡ new.machine) × AreReplayed replies replayed
+run-led : (lines : List (List ℕ)) (old new : Workspace) (replies : List Reply) (run : Run MachineStepIn old lines replies new)
+    (entries : List Entry) (replayed : List Reply) (there : Machine) → IsTameMachine old.machine → IsTrue old.stored.honest
+    → IsJournal old lines replies new run entries → Replays old.machine entries replayed there → AreSure replayed
+    → (there ≡ new.machine) × AreReplayed replies replayed
 run-led [] old new replies run entries replayed there tame honest journal replays sure =
     let ended : (replayed ≡ []) × (there ≡ old.machine) = subst (λ es. Replays old.machine es replayed there) journal replays in
     (ended.1 ∙ sym (ap (λ w. w.machine) run.1), subst₂ AreReplayed (sym run.0) (sym ended.0) refl)
@@ -228,8 +229,8 @@ sure-line None rest sure = (tt, sure)
 sure-line (Some reply) rest sure = (All-head IsSure reply rest sure, All-tail IsSure reply rest sure)
 
 runs-once : (lines : List (List ℕ)) (old : Machine) (before since : StoreParts) (new end : Workspace) (replies others : List Reply) → IsTameMachine old
-    → AreAlike before since → Run (workspace old before) lines replies new → Run (workspace old since) lines others end → AreSure replies → AreSure others
-    → (replies ≡ others) × (new.machine ≡ end.machine) × (new.stored.files ≡ end.stored.files)
+    → AreAlike before since → Run MachineStepIn (workspace old before) lines replies new → Run MachineStepIn (workspace old since) lines others end
+    → AreSure replies → AreSure others → (replies ≡ others) × (new.machine ≡ end.machine) × (new.stored.files ≡ end.stored.files)
 runs-once [] old before since new end replies others tame alike run also sure sure_also = (
   run.0 ∙ sym also.0,
   ap (λ w. w.machine) run.1 ∙ sym (ap (λ w. w.machine) also.1),
@@ -243,7 +244,7 @@ runs-once (line ∷ lines) old before since new end replies others tame alike ru
     let honest = (step-keeps line (workspace old since) also.0 also.1 tame also.3).1 alike.also in
     let after : AreAlike run.0.stored also.0.stored = record { files = step.2; honest = keeps.1 alike.honest; also = honest } in
     let rest = runs-once lines run.0.machine run.0.stored also.0.stored new end run.2 also.2 keeps.0 after run.4
-    (subst (λ m. Run (workspace m also.0.stored) lines also.2 end) (sym step.1) also.4) one.1 other.1 in
+    (subst (λ m. Run MachineStepIn (workspace m also.0.stored) lines also.2 end) (sym step.1) also.4) one.1 other.1 in
     (run.5 ∙ ap₂ (λ r rs. option_to_list r ++ rs) step.0 rest.0 ∙ sym also.5, rest.1, rest.2)
 
 pub runs_are_one : RunsAreOne

@@ -1,5 +1,6 @@
 pub mod Appending
 pub mod Progress
+pub mod Dialects
 pub mod Endings
 pub mod Ends
 pub mod Planned

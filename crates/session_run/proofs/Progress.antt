@@ -1,9 +1,8 @@
 -- How a run goes on.
-use Rattle.std.proofs.Common.{◌≡◌, ◌≢◌, ℕ, ◌+◌, ◌^◌, ◌≤◌, IsTrue, List, [], ◌∷◌, ◌++◌, length, Option, Some, None, Err, refl, sym, ap, subst, ◌∙◌, inl, inr}
+use Rattle.std.proofs.Common.{◌≡◌, ◌≢◌, ℕ, ◌+◌, ◌^◌, ◌≤◌, IsTrue, List, [], ◌∷◌, ◌++◌, length, Option, Some, None, refl, sym, ap, subst, ◌∙◌, inl, inr}
 use Rattle.std.proofs.Common.{◌⊎◌, append_assoc, arith}
 use Rattle.std.specs.Prelude.{option_to_list, All, Bool, IfSome}
 use Rattle.std.specs.Io.KnownBytes.{Appends, Keeps, prepend_known}
-use Rattle.std.proofs.lemmas.Bool.{lt-ltb}
 use Rattle.std.proofs.lemmas.List.{append-nil, length-append}
 use Rattle.std.proofs.lemmas.List.Elements.{All-append, All-nil, All-cons}
 use Rattle.std.proofs.lemmas.Grind.{flat_map-append}
@@ -11,37 +10,31 @@ use Rattle.lines.specs.declared.reader.Found.{Found}
 use Rattle.lines.specs.declared.reader.Found.TheVariants as found
 use Rattle.lines.specs.Lines.{lines_of, HasNoNewline}
 use Rattle.lines.specs.Reading.{FindsLine, Reading, StopsInLine, fresh, input_left}
-use Rattle.session.specs.declared.limits.TheConstants.{MAX_LINE}
 use Rattle.refusals.specs.declared.line_fault.LineFault.TheVariants.{TooLong}
 use Rattle.refusals.specs.declared.refusal.Refusal.{Refusal}
 use Rattle.refusals.specs.declared.refusal.Refusal.TheVariants.{Line as LineRefusal}
 use Rattle.session.specs.declared.reply.Reply.{Reply}
 use Rattle.session.specs.declared.reply.Reply.TheVariants.{Refused}
-use Rattle.session.specs.Grammar.{line_of}
 use Rattle.session.specs.Replies.{refusal_of}
+use Rattle.document_lines.specs.Acts.{Act}
 use Rattle.document_lines.specs.Machine.{Workspace}
-use Rattle.document_lines.specs.Rules.{MachineStepIn}
 use Rattle.session_run.specs.Runs.{Run, TakesBeginning, IsAccepted, output, reply_line}
 use Rattle.session_run.specs.StrictRuns.{refused_text}
 use Rattle.session_run.specs.WithinRuns.{Going, Goes, StepFound, StopsInWrite, StopsRefused, StopsUnread, StopsUnwritten}
 use Rattle.session_run.proofs.Appending.{appends_more, appends_nothing}
 
-pub too_long : (long : List ℕ) → 2 ^ 16 ≤ length long → line_of long ≡ Err TooLong
-unfolding line_of
-too_long long h = rw (lt-ltb MAX_LINE (length long) (omega (arith, h))) refl
-
-run_more : (handled : List (List ℕ)) (line : List ℕ) (from now mid : Workspace) (replies : List Reply) (reply : Option Reply) → Run from handled replies now
-    → MachineStepIn line now reply mid
-    → Run from (handled ++ line ∷ []) (replies ++ option_to_list reply) mid
-run_more [] line from now mid replies reply r s =
-    let P : Workspace → Type 0 = λ m. MachineStepIn line m reply mid in
+run_more : (StepIn : List ℕ → Act Workspace) (handled : List (List ℕ)) (line : List ℕ) (from now mid : Workspace) (replies : List Reply)
+    (reply : Option Reply) → Run StepIn from handled replies now → StepIn line now reply mid
+    → Run StepIn from (handled ++ line ∷ []) (replies ++ option_to_list reply) mid
+run_more StepIn [] line from now mid replies reply r s =
+    let P : Workspace → Type 0 = λ m. StepIn line m reply mid in
     (mid, reply, [], subst P r.1 s, (refl, refl), ap (λ rs. rs ++ option_to_list reply) r.0 ∙ sym (append-nil (option_to_list reply)))
-run_more (l ∷ handled) line from now mid replies reply r s = (
+run_more StepIn (l ∷ handled) line from now mid replies reply r s = (
   r.0,
   r.1,
   r.2 ++ option_to_list reply,
   r.3,
-  run_more handled line r.0 now mid r.2 reply r.4 s,
+  run_more StepIn handled line r.0 now mid r.2 reply r.4 s,
   ap (λ rs. rs ++ option_to_list reply) r.5 ∙ append_assoc (option_to_list r.1) r.2 (option_to_list reply),
 )
 
@@ -65,18 +58,16 @@ stops_before None = tt
 stops_before (Some xs) = ([], All-nil (λ b. b ≢ 10), refl)
 
 -- a long line is refused as such
-too_long_refused : (long : List ℕ) (old new : Workspace) (refusal : Refusal) → 2 ^ 16 ≤ length long → MachineStepIn long old (Some (Refused refusal)) new
+abbrev pub RefusesLong : (List ℕ → Act Workspace) → Type 0
+RefusesLong StepIn = (long : List ℕ) (old new : Workspace) (refusal : Refusal) → 2 ^ 16 ≤ length long → StepIn long old (Some (Refused refusal)) new
     → refusal ≡ LineRefusal TooLong
-too_long_refused long old new refusal size s =
-    let step = rw (too_long long size) at s in
-    let same : Some (Refused refusal) ≡ Some (Refused (LineRefusal TooLong)) = step.0 in
-    cc
 
 -- a run that began at start
-module _ (strict : Bool) (start : Workspace) where
+module _ (StepIn : List ℕ → Act Workspace) (strict : Bool) (start : Workspace) where
   going_more : (input line : List ℕ) (left : List (List ℕ)) (now mid : Workspace) (reply : Option Reply) (before after after' : Option (List ℕ)) (n k : ℕ)
-      → Going strict start input (line ∷ left) now before after n k → MachineStepIn line now reply mid → Appends after after' (output (option_to_list reply))
-      → (IsTrue strict → All IsAccepted (option_to_list reply)) → Going strict start input left mid before after' (n + 1) (k + length (option_to_list reply))
+      → Going StepIn strict start input (line ∷ left) now before after n k → StepIn line now reply mid → Appends after after' (output (option_to_list reply))
+      → (IsTrue strict → All IsAccepted (option_to_list reply))
+      → Going StepIn strict start input left mid before after' (n + 1) (k + length (option_to_list reply))
   going_more input line left now mid reply before after after' n k g s w a =
       let joined : output (g.progress.replies ++ option_to_list reply) ≡ output g.progress.replies ++ output (option_to_list reply) =
       flat_map-append reply_line g.progress.replies (option_to_list reply) in
@@ -86,7 +77,7 @@ module _ (strict : Bool) (start : Workspace) where
           handled = g.progress.handled ++ line ∷ [];
           replies = g.progress.replies ++ option_to_list reply;
           split = g.progress.split ∙ sym (append_assoc g.progress.handled (line ∷ []) left);
-          run = run_more g.progress.handled line start now mid g.progress.replies reply g.progress.run s;
+          run = run_more StepIn g.progress.handled line start now mid g.progress.replies reply g.progress.run s;
           written = subst P (sym joined) (appends_more before after after' (output g.progress.replies) (output (option_to_list reply)) g.progress.written w);
           lines_counted = omega (arith, g.progress.lines_counted, length-append g.progress.handled (line ∷ []));
           replies_counted = omega (arith, g.progress.replies_counted, length-append g.progress.replies (option_to_list reply));
@@ -95,17 +86,18 @@ module _ (strict : Bool) (start : Workspace) where
       }
 
   going_with_left : (input : List ℕ) (left left' : List (List ℕ)) (now : Workspace) (before after : Option (List ℕ)) (n k : ℕ) → left ≡ left'
-      → Going strict start input left now before after n k
-      → Going strict start input left' now before after n k
-  going_with_left input left left' now before after n k e t = let P : List (List ℕ) → Type 0 = λ ls. Going strict start input ls now before after n k in
+      → Going StepIn strict start input left now before after n k
+      → Going StepIn strict start input left' now before after n k
+  going_with_left input left left' now before after n k e t =
+      let P : List (List ℕ) → Type 0 = λ ls. Going StepIn strict start input ls now before after n k in
       subst P e t
 
   -- nothing was read yet
   pub goes_none : (known : Option (List ℕ)) (lines : Reading) (before : Option (List ℕ)) → lines ≡ fresh
-      → Goes strict start known (input_left lines known) start before before 0 0
+      → Goes StepIn strict start known (input_left lines known) start before before 0 0
   goes_none None lines before e = tt
   goes_none (Some input) lines before e =
-      let P : Reading → Type 0 = λ r. Goes strict start (Some input) (input_left r (Some input)) start before before 0 0 in
+      let P : Reading → Type 0 = λ r. Goes StepIn strict start (Some input) (input_left r (Some input)) start before before 0 0 in
       let at : P fresh = record {
         progress = record {
           handled = [];
@@ -122,9 +114,9 @@ module _ (strict : Bool) (start : Workspace) where
 
   goes_more : (known left left' : Option (List ℕ)) (f : Found) (line : List ℕ) (now mid : Workspace) (reply : Option Reply)
       (before after after' : Option (List ℕ)) (n k : ℕ)
-      → Goes strict start known left now before after n k → FindsLine left left' (Some f) line → StepFound f line now reply mid
+      → Goes StepIn strict start known left now before after n k → FindsLine left left' (Some f) line → StepFound StepIn f line now reply mid
       → Appends after after' (output (option_to_list reply)) → (IsTrue strict → All IsAccepted (option_to_list reply))
-      → Goes strict start known left' mid before after' (n + 1) (k + length (option_to_list reply))
+      → Goes StepIn strict start known left' mid before after' (n + 1) (k + length (option_to_list reply))
   goes_more None left left' f line now mid reply before after after' n k g l s w a = tt
   goes_more (Some input) None left' f line now mid reply before after after' n k g l s w a = absurd g
   goes_more (Some input) (Some xs) None f line now mid reply before after after' n k g l s w a = l
@@ -134,19 +126,19 @@ module _ (strict : Bool) (start : Workspace) where
       going_more input l.0 (lines_of ys) now mid reply before after after' n k (going_with_left input _ _ now before after n k l.1 g) (s l.0 l.2) w a
 
   pub goes_quiet : (known left left' : Option (List ℕ)) (f : Found) (line : List ℕ) (now mid : Workspace) (before after : Option (List ℕ)) (n k : ℕ)
-      → Goes strict start known left now before after n k → FindsLine left left' (Some f) line → StepFound f line now None mid
-      → Goes strict start known left' mid before after (n + 1) k
+      → Goes StepIn strict start known left now before after n k → FindsLine left left' (Some f) line → StepFound StepIn f line now None mid
+      → Goes StepIn strict start known left' mid before after (n + 1) k
   goes_quiet known left left' f line now mid before after n k g l s =
-      let P : ℕ → Type 0 = λ m. Goes strict start known left' mid before after (n + 1) m in
+      let P : ℕ → Type 0 = λ m. Goes StepIn strict start known left' mid before after (n + 1) m in
       let same : k + 0 ≡ k = omega arith in
       subst P same (goes_more known left left' f line now mid None before after after n k g l s (appends_nothing after) (λ h. All-nil IsAccepted))
 
   -- a reply was written
   pub goes_replied : (known left left' : Option (List ℕ)) (f : Found) (line : List ℕ) (now mid : Workspace) (reply : Reply)
       (before after after' : Option (List ℕ)) (n k : ℕ)
-      → Goes strict start known left now before after n k → FindsLine left left' (Some f) line → StepFound f line now (Some reply) mid
+      → Goes StepIn strict start known left now before after n k → FindsLine left left' (Some f) line → StepFound StepIn f line now (Some reply) mid
       → Appends after after' (reply_line reply) → (IsTrue strict → IsAccepted reply)
-      → Goes strict start known left' mid before after' (n + 1) (k + 1)
+      → Goes StepIn strict start known left' mid before after' (n + 1) (k + 1)
   goes_replied known left left' f line now mid reply before after after' n k g l s w a =
       let P : List ℕ → Type 0 = λ bytes. Appends after after' bytes in
       goes_more known left left' f line now mid (Some reply) before after after' n k g l s (subst P (sym (append-nil (reply_line reply))) w)
@@ -154,8 +146,8 @@ module _ (strict : Bool) (start : Workspace) where
 
   -- all lines were handled
   pub goes_all : (known left left' : Option (List ℕ)) (line : List ℕ) (now : Workspace) (before after : Option (List ℕ)) (n k : ℕ)
-      → Goes strict start known left now before after n k
-      → FindsLine left left' None line → IfSome known (λ input. Going strict start input [] now before after n k)
+      → Goes StepIn strict start known left now before after n k
+      → FindsLine left left' None line → IfSome known (λ input. Going StepIn strict start input [] now before after n k)
   goes_all None left left' line now before after n k g l = tt
   goes_all (Some input) None left' line now before after n k g l = absurd g
   goes_all (Some input) (Some xs) None line now before after n k g l = absurd l
@@ -163,9 +155,9 @@ module _ (strict : Bool) (start : Workspace) where
 
   -- the beginning of a line had come, and the reader has the rest
   pub goes_unread : (known left left' reader : Option (List ℕ)) (pending : List ℕ) (now : Workspace) (before after : Option (List ℕ)) (n k : ℕ)
-      → Goes strict start known left now before after n k
+      → Goes StepIn strict start known left now before after n k
       → StopsInLine left left' → left' ≡ prepend_known pending reader → HasNoNewline pending
-      → IfSome known (λ input. StopsUnread strict start input reader before after now.stored)
+      → IfSome known (λ input. StopsUnread StepIn strict start input reader before after now.stored)
   goes_unread None left left' reader pending now before after n k g l e h = tt
   goes_unread (Some input) None left' reader pending now before after n k g l e h = absurd g
   goes_unread (Some input) (Some xs) None reader pending now before after n k g l e h = absurd l
@@ -173,7 +165,7 @@ module _ (strict : Bool) (start : Workspace) where
   goes_unread (Some input) (Some xs) (Some ys) (Some rest) pending now before after n k g l e h =
       let same : ys ≡ pending ++ rest = cc in
       let whole : xs ≡ (l.0 ++ pending) ++ rest = l.2 ∙ ap (λ zs. l.0 ++ zs) same ∙ sym (append_assoc l.0 pending rest) in
-      let went : Going strict start input (lines_of ((l.0 ++ pending) ++ rest)) now before after n k =
+      let went : Going StepIn strict start input (lines_of ((l.0 ++ pending) ++ rest)) now before after n k =
       going_with_left input _ _ now before after n k (ap lines_of whole) g in (
         record {
           beginning = l.0 ++ pending;
@@ -189,8 +181,8 @@ module _ (strict : Bool) (start : Workspace) where
       )
 
   going_unwritten : (input line : List ℕ) (left : List (List ℕ)) (mid now : Workspace) (reply : Reply) (before after after' : Option (List ℕ)) (n k : ℕ)
-      → Going strict start input (line ∷ left) mid before after n k → MachineStepIn line mid (Some reply) now → TakesBeginning (reply_line reply) after after'
-      → StopsUnwritten strict start input before after' now.stored
+      → Going StepIn strict start input (line ∷ left) mid before after n k → StepIn line mid (Some reply) now → TakesBeginning (reply_line reply) after after'
+      → StopsUnwritten StepIn strict start input before after' now.stored
   going_unwritten input line left mid now reply before after after' n k g s w = (
     record {
       mid = mid;
@@ -210,9 +202,9 @@ module _ (strict : Bool) (start : Workspace) where
 
   goes_write : (known left left' : Option (List ℕ)) (f : Found) (line : List ℕ) (mid now : Workspace) (reply : Reply) (before after after' : Option (List ℕ))
       (n k : ℕ)
-      → Goes strict start known left mid before after n k → FindsLine left left' (Some f) line → StepFound f line mid (Some reply) now
+      → Goes StepIn strict start known left mid before after n k → FindsLine left left' (Some f) line → StepFound StepIn f line mid (Some reply) now
       → TakesBeginning (reply_line reply) after after'
-      → IfSome known (λ input. StopsUnwritten strict start input before after' now.stored)
+      → IfSome known (λ input. StopsUnwritten StepIn strict start input before after' now.stored)
   goes_write None left left' f line mid now reply before after after' n k g l s w = tt
   goes_write (Some input) None left' f line mid now reply before after after' n k g l s w = absurd g
   goes_write (Some input) (Some xs) None f line mid now reply before after after' n k g l s w = absurd l
@@ -231,24 +223,25 @@ module _ (strict : Bool) (start : Workspace) where
 
   -- the replies could not be flushed before a read
   pub goes_unflushed : (known left reader : Option (List ℕ)) (pending : List ℕ) (now : Workspace) (before after : Option (List ℕ)) (n k : ℕ)
-      → Goes strict start known left now before after n k
-      → left ≡ prepend_known pending reader → HasNoNewline pending → IfSome known (λ input. StopsInWrite strict start input reader before after now.stored)
+      → Goes StepIn strict start known left now before after n k
+      → left ≡ prepend_known pending reader → HasNoNewline pending
+      → IfSome known (λ input. StopsInWrite StepIn strict start input reader before after now.stored)
   goes_unflushed known left reader pending now before after n k g e h =
       or_first _ _ known (goes_unread known left left reader pending now before after n k g (stops_before left) e h)
 
   -- the reply to a line could not be written
   pub goes_unwritten : (known left left' reader : Option (List ℕ)) (f : Found) (line : List ℕ) (mid now : Workspace) (reply : Reply)
       (before after after' : Option (List ℕ)) (n k : ℕ)
-      → Goes strict start known left mid before after n k → FindsLine left left' (Some f) line → StepFound f line mid (Some reply) now
+      → Goes StepIn strict start known left mid before after n k → FindsLine left left' (Some f) line → StepFound StepIn f line mid (Some reply) now
       → TakesBeginning (reply_line reply) after after'
-      → IfSome known (λ input. StopsInWrite strict start input reader before after' now.stored)
+      → IfSome known (λ input. StopsInWrite StepIn strict start input reader before after' now.stored)
   goes_unwritten known left left' reader f line mid now reply before after after' n k g l s w =
       or_second _ _ known (goes_write known left left' f line mid now reply before after after' n k g l s w)
 
   -- a flush shows what was written
   pub goes_keeps : (known left : Option (List ℕ)) (now : Workspace) (before after after' : Option (List ℕ)) (n k : ℕ)
-      → Goes strict start known left now before after n k → Keeps after after'
-      → Goes strict start known left now before after' n k
+      → Goes StepIn strict start known left now before after n k → Keeps after after'
+      → Goes StepIn strict start known left now before after' n k
   goes_keeps None left now before after after' n k g h = tt
   goes_keeps (Some input) None now before after after' n k g h = g
   goes_keeps (Some input) (Some xs) now before after after' n k g h = record {
@@ -265,9 +258,9 @@ module _ (strict : Bool) (start : Workspace) where
   }
 
   going_refused : (input line shown : List ℕ) (left : List (List ℕ)) (mid now : Workspace) (refusal : Refusal) (before after after' : Option (List ℕ)) (n k : ℕ)
-      → Going strict start input (line ∷ left) mid before after n k → MachineStepIn line mid (Some (Refused refusal)) now
+      → Going StepIn strict start input (line ∷ left) mid before after n k → StepIn line mid (Some (Refused refusal)) now
       → Appends after after' (reply_line (Refused refusal)) → IsTrue strict
-      → refused_text line refusal ≡ refused_text shown refusal → StopsRefused start input refusal now.stored shown before after' (n + 1)
+      → refused_text line refusal ≡ refused_text shown refusal → StopsRefused StepIn start input refusal now.stored shown before after' (n + 1)
   going_refused input line shown left mid now refusal before after after' n k g s w h e = record {
     runs = record {
       mid = mid;
@@ -290,17 +283,17 @@ module _ (strict : Bool) (start : Workspace) where
 
   -- a strict run stops at a refused line, whose reply is written whole
   pub goes_refused : (known left left' : Option (List ℕ)) (f : Found) (line : List ℕ) (mid now : Workspace) (refusal : Refusal)
-      (before after after' : Option (List ℕ)) (n k : ℕ)
-      → Goes strict start known left mid before after n k → FindsLine left left' (Some f) line → StepFound f line mid (Some (Refused refusal)) now
+      (before after after' : Option (List ℕ)) (n k : ℕ) → RefusesLong StepIn
+      → Goes StepIn strict start known left mid before after n k → FindsLine left left' (Some f) line → StepFound StepIn f line mid (Some (Refused refusal)) now
       → Appends after after' (reply_line (Refused refusal)) → IsTrue strict
-      → IfSome known (λ input. IsTrue strict × StopsRefused start input refusal now.stored line before after' (n + 1))
-  goes_refused None left left' f line mid now refusal before after after' n k g l s w h = tt
-  goes_refused (Some input) None left' f line mid now refusal before after after' n k g l s w h = absurd g
-  goes_refused (Some input) (Some xs) None f line mid now refusal before after after' n k g l s w h = absurd l
-  goes_refused (Some input) (Some xs) (Some ys) found.Line line mid now refusal before after after' n k g l s w h =
+      → IfSome known (λ input. IsTrue strict × StopsRefused StepIn start input refusal now.stored line before after' (n + 1))
+  goes_refused None left left' f line mid now refusal before after after' n k long g l s w h = tt
+  goes_refused (Some input) None left' f line mid now refusal before after after' n k long g l s w h = absurd g
+  goes_refused (Some input) (Some xs) None f line mid now refusal before after after' n k long g l s w h = absurd l
+  goes_refused (Some input) (Some xs) (Some ys) found.Line line mid now refusal before after after' n k long g l s w h =
       (h, going_refused input line line (lines_of ys) mid now refusal before after after' n k (going_with_left input _ _ mid before after n k l.0 g) s w h refl)
-  goes_refused (Some input) (Some xs) (Some ys) found.TooLong line mid now refusal before after after' n k g l s w h =
-      let same : refusal ≡ LineRefusal TooLong = too_long_refused l.0 mid now refusal l.2 (s l.0 l.2) in (
+  goes_refused (Some input) (Some xs) (Some ys) found.TooLong line mid now refusal before after after' n k long g l s w h =
+      let same : refusal ≡ LineRefusal TooLong = long l.0 mid now refusal l.2 (s l.0 l.2) in (
         h,
         going_refused input l.0 line (lines_of ys) mid now refusal before after after' n k (going_with_left input _ _ mid before after n k l.1 g)
             (s l.0 l.2) w h (rw same refl),

@@ -35,7 +35,8 @@ Notes line stored None entries = entries ≡ []
 Notes line stored (Some (Refused refusal)) entries = entries ≡ []
 Notes line stored (Some reply) entries = (entry : Entry) × IsNotedAs (line_of line) line stored entry × (entries ≡ entry ∷ [])
 
-abbrev pub IsJournal : (old : Workspace) (lines : List (List ℕ)) (replies : List Reply) (new : Workspace) → Run old lines replies new → List Entry → Type 0
+abbrev pub IsJournal : (old : Workspace) (lines : List (List ℕ)) (replies : List Reply) (new : Workspace) → Run MachineStepIn old lines replies new
+    → List Entry → Type 0
 IsJournal old [] replies new run entries = entries ≡ []
 IsJournal old (line ∷ lines) replies new run entries = (first : List Entry) × (rest : List Entry)
     × Notes line old.stored run.1 first × IsJournal run.0 lines run.2 new run.4 rest × (entries ≡ first ++ rest)
@@ -73,7 +74,7 @@ AreSure replies = All IsSure replies
 -- a run has a journal, and that can be replayed; each way to replay it is this one, if memory lasts and no store fails
 abbrev pub HaveJournals : Type 0
 HaveJournals = (limit : ℕ) (stored : StoreParts) (lines : List (List ℕ)) (replies : List Reply) (new : Workspace)
-    → (run : Run (workspace (started_machine limit) stored) lines replies new)
+    → (run : Run MachineStepIn (workspace (started_machine limit) stored) lines replies new)
     → (entries : List Entry) × (replayed : List Reply) × IsJournal (workspace (started_machine limit) stored) lines replies new run entries
     × Replays (started_machine limit) entries replayed new.machine × AreReplayed replies replayed
     × ((others : List Reply) (there : Machine) → Replays (started_machine limit) entries others there → AreSure others
@@ -82,12 +83,13 @@ HaveJournals = (limit : ℕ) (stored : StoreParts) (lines : List (List ℕ)) (re
 -- over an honest store, each journal of a run leads to its machine, however it is replayed, if memory lasts and no store fails
 abbrev pub JournalsLead : Type 0
 JournalsLead = (limit : ℕ) (stored : StoreParts) (lines : List (List ℕ)) (replies : List Reply) (new : Workspace) → IsTrue stored.honest
-    → (run : Run (workspace (started_machine limit) stored) lines replies new) (entries : List Entry)
+    → (run : Run MachineStepIn (workspace (started_machine limit) stored) lines replies new) (entries : List Entry)
     → IsJournal (workspace (started_machine limit) stored) lines replies new run entries → (replayed : List Reply) (there : Machine)
     → Replays (started_machine limit) entries replayed there → AreSure replayed → (there ≡ new.machine) × AreReplayed replies replayed
 
 -- over an honest store, there is one run of some lines in which memory lasts and the store never fails
 abbrev pub RunsAreOne : Type 0
 RunsAreOne = (limit : ℕ) (stored : StoreParts) (lines : List (List ℕ)) (replies others : List Reply) (new end : Workspace) → IsTrue stored.honest
-    → Run (workspace (started_machine limit) stored) lines replies new → Run (workspace (started_machine limit) stored) lines others end
-    → AreSure replies → AreSure others → (replies ≡ others) × (new.machine ≡ end.machine) × (new.stored.files ≡ end.stored.files)
+    → Run MachineStepIn (workspace (started_machine limit) stored) lines replies new
+    → Run MachineStepIn (workspace (started_machine limit) stored) lines others end → AreSure replies → AreSure others
+    → (replies ≡ others) × (new.machine ≡ end.machine) × (new.stored.files ≡ end.stored.files)

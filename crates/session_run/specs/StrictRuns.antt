@@ -12,8 +12,8 @@ use Rattle.session.specs.declared.reply.Reply.TheVariants.{Refused}
 use Rattle.undo_stack.specs.History.{History, is_clean}
 use Rattle.undo_group.specs.Groups.{OpenDocument}
 use Rattle.map_store.specs.Files.{StoreParts}
+use Rattle.document_lines.specs.Acts.{Act}
 use Rattle.document_lines.specs.Machine.{Machine, Workspace, workspace}
-use Rattle.document_lines.specs.Rules.{MachineStepIn}
 use Rattle.session_run.specs.Runs.{IsAccepted, Progress, RunsAll, RunsToUnread, RunsToWrite, reply_line}
 use Rattle.session_run.specs.declared.strict.Unsaved.{Unsaved}
 use Rattle.session_run.specs.declared.strict.Unsaved.TheVariants.{Changes, OpenMacro}
@@ -28,40 +28,44 @@ abbrev pub AreClean : List OpenDocument → Type 0
 AreClean documents = All (λ d. IsTrue (is_clean d.history)) documents
 
 -- all lines were handled, none was refused, and each document is clean
-pub record RunsClean (start : Workspace) (input : List ℕ) (before after : Option (List ℕ)) (stored : StoreParts) (lines replied : ℕ) : Type 0 where
-  pub runs : RunsAll start input before after stored lines replied
+pub record RunsClean (StepIn : List ℕ → Act Workspace) (start : Workspace) (input : List ℕ) (before after : Option (List ℕ)) (stored : StoreParts)
+    (lines replied : ℕ) : Type 0 where
+  pub runs : RunsAll StepIn start input before after stored lines replied
   pub accepted : AreAccepted runs.progress.replies
   pub clean : AreClean runs.now.group.documents
 
 -- all lines were handled, none was refused, and not each document is clean
-pub record RunsToUnsaved (start : Workspace) (input : List ℕ) (before after : Option (List ℕ)) (stored : StoreParts) : Type 0 where
+pub record RunsToUnsaved (StepIn : List ℕ → Act Workspace) (start : Workspace) (input : List ℕ) (before after : Option (List ℕ))
+    (stored : StoreParts) : Type 0 where
   pub lines : ℕ
   pub replied : ℕ
-  pub runs : RunsAll start input before after stored lines replied
+  pub runs : RunsAll StepIn start input before after stored lines replied
   pub accepted : AreAccepted runs.progress.replies
   pub unsaved : AreClean runs.now.group.documents → ⊥
 
 -- the lines were handled up to and with the first that was refused, and each reply is written whole
-pub record RunsToRefused (start : Workspace) (input : List ℕ) (before after : Option (List ℕ)) (stored : StoreParts) : Type 0 where
+pub record RunsToRefused (StepIn : List ℕ → Act Workspace) (start : Workspace) (input : List ℕ) (before after : Option (List ℕ))
+    (stored : StoreParts) : Type 0 where
   pub mid : Workspace
   pub line : List ℕ
   pub left : List (List ℕ)
   pub written : Option (List ℕ)
   pub lines : ℕ
   pub replied : ℕ
-  pub progress : Progress start input (line ∷ left) mid before written lines replied
+  pub progress : Progress StepIn start input (line ∷ left) mid before written lines replied
   pub accepted : AreAccepted progress.replies
   pub refusal : Refusal
   pub now : Machine
-  pub step : MachineStepIn line mid (Some (Refused refusal)) (workspace now stored)
+  pub step : StepIn line mid (Some (Refused refusal)) (workspace now stored)
   pub reply : Appends written after (reply_line (Refused refusal))
 
 -- as each run that a fault ends, and no line before was refused
-abbrev pub RunsStrictlyToUnread : Workspace → List ℕ → Option (List ℕ) → Option (List ℕ) → Option (List ℕ) → StoreParts → Type 0
-RunsStrictlyToUnread start input reader before after stored = (runs : RunsToUnread start input reader before after stored) × AreAccepted runs.progress.replies
+abbrev pub RunsStrictlyToUnread : (List ℕ → Act Workspace) → Workspace → List ℕ → Option (List ℕ) → Option (List ℕ) → Option (List ℕ) → StoreParts → Type 0
+RunsStrictlyToUnread StepIn start input reader before after stored = (runs : RunsToUnread StepIn start input reader before after stored)
+    × AreAccepted runs.progress.replies
 
-abbrev pub RunsStrictlyToWrite : Workspace → List ℕ → Option (List ℕ) → Option (List ℕ) → StoreParts → Type 0
-RunsStrictlyToWrite start input before after stored = (runs : RunsToWrite start input before after stored) × AreAccepted runs.progress.replies
+abbrev pub RunsStrictlyToWrite : (List ℕ → Act Workspace) → Workspace → List ℕ → Option (List ℕ) → Option (List ℕ) → StoreParts → Type 0
+RunsStrictlyToWrite StepIn start input before after stored = (runs : RunsToWrite StepIn start input before after stored) × AreAccepted runs.progress.replies
 
 -- ---- what is told of it
 -- of a refused line its number, its text, where it has one, and the refusal; and of a document why it is not clean
@@ -93,15 +97,15 @@ abbrev pub unsaved_told : List OpenDocument → List Told
 unsaved_told documents = flat_map (λ d. option_to_list (option_map (UnsavedDocument d.name) (unsaved_of d.history))) documents
 
 -- the refused line is told, by its number from 1 on
-pub record TellsRefused (start : Workspace) (input : List ℕ) (before after : Option (List ℕ)) (stored : StoreParts)
+pub record TellsRefused (StepIn : List ℕ → Act Workspace) (start : Workspace) (input : List ℕ) (before after : Option (List ℕ)) (stored : StoreParts)
     (old new : Option (List Told)) : Type 0 where
-  pub runs : RunsToRefused start input before after stored
+  pub runs : RunsToRefused StepIn start input before after stored
   pub told : Tells old new (RefusedLine (runs.lines + 1) (refused_text runs.line runs.refusal) runs.refusal ∷ [])
 
 -- exactly the documents that are not clean are told
-pub record TellsUnsaved (start : Workspace) (input : List ℕ) (before after : Option (List ℕ)) (stored : StoreParts)
+pub record TellsUnsaved (StepIn : List ℕ → Act Workspace) (start : Workspace) (input : List ℕ) (before after : Option (List ℕ)) (stored : StoreParts)
     (old new : Option (List Told)) : Type 0 where
-  pub runs : RunsToUnsaved start input before after stored
+  pub runs : RunsToUnsaved StepIn start input before after stored
   pub told : Tells old new (unsaved_told runs.runs.now.group.documents)
 
 -- one refused line is told, and nothing else

@@ -1,26 +1,31 @@
-ghost use Rattle.std.specs.Prelude.{◌≡◌, ◌≤◌, [], Option, IsErrOf, IsTrue, IfOk, IfSome, OnErr, OnOk, ◌⊎◌};
+ghost use Rattle.std.specs.Prelude.{◌≡◌, ◌≤◌, [], Err, Option, Some, IsErrOf, IsTrue, IfOk, IfSome, OnErr, OnOk, ◌⊎◌};
 ghost use Rattle.undo_stack.specs.declared.limits.TheConstants.{MAX_LIMIT};
 ghost use Rattle.document_lines.specs.declared.planned.Edit.{Edit};
 ghost use Rattle.document_lines.specs.Machine.{started_machine, workspace};
+ghost use Rattle.document_lines.specs.MoreRules.{AnyStepIn, MachineStepFor, MoreStep};
 ghost use Rattle.document_lines.specs.Rules.{MachineStep, MachineStepIn};
 ghost use Rattle.editor.specs.Editors.{IsSound, machine_of};
-ghost use Rattle.editor.specs.Kinds.{StepKinds, StepKindsIn, kinds_in};
+ghost use Rattle.editor.specs.Kinds.{StepKinds, kinds_in};
+ghost use Rattle.editor.specs.MoreKinds.{MoreStepKinds, StepKindsFor};
+ghost use Rattle.map_store.specs.Files.{StoreParts};
+ghost use Rattle.session.specs.Grammar.{line_of};
 ghost use Rattle.session.specs.Spelling.{CanBeSpelled};
 ghost use Rattle.session_run.specs.Asking.{AsksIn, LineAsks};
 ghost use Rattle.session_run.specs.Runs.{RunsAll, RunsToUnread, RunsToWrite};
 ghost use Rattle.session_run.specs.StrictRuns.{Tells};
-ghost use Rattle.session_run.specs.WithinRuns.{EndsAs, EndsInWrite, PutsSame, StepFound, Stops, StopsInWrite, StopsUnread, TellsEnd};
+ghost use Rattle.session_run.specs.WithinRuns.{EndsAs, EndsInWrite, PutsSame, StepFound, fault_of_both, Stops, StopsInWrite, StopsUnread, TellsEnd};
 
 use crate::frequent::{FrequentLine, frequent_line};
 use crate::strict::{End, Nobody, Report, end_over, end_refused, ending};
 use crate::writing::write_reply;
 use arrayvec::ArrayString;
 use command_api::Command;
+use document_lines::Dialect;
 use editor::{Edit, Editor, NoTell, Planned, Tell};
 use lines::{Found, LineReader};
 use map_store::MapStore;
 use refusals::{LineFault, Refusal};
-use session::{Line, Reply, parse_line};
+use session::{Line, MoreLine, Reply, parse_line, parse_more_line};
 use std::alloc::Global;
 use std::io::{Read, Write};
 use thiserror::Error;
@@ -104,12 +109,84 @@ fn carry_out<C: Command, S: MapStore, F: Fn(Edit) -> Option<C>, T: Tell>(
     }
 }
 
+// Carries out a line of own members, and gives the reply to it.
+fn carry_out_more<C: Command, F: Fn(Edit) -> Option<C>, T: Tell>(
+    alloc: Global,
+    editor: &mut Editor<C>,
+    line: &MoreLine<'_>,
+    put: &F,
+    tell: &mut T,
+) -> Reply
+    requires sound { IsSound C.change editor.old }
+    requires callable { F.IsAlwaysCallable put.now }
+    requires same { (edit : Edit) (command : Option C) → F.post put.now edit command → PutsSame C.change edit command }
+    ensures sound { IsSound C.change editor.new }
+    ensures step { (stored : StoreParts)
+        → MoreStep line.now (workspace (machine_of C.change editor.old) stored) (Some result) (workspace (machine_of C.change editor.new) stored) }
+    ensures kinds { MoreStepKinds line.now (machine_of C.change editor.old) (Some result) (machine_of C.change editor.new) (kinds_in editor.old) (kinds_in editor.new) }
+{
+    match editor.plan_more(alloc, line) {
+        Planned::Quiet => unreachable!(),
+        Planned::Reply(reply) => reply,
+        Planned::Push(edit) => {
+            tell.edit(&edit);
+            match put(edit) {
+                Some(command) => editor.commit_told(command, tell),
+                None => Reply::Refused(Refusal::NoMemory),
+            }
+        }
+    }
+}
+
+// The fault of a line that is neither one of the other lines nor one of own members: the first, where the line begins with no
+// word of own members.
+fn fault_of_both(first: LineFault, more: LineFault) -> LineFault
+    ensures { result ≡ fault_of_both first more }
+{
+    match more {
+        LineFault::UnknownCommand => first,
+        _ => more,
+    }
+}
+
+// Does the step of bytes that are none of the lines that `parse_line` reads. It stands by itself, so that only such bytes ask which
+// lines are read.
+#[cold]
+#[inline(never)]
+fn step_refused<C: Command, F: Fn(Edit) -> Option<C>, T: Tell>(
+    alloc: Global,
+    editor: &mut Editor<C>,
+    dialect: Dialect,
+    fault: LineFault,
+    line: &[u8],
+    put: &F,
+    tell: &mut T,
+) -> Option<Reply>
+    requires sound { IsSound C.change editor.old }
+    requires unread { line_of line.now ≡ Err fault }
+    requires callable { F.IsAlwaysCallable put.now }
+    requires same { (edit : Edit) (command : Option C) → F.post put.now edit command → PutsSame C.change edit command }
+    ensures sound { IsSound C.change editor.new }
+    ensures step { (stored : StoreParts)
+        → MachineStepFor dialect line.now (workspace (machine_of C.change editor.old) stored) result (workspace (machine_of C.change editor.new) stored) }
+    ensures kinds { StepKindsFor dialect line.now (machine_of C.change editor.old) result (machine_of C.change editor.new) (kinds_in editor.old) (kinds_in editor.new) }
+{
+    match dialect {
+        Dialect::Plain => Some(Reply::Refused(Refusal::Line(fault))),
+        Dialect::AllEdits => match &parse_more_line(line) {
+            Ok(own) => Some(carry_out_more(alloc, editor, own, put, tell)),
+            Err(more) => Some(Reply::Refused(Refusal::Line(fault_of_both(fault, *more)))),
+        },
+    }
+}
+
 // Does the step of bytes that may be any line.
 #[inline(always)]
 fn step_parsed<C: Command, S: MapStore, F: Fn(Edit) -> Option<C>, T: Tell>(
     alloc: Global,
     editor: &mut Editor<C>,
     store: &mut S,
+    dialect: Dialect,
     line: &[u8],
     put: &F,
     tell: &mut T,
@@ -118,14 +195,14 @@ fn step_parsed<C: Command, S: MapStore, F: Fn(Edit) -> Option<C>, T: Tell>(
     requires callable { F.IsAlwaysCallable put.now }
     requires same { (edit : Edit) (command : Option C) → F.post put.now edit command → PutsSame C.change edit command }
     ensures sound { IsSound C.change editor.new }
-    ensures step { MachineStepIn line.now
+    ensures step { MachineStepFor dialect line.now
         (workspace (machine_of C.change editor.old) (S.stored store.old)) result (workspace (machine_of C.change editor.new) (S.stored store.new)) }
-    ensures kinds { StepKindsIn line.now (machine_of C.change editor.old) result (machine_of C.change editor.new) (kinds_in editor.old) (kinds_in editor.new) }
+    ensures kinds { StepKindsFor dialect line.now (machine_of C.change editor.old) result (machine_of C.change editor.new) (kinds_in editor.old) (kinds_in editor.new) }
     ensures asks { AsksIn line.now (machine_of C.change editor.old) (S.keeps store.new) result (S.asked store.old) (S.asked store.new) }
 {
     match &parse_line(line) {
         Ok(line) => carry_out(alloc, editor, store, line, put, tell),
-        Err(fault) => Some(Reply::Refused(Refusal::Line(*fault))),
+        Err(fault) => step_refused(alloc, editor, dialect, *fault, line, put, tell),
     }
 }
 
@@ -139,6 +216,7 @@ pub fn step<C: Command, S: MapStore, F: Fn(Edit) -> Option<C>>(
     alloc: Global,
     editor: &mut Editor<C>,
     store: &mut S,
+    dialect: Dialect,
     line: &[u8],
     put: &F,
 ) -> Option<Reply>
@@ -146,12 +224,12 @@ pub fn step<C: Command, S: MapStore, F: Fn(Edit) -> Option<C>>(
     requires callable { F.IsAlwaysCallable put.now }
     requires same { (edit : Edit) (command : Option C) → F.post put.now edit command → PutsSame C.change edit command }
     ensures sound { IsSound C.change editor.new }
-    ensures step { MachineStepIn line.now
+    ensures step { MachineStepFor dialect line.now
         (workspace (machine_of C.change editor.old) (S.stored store.old)) result (workspace (machine_of C.change editor.new) (S.stored store.new)) }
-    ensures kinds { StepKindsIn line.now (machine_of C.change editor.old) result (machine_of C.change editor.new) (kinds_in editor.old) (kinds_in editor.new) }
+    ensures kinds { StepKindsFor dialect line.now (machine_of C.change editor.old) result (machine_of C.change editor.new) (kinds_in editor.old) (kinds_in editor.new) }
     ensures asks { AsksIn line.now (machine_of C.change editor.old) (S.keeps store.new) result (S.asked store.old) (S.asked store.new) }
 {
-    step_told(alloc, editor, store, line, put, &mut NoTell)
+    step_told(alloc, editor, store, dialect, line, put, &mut NoTell)
 }
 
 /// As `step`, and tells of the line's edit, where it is one.
@@ -160,6 +238,7 @@ pub fn step_told<C: Command, S: MapStore, F: Fn(Edit) -> Option<C>, T: Tell>(
     alloc: Global,
     editor: &mut Editor<C>,
     store: &mut S,
+    dialect: Dialect,
     line: &[u8],
     put: &F,
     tell: &mut T,
@@ -168,9 +247,9 @@ pub fn step_told<C: Command, S: MapStore, F: Fn(Edit) -> Option<C>, T: Tell>(
     requires callable { F.IsAlwaysCallable put.now }
     requires same { (edit : Edit) (command : Option C) → F.post put.now edit command → PutsSame C.change edit command }
     ensures sound { IsSound C.change editor.new }
-    ensures step { MachineStepIn line.now
+    ensures step { MachineStepFor dialect line.now
         (workspace (machine_of C.change editor.old) (S.stored store.old)) result (workspace (machine_of C.change editor.new) (S.stored store.new)) }
-    ensures kinds { StepKindsIn line.now (machine_of C.change editor.old) result (machine_of C.change editor.new) (kinds_in editor.old) (kinds_in editor.new) }
+    ensures kinds { StepKindsFor dialect line.now (machine_of C.change editor.old) result (machine_of C.change editor.new) (kinds_in editor.old) (kinds_in editor.new) }
     ensures asks { AsksIn line.now (machine_of C.change editor.old) (S.keeps store.new) result (S.asked store.old) (S.asked store.new) }
 {
     // A frequent line is done without a parsed line and a plan.
@@ -178,7 +257,7 @@ pub fn step_told<C: Command, S: MapStore, F: Fn(Edit) -> Option<C>, T: Tell>(
         Some(FrequentLine::Undo) => Some(editor.undo()),
         Some(FrequentLine::Redo) => Some(editor.redo()),
         Some(FrequentLine::Status) => Some(editor.status()),
-        None => step_parsed(alloc, editor, store, line, put, tell),
+        None => step_parsed(alloc, editor, store, dialect, line, put, tell),
     }
 }
 
@@ -188,6 +267,7 @@ fn step_found<C: Command, S: MapStore, F: Fn(Edit) -> Option<C>>(
     alloc: Global,
     editor: &mut Editor<C>,
     store: &mut S,
+    dialect: Dialect,
     found: Found,
     line: &[u8],
     put: &F,
@@ -196,12 +276,12 @@ fn step_found<C: Command, S: MapStore, F: Fn(Edit) -> Option<C>>(
     requires callable { F.IsAlwaysCallable put.now }
     requires same { (edit : Edit) (command : Option C) → F.post put.now edit command → PutsSame C.change edit command }
     ensures sound { IsSound C.change editor.new }
-    ensures step { StepFound found line.now
+    ensures step { StepFound (MachineStepFor dialect) found line.now
         (workspace (machine_of C.change editor.old) (S.stored store.old)) result (workspace (machine_of C.change editor.new) (S.stored store.new)) }
 {
     match found {
         Found::TooLong => Some(Reply::Refused(Refusal::Line(LineFault::TooLong))),
-        Found::Line => step(alloc, editor, store, line, put),
+        Found::Line => step(alloc, editor, store, dialect, line, put),
     }
 }
 
@@ -214,6 +294,7 @@ fn step_all<C: Command, R: Read, W: Write, S: MapStore, F: Fn(Edit) -> Option<C>
     reader: &mut R,
     writer: &mut W,
     store: &mut S,
+    dialect: Dialect,
     put: &F,
     is_strict: bool,
 ) -> Result<Stopped, RunFault>
@@ -222,13 +303,13 @@ fn step_all<C: Command, R: Read, W: Write, S: MapStore, F: Fn(Edit) -> Option<C>
     requires same { (edit : Edit) (command : Option C) → F.post put.now edit command → PutsSame C.change edit command }
     ensures sound { OnOk result (IsSound C.change editor.new) }
     ensures ok { IfOk result (λ stopped. IfSome (R.remaining reader.old) (λ input.
-        Stops is_strict (workspace (machine_of C.change editor.old) (S.stored store.old)) input stopped.refusal (workspace (machine_of C.change editor.new) (S.stored store.new)) stopped.lines.line
+        Stops (MachineStepFor dialect) is_strict (workspace (machine_of C.change editor.old) (S.stored store.old)) input stopped.refusal (workspace (machine_of C.change editor.new) (S.stored store.new)) stopped.lines.line
         (W.contents writer.old) (W.contents writer.new) stopped.summary.lines stopped.summary.replies)) }
     ensures strict { IfOk result (λ stopped. IfSome stopped.refusal (λ _. IsTrue is_strict)) }
     ensures read { IsErrOf result RunFault.Read → IfSome (R.remaining reader.old) (λ input.
-        StopsUnread is_strict (workspace (machine_of C.change editor.old) (S.stored store.old)) input (R.remaining reader.new) (W.contents writer.old) (W.contents writer.new) (S.stored store.new)) }
+        StopsUnread (MachineStepFor dialect) is_strict (workspace (machine_of C.change editor.old) (S.stored store.old)) input (R.remaining reader.new) (W.contents writer.old) (W.contents writer.new) (S.stored store.new)) }
     ensures write { IsErrOf result RunFault.Write → IfSome (R.remaining reader.old) (λ input.
-        StopsInWrite is_strict (workspace (machine_of C.change editor.old) (S.stored store.old)) input (R.remaining reader.new) (W.contents writer.old) (W.contents writer.new) (S.stored store.new)) }
+        StopsInWrite (MachineStepFor dialect) is_strict (workspace (machine_of C.change editor.old) (S.stored store.old)) input (R.remaining reader.new) (W.contents writer.old) (W.contents writer.new) (S.stored store.new)) }
     ensures memory { IsErrOf result RunFault.Memory → (writer.new ≡ writer.old) × (reader.new ≡ reader.old) × (store.new ≡ store.old) }
 {
     let Ok(mut lines) = LineReader::new(alloc) else {
@@ -256,7 +337,7 @@ fn step_all<C: Command, R: Read, W: Write, S: MapStore, F: Fn(Edit) -> Option<C>
             Err(_) => return Err(RunFault::Read),
         };
         summary.lines += 1;
-        let Some(reply) = step_found(alloc, editor, store, found, lines.line(), put) else {
+        let Some(reply) = step_found(alloc, editor, store, dialect, found, lines.line(), put) else {
             continue 'session;
         };
         let refusal = reply.refusal();
@@ -283,19 +364,20 @@ pub fn run_lines<R: Read, W: Write, S: MapStore>(
     writer: &mut W,
     store: &mut S,
     limit: usize,
+    dialect: Dialect,
     is_strict: bool,
     report: &mut dyn Report,
 ) -> Result<Ended, RunFault>
     requires { limit ≤ MAX_LIMIT }
     ensures ok { IfOk result (λ ended. IfSome (R.remaining reader.old) (λ input.
-        EndsAs ended.end is_strict (workspace (started_machine limit) (S.stored store.old)) input (W.contents writer.old) (W.contents writer.new) (S.stored store.new)
+        EndsAs (MachineStepFor dialect) ended.end is_strict (workspace (started_machine limit) (S.stored store.old)) input (W.contents writer.old) (W.contents writer.new) (S.stored store.new)
         ended.summary.lines ended.summary.replies (told report.old) (told report.new))) }
     ensures told { IfOk result (λ ended. TellsEnd ended.end (told report.old) (told report.new)) }
     ensures untold { OnErr result (Tells (told report.old) (told report.new) []) }
     ensures read { IsErrOf result RunFault.Read → IfSome (R.remaining reader.old) (λ input.
-        StopsUnread is_strict (workspace (started_machine limit) (S.stored store.old)) input (R.remaining reader.new) (W.contents writer.old) (W.contents writer.new) (S.stored store.new)) }
+        StopsUnread (MachineStepFor dialect) is_strict (workspace (started_machine limit) (S.stored store.old)) input (R.remaining reader.new) (W.contents writer.old) (W.contents writer.new) (S.stored store.new)) }
     ensures write { IsErrOf result RunFault.Write → IfSome (R.remaining reader.old) (λ input.
-        EndsInWrite is_strict (workspace (started_machine limit) (S.stored store.old)) input (R.remaining reader.new) (W.contents writer.old) (W.contents writer.new) (S.stored store.new)) }
+        EndsInWrite (MachineStepFor dialect) is_strict (workspace (started_machine limit) (S.stored store.old)) input (R.remaining reader.new) (W.contents writer.old) (W.contents writer.new) (S.stored store.new)) }
     ensures memory { IsErrOf result RunFault.Memory → (writer.new ≡ writer.old) × (reader.new ≡ reader.old) × (store.new ≡ store.old) }
 {
     let mut editor: Editor<Box<dyn Command>> = Editor::new(alloc, limit);
@@ -319,9 +401,19 @@ pub fn run_lines<R: Read, W: Write, S: MapStore>(
             Edit::RemoveProperty(command) => Some(boxed(alloc, command)?),
             Edit::AddTileset(command) => Some(boxed(alloc, command)?),
             Edit::RemoveTileset(command) => Some(boxed(alloc, command)?),
+            Edit::SetObjectHead(command) => Some(command),
         }
     };
-    let stopped = match step_all(alloc, &mut editor, reader, writer, store, &put, is_strict) {
+    let stopped = match step_all(
+        alloc,
+        &mut editor,
+        reader,
+        writer,
+        store,
+        dialect,
+        &put,
+        is_strict,
+    ) {
         Ok(stopped) => stopped,
         Err(fault) => return Err(fault),
     };
@@ -355,25 +447,79 @@ pub fn run<R: Read, W: Write, S: MapStore>(
 
     // All lines of the input were handled, and the replies and the files are those of the machine.
     ensures ok { IfOk result (λ summary. IfSome (R.remaining reader.old) (λ input.
-        RunsAll (workspace (started_machine limit) (S.stored store.old)) input (W.contents writer.old) (W.contents writer.new) (S.stored store.new)
+        RunsAll MachineStepIn (workspace (started_machine limit) (S.stored store.old)) input (W.contents writer.old) (W.contents writer.new) (S.stored store.new)
         summary.lines summary.replies)) }
 
     // All whole lines that were taken from the reader are done, files and all, and the replies to them were written whole. What
     // came of a line not whole and what the reader still has are the rest of the input.
     ensures read { IsErrOf result RunFault.Read → IfSome (R.remaining reader.old) (λ input.
-        RunsToUnread (workspace (started_machine limit) (S.stored store.old)) input (R.remaining reader.new) (W.contents writer.old) (W.contents writer.new) (S.stored store.new)) }
+        RunsToUnread MachineStepIn (workspace (started_machine limit) (S.stored store.old)) input (R.remaining reader.new) (W.contents writer.old) (W.contents writer.new) (S.stored store.new)) }
 
     // A flush failed before a read: all is as at a read fault. Or a write failed: all replies before the one that could not be
     // written were written whole, its line is done too, files and all, and of it the beginning was written, and not all.
     ensures write { IsErrOf result RunFault.Write → IfSome (R.remaining reader.old) (λ input.
-        RunsToUnread (workspace (started_machine limit) (S.stored store.old)) input (R.remaining reader.new) (W.contents writer.old) (W.contents writer.new) (S.stored store.new)
-        ⊎ RunsToWrite (workspace (started_machine limit) (S.stored store.old)) input (W.contents writer.old) (W.contents writer.new) (S.stored store.new)) }
+        RunsToUnread MachineStepIn (workspace (started_machine limit) (S.stored store.old)) input (R.remaining reader.new) (W.contents writer.old) (W.contents writer.new) (S.stored store.new)
+        ⊎ RunsToWrite MachineStepIn (workspace (started_machine limit) (S.stored store.old)) input (W.contents writer.old) (W.contents writer.new) (S.stored store.new)) }
 
     // For the line buffer alone, and before anything was read or written.
     ensures memory { IsErrOf result RunFault.Memory → (writer.new ≡ writer.old) × (reader.new ≡ reader.old) × (store.new ≡ store.old) }
 {
     let mut nobody = Nobody;
-    match run_lines(alloc, reader, writer, store, limit, false, &mut nobody) {
+    match run_lines(
+        alloc,
+        reader,
+        writer,
+        store,
+        limit,
+        Dialect::Plain,
+        false,
+        &mut nobody,
+    ) {
+        Ok(ended) => Ok(ended.summary),
+        Err(fault) => Err(fault),
+    }
+}
+
+/// As `run`, and reads the lines of own members too.
+pub fn run_all_edits<R: Read, W: Write, S: MapStore>(
+    alloc: Global,
+    reader: &mut R,
+    writer: &mut W,
+    store: &mut S,
+    limit: usize,
+) -> Result<Summary, RunFault>
+    requires { limit ≤ MAX_LIMIT }
+
+    // All lines of the input were handled, and the replies and the files are those of the machine.
+    ensures ok { IfOk result (λ summary. IfSome (R.remaining reader.old) (λ input.
+        RunsAll AnyStepIn (workspace (started_machine limit) (S.stored store.old)) input (W.contents writer.old) (W.contents writer.new) (S.stored store.new)
+        summary.lines summary.replies)) }
+
+    // All whole lines that were taken from the reader are done, files and all, and the replies to them were written whole. What
+    // came of a line not whole and what the reader still has are the rest of the input.
+    ensures read { IsErrOf result RunFault.Read → IfSome (R.remaining reader.old) (λ input.
+        RunsToUnread AnyStepIn (workspace (started_machine limit) (S.stored store.old)) input (R.remaining reader.new) (W.contents writer.old) (W.contents writer.new) (S.stored store.new)) }
+
+    // A flush failed before a read: all is as at a read fault. Or a write failed: all replies before the one that could not be
+    // written were written whole, its line is done too, files and all, and of it the beginning was written, and not all.
+    ensures write { IsErrOf result RunFault.Write → IfSome (R.remaining reader.old) (λ input.
+        RunsToUnread AnyStepIn (workspace (started_machine limit) (S.stored store.old)) input (R.remaining reader.new) (W.contents writer.old) (W.contents writer.new) (S.stored store.new)
+        ⊎ RunsToWrite AnyStepIn (workspace (started_machine limit) (S.stored store.old)) input (W.contents writer.old) (W.contents writer.new) (S.stored store.new)) }
+
+    // For the line buffer alone, and before anything was read or written.
+    ensures memory { IsErrOf result RunFault.Memory → (writer.new ≡ writer.old) × (reader.new ≡ reader.old) × (store.new ≡ store.old) }
+{
+    let mut nobody = Nobody;
+    match run_lines(
+        alloc,
+        reader,
+        writer,
+        store,
+        limit,
+        Dialect::AllEdits,
+        false,
+        &mut nobody,
+    ) {
         Ok(ended) => Ok(ended.summary),
         Err(fault) => Err(fault),
     }

@@ -1,3 +1,4 @@
+use Rattle.std.proofs.Common.{sym}
 use Rattle.document_lines.proofs.edit_command.EditCommand.merge.Goals as goal
 
 pub returns-in-AddLayer-clause-unchanged : goal.returns-in-AddLayer-clause-unchanged
@@ -26,3 +27,6 @@ returns-in-AddTileset-clause-unchanged c = rw c.in-AddTileset.is c.merge-in-AddT
 
 pub returns-in-RemoveTileset-clause-unchanged : goal.returns-in-RemoveTileset-clause-unchanged
 returns-in-RemoveTileset-clause-unchanged c = rw c.in-RemoveTileset.is c.merge-in-RemoveTileset.ensures.unchanged
+
+pub returns-in-SetObjectHead-clause-unchanged : goal.returns-in-SetObjectHead-clause-unchanged
+returns-in-SetObjectHead-clause-unchanged c = rw (c.in-SetObjectHead.is, sym c.deref_mut.ensures.value) c.merge-in-SetObjectHead.ensures.unchanged

@@ -1,0 +1,25 @@
+use Rattle.std.proofs.Common.{◌≡◌, rules, sym, ap, ◌∙◌}
+use Rattle.map_model.specs.declared.owner.MemberOwner.TheVariants as owners
+use Rattle.undo_stack.specs.History.{current}
+use Rattle.document_lines.proofs.planning.member_plans.on_members.Goals as goal
+
+pub returns-in-SetMember-Object-default-default-default-clause-plans : goal.returns-in-SetMember-Object-default-default-default-clause-plans
+returns-in-SetMember-Object-default-default-default-clause-plans g c =
+    let line = c.in-SetMember-Object-default-default-default in
+    let is = c.document.ensures ∙ ap current c.seek_object.ensures.same in
+    let owner : line.owner ≡ owners.Object line.object = search rules in
+    rw (line.is, owner, sym is) (c.plan_set.ensures, c.seek_object.ensures.same)
+
+pub returns-in-PutMembers-Object-default-default-clause-plans : goal.returns-in-PutMembers-Object-default-default-clause-plans
+returns-in-PutMembers-Object-default-default-clause-plans g c =
+    let line = c.in-PutMembers-Object-default-default in
+    let is = c.document-in-PutMembers-Object-default-default.ensures ∙ ap current c.seek_object-in-PutMembers-Object-default-default.ensures.same in
+    let owner : line.owner ≡ owners.Object line.object = search rules in
+    rw (line.is, owner, sym is) (c.plan_put.ensures, c.seek_object-in-PutMembers-Object-default-default.ensures.same)
+
+pub returns-in-RemoveMember-Object-default-clause-plans : goal.returns-in-RemoveMember-Object-default-clause-plans
+returns-in-RemoveMember-Object-default-clause-plans g c =
+    let line = c.in-RemoveMember-Object-default in
+    let is = c.document-in-RemoveMember-Object-default.ensures ∙ ap current c.seek_object-in-RemoveMember-Object-default.ensures.same in
+    let owner : line.owner ≡ owners.Object line.object = search rules in
+    rw (line.is, owner, sym is) (c.plan_remove.ensures, c.seek_object-in-RemoveMember-Object-default.ensures.same)

@@ -1,0 +1,10 @@
+use Rattle.member_commands.specs.Edits.{is_early_named}
+use Rattle.member_commands.specs.Names.{remove_member_names}
+use Rattle.document_lines.proofs.MoreEdits.{head-PlansEdit}
+use Rattle.document_lines.proofs.planning.member_plans.plan_remove.Goals as goal
+
+pub returns : goal.returns
+returns c =
+    let command = rw (c.as_str.ensures) at c.remove-command.ensures.command in
+    let refusal = rw (c.as_str.ensures) at c.remove-command.ensures.refusal in
+    head-PlansEdit remove_member_names c.args.document.now is_early_named _ c.remove-command.result c.planned.result command refusal c.planned.ensures

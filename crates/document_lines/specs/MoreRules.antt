@@ -1,0 +1,74 @@
+-- What each line of own members may do, and what the bytes of any line may do where those lines are read too.
+use Rattle.std.specs.Prelude.{List, ℕ, Result, Ok, Err}
+use Rattle.map_model.specs.declared.owner.MemberOwner.TheVariants as owners
+use Rattle.map_model.specs.Document.{DocumentParts}
+use Rattle.command_api.specs.Names.{Names}
+use Rattle.member_commands.specs.Edits.{after_put_members, after_remove_member, after_set_member}
+use Rattle.member_commands.specs.Names.{put_members_names, remove_member_names, set_member_names}
+use Rattle.member_commands.specs.Objects.{object_heads}
+use Rattle.undo_stack.specs.History.{Step, current, step_named}
+use Rattle.refusals.specs.declared.line_fault.LineFault.{LineFault}
+use Rattle.refusals.specs.declared.line_fault.LineFault.TheVariants.{UnknownCommand}
+use Rattle.refusals.specs.declared.more_fault.MoreFault.{MoreFault}
+use Rattle.refusals.specs.declared.more_fault.MoreFault.TheVariants.{MemberOfOtherLines}
+use Rattle.refusals.specs.declared.refusal.Refusal.{Refusal}
+use Rattle.refusals.specs.declared.refusal.Refusal.TheVariants as refusals
+use Rattle.refusals.specs.Layers.{refusal_of_more}
+use Rattle.session.specs.declared.line.Line.{Line}
+use Rattle.session.specs.declared.more_line.MoreLine.{MoreLine}
+use Rattle.session.specs.declared.more_line.MoreLine.TheVariants.{SetMember, PutMembers, RemoveMember}
+use Rattle.session.specs.Grammar.{line_of}
+use Rattle.session.specs.MoreGrammar.{more_line_of}
+use Rattle.document_lines.specs.Acts.{Act, Alone, OrNoMemory, Pushes, Refuses, WithActive}
+use Rattle.document_lines.specs.Machine.{Workspace, active_of}
+use Rattle.document_lines.specs.Rules.{MachineStep, MachineStepIn}
+use Rattle.document_lines.specs.declared.dialect.Dialect.{Dialect}
+use Rattle.document_lines.specs.declared.dialect.Dialect.TheVariants.{Plain, AllEdits}
+
+-- what the edit of a line is called
+abbrev pub more_names_of : MoreLine → Names
+more_names_of (SetMember owner name json follows) = set_member_names owner name follows
+more_names_of (PutMembers owner json follows) = put_members_names owner follows
+more_names_of (RemoveMember owner name) = remove_member_names
+
+-- the document after it, or its refusal; members of no owner but an object have an edit yet
+abbrev pub after_more : MoreLine → DocumentParts → Result DocumentParts MoreFault
+after_more (SetMember (owners.Object id) name json follows) d = after_set_member object_heads d id name json
+after_more (PutMembers (owners.Object id) json follows) d = after_put_members object_heads d id json
+after_more (RemoveMember (owners.Object id) name) d = after_remove_member object_heads d id name
+after_more line d = Err MemberOfOtherLines
+
+-- the step of an edit with these names, or the edit's refusal
+abbrev pub more_answer_of : Names → Result DocumentParts MoreFault → Result Step Refusal
+more_answer_of names (Ok d) = Ok (step_named names d)
+more_answer_of names (Err fault) = Err (refusal_of_more fault)
+
+-- and of the line's
+abbrev pub answer_of_more : MoreLine → DocumentParts → Result Step Refusal
+answer_of_more line d = more_answer_of (more_names_of line) (after_more line d)
+
+-- what a line of own members may do; its edit may want memory
+abbrev pub MoreStep : MoreLine → Act Workspace
+MoreStep line old reply new =
+    Alone (WithActive (OrNoMemory (λ h. Pushes (answer_of_more line (current h)) h)) (active_of old.machine)) old.stored new.stored old.machine reply
+    new.machine
+
+-- ---- any line
+-- one that is no line of the others has their fault where it begins with no word of own members either
+abbrev pub MoreStepOf : Result MoreLine LineFault → LineFault → Act Workspace
+MoreStepOf (Ok line) fault = MoreStep line
+MoreStepOf (Err UnknownCommand) fault = Refuses (refusals.Line fault)
+MoreStepOf (Err more) fault = Refuses (refusals.Line more)
+
+abbrev pub AnyStepOf : Result Line LineFault → List ℕ → Act Workspace
+AnyStepOf (Ok line) bytes = MachineStep line
+AnyStepOf (Err fault) bytes = MoreStepOf (more_line_of bytes) fault
+
+-- what the bytes of a line may do, where lines of own members are read too
+abbrev pub AnyStepIn : List ℕ → Act Workspace
+AnyStepIn bytes = AnyStepOf (line_of bytes) bytes
+
+-- and by which lines are read
+abbrev pub MachineStepFor : Dialect → List ℕ → Act Workspace
+MachineStepFor Plain = MachineStepIn
+MachineStepFor AllEdits = AnyStepIn

@@ -1,0 +1,8 @@
+/// Which lines an editor reads.
+#[derive(Clone, Copy, PartialEq, Eq, Debug)]
+pub enum Dialect {
+    /// Those that `parse_line` reads.
+    Plain,
+    /// Those of own members too, which `parse_more_line` reads.
+    AllEdits,
+}

@@ -1,0 +1,39 @@
+-- Of each step of all open documents whether it is a macro, and what a line makes of that where lines of own members are read too.
+use Rattle.std.specs.Prelude.{◌≡◌, ℕ, List, Option, Some, None, Result, Ok, Err}
+use Rattle.undo_stack.specs.History.{current}
+use Rattle.session.specs.declared.line.Line.{Line}
+use Rattle.session.specs.declared.more_line.MoreLine.{MoreLine}
+use Rattle.refusals.specs.declared.line_fault.LineFault.{LineFault}
+use Rattle.session.specs.declared.reply.Reply.{Reply}
+use Rattle.session.specs.Grammar.{line_of}
+use Rattle.session.specs.MoreGrammar.{more_line_of}
+use Rattle.document_lines.specs.declared.dialect.Dialect.{Dialect}
+use Rattle.document_lines.specs.declared.dialect.Dialect.TheVariants.{Plain, AllEdits}
+use Rattle.document_lines.specs.Kinds.{EditsKinds}
+use Rattle.document_lines.specs.Machine.{Machine, active_of}
+use Rattle.document_lines.specs.MoreRules.{answer_of_more}
+use Rattle.editor.specs.Kinds.{ActiveKinds, Kinds, StepKinds, StepKindsIn, UnlessRefused}
+
+-- a line of own members with this reply
+abbrev pub MoreStepKinds : MoreLine → Machine → Option Reply → Machine → List Kinds → List Kinds → Type 0
+MoreStepKinds line m None n old new = new ≡ old
+MoreStepKinds line m (Some reply) n old new =
+    UnlessRefused reply (ActiveKinds (λ h k ks ns. EditsKinds (answer_of_more line (current h)) h k ks ns) m.group.active (active_of m) (active_of n))
+    old new
+
+abbrev pub MoreStepKindsOf : Result MoreLine LineFault → Machine → Option Reply → Machine → List Kinds → List Kinds → Type 0
+MoreStepKindsOf (Ok line) m reply n old new = MoreStepKinds line m reply n old new
+MoreStepKindsOf (Err fault) m reply n old new = new ≡ old
+
+abbrev pub AnyStepKindsOf : Result Line LineFault → List ℕ → Machine → Option Reply → Machine → List Kinds → List Kinds → Type 0
+AnyStepKindsOf (Ok line) bytes m reply n old new = StepKinds line m reply n old new
+AnyStepKindsOf (Err fault) bytes m reply n old new = MoreStepKindsOf (more_line_of bytes) m reply n old new
+
+-- what the bytes of any line make of the lists, beside the step from m to n
+abbrev pub AnyStepKindsIn : List ℕ → Machine → Option Reply → Machine → List Kinds → List Kinds → Type 0
+AnyStepKindsIn bytes = AnyStepKindsOf (line_of bytes) bytes
+
+-- and by which lines are read
+abbrev pub StepKindsFor : Dialect → List ℕ → Machine → Option Reply → Machine → List Kinds → List Kinds → Type 0
+StepKindsFor Plain = StepKindsIn
+StepKindsFor AllEdits = AnyStepKindsIn

@@ -1,0 +1,27 @@
+use crate::text::Text;
+use map_model::MemberOwner;
+
+/// What a line asks of own members. Its texts are borrowed from the line.
+#[derive(Drop)]
+pub enum MoreLine<'a> {
+    /// The own member of this name gets the value that a JSON text says. Where it follows, it merges with the step before it, if
+    /// that sets the same member.
+    SetMember {
+        owner: MemberOwner,
+        name: Text<'a>,
+        json: Text<'a>,
+        follows: bool,
+    },
+    /// Each own member that a JSON text names gets the value that it says, all at once. Where it follows, it merges with the step
+    /// before it, if that does so of the same owner.
+    PutMembers {
+        owner: MemberOwner,
+        json: Text<'a>,
+        follows: bool,
+    },
+    /// The own member of this name is taken out.
+    RemoveMember {
+        owner: MemberOwner,
+        name: Text<'a>,
+    },
+}
