@@ -58,7 +58,7 @@ extern "C" {
 #define ROSKEVAD_NONE (SIZE_MAX)                     /* there is none: no reply to a quiet line, no such file or place */
 #define ROSKEVAD_IS_CLOSED (SIZE_MAX - 1)            /* the editor is closed */
 #define ROSKEVAD_NO_MEMORY (SIZE_MAX - 2)            /* no memory is left for it, and all is as it was */
-#define ROSKEVAD_TOO_GREAT (SIZE_MAX - 3)            /* the undo limit is above the greatest, or no layout has the number */
+#define ROSKEVAD_TOO_GREAT (SIZE_MAX - 3)            /* the undo limit is above the greatest, or nothing has the number */
 #define ROSKEVAD_BAD_NAME (SIZE_MAX - 4)             /* no line can spell that name of a file */
 
 /* Why nothing is set aside of a map, or put back. Those from ROSKEVAD_BAD_CHUNK to ROSKEVAD_UNLIKE come for infinite maps alone. */
@@ -76,6 +76,10 @@ extern "C" {
 #define ROSKEVAD_LAYOUT_ROWS ROSKEVAD_CAST(size_t, 1)       /* the same, but each row of cells on a line of its own */
 #define ROSKEVAD_LAYOUT_MINIMIZED ROSKEVAD_CAST(size_t, 2)  /* as Tiled does if it is asked to minimize */
 #define ROSKEVAD_LAYOUT_COMPACT ROSKEVAD_CAST(size_t, 3)    /* as the reply to `show` is: no spaces, no lines */
+
+/* Which lines an editor reads. */
+#define ROSKEVAD_PLAIN_LINES ROSKEVAD_CAST(size_t, 0) /* those that each editor reads */
+#define ROSKEVAD_ALL_EDITS ROSKEVAD_CAST(size_t, 1)   /* those of own members, too: `member set` and the like */
 
 /* What an editor is kept in. Its fields are the library's. */
 typedef struct roskevad_editor {
@@ -205,6 +209,7 @@ typedef struct roskevad_faulty_word {
 
 /* ---- the library's own names; their pointers are never null */
 size_t roskevad_open(roskevad_editor *editor, size_t limit);
+size_t roskevad_open_for(roskevad_editor *editor, size_t limit, size_t edits);
 size_t roskevad_step(roskevad_editor *editor, const uint8_t *line, size_t line_length, uint8_t *reply, size_t room);
 size_t roskevad_reply(roskevad_editor *editor, uint8_t *reply, size_t room);
 size_t roskevad_run_lines(roskevad_editor *editor, const uint8_t *bytes, size_t length, size_t stop, uint8_t *replies, size_t room, roskevad_lines_done *done);
@@ -289,11 +294,18 @@ static inline uint8_t *roskevad_room_at(void *room)
     return room ? ROSKEVAD_CAST(uint8_t *, room) : &nothing;
 }
 
-/* Opens an editor, closing it first where it is open. The limit is the undo limit of each document when it is made, where 0
- * stands for none. ROSKEVAD_DONE, ROSKEVAD_NO_MEMORY or ROSKEVAD_TOO_GREAT; the editor is closed after the last two. */
+/* Opens an editor, closing it first where it is open. It reads the plain lines. The limit is the undo limit of each document when it
+ * is made, where 0 stands for none. ROSKEVAD_DONE, ROSKEVAD_NO_MEMORY or ROSKEVAD_TOO_GREAT; the editor is closed after the last two. */
 static inline size_t roskevad_editor_open(roskevad_editor *editor, size_t limit)
 {
     return roskevad_open(editor, limit);
+}
+
+/* The same, for `edits` ROSKEVAD_PLAIN_LINES. For ROSKEVAD_ALL_EDITS the editor reads the lines of own members, too. For another number
+ * ROSKEVAD_TOO_GREAT, and all is as it was. */
+static inline size_t roskevad_editor_open_for(roskevad_editor *editor, size_t limit, size_t edits)
+{
+    return roskevad_open_for(editor, limit, edits);
 }
 
 /* Does what a line asks for. A byte 10 ends no line here: it is a byte like any other, and no command has one. So a line with a
@@ -598,7 +610,8 @@ static inline size_t roskevad_editor_map_fault(const void *bytes, size_t length,
 }
 
 /* The word at which a line is refused as 3 or 4, and what is wrong with it in words: `word 1 is not a command`. The text's size, fewer
- * than 256; ROSKEVAD_NONE where the line is read, or refused as 1 or 2. No line is done. */
+ * than 256; ROSKEVAD_NONE where the line is read, or refused as 1 or 2. No line is done. It knows the plain lines alone: it tells of
+ * each line of own members that `member` is not a command. */
 static inline size_t roskevad_editor_word_fault(const char *line, size_t length, roskevad_faulty_word *word, char *text, size_t room)
 {
     return roskevad_word_fault(roskevad_bytes_at(line), length, word, roskevad_room_at(text), room);

@@ -2,7 +2,7 @@
 use Rattle.std.specs.Prelude.{◌≡◌, ℕ, List, [], Bool, true, false, Option, None, Some, is_some, slice_get}
 use Rattle.std.specs.Ordering.{nat_cmp}
 use Rattle.std.specs.Cmp.Lexicographic.{slice_cmp}
-use Rattle.std.specs.FinMap.{code}
+use Rattle.std.specs.FinMap.{code, empty}
 use Rattle.std.specs.Option.{option_map}
 use Rattle.std.specs.Coded.{Coded, coded_ℕ, coded_list}
 use Rattle.region.specs.Cells.{set_of}
@@ -12,30 +12,38 @@ use Rattle.undo_stack.specs.History.{History, current}
 use Rattle.map_model.specs.declared.parts.MapParts.{MapParts}
 use Rattle.undo_stack.specs.Reading.{action_at, text_at}
 use Rattle.session.specs.declared.reply.Reply.{Reply}
-use Rattle.document_lines.specs.Rules.{MachineStepIn}
-use Rattle.document_lines.specs.Machine.{Machine, Workspace, active_of, workspace}
-use Rattle.editor.specs.Kinds.{Kinds, StepKindsIn, macros_at}
+use Rattle.document_lines.specs.Machine.{Machine, Workspace, active_of, started_machine, workspace}
+use Rattle.document_lines.specs.MoreRules.{MachineStepFor}
+use Rattle.document_lines.specs.declared.dialect.Dialect.{Dialect}
+use Rattle.editor.specs.Kinds.{Kinds, macros_at}
+use Rattle.editor.specs.MoreKinds.{StepKindsFor}
 use Rattle.map_store.specs.Files.{Files}
 
 -- how files are coded
 abbrev pub files_code : Coded Files
 files_code = code {R = slice_cmp nat_cmp} (coded_list coded_ℕ) (coded_list coded_ℕ)
 
--- the machine, of each step of each document whether it is a macro, the files, and the reply to the last line, where it had one
+-- which lines are read, the machine, of each step of each document whether it is a macro, the files, and the reply to the last line, where it had one
 pub record MemoryEditorParts : Type 0 where
+  pub dialect : Dialect
   pub machine : Machine
   pub kinds : List Kinds
   pub files : Files
   pub reply : Option Reply
 
+-- an editor with no documents and no files, which reads the lines of a dialect; the limit is the undo limit of each document when it is made
+abbrev pub started_editor : Dialect → ℕ → MemoryEditorParts
+started_editor dialect limit = record { dialect = dialect; machine = started_machine limit; kinds = []; files = empty; reply = None }
+
 -- the machine over these files, which are stored in memory: no call of their store fails, and each does what it says
 abbrev pub workspace_of : MemoryEditorParts → Workspace
 workspace_of s = workspace s.machine (record { files = s.files; failures = 0; honest = true })
 
--- a line leads on: the machine and the files do its step, with the reply to it, and it says which steps are macros then
+-- a line leads on: the machine and the files do its step, with the reply to it, and it says which steps are macros then; the same lines are read
 pub record StepsTo (line : List ℕ) (old new : MemoryEditorParts) : Type 0 where
-  pub step : MachineStepIn line (workspace_of old) new.reply (workspace_of new)
-  pub kinds : StepKindsIn line old.machine new.reply new.machine old.kinds new.kinds
+  pub step : MachineStepFor old.dialect line (workspace_of old) new.reply (workspace_of new)
+  pub kinds : StepKindsFor old.dialect line old.machine new.reply new.machine old.kinds new.kinds
+  pub same : new.dialect ≡ old.dialect
 
 -- ---- of the active document, where there is one
 -- its map

@@ -1,5 +1,6 @@
 use crate::listening::Listening;
 use crate::rectangle::{Rectangle, copy_cells};
+use document_lines::Dialect;
 use editor::{Edit, Editor};
 use map_json::write_outline;
 use map_model::Map;
@@ -13,7 +14,7 @@ use undo_stack::Stack;
 
 /// An editor, and the files that its lines open and save, in memory.
 ///
-/// A caller sees the machine that the editor stands for, the files, and the reply to the last line.
+/// A caller sees which lines the editor reads, the machine that it stands for, the files, and the reply to the last line.
 #[derive(Drop)]
 pub struct MemoryEditor {
     pub(crate) editor: Editor<Edit>,
@@ -22,6 +23,8 @@ pub struct MemoryEditor {
     reply: Option<Reply>,
     // What is kept of the last line to tell what it did.
     pub(crate) listening: Listening,
+    // Which lines it reads.
+    pub(crate) dialect: Dialect,
     pub(crate) alloc: Global,
 }
 
@@ -39,30 +42,39 @@ impl Model for MemoryEditor {
     ghost use Rattle.editor.specs.Kinds.{kinds_in};
     ghost use Rattle.map_store.specs.Stored.{files_of};
 
-    ghost view = { λ s. record { machine = machine_of edit_change s.editor; kinds = kinds_in s.editor; files = files_of s.store.files; reply = s.reply } };
+    ghost view = { λ s. record { dialect = s.dialect; machine = machine_of edit_change s.editor; kinds = kinds_in s.editor; files = files_of s.store.files; reply = s.reply } };
 
     ghost invariant = { λ s. IsSound edit_change s.editor };
 }
 
 impl MemoryEditor {
-    ghost use Rattle.std.specs.Prelude.{◌≡◌, ◌≤◌, [], IfOk, IfErr, None, slice_get};
-    ghost use Rattle.std.specs.FinMap.{contains_key, empty, get, insert, keys, len, remove};
+    ghost use Rattle.std.specs.Prelude.{◌≡◌, ◌≤◌, IfOk, IfErr, slice_get};
+    ghost use Rattle.std.specs.FinMap.{contains_key, get, insert, keys, len, remove};
     ghost use Rattle.std.specs.Option.{option_copied};
     ghost use Rattle.undo_stack.specs.declared.limits.TheConstants.{MAX_LIMIT};
-    ghost use Rattle.document_lines.specs.Machine.{started_machine};
-    ghost use Rattle.memory_editor.specs.Parts.{StepsTo};
+    ghost use Rattle.document_lines.specs.declared.dialect.Dialect.TheVariants.{Plain};
+    ghost use Rattle.memory_editor.specs.Parts.{started_editor, StepsTo};
 
-    /// A editor with no documents and no files. The limit is the undo limit of each document when it is made, at most
-    /// 1,000,000, where 0 stands for none. Takes no memory.
+    /// An editor with no documents and no files, which reads the plain lines. The limit is the undo limit of each document when it is
+    /// made, at most 1,000,000, where 0 stands for none. Takes no memory.
     pub fn new(alloc: Global, limit: usize) -> MemoryEditor
         requires { limit ≤ MAX_LIMIT }
-        ensures { result ≡ record { machine = started_machine limit; kinds = []; files = empty; reply = None } }
+        ensures { result ≡ started_editor Plain limit }
+    {
+        MemoryEditor::for_dialect(alloc, limit, Dialect::Plain)
+    }
+
+    /// As `new`, and it reads the lines of a dialect.
+    pub fn for_dialect(alloc: Global, limit: usize, dialect: Dialect) -> MemoryEditor
+        requires { limit ≤ MAX_LIMIT }
+        ensures { result ≡ started_editor dialect limit }
     {
         MemoryEditor {
             editor: Editor::new(alloc, limit),
             store: MemoryStore::new(alloc),
             reply: None,
             listening: Listening::new(),
+            dialect,
             alloc,
         }
     }
@@ -83,10 +95,12 @@ impl MemoryEditor {
         let put = |edit: Edit| -> Option<Edit>
             ensures { result ≡ Some edit }
         { Some(edit) };
+        let dialect = self.dialect;
         self.reply = step_told(
             self.alloc,
             &mut self.editor,
             &mut self.store,
+            dialect,
             line,
             &put,
             &mut self.listening,

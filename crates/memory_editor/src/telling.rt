@@ -14,12 +14,12 @@ use crate::memory_editor::MemoryEditor;
 use crate::seen::{Seen, open_seen};
 use crate::standing::Standing;
 use crate::told::{Step, Told};
-use document_lines::{Cells, Subject};
+use document_lines::{Cells, Dialect, Subject};
 use editor::Edit;
 use edits::Area;
 use map_model::Map;
 use refusals::{LineFault, Refusal};
-use session::{Reply, word_fault};
+use session::{Reply, parse_more_line, word_fault};
 use undo_stack::Stack;
 
 // The end of so many columns from one on, in a map that has so many.
@@ -58,9 +58,23 @@ fn cells_within(map: &Map, cells: Cells) -> Cells {
     }
 }
 
-// Which word of a line is bad, counted from 1.
+// Whether a line that is refused begins as those of own members do, where these are read.
+fn is_of_members(dialect: Dialect, line: &[u8]) -> bool {
+    match dialect {
+        Dialect::Plain => false,
+        Dialect::AllEdits => match parse_more_line(line) {
+            Err(LineFault::UnknownCommand) => false,
+            _ => true,
+        },
+    }
+}
+
+// Which word of a line is bad, counted from 1. Of a line of own members it is not known.
 #[cold]
-fn bad_word(line: &[u8]) -> Option<u32> {
+fn bad_word(dialect: Dialect, line: &[u8]) -> Option<u32> {
+    if is_of_members(dialect, line) {
+        return None;
+    }
     match word_fault(line) {
         Some(fault) => Some(fault.place),
         None => None,
@@ -129,13 +143,14 @@ impl MemoryEditor {
         }
     }
 
-    // Which word is bad where the last line has one. That line is read once more for it.
+    // Which word is bad where the last line has one and it is known. That line is read once more for it.
     #[inline(always)]
     pub(crate) fn look_at_word(&mut self, line: &[u8])
         ensures { self.new ≡ self.old }
     {
         if let Some(Reply::Refused(Refusal::Line(LineFault::BadWord))) = self.reply() {
-            self.listening.has_bad_word(bad_word(line));
+            let word = bad_word(self.dialect, line);
+            self.listening.has_bad_word(word);
         }
     }
 

@@ -1,6 +1,6 @@
 -- What a call answers, and what then stands in a caller's buffer.
-use Rattle.std.specs.Prelude.{◌≡◌, ◌≤◌, ◌<◌, ◌⊎◌, ℕ, nat_eq, not, Bool, true, false, List, [], length, Option, None, Some, if◌then◌else◌}
-use Rattle.std.specs.FinMap.{contains_key, empty, get, insert, remove}
+use Rattle.std.specs.Prelude.{◌≡◌, ◌≤◌, ◌<◌, ◌⊎◌, ℕ, nat_eq, not, Bool, true, false, List, length, Option, None, Some, if◌then◌else◌}
+use Rattle.std.specs.FinMap.{contains_key, get, insert, remove}
 use Rattle.std.specs.List.{slice_get}
 use Rattle.std.specs.Option.{option_map}
 use Rattle.map_model.specs.declared.parts.MapParts.{MapParts}
@@ -10,10 +10,11 @@ use Rattle.session.specs.Replies.{reply_text}
 use Rattle.session.specs.Words.{is_name}
 use Rattle.session.specs.declared.limits.TheConstants.{MAX_FILE_NAME}
 use Rattle.undo_stack.specs.declared.limits.TheConstants.{MAX_LIMIT}
-use Rattle.document_lines.specs.Machine.{active_of, started_machine}
+use Rattle.document_lines.specs.Machine.{active_of}
+use Rattle.document_lines.specs.declared.dialect.Dialect.{Dialect}
 use Rattle.memory_editor.specs.Buffers.{filled, written}
 use Rattle.memory_editor.specs.ManyLines.{RunsLines}
-use Rattle.memory_editor.specs.Parts.{MemoryEditorParts, StepsTo, action_text_of, active_map, is_macro_at, AreRunsOf}
+use Rattle.memory_editor.specs.Parts.{MemoryEditorParts, StepsTo, action_text_of, active_map, is_macro_at, started_editor, AreRunsOf}
 use Rattle.memory_editor.specs.Rectangles.{cells_of}
 use Rattle.memory_editor.specs.declared.lines_done.LinesDone.{LinesDone}
 use Rattle.roskevad_c.specs.Counts.{counts_of}
@@ -79,14 +80,19 @@ abbrev pub macro_number_at : ℕ → MemoryEditorParts → Option ℕ
 macro_number_at at s = option_map number_of (is_macro_at at s)
 
 -- ---- what calls do
--- an editor is opened, or there was no memory for it
-abbrev pub Opened : ℕ → ℕ → Option MemoryEditorParts → Type 0
-Opened limit answer None = answer ≡ NO_MEMORY
-Opened limit answer (Some s) = (answer ≡ DONE) × (s ≡ record { machine = started_machine limit; kinds = []; files = empty; reply = None })
+-- an editor is opened that reads the lines of a dialect, or there was no memory for it
+abbrev pub Opened : Dialect → ℕ → ℕ → Option MemoryEditorParts → Type 0
+Opened dialect limit answer None = answer ≡ NO_MEMORY
+Opened dialect limit answer (Some s) = (answer ≡ DONE) × (s ≡ started_editor dialect limit)
 
 -- an editor is opened, where the limit is not above the greatest
-abbrev pub Opens : ℕ → ℕ → Option MemoryEditorParts → Type 0
-Opens limit answer new = (limit ≤ MAX_LIMIT → Opened limit answer new) × (MAX_LIMIT < limit → (answer ≡ TOO_GREAT) × (new ≡ None))
+abbrev pub Opens : Dialect → ℕ → ℕ → Option MemoryEditorParts → Type 0
+Opens dialect limit answer new = (limit ≤ MAX_LIMIT → Opened dialect limit answer new) × (MAX_LIMIT < limit → (answer ≡ TOO_GREAT) × (new ≡ None))
+
+-- the same for the dialect of a number; where it is of none, all is as it was
+abbrev pub OpensFor : Option Dialect → ℕ → ℕ → Option MemoryEditorParts → Option MemoryEditorParts → Type 0
+OpensFor None limit answer old new = (answer ≡ TOO_GREAT) × (new ≡ old)
+OpensFor (Some dialect) limit answer old new = Opens dialect limit answer new
 
 -- a line is stepped, where the editor is open
 abbrev pub Steps : List ℕ → Option MemoryEditorParts → Option MemoryEditorParts → Type 0

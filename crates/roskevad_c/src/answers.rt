@@ -12,7 +12,7 @@ pub const CLOSED: usize = usize::MAX - 1;
 /// No memory is left for it, and all is as it was.
 pub const NO_MEMORY: usize = usize::MAX - 2;
 
-/// The undo limit is above the greatest.
+/// The undo limit is above the greatest, or no layout, or no dialect, has the number.
 pub const TOO_GREAT: usize = usize::MAX - 3;
 
 /// No line can spell that name of a file.

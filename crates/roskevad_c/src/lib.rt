@@ -9,6 +9,7 @@ mod answers;
 mod asides;
 mod c_editor;
 mod copies;
+mod dialects;
 mod done_counts;
 mod held;
 mod lookups;
@@ -25,18 +26,22 @@ ghost use Rattle.std.specs.FinMap.{keys, len};
 ghost use Rattle.std.specs.Option.{option_map};
 ghost use Rattle.undo_stack.specs.declared.limits.TheConstants.{MAX_LIMIT};
 ghost use Rattle.document_lines.specs.Machine.{active_of};
+ghost use Rattle.document_lines.specs.declared.dialect.Dialect.TheVariants.{Plain};
 ghost use Rattle.memory_editor.specs.Buffers.{filled};
 ghost use Rattle.memory_editor.specs.Parts.{active_map, clean_index_of, has_step};
+ghost use Rattle.roskevad_c.specs.Dialects.{dialect_at};
 ghost use Rattle.roskevad_c.specs.Asides.{TellsAside, TellsBack, TellsBackLike, TellsLayout, TellsMapFault};
-ghost use Rattle.roskevad_c.specs.Answers.{action_at, cells_at, file_in, is_there, last_reply, macro_number_at, size_of, told_bytes, told_number, told_size, with_file, without, RunsManyLines, Opens, Puts, Steps, TellsCount, TellsOfStep, TellsOutline, TellsRun};
+ghost use Rattle.roskevad_c.specs.Answers.{action_at, cells_at, file_in, is_there, last_reply, macro_number_at, size_of, told_bytes, told_number, told_size, with_file, without, RunsManyLines, Opens, OpensFor, Puts, Steps, TellsCount, TellsOfStep, TellsOutline, TellsRun};
 
 use crate::answers::{BAD_NAME, CLOSED, DONE, NO_MEMORY, NONE, TOO_GREAT};
 use crate::asides::{copy_fault, copy_laid, copy_layout, copy_made, layout_of};
 use crate::c_editor::CEditor;
 use crate::copies::{copy_bytes, copy_outline, copy_reply};
+use crate::dialects::dialect_of;
 use crate::done_counts::DoneCounts;
 use crate::names::spelled;
 use crate::runs::SelectionRun;
+use document_lines::Dialect;
 use map_faults::map_fault;
 use map_layout::lay_out;
 use memory_editor::{MemoryEditor, Rectangle};
@@ -46,23 +51,47 @@ use tiled_maps::{put_back, put_back_like, set_aside};
 // The greatest undo limit.
 const GREATEST_LIMIT: usize = 1_000_000;
 
-/// Opens an editor with no documents and no files. An open one is closed first. The limit is the undo limit of each
-/// document when it is made, at most 1,000,000, where 0 stands for none. Answers `DONE`, `NO_MEMORY` or `TOO_GREAT`; after
-/// the last two the editor is closed.
-#[unsafe(no_mangle)]
-pub extern "C" fn roskevad_open(alloc: Global, editor: &mut CEditor, limit: usize) -> usize
-    ensures { Opens limit result editor.new.held.held_editor }
+// Opens an editor that reads the lines of a dialect. An open one is closed first.
+fn open(alloc: Global, editor: &mut CEditor, limit: usize, dialect: Dialect) -> usize
+    ensures { Opens dialect limit result editor.new.held.held_editor }
 {
     let _ = editor.take(alloc);
     if limit > GREATEST_LIMIT {
         return TOO_GREAT;
     }
-    match Box::new(alloc, MemoryEditor::new(alloc, limit)) {
+    match Box::new(alloc, MemoryEditor::for_dialect(alloc, limit, dialect)) {
         Ok(boxed) => {
             *editor = CEditor::of_box(boxed);
             DONE
         }
         Err(_) => NO_MEMORY,
+    }
+}
+
+/// Opens an editor with no documents and no files, which reads the plain lines. An open one is closed first. The limit is the undo
+/// limit of each document when it is made, at most 1,000,000, where 0 stands for none. Answers `DONE`, `NO_MEMORY` or `TOO_GREAT`;
+/// after the last two the editor is closed.
+#[unsafe(no_mangle)]
+pub extern "C" fn roskevad_open(alloc: Global, editor: &mut CEditor, limit: usize) -> usize
+    ensures { Opens Plain limit result editor.new.held.held_editor }
+{
+    open(alloc, editor, limit, Dialect::Plain)
+}
+
+/// As `roskevad_open`. The editor reads the plain lines where `edits` is 0, and those of own members, too, where it is 1. For another
+/// number it answers `TOO_GREAT`, and all is as it was.
+#[unsafe(no_mangle)]
+pub extern "C" fn roskevad_open_for(
+    alloc: Global,
+    editor: &mut CEditor,
+    limit: usize,
+    edits: usize,
+) -> usize
+    ensures { OpensFor (dialect_at edits) limit result editor.old.held.held_editor editor.new.held.held_editor }
+{
+    match dialect_of(edits) {
+        Some(dialect) => open(alloc, editor, limit, dialect),
+        None => TOO_GREAT,
     }
 }
 

@@ -100,24 +100,26 @@ listed_option_passes cmd k a x m plain no-globals lt elem rules only named own q
     (λ v pass. passes_read cmd m p k a lt only auto q is-q a.id.now v (sym same-id) pass) given in
     subst (λ (b : Bool). Accepts b q t) (ap (λ (y : Arg). y.ignore_case) elem ∙ rules.ignore_case) accepts
 
--- of four arguments with different ids each is the only one with its id
-first_of_four : (w x y z d : Arg) → (w.id.now ≡ x.id.now → ⊥) → (w.id.now ≡ y.id.now → ⊥) → (w.id.now ≡ z.id.now → ⊥)
-    → (j : ℕ) (e : Arg) → j < length (w ∷ x ∷ y ∷ z ∷ [])
-    → bytes_eq (slice_index_or (w ∷ x ∷ y ∷ z ∷ []) j e).id.now w.id.now ≡ true → j ≡ 0
-first_of_four w x y z d w-x w-y w-z zero e lt same = refl
-first_of_four w x y z d w-x w-y w-z (suc zero) e lt same = absurd (w-x (sym ((bytes_eq-Decides x.id.now w.id.now).0 same)))
-first_of_four w x y z d w-x w-y w-z (suc (suc zero)) e lt same = absurd (w-y (sym ((bytes_eq-Decides y.id.now w.id.now).0 same)))
-first_of_four w x y z d w-x w-y w-z (suc (suc (suc zero))) e lt same = absurd (w-z (sym ((bytes_eq-Decides z.id.now w.id.now).0 same)))
-first_of_four w x y z d w-x w-y w-z (suc (suc (suc (suc n)))) e lt same = absurd (omega (arith, lt))
+-- of five arguments of which one has an id that no other has, it is the only one with its id
+first_of_five : (v w x y z d : Arg) → (v.id.now ≡ w.id.now → ⊥) → (v.id.now ≡ x.id.now → ⊥) → (v.id.now ≡ y.id.now → ⊥) → (v.id.now ≡ z.id.now → ⊥)
+    → (j : ℕ) (e : Arg) → j < length (v ∷ w ∷ x ∷ y ∷ z ∷ [])
+    → bytes_eq (slice_index_or (v ∷ w ∷ x ∷ y ∷ z ∷ []) j e).id.now v.id.now ≡ true → j ≡ 0
+first_of_five v w x y z d v-w v-x v-y v-z zero e lt same = refl
+first_of_five v w x y z d v-w v-x v-y v-z (suc zero) e lt same = absurd (v-w (sym ((bytes_eq-Decides w.id.now v.id.now).0 same)))
+first_of_five v w x y z d v-w v-x v-y v-z (suc (suc zero)) e lt same = absurd (v-x (sym ((bytes_eq-Decides x.id.now v.id.now).0 same)))
+first_of_five v w x y z d v-w v-x v-y v-z (suc (suc (suc zero))) e lt same = absurd (v-y (sym ((bytes_eq-Decides y.id.now v.id.now).0 same)))
+first_of_five v w x y z d v-w v-x v-y v-z (suc (suc (suc (suc zero)))) e lt same = absurd (v-z (sym ((bytes_eq-Decides z.id.now v.id.now).0 same)))
+first_of_five v w x y z d v-w v-x v-y v-z (suc (suc (suc (suc (suc n))))) e lt same = absurd (omega (arith, lt))
 
-second_of_four : (w x y z d : Arg) → (w.id.now ≡ x.id.now → ⊥) → (x.id.now ≡ y.id.now → ⊥) → (x.id.now ≡ z.id.now → ⊥)
-    → (j : ℕ) (e : Arg) → j < length (w ∷ x ∷ y ∷ z ∷ [])
-    → bytes_eq (slice_index_or (w ∷ x ∷ y ∷ z ∷ []) j e).id.now x.id.now ≡ true → j ≡ 1
-second_of_four w x y z d w-x x-y x-z zero e lt same = absurd (w-x ((bytes_eq-Decides w.id.now x.id.now).0 same))
-second_of_four w x y z d w-x x-y x-z (suc zero) e lt same = refl
-second_of_four w x y z d w-x x-y x-z (suc (suc zero)) e lt same = absurd (x-y (sym ((bytes_eq-Decides y.id.now x.id.now).0 same)))
-second_of_four w x y z d w-x x-y x-z (suc (suc (suc zero))) e lt same = absurd (x-z (sym ((bytes_eq-Decides z.id.now x.id.now).0 same)))
-second_of_four w x y z d w-x x-y x-z (suc (suc (suc (suc n)))) e lt same = absurd (omega (arith, lt))
+second_of_five : (v w x y z d : Arg) → (v.id.now ≡ w.id.now → ⊥) → (w.id.now ≡ x.id.now → ⊥) → (w.id.now ≡ y.id.now → ⊥) → (w.id.now ≡ z.id.now → ⊥)
+    → (j : ℕ) (e : Arg) → j < length (v ∷ w ∷ x ∷ y ∷ z ∷ [])
+    → bytes_eq (slice_index_or (v ∷ w ∷ x ∷ y ∷ z ∷ []) j e).id.now w.id.now ≡ true → j ≡ 1
+second_of_five v w x y z d v-w w-x w-y w-z zero e lt same = absurd (v-w ((bytes_eq-Decides v.id.now w.id.now).0 same))
+second_of_five v w x y z d v-w w-x w-y w-z (suc zero) e lt same = refl
+second_of_five v w x y z d v-w w-x w-y w-z (suc (suc zero)) e lt same = absurd (w-x (sym ((bytes_eq-Decides x.id.now w.id.now).0 same)))
+second_of_five v w x y z d v-w w-x w-y w-z (suc (suc (suc zero))) e lt same = absurd (w-y (sym ((bytes_eq-Decides y.id.now w.id.now).0 same)))
+second_of_five v w x y z d v-w w-x w-y w-z (suc (suc (suc (suc zero)))) e lt same = absurd (w-z (sym ((bytes_eq-Decides z.id.now w.id.now).0 same)))
+second_of_five v w x y z d v-w w-x w-y w-z (suc (suc (suc (suc (suc n))))) e lt same = absurd (omega (arith, lt))
 
 -- what an option must be, so that its values are known to have passed its parser
 pub record IsOption (a : Arg) (q : ValueParser) : Type 0 where
@@ -132,49 +134,57 @@ pub record IsSwitch (a : Arg) : Type 0 where
   pub plain : IsPlainArg a
   pub local : a.global ≡ false
 
--- the first two of four arguments have ids of their own
-pub record AreApart (a b d e : Arg) : Type 0 where
+-- the first two of five arguments have ids of their own
+pub record AreApart (a b d e f : Arg) : Type 0 where
   pub a-b : a.id.now ≡ b.id.now → ⊥
   pub a-d : a.id.now ≡ d.id.now → ⊥
   pub a-e : a.id.now ≡ e.id.now → ⊥
+  pub a-f : a.id.now ≡ f.id.now → ⊥
   pub b-d : b.id.now ≡ d.id.now → ⊥
   pub b-e : b.id.now ≡ e.id.now → ⊥
+  pub b-f : b.id.now ≡ f.id.now → ⊥
 
--- each value that was given to one of the first two of four arguments of a command passed its parser
-pub two_options_pass : (start mid more last cmd : Command) (a b d e : Arg) (q r : ValueParser)
-    → AddsArg start a mid → AddsArg mid b more → AddsArg more d last → AddsArg last e cmd
+-- each value that was given to one of the first two of five arguments of a command passed its parser
+pub two_options_pass : (start mid more most last cmd : Command) (a b d e f : Arg) (q r : ValueParser)
+    → AddsArg start a mid → AddsArg mid b more → AddsArg more d most → AddsArg most e last → AddsArg last f cmd
     → args_of start ≡ [] → groups_of start ≡ [] → (out-Command start).has_globals ≡ false
-    → IsOption a q → IsOption b r → IsSwitch d → IsSwitch e → AreApart a b d e
+    → IsOption a q → IsOption b r → IsSwitch d → IsSwitch e → IsSwitch f → AreApart a b d e f
     → (m : ArgMatches) (t : List ℕ) → IsParsedFrom cmd m
     → (first_value (found_of m) a.id.now ≡ Some t → Accepts a.ignore_case q t) × (first_value (found_of m) b.id.now ≡ Some t → Accepts b.ignore_case r t)
-two_options_pass start mid more last cmd a b d e q r one two three four args groups globals is-a is-b is-d is-e apart m t p =
-    let list : args_of cmd ≡ one.arg ∷ two.arg ∷ three.arg ∷ four.arg ∷ [] =
-    four.args ∙ ap (λ l. l ++ four.arg ∷ [])
-    (three.args ∙ ap (λ l. l ++ three.arg ∷ []) (two.args ∙ ap (λ l. l ++ two.arg ∷ []) (one.args ∙ ap (λ l. l ++ one.arg ∷ []) args))) in
+two_options_pass start mid more most last cmd a b d e f q r one two three four five args groups globals is-a is-b is-d is-e is-f apart m t p =
+    let list : args_of cmd ≡ one.arg ∷ two.arg ∷ three.arg ∷ four.arg ∷ five.arg ∷ [] =
+    five.args ∙ ap (λ l. l ++ five.arg ∷ [])
+    (four.args ∙ ap (λ l. l ++ four.arg ∷ [])
+    (three.args ∙ ap (λ l. l ++ three.arg ∷ []) (two.args ∙ ap (λ l. l ++ two.arg ∷ []) (one.args ∙ ap (λ l. l ++ one.arg ∷ []) args)))) in
     let plain-start : IsPlain start = (subst (All IsPlainArg) (sym args) (All-nil IsPlainArg), groups) in
     let plain-more : IsPlain more = added_plain mid more b two (added_plain start mid a one plain-start is-a.plain) is-b.plain in
-    let plain : IsPlain cmd = added_plain last cmd e four (added_plain more last d three plain-more is-d.plain) is-e.plain in
+    let plain-last : IsPlain last = added_plain most last e four (added_plain more most d three plain-more is-d.plain) is-e.plain in
+    let plain : IsPlain cmd = added_plain last cmd f five plain-last is-f.plain in
     let none-mid : (out-Command mid).has_globals ≡ false = one.globals ∙ (ap (λ g. g || a.global) globals ∙ ap (λ g. false || g) is-a.local) in
     let none-more : (out-Command more).has_globals ≡ false = two.globals ∙ (ap (λ g. g || b.global) none-mid ∙ ap (λ g. false || g) is-b.local) in
-    let none-last : (out-Command last).has_globals ≡ false = three.globals ∙ (ap (λ g. g || d.global) none-more ∙ ap (λ g. false || g) is-d.local) in
-    let no-globals : (out-Command cmd).has_globals ≡ false = four.globals ∙ (ap (λ g. g || e.global) none-last ∙ ap (λ g. false || g) is-e.local) in
+    let none-most : (out-Command most).has_globals ≡ false = three.globals ∙ (ap (λ g. g || d.global) none-more ∙ ap (λ g. false || g) is-d.local) in
+    let none-last : (out-Command last).has_globals ≡ false = four.globals ∙ (ap (λ g. g || e.global) none-most ∙ ap (λ g. false || g) is-e.local) in
+    let no-globals : (out-Command cmd).has_globals ≡ false = five.globals ∙ (ap (λ g. g || f.global) none-last ∙ ap (λ g. false || g) is-f.local) in
     let id-a : one.arg.id.now ≡ a.id.now = ap (λ (y : Bor (List ℕ)). y.now) one.rules.id in
     let id-b : two.arg.id.now ≡ b.id.now = ap (λ (y : Bor (List ℕ)). y.now) two.rules.id in
     let id-d : three.arg.id.now ≡ d.id.now = ap (λ (y : Bor (List ℕ)). y.now) three.rules.id in
     let id-e : four.arg.id.now ≡ e.id.now = ap (λ (y : Bor (List ℕ)). y.now) four.rules.id in
+    let id-f : five.arg.id.now ≡ f.id.now = ap (λ (y : Bor (List ℕ)). y.now) five.rules.id in
     let apart-a-b : one.arg.id.now ≡ two.arg.id.now → ⊥ = λ s. apart.a-b (sym id-a ∙ s ∙ id-b) in
     let apart-a-d : one.arg.id.now ≡ three.arg.id.now → ⊥ = λ s. apart.a-d (sym id-a ∙ s ∙ id-d) in
     let apart-a-e : one.arg.id.now ≡ four.arg.id.now → ⊥ = λ s. apart.a-e (sym id-a ∙ s ∙ id-e) in
+    let apart-a-f : one.arg.id.now ≡ five.arg.id.now → ⊥ = λ s. apart.a-f (sym id-a ∙ s ∙ id-f) in
     let apart-b-d : two.arg.id.now ≡ three.arg.id.now → ⊥ = λ s. apart.b-d (sym id-b ∙ s ∙ id-d) in
     let apart-b-e : two.arg.id.now ≡ four.arg.id.now → ⊥ = λ s. apart.b-e (sym id-b ∙ s ∙ id-e) in
+    let apart-b-f : two.arg.id.now ≡ five.arg.id.now → ⊥ = λ s. apart.b-f (sym id-b ∙ s ∙ id-f) in
     let only-a = subst (λ l. (j : ℕ) (x : Arg) → j < length l → bytes_eq (slice_index_or l j x).id.now (slice_index_or l 0 a).id.now ≡ true → j ≡ 0) (sym list)
-    (first_of_four one.arg two.arg three.arg four.arg a apart-a-b apart-a-d apart-a-e) in
+    (first_of_five one.arg two.arg three.arg four.arg five.arg a apart-a-b apart-a-d apart-a-e apart-a-f) in
     let only-b = subst (λ l. (j : ℕ) (x : Arg) → j < length l → bytes_eq (slice_index_or l j x).id.now (slice_index_or l 1 b).id.now ≡ true → j ≡ 1) (sym list)
-    (second_of_four one.arg two.arg three.arg four.arg b apart-a-b apart-b-d apart-b-e) in
-    let four-long : length (args_of cmd) ≡ 4 = ap length list in (
-      listed_option_passes cmd 0 a one.arg m plain no-globals (omega (arith, four-long))
+    (second_of_five one.arg two.arg three.arg four.arg five.arg b apart-a-b apart-b-d apart-b-e apart-b-f) in
+    let five-long : length (args_of cmd) ≡ 5 = ap length list in (
+      listed_option_passes cmd 0 a one.arg m plain no-globals (omega (arith, five-long))
           (ap (λ l. slice_index_or l 0 a) list) one.rules only-a is-a.named is-a.own q is-a.parser p t,
-      listed_option_passes cmd 1 b two.arg m plain no-globals (omega (arith, four-long))
+      listed_option_passes cmd 1 b two.arg m plain no-globals (omega (arith, five-long))
           (ap (λ l. slice_index_or l 1 b) list) two.rules only-b is-b.named is-b.own r is-b.parser p t,
     )
 

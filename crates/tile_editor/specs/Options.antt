@@ -39,11 +39,18 @@ all_maps_option = record (new_rule (codes "all_maps")) {
   action = Some SetTrue;
 }
 
+-- `--all-edits`
+abbrev pub all_edits_option : Rule
+all_edits_option = record (new_rule (codes "all_edits")) {
+  long = Some (codes "all-edits");
+  action = Some SetTrue;
+}
+
 -- the command: those options, and those for help and for the version
 abbrev pub command : App
 command =
-    with_rule (with_rule (with_rule (with_rule (on_top (λ shape. record shape { has_version = true }) (new_app (codes "tile_editor"))) folder_option)
-    limit_option) strict_option) all_maps_option
+    with_rule (with_rule (with_rule (with_rule (with_rule (on_top (λ shape. record shape { has_version = true }) (new_app (codes "tile_editor")))
+    folder_option) limit_option) strict_option) all_maps_option) all_edits_option
 
 -- the folder that the words name, and `.` where they name none; the first word is the program's name
 abbrev pub folder_of : List Text → Text
@@ -64,6 +71,10 @@ strict_text words = one_of (codes "strict") (matches_of command words)
 -- what the words say of `--all-maps`, in the same way
 abbrev pub all_maps_text : List Text → Option Text
 all_maps_text words = one_of (codes "all_maps") (matches_of command words)
+
+-- what the words say of `--all-edits`, in the same way
+abbrev pub all_edits_text : List Text → Option Text
+all_edits_text words = one_of (codes "all_edits") (matches_of command words)
 
 -- an option is given where its text is `true`
 abbrev pub IsFlag : Option Text → Bool → Type 0

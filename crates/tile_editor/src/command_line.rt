@@ -1,6 +1,6 @@
 ghost use Rattle.std.specs.Prelude.{◌≡◌, ◌<◌, ◌≤◌, IfOk, IfSome, false, codes, length, map, option_map};
 ghost use Rattle.clap.specs.Words.{FailsBy, IsPlainArg, IsUnsignedIn, app_of, fault_of, rule_of};
-ghost use Rattle.tile_editor.specs.Options.{all_maps_option, all_maps_text, command, folder_of, folder_option, limit_of, limit_option, strict_option, strict_text, value_or_zero, GivesOnly, IsFlag};
+ghost use Rattle.tile_editor.specs.Options.{all_edits_option, all_edits_text, all_maps_option, all_maps_text, command, folder_of, folder_option, limit_of, limit_option, strict_option, strict_text, value_or_zero, GivesOnly, IsFlag};
 ghost use Rattle.undo_stack.specs.declared.limits.TheConstants.{MAX_LIMIT};
 
 use crate::choices::Options;
@@ -71,6 +71,13 @@ Session lines:
   text PLACE
   tile LAYER X Y
 
+Lines of own members, with --all-edits:
+  member set OWNER KEY JSON
+  member set+ OWNER KEY JSON
+  member put OWNER JSON
+  member put+ OWNER JSON
+  member remove OWNER KEY
+
 Exit status:
   0  the input has ended, or help or the version was asked for
   1  a read or a write failed, or there was no memory
@@ -83,6 +90,17 @@ What each line does, and each reply, is in docs/session-lines.md.";
 pub fn shown_forms() -> &'static str {
     match AFTER_HELP.split_once("\n\n") {
         Some((forms, _)) => forms,
+        None => AFTER_HELP,
+    }
+}
+
+/// The forms of lines of own members, in the same way.
+pub fn shown_forms_of_members() -> &'static str {
+    match AFTER_HELP.split_once("\n\n") {
+        Some((_, rest)) => match rest.split_once("\n\n") {
+            Some((forms, _)) => forms,
+            None => rest,
+        },
         None => AFTER_HELP,
     }
 }
@@ -139,6 +157,18 @@ fn all_maps_arg<'a>(alloc: Global) -> Arg<'a>
         )
 }
 
+// The option that reads the lines of own members.
+fn all_edits_arg<'a>(alloc: Global) -> Arg<'a>
+    ensures rule { rule_of result ≡ all_edits_option }
+    ensures plain { IsPlainArg result }
+    ensures local { result.global ≡ false }
+{
+    Arg::new(alloc, "all_edits")
+        .long("all-edits")
+        .action(ArgAction::SetTrue)
+        .help("Reads the lines of own members, too: those of `member` below")
+}
+
 // The command with its options.
 fn whole_command<'a>(alloc: Global) -> Result<Command<'a>, AllocError>
     ensures app { IfOk result (λ c. app_of c ≡ command) }
@@ -152,7 +182,8 @@ fn whole_command<'a>(alloc: Global) -> Result<Command<'a>, AllocError>
         .arg(folder_arg(alloc))?;
     let with_limit = with_folder.arg(limit_arg(alloc))?;
     let with_strict = with_limit.arg(strict_arg(alloc))?;
-    with_strict.arg(all_maps_arg(alloc))
+    let with_all_maps = with_strict.arg(all_maps_arg(alloc))?;
+    with_all_maps.arg(all_edits_arg(alloc))
 }
 
 // The number that the value of `--limit` writes, and 0 where none is given.
@@ -179,6 +210,7 @@ pub fn options<'a, S: AsStr>(alloc: Global, words: &'a [S]) -> Result<Options<'a
     ensures within { IfOk result (λ o. o.limit ≤ MAX_LIMIT) }
     ensures strict { IfOk result (λ o. IsFlag (strict_text (map S.text words.entry.now)) o.is_strict) }
     ensures all_maps { IfOk result (λ o. IsFlag (all_maps_text (map S.text words.entry.now)) o.opens_all_maps) }
+    ensures all_edits { IfOk result (λ o. IsFlag (all_edits_text (map S.text words.entry.now)) o.does_all_edits) }
 {
     let command = whole_command(alloc)?;
     match command.try_get_matches_from(words) {
@@ -187,6 +219,7 @@ pub fn options<'a, S: AsStr>(alloc: Global, words: &'a [S]) -> Result<Options<'a
             limit: limit_in(matches.get_str("limit")),
             is_strict: matches.get_flag("strict"),
             opens_all_maps: matches.get_flag("all_maps"),
+            does_all_edits: matches.get_flag("all_edits"),
         }),
         Err(error) => Err(error),
     }

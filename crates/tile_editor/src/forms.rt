@@ -1,7 +1,7 @@
 // The forms of session lines, and the word at which a refused line leaves them.
-use crate::command_line::shown_forms;
+use crate::command_line::{shown_forms, shown_forms_of_members};
 use refusals::LineFault;
-use session::word_fault;
+use session::{parse_more_line, word_fault};
 use std::alloc::{AllocError, Global};
 use std::fmt::Write;
 
@@ -60,15 +60,46 @@ fn is_like(form: &str, word: &str, is_written_so: bool) -> bool {
     }
 }
 
-// The forms of the command that a line of no command seems to mean, each on a line of its own.
-fn meant(alloc: Global, line: &str) -> Result<String, AllocError> {
+// Adds to forms those of a list that a line of no command seems to mean, each on a line of its own.
+fn add_meant(forms: &mut String, line: &str, list: &str) -> Result<(), AllocError> {
     let word = command_of(line.trim());
-    let is_command = shown_forms()
+    let is_command = list
         .lines()
         .any(|shown| is_like(shown.trim_start(), word, true));
-    let mut forms = String::new(alloc);
-    for shown in shown_forms().lines() {
+    for shown in list.lines() {
         if shown.starts_with(' ') && is_like(shown.trim_start(), word, is_command) {
+            write!(forms, "\n{shown}")?;
+        }
+    }
+    Ok(())
+}
+
+// The forms of the command that a line of no command seems to mean, each on a line of its own.
+fn meant(alloc: Global, line: &str, does_all_edits: bool) -> Result<String, AllocError> {
+    let mut forms = String::new(alloc);
+    add_meant(&mut forms, line, shown_forms())?;
+    if does_all_edits {
+        add_meant(&mut forms, line, shown_forms_of_members())?;
+    }
+    Ok(forms)
+}
+
+// Whether a line that is refused begins as those of own members do, where these are read.
+fn is_of_members(line: &str, does_all_edits: bool) -> bool {
+    if !does_all_edits {
+        return false;
+    }
+    match parse_more_line(line.as_bytes()) {
+        Err(LineFault::UnknownCommand) => false,
+        _ => true,
+    }
+}
+
+// The forms of lines of own members, each on a line of its own.
+fn of_members(alloc: Global) -> Result<String, AllocError> {
+    let mut forms = String::new(alloc);
+    for shown in shown_forms_of_members().lines() {
+        if shown.starts_with(' ') {
             write!(forms, "\n{shown}")?;
         }
     }
@@ -76,13 +107,22 @@ fn meant(alloc: Global, line: &str) -> Result<String, AllocError> {
 }
 
 /// What is said of a line that is refused as 3 or 4: at which word, counted from 1, it leaves its form, what that word is to be, and
-/// the forms that the words before it fit. A text counts as one word. The word may be missing, or be one too many.
-pub fn hint_of(alloc: Global, line: &str, fault: LineFault) -> Result<String, AllocError> {
+/// the forms that the words before it fit. A text counts as one word. The word may be missing, or be one too many. Of a line of own
+/// members that word is not known, and all forms of these lines are said.
+pub fn hint_of(
+    alloc: Global,
+    line: &str,
+    fault: LineFault,
+    does_all_edits: bool,
+) -> Result<String, AllocError> {
+    if is_of_members(line, does_all_edits) {
+        return of_members(alloc);
+    }
     let Some(word) = word_fault(line.as_bytes()) else {
         return Ok(String::new(alloc));
     };
     let forms = match fault {
-        LineFault::UnknownCommand => meant(alloc, line)?,
+        LineFault::UnknownCommand => meant(alloc, line, does_all_edits)?,
         _ => begun(alloc, line, word.place.saturating_sub(1) as usize)?,
     };
     format!(in alloc; ": {word}{forms}")

@@ -5,14 +5,16 @@ mod choices;
 mod command_line;
 mod forms;
 mod reports;
+mod runs;
 mod streams;
 
 use crate::command_line::options;
 use crate::reports::{ErrorLines, FolderFaults, look_at_folder};
+use crate::runs::run_as;
 use crate::streams::Watched;
 use clap::error::ErrorKind;
 use map_store::{FolderStore, Reason};
-use session_run::{RunFault, StrictFault, run, run_strict};
+use session_run::{RunFault, StrictFault, Summary};
 use std::env::Env;
 use std::fmt::Display;
 use std::io::BufWriter;
@@ -77,6 +79,27 @@ fn ends_with_answer(rt: &(impl Print + Eprint), answer: &clap::Error) -> ExitCod
     }
 }
 
+// The status after a run. Where a fault ended it, standard error says which, with the system's reason for a read or a write.
+fn ends_as(
+    rt: &impl Eprint,
+    ended: Result<Summary, StrictFault>,
+    read: Option<&Reason>,
+    write: Option<&Reason>,
+) -> ExitCode {
+    match ended {
+        Ok(_) => ExitCode::SUCCESS,
+        Err(StrictFault::Refused | StrictFault::Unsaved) => ExitCode::from(NOT_DONE),
+        Err(StrictFault::Run(fault)) => {
+            let reason = match fault {
+                RunFault::Read => read,
+                RunFault::Write => write,
+                RunFault::Memory => None,
+            };
+            ends_with_fault(rt, fault, reason)
+        }
+    }
+}
+
 fn main(rt: HostRuntime) -> ExitCode {
     let words = match read_words(&rt) {
         Ok(words) => words,
@@ -97,36 +120,14 @@ fn main(rt: HostRuntime) -> ExitCode {
     let faults = FolderFaults::new(&rt, chosen.folder);
     // One type of store with and without the option: the compiler folds what `run` calls once into it.
     let mut store = TiledStore::new(files, sources, faults, chosen.opens_all_maps);
-    let ended = if chosen.is_strict {
-        let mut report = ErrorLines::new(&rt, rt.alloc());
-        run_strict(
-            rt.alloc(),
-            &mut reader,
-            &mut writer,
-            &mut store,
-            chosen.limit,
-            &mut report,
-        )
-    } else {
-        run(
-            rt.alloc(),
-            &mut reader,
-            &mut writer,
-            &mut store,
-            chosen.limit,
-        )
-        .map_err(|fault| StrictFault::Run(fault))
-    };
-    match ended {
-        Ok(_) => ExitCode::SUCCESS,
-        Err(StrictFault::Refused | StrictFault::Unsaved) => ExitCode::from(NOT_DONE),
-        Err(StrictFault::Run(fault)) => {
-            let reason = match fault {
-                RunFault::Read => reader.reason(),
-                RunFault::Write => writer.get_ref().reason(),
-                RunFault::Memory => None,
-            };
-            ends_with_fault(&rt, fault, reason)
-        }
-    }
+    let mut report = ErrorLines::new(&rt, rt.alloc(), chosen.does_all_edits);
+    let ended = run_as(
+        &chosen,
+        rt.alloc(),
+        &mut reader,
+        &mut writer,
+        &mut store,
+        &mut report,
+    );
+    ends_as(&rt, ended, reader.reason(), writer.get_ref().reason())
 }

@@ -36,9 +36,9 @@ impl<'a> Display for Shown<'a> {
 }
 
 // What is said behind the words of a refusal; nothing where there is no memory for it.
-fn hint_behind(alloc: Global, text: &str, refusal: Refusal) -> String {
+fn hint_behind(alloc: Global, text: &str, refusal: Refusal, does_all_edits: bool) -> String {
     let hint = match refusal {
-        Refusal::Line(fault) => hint_of(alloc, text, fault),
+        Refusal::Line(fault) => hint_of(alloc, text, fault, does_all_edits),
         _ => return String::new(alloc),
     };
     hint.unwrap_or(String::new(alloc))
@@ -49,12 +49,17 @@ fn hint_behind(alloc: Global, text: &str, refusal: Refusal) -> String {
 pub struct ErrorLines<'a, R> {
     rt: &'a R,
     alloc: Global,
+    does_all_edits: bool,
 }
 
 impl<'a, R: Eprint> ErrorLines<'a, R> {
-    /// With memory for what it says of a line's form.
-    pub fn new(rt: &'a R, alloc: Global) -> ErrorLines<'a, R> {
-        ErrorLines { rt, alloc }
+    /// With memory for what it says of a line's form, and whether lines of own members are read.
+    pub fn new(rt: &'a R, alloc: Global, does_all_edits: bool) -> ErrorLines<'a, R> {
+        ErrorLines {
+            rt,
+            alloc,
+            does_all_edits,
+        }
     }
 }
 
@@ -64,7 +69,7 @@ impl<'a, R: Eprint> Report for ErrorLines<'a, R> {
         let _ = match text {
             Some(text) => {
                 let line = Shown(text);
-                let hint = hint_behind(self.alloc, text, refusal);
+                let hint = hint_behind(self.alloc, text, refusal, self.does_all_edits);
                 eprintln!(self.rt; "tile_editor: line {number}: {line}: no {words}{hint}")
             }
             None => eprintln!(self.rt; "tile_editor: line {number}: no {words}"),

@@ -59,3 +59,14 @@ returns-in-Ok-clause-all_maps g c =
     one_text-rows (found_of c.in-Ok.matches) (codes "all_maps") ∙ ap (one_of (codes "all_maps")) rows in
     subst (λ (o : Option Text). IsFlag o flag.result) read
     (read_IsFlag (one_text (found_of c.in-Ok.matches) (codes "all_maps")) flag.result flag.ensures.none flag.ensures.value flag.ensures.other)
+
+pub returns-in-Ok-clause-all_edits : goal.returns-in-Ok-clause-all_edits
+returns-in-Ok-clause-all_edits g c =
+    let made = c.in_ok-command.ensures.app in
+    let words : List Text = map g.S.AsStr.text c.args.words.now in
+    let rows = (c.in-Ok.ensures.matches (ap is_simple made ∙ command_is_simple)).0 ∙ ap (λ (a : App). matches_of a words) made in
+    let flag = c.get_flag-in-Ok-2 in
+    let read : one_text (found_of c.in-Ok.matches) (codes "all_edits") ≡ one_of (codes "all_edits") (matches_of command words) =
+    one_text-rows (found_of c.in-Ok.matches) (codes "all_edits") ∙ ap (one_of (codes "all_edits")) rows in
+    subst (λ (o : Option Text). IsFlag o flag.result) read
+    (read_IsFlag (one_text (found_of c.in-Ok.matches) (codes "all_edits")) flag.result flag.ensures.none flag.ensures.value flag.ensures.other)

@@ -7,7 +7,7 @@ use Rattle.clap.specs.declared.builder.command.Command.{Command}
 use Rattle.clap.specs.declared.builder.command.Command.TheOpen.{Command-F}
 use Rattle.clap.specs.declared.builder.value_parser.ValueParser.TheVariants as parser
 use Rattle.undo_stack.specs.declared.limits.TheConstants.{MAX_LIMIT}
-use Rattle.tile_editor.specs.Options.{folder_option, limit_option, strict_option, all_maps_option}
+use Rattle.tile_editor.specs.Options.{folder_option, limit_option, strict_option, all_maps_option, all_edits_option}
 use Rattle.tile_editor.proofs.CommandLines.{AreApart, IsOption, if_ok, texts_added, two_options_pass}
 use Rattle.tile_editor.proofs.command_line.whole_command.Goals as goal
 
@@ -49,13 +49,16 @@ apart a b r s is-a is-b differ e = differ (first_byte r.id s.id (sym (id_of a r 
 differ : (m n : ℕ) → m < n → m ≡ n → ⊥
 differ m n less same = absurd (omega (arith, less, same))
 
-are_apart : (a b d e : Arg) → rule_of a ≡ folder_option → rule_of b ≡ limit_option → rule_of d ≡ strict_option → rule_of e ≡ all_maps_option → AreApart a b d e
-are_apart a b d e is-a is-b is-d is-e = record {
+are_apart : (a b d e f : Arg) → rule_of a ≡ folder_option → rule_of b ≡ limit_option → rule_of d ≡ strict_option → rule_of e ≡ all_maps_option
+    → rule_of f ≡ all_edits_option → AreApart a b d e f
+are_apart a b d e f is-a is-b is-d is-e is-f = record {
   a-b = apart a b folder_option limit_option is-a is-b (differ 102 108 (lit< tt));
   a-d = apart a d folder_option strict_option is-a is-d (differ 102 115 (lit< tt));
   a-e = apart a e folder_option all_maps_option is-a is-e (λ s. differ 97 102 (lit< tt) (sym s));
+  a-f = apart a f folder_option all_edits_option is-a is-f (λ s. differ 97 102 (lit< tt) (sym s));
   b-d = apart b d limit_option strict_option is-b is-d (differ 108 115 (lit< tt));
   b-e = apart b e limit_option all_maps_option is-b is-e (λ s. differ 97 108 (lit< tt) (sym s));
+  b-f = apart b f limit_option all_edits_option is-b is-f (λ s. differ 97 108 (lit< tt) (sym s));
 }
 
 -- the command with its texts, and with one option after the other
@@ -70,10 +73,13 @@ returns-clause-app c =
     c.in_ok-with_limit.ensures.shape c.limit_arg.ensures.local ∙ ap (with_rule (app_of c.in_ok-with_folder.with_folder)) c.limit_arg.ensures.rule in
     let three : app_of c.in_ok-with_strict.with_strict ≡ with_rule (app_of c.in_ok-with_limit.with_limit) strict_option =
     c.in_ok-with_strict.ensures.shape c.strict_arg.ensures.local ∙ ap (with_rule (app_of c.in_ok-with_limit.with_limit)) c.strict_arg.ensures.rule in
-    if_ok c.arg-4.result _ _ c.arg-4.ensures (λ cmd four.
-    four.shape c.all_maps_arg.ensures.local ∙ ap (with_rule (app_of c.in_ok-with_strict.with_strict)) c.all_maps_arg.ensures.rule
-    ∙ ap (λ app. with_rule app all_maps_option) (three ∙ ap (λ app. with_rule app strict_option)
-    (two ∙ ap (λ app. with_rule app limit_option) (one ∙ ap (λ app. with_rule app folder_option) none))))
+    let four : app_of c.in_ok-with_all_maps.with_all_maps ≡ with_rule (app_of c.in_ok-with_strict.with_strict) all_maps_option =
+    c.in_ok-with_all_maps.ensures.shape c.all_maps_arg.ensures.local
+    ∙ ap (with_rule (app_of c.in_ok-with_strict.with_strict)) c.all_maps_arg.ensures.rule in
+    if_ok c.arg-5.result _ _ c.arg-5.ensures (λ cmd five.
+    five.shape c.all_edits_arg.ensures.local ∙ ap (with_rule (app_of c.in_ok-with_all_maps.with_all_maps)) c.all_edits_arg.ensures.rule
+    ∙ ap (λ app. with_rule app all_edits_option) (four ∙ ap (λ app. with_rule app all_maps_option) (three ∙ ap (λ app. with_rule app strict_option)
+    (two ∙ ap (λ app. with_rule app limit_option) (one ∙ ap (λ app. with_rule app folder_option) none)))))
 
 pub returns-clause-folder : goal.returns-clause-folder
 returns-clause-folder c =
@@ -81,17 +87,20 @@ returns-clause-folder c =
     let b = c.limit_arg in
     let d = c.strict_arg in
     let e = c.all_maps_arg in
+    let f = c.all_edits_arg in
     let texts = texts_added c.new.result c.version.result c.about.result c.after_help.result _ _ _ c.version.ensures c.about.ensures c.after_help.ensures in
-    if_ok c.arg-4.result _ _ c.arg-4.ensures (λ cmd four m t p given.
-    (two_options_pass c.after_help.result c.in_ok-with_folder.with_folder c.in_ok-with_limit.with_limit c.in_ok-with_strict.with_strict cmd
-    a.result b.result d.result e.result parser.NonEmptyString (parser.Unsigned 0 MAX_LIMIT)
-    c.in_ok-with_folder.ensures c.in_ok-with_limit.ensures c.in_ok-with_strict.ensures four
+    if_ok c.arg-5.result _ _ c.arg-5.ensures (λ cmd five m t p given.
+    (two_options_pass c.after_help.result c.in_ok-with_folder.with_folder c.in_ok-with_limit.with_limit c.in_ok-with_strict.with_strict
+    c.in_ok-with_all_maps.with_all_maps cmd
+    a.result b.result d.result e.result f.result parser.NonEmptyString (parser.Unsigned 0 MAX_LIMIT)
+    c.in_ok-with_folder.ensures c.in_ok-with_limit.ensures c.in_ok-with_strict.ensures c.in_ok-with_all_maps.ensures five
     (ap (λ (f : Command-F Command). f.args.items) texts ∙ c.new.ensures.empty.0)
     (ap (λ (f : Command-F Command). f.groups.items) texts ∙ c.new.ensures.empty.1)
     (ap (λ (f : Command-F Command). f.has_globals) texts ∙ c.new.ensures.local)
     (is_folder a.result a.ensures.rule a.ensures.plain a.ensures.local) (is_limit b.result b.ensures.rule b.ensures.plain b.ensures.local)
     (record { plain = d.ensures.plain; local = d.ensures.local }) (record { plain = e.ensures.plain; local = e.ensures.local })
-    (are_apart a.result b.result d.result e.result a.ensures.rule b.ensures.rule d.ensures.rule e.ensures.rule) m t p).0
+    (record { plain = f.ensures.plain; local = f.ensures.local })
+    (are_apart a.result b.result d.result e.result f.result a.ensures.rule b.ensures.rule d.ensures.rule e.ensures.rule f.ensures.rule) m t p).0
     (ap (first_value (found_of m)) (id_of a.result folder_option a.ensures.rule) ∙ given))
 
 pub returns-clause-limit : goal.returns-clause-limit
@@ -100,15 +109,18 @@ returns-clause-limit c =
     let b = c.limit_arg in
     let d = c.strict_arg in
     let e = c.all_maps_arg in
+    let f = c.all_edits_arg in
     let texts = texts_added c.new.result c.version.result c.about.result c.after_help.result _ _ _ c.version.ensures c.about.ensures c.after_help.ensures in
-    if_ok c.arg-4.result _ _ c.arg-4.ensures (λ cmd four m t p given.
-    (two_options_pass c.after_help.result c.in_ok-with_folder.with_folder c.in_ok-with_limit.with_limit c.in_ok-with_strict.with_strict cmd
-    a.result b.result d.result e.result parser.NonEmptyString (parser.Unsigned 0 MAX_LIMIT)
-    c.in_ok-with_folder.ensures c.in_ok-with_limit.ensures c.in_ok-with_strict.ensures four
+    if_ok c.arg-5.result _ _ c.arg-5.ensures (λ cmd five m t p given.
+    (two_options_pass c.after_help.result c.in_ok-with_folder.with_folder c.in_ok-with_limit.with_limit c.in_ok-with_strict.with_strict
+    c.in_ok-with_all_maps.with_all_maps cmd
+    a.result b.result d.result e.result f.result parser.NonEmptyString (parser.Unsigned 0 MAX_LIMIT)
+    c.in_ok-with_folder.ensures c.in_ok-with_limit.ensures c.in_ok-with_strict.ensures c.in_ok-with_all_maps.ensures five
     (ap (λ (f : Command-F Command). f.args.items) texts ∙ c.new.ensures.empty.0)
     (ap (λ (f : Command-F Command). f.groups.items) texts ∙ c.new.ensures.empty.1)
     (ap (λ (f : Command-F Command). f.has_globals) texts ∙ c.new.ensures.local)
     (is_folder a.result a.ensures.rule a.ensures.plain a.ensures.local) (is_limit b.result b.ensures.rule b.ensures.plain b.ensures.local)
     (record { plain = d.ensures.plain; local = d.ensures.local }) (record { plain = e.ensures.plain; local = e.ensures.local })
-    (are_apart a.result b.result d.result e.result a.ensures.rule b.ensures.rule d.ensures.rule e.ensures.rule) m t p).1
+    (record { plain = f.ensures.plain; local = f.ensures.local })
+    (are_apart a.result b.result d.result e.result f.result a.ensures.rule b.ensures.rule d.ensures.rule e.ensures.rule f.ensures.rule) m t p).1
     (ap (first_value (found_of m)) (id_of b.result limit_option b.ensures.rule) ∙ given))

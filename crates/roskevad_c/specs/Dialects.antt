@@ -1,0 +1,8 @@
+-- Which lines an editor reads, by C's numbers.
+use Rattle.std.specs.Prelude.{ℕ, ◌==◌, Option, None, Some, if◌then◌else◌}
+use Rattle.document_lines.specs.declared.dialect.Dialect.{Dialect}
+use Rattle.document_lines.specs.declared.dialect.Dialect.TheVariants.{Plain, AllEdits}
+
+-- the dialect of a number
+abbrev pub dialect_at : ℕ → Option Dialect
+dialect_at n = if n == 0 then Some Plain else (if n == 1 then Some AllEdits else None)
