@@ -24,8 +24,8 @@ const BAD_DATA = 66;
 
 /** Why a map is not unpacked or packed, or a layer stays packed: a number of docs/refusals.md, and the reason in words. */
 export class Unpackable extends Error {
-  constructor(code, why) {
-    super(why);
+  constructor(code, why, cause) {
+    super(why, cause === undefined ? undefined : { cause });
     Object.assign(this, { code, why });
   }
 }
@@ -33,7 +33,7 @@ export class Unpackable extends Error {
 /**
  * The bytes of a map with its layers unpacked, each of which notes how it was packed; the same bytes
  * where none is. A layer stays as it is where the host cannot unpack it, or its data are damaged: `left` has
- * it then, as { path, members, code, why }, where the code is the one that its map is refused with, if it is a
+ * it then, as { path, members, code, why, cause }, where the code is the one that its map is refused with, if it is a
  * tile layer. Throws Unpackable.
  */
 export async function unpackLayers(bytes) {
@@ -54,7 +54,7 @@ export async function unpackLayers(bytes) {
       if (!(fault instanceof Unpackable) || fault.code === STORE_FAILED) {
         throw fault;
       }
-      left.push({ path, members, code: fault.code, why: fault.why });
+      left.push({ path, members, code: fault.code, why: fault.why, cause: fault.cause });
     }
   }
   return { bytes: edits.length > 0 ? new TextEncoder().encode(edited(text, edits)) : bytes, left };
@@ -197,9 +197,12 @@ async function unpackedData(data, size, budget) {
     throw new Unpackable(STORE_FAILED, TOO_LONG);
   }
   const bytes = bytesOfBase64(data);
-  const came = bytes && (await inflated(bytes, size));
+  let cause;
+  const came = bytes && (await inflated(bytes, size, (fault) => {
+    cause = fault;
+  }));
   if (!came || came.length !== size || !(await endsThere(bytes, size))) {
-    throw new Unpackable(BAD_DATA, "the data of a layer does not unpack to 4 bytes a cell");
+    throw new Unpackable(BAD_DATA, "the data of a layer does not unpack to 4 bytes a cell", cause);
   }
   return came;
 }
@@ -211,12 +214,13 @@ async function endsThere(bytes, size) {
   return (await seesEnd) || (await inflated(bytes.subarray(0, -1), size)) === null;
 }
 
-// At most so many bytes of a stream; null where it has more, or is cut short or damaged.
-async function inflated(bytes, most) {
+// At most so many bytes of a stream; null where it has more, or is cut short or damaged. What the host throws then is handed on.
+async function inflated(bytes, most, take = () => {}) {
   const isGzip = GZIP.every((byte, at) => bytes[at] === byte);
   try {
     return await through(new DecompressionStream(isGzip ? "gzip" : "deflate"), bytes, most);
-  } catch {
+  } catch (fault) {
+    take(fault);
     return null;
   }
 }

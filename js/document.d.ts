@@ -189,16 +189,16 @@ export class Document {
   readonly tilesets: Tilesets;
   /**
    * Writes rows of values from a cell on; a value 0 leaves its cell as it is, and what lies past
-   * the map's edge is cut off. Throws TypeError, RangeError, Refused (30, 31, 33).
+   * the map's edge is cut off. Throws TypeError, RangeError, NotFound, Refused (30, 31, 33).
    */
   stamp(layer: LayerLike, x: number, y: number, rows: Rows, options?: { merge?: boolean }): void;
-  /** Empties a rectangle of cells. Throws TypeError, RangeError, Refused (30, 31). */
+  /** Empties a rectangle of cells. Throws TypeError, RangeError, NotFound, Refused (30, 31). */
   erase(
     layer: LayerLike, x: number, y: number, width: number, height: number, options?: { merge?: boolean },
   ): void;
   /**
    * Writes a value into a cell and the cells of the same value that are joined to it. Throws
-   * TypeError, RangeError, Refused (30, 31, 32, 33).
+   * TypeError, RangeError, NotFound, Refused (30, 31, 32, 33).
    */
   fill(layer: LayerLike, x: number, y: number, value: number): void;
   /**
@@ -292,7 +292,7 @@ export class Layers {
   private constructor();
   /**
    * The layer with an id, the first of a name, or the one at a path: names of groups and its own,
-   * joined by slashes. Throws RangeError.
+   * joined by slashes. Throws NotFound.
    */
   get(key: LayerLike): Layer;
   /** Whether there is one with an id, or of a name, of any kind. */
@@ -386,7 +386,7 @@ export class Layer {
  */
 export class Objects {
   private constructor();
-  /** The object with an id, or the first of a name. Throws RangeError. */
+  /** The object with an id, or the first of a name. Throws NotFound. */
   get(key: ObjectLike): MapObject;
   /** The same; null where there is none. */
   find(key: ObjectLike): MapObject | null;
@@ -464,12 +464,12 @@ export class Properties {
   /** The names, in order. */
   keys(): IterableIterator<string>;
   /**
-   * The type of a name: string, int, float, bool, color, file, object or class. Throws RangeError.
+   * The type of a name: string, int, float, bool, color, file, object or class. Throws NotFound.
    */
   typeOf(key: string): PropertyType;
   /**
    * Sets one: of a named type, else of the type that is there, else of the value's own. Throws
-   * TypeError, RangeError, Refused (40).
+   * TypeError, OtherType, RangeError, Refused (40).
    */
   set(
     key: string, value: string | number | boolean | MapObject, options?: { type?: SetPropertyType | null; merge?: boolean },
@@ -490,7 +490,7 @@ export class Tilesets {
   private constructor();
   /**
    * The tileset with a first id, or the first with a source, or, where the map has it in itself, a
-   * name. Throws RangeError.
+   * name. Throws NotFound.
    */
   get(key: TilesetLike): Tileset;
   /** The same; null where there is none. */

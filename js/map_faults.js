@@ -41,8 +41,8 @@ export function faultOfNoJson(module, bytes) {
 }
 
 /**
- * How the bytes of a file are refused, by the code for what was unpacked of them: { code, why, placeInMap }, where the
- * place is the one in the file.
+ * How the bytes of a file are refused, by the code for what was unpacked of them: { code, why, placeInMap, cause }, where
+ * the place is the one in the file.
  */
 export function faultOfFile(module, code, given, { bytes, left }) {
   let place = placeIn(module, code === NOT_JSON ? given : bytes, code);
@@ -52,7 +52,7 @@ export function faultOfFile(module, code, given, { bytes, left }) {
   const layer = code === COMPRESSED && place !== null ? layerAt(left, place.path.slice(0, -1)) : null;
   return layer === null
     ? { code, why: null, placeInMap: place }
-    : { code: layer.code, why: layer.why, placeInMap: placeOfPacked(place, layer) };
+    : { code: layer.code, why: layer.why, placeInMap: placeOfPacked(place, layer), cause: layer.cause };
 }
 
 // The last one, since of members with the same name the last one counts.

@@ -41,7 +41,7 @@ async function unpacked(editor, given, call) {
     return await unpackLayers(given);
   } catch (fault) {
     if (fault instanceof Unpackable) {
-      const { code, ...more } = faultOfNoJson(editor._module, given) ?? { code: fault.code, why: fault.why };
+      const { code, ...more } = faultOfNoJson(editor._module, given) ?? { code: fault.code, why: fault.why, cause: fault.cause };
       throw refusedCall(code, call, more);
     }
     throw fault;

@@ -424,7 +424,7 @@ function checkVersion(version) {
 }
 
 async function compiledFrom(source) {
-  const bytes = await read(source);
+  const bytes = await bytesFrom(source);
   try {
     return await WebAssembly.compile(bytes);
   } catch (fault) {
@@ -432,8 +432,8 @@ async function compiledFrom(source) {
   }
 }
 
-// The bytes that a source has, or that stand where it leads.
-async function read(source) {
+/** The bytes that a source has, or that stand where it leads: an address, or in Node a path. */
+export async function bytesFrom(source) {
   if (typeof source?.arrayBuffer === "function") {
     return source.arrayBuffer();
   }
@@ -455,7 +455,8 @@ async function fetched(place) {
   }
   const response = await fetch(place);
   if (!response.ok) {
-    throw new Error(`${place}: ${response.status} ${response.statusText}`);
+    const fault = new Error(`${place}: ${response.status} ${response.statusText}`);
+    throw Object.assign(fault, { status: response.status });
   }
   return response.arrayBuffer();
 }

@@ -1,5 +1,6 @@
 // SPDX-License-Identifier: MIT OR Apache-2.0
 // The properties of a map, a layer or an object.
+import { NotFound, OtherType } from "./faults.js";
 import { OWNERS } from "./module.js";
 import { WithOwnNames } from "./own_names.js";
 import * as words from "./words.js";
@@ -72,11 +73,11 @@ export class Properties extends WithOwnNames {
     }
   }
 
-  /** The type of the property of a name. Throws RangeError where there is none. */
+  /** The type of the property of a name. Throws NotFound where there is none. */
   typeOf(key) {
     const members = this._one(key);
     if (members === null) {
-      throw new RangeError(`there is no property ${JSON.stringify(key)}`);
+      throw new NotFound(`${this.#owner} has no property ${words.quoted(key)}`);
     }
     return members.type ?? "string";
   }
@@ -84,14 +85,32 @@ export class Properties extends WithOwnNames {
   /** Sets a property: of this type, or else of the type that is there, or else of the value's own. */
   set(key, value, { type = null, merge = false } = {}) {
     const name = words.key(key);
-    const kind = type === null ? this._kindFor(name, value) : words.oneOf(type, words.TYPES, "the type of a property");
-    const said = words.setting(name, value, kind);
+    const said = type === null
+      ? this._settingFor(name, value)
+      : words.setting(name, value, words.oneOf(type, words.TYPES, "the type of a property"));
     this.#document._edit(`prop set${merge ? "+" : ""} ${this.#owner} ${name} ${said}`);
   }
 
-  _kindFor(name, value) {
+  // The type and the value that a line has where no type is named. Throws OtherType where the property has a type that
+  // does not take the value.
+  _settingFor(name, value) {
     const members = this._named(name);
-    return members === null ? words.typeOf(name, value) : members.type ?? "string";
+    if (members === null) {
+      return words.setting(name, value, words.typeOf(name, value));
+    }
+    const kind = members.type ?? "string";
+    if (!words.TYPES.includes(kind)) {
+      const front = `the property ${words.quoted(name)} has the type ${kind} in this map, which the editor does not set`;
+      throw new OtherType(`${front}: set(.., .., { type }) changes it`);
+    }
+    try {
+      return words.setting(name, value, kind);
+    } catch (fault) {
+      if (fault instanceof RangeError && kind !== "color") {
+        throw fault;
+      }
+      throw new OtherType(`${fault.message}; set(.., .., { type }) gives it another type`);
+    }
   }
 
   /** Removes the property of a name, and says whether there was one. */

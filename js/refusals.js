@@ -26,6 +26,8 @@ export const REFUSALS = new Map([
   [38, "first id not above the others"],
   [39, "out of range"],
   [40, "too many"],
+  [41, "member of other lines"],
+  [42, "no such member"],
   [50, "no such file"],
   [51, "store failed"],
   [60, "not JSON"],

@@ -19,11 +19,26 @@ export const FORMS: ReadonlyMap<string, readonly string[]>;
  */
 export function formsOf(line: string): string[];
 
-/** A line or a call was refused, and nothing was done. */
+/**
+ * What a file, or the map in it, is at fault for: a program that handles it can go on with the next map. What is wrong
+ * whatever the map is throws RangeError or TypeError instead. An import may call it otherwise: `Error as MapError`.
+ */
+export class Error extends globalThis.Error {}
+
+/** The map has nothing with this id or name. `message` says which ids there are. */
+export class NotFound extends Error {}
+
+/** A property has a type in this map that does not take the value. The option `type` of `properties.set` gives it another one. */
+export class OtherType extends Error {}
+
+/** A tileset in a map does not say which tiles it has. */
+export class BadTileset extends Error {}
+
+/** A line or a call was refused, and nothing was done. Where the engine could not unpack a map, `cause` is what it threw. */
 export class Refused extends Error {
   constructor(
     code: number, words: string, line: string, place?: number | null, replies?: string[],
-    more?: { isCall?: boolean; why?: string | null; placeInMap?: MapPlace | null; wordAtFault?: WordAtFault | null },
+    more?: { isCall?: boolean; why?: string | null; placeInMap?: MapPlace | null; wordAtFault?: WordAtFault | null; cause?: unknown },
   );
   /** The number of the refusal: docs/refusals.md lists them. */
   readonly code: number;
@@ -89,26 +104,110 @@ export function flippedVertically(rows: Rows): number[][];
  */
 export function turnedRight(rows: Rows): number[][];
 
+/**
+ * What is in a map, or why `Editor.open` refuses it: the bytes of a file, a Blob or a Response, or a file by its path in
+ * Node, or by its address. An object as `map_report --json --all-maps` writes it, with the names that docs/map-files.md
+ * has. Packed layers are unpacked, and places of objects have their fractions. `module` is as that of `Editor.create`.
+ */
+export function report(
+  source: string | { readonly href: string } | ArrayBuffer | ArrayBufferView | { arrayBuffer(): Promise<ArrayBuffer> },
+  options?: { module?: Source | Module },
+): Promise<Report>;
+
+/** A report of a map, which `refused` tells apart. */
+export type Report = MapReport | RefusedReport;
+
+/** What is in a map. */
+export interface MapReport {
+  /** The name of the file as it was given; null of bytes. */
+  file: string | null;
+  refused: null;
+  width: number;
+  height: number;
+  tilewidth: number;
+  tileheight: number;
+  nextlayerid: number;
+  nextobjectid: number;
+  orientation: string;
+  properties: ReportedProperty[];
+  layers: ReportedLayer[];
+  objects: ReportedObject[];
+  tilesets: { firstgid: number; source: string | null }[];
+}
+
+/** Why there is no map. */
+export interface RefusedReport {
+  /** The name of the file as it was given; null of bytes. */
+  file: string | null;
+  refused: {
+    /** The number of the refusal, and its words. */
+    code: number;
+    words: string;
+    /** Where in the file: of what is no JSON its line and column, else the path of a member. */
+    places: { path?: readonly (string | number)[]; line?: number; column?: number; text: string }[];
+    /** Why, in words, where more is known than the code. */
+    reason?: string;
+  };
+}
+
+/** A property in a report. */
+export interface ReportedProperty {
+  name: string;
+  type: string;
+  value: unknown;
+}
+
+/** A layer in a report; of a tile layer also how many cells it has, and how many of them are set. */
+export interface ReportedLayer {
+  id: number;
+  type: "tilelayer" | "objectgroup" | "imagelayer" | "group";
+  name: string;
+  /** The id of the group that it stands in. */
+  group: number | null;
+  visible: boolean;
+  cells?: number;
+  set?: number;
+  properties: ReportedProperty[];
+}
+
+/** An object in a report. */
+export interface ReportedObject {
+  id: number;
+  /** The id of its layer. */
+  layer: number;
+  name: string;
+  class: string;
+  shape: "rectangle" | "ellipse" | "point" | "polygon" | "polyline" | "text" | "tile";
+  rotation: number;
+  x: number;
+  y: number;
+  width: number;
+  height: number;
+  visible: boolean;
+  gid: number | null;
+  properties: ReportedProperty[];
+}
+
 /** A callback of a change has called what edits, says a line, or changes which documents are open or active. It may read. */
-export class InCallback extends Error {}
+export class InCallback extends globalThis.Error {}
 
 /** The editor, or the document, was closed. */
-export class Closed extends Error {}
+export class Closed extends globalThis.Error {}
 
 /**
  * The module's memory has no room for that, and it cannot grow. Nothing was done; but a line that only
  * its reply has no room for is done.
  */
-export class NoMemory extends Error {}
+export class NoMemory extends globalThis.Error {}
 
 /**
  * The engine broke a call off. Nothing is called in that module any more: each later call of each of
  * its editors throws this.
  */
-export class Broken extends Error {}
+export class Broken extends globalThis.Error {}
 
 /** What was given is not the module of this package: it was cut short, or is of another version. */
-export class BadModule extends Error {}
+export class BadModule extends globalThis.Error {}
 
 // WebAssembly.Module, where the types of the host have it; it declares no members.
 type Compiled = typeof globalThis extends { WebAssembly: { Module: { prototype: infer Type } } }
@@ -244,10 +343,10 @@ export class Editor {
   cells(layer: number | Layer, x: number, y: number, width: number, height: number): Uint32Array | null;
   /**
    * The id of the first layer of that name, in drawing order, groups and what stands in them too. Throws
-   * RangeError where there is none.
+   * NotFound where there is none.
    */
   layerId(name: string): number;
-  /** The id of the first object of that name, in drawing order. Throws RangeError where there is none. */
+  /** The id of the first object of that name, in drawing order. Throws NotFound where there is none. */
   objectId(name: string): number;
   /** The id of the layer that was added last: the next id less one. Throws Refused. */
   lastLayerId(): number;

@@ -7,11 +7,12 @@ import { noteOf, originOf, restored, withoutPacking } from "./tiled_maps.js";
 import { joined } from "./bytes.js";
 import { beginsMacros, partsOf, rangesOf } from "./caller_lines.js";
 import { Document } from "./document.js";
-import { Closed, NoMemory, Refused, refusedCall } from "./faults.js";
-import { MAX_LIMIT } from "./limits.js";
+import { Closed, NoMemory, NotFound, Refused, refusedCall } from "./faults.js";
+import { MAX_FILE_NAME, MAX_LIMIT } from "./limits.js";
 import { openedMap, savedMap } from "./map_files.js";
 import { BAD_NAME, DONE, Module, NONE, OWNERS, bytesOf, textOf } from "./module.js";
 import { REFUSALS } from "./refusals.js";
+import { reported } from "./reports.js";
 import { DIFFERS, DOCUMENTS, REFUSAL, STEP_BYTES, stepOf, toldOf } from "./told.js";
 import { Layer } from "./views.js";
 import { Events } from "./watches.js";
@@ -19,7 +20,7 @@ import * as words from "./words.js";
 
 export { flippedHorizontally, flippedVertically, turnedRight } from "./blocks.js";
 export { Document } from "./document.js";
-export { BadModule, Broken, Closed, InCallback, NoMemory, Refused } from "./faults.js";
+export { BadModule, BadTileset, Broken, Closed, Error, InCallback, NoMemory, NotFound, OtherType, Refused } from "./faults.js";
 export { FORMS, formsOf } from "./forms.js";
 export { Module, VERSION } from "./module.js";
 export { documentName } from "./names.js";
@@ -340,7 +341,7 @@ export class Editor {
       }),
     );
     if (module.number(answer) === BAD_NAME) {
-      throw new RangeError(`no line can spell the name ${name}`);
+      throw new RangeError(`the name of a file is 1 to ${MAX_FILE_NAME} of A-Z a-z 0-9 _ . -, and begins with neither . nor -: ${words.quoted(name)}`);
     }
   }
 
@@ -471,13 +472,13 @@ export class Editor {
 
   /**
    * The id of the first layer of that name, in drawing order, groups and what stands in them too. Throws
-   * RangeError where there is none.
+   * NotFound where there is none.
    */
   layerId(name) {
     return this._firstId("layer", name);
   }
 
-  /** The id of the first object of that name, in drawing order. Throws RangeError where there is none. */
+  /** The id of the first object of that name, in drawing order. Throws NotFound where there is none. */
   objectId(name) {
     return this._firstId("object", name);
   }
@@ -486,7 +487,7 @@ export class Editor {
     const id = this._find(subject, name);
     if (id === null) {
       const isNone = this._number("active") === null;
-      throw isNone ? refusedCall(10, `${subject}Id()`) : new RangeError(`nothing has the name ${name}`);
+      throw isNone ? refusedCall(10, `${subject}Id()`) : new NotFound(`the map has no ${subject} ${words.quoted(name)}`);
     }
     return id;
   }
@@ -779,4 +780,12 @@ if (Symbol.dispose) {
 /** Whether a value is a number from 0 that a call can be given. */
 function isCount(value) {
   return Number.isInteger(value) && value >= 0 && value < NONE;
+}
+
+/**
+ * What is in the map of the bytes of a file, or why `Editor.open` refuses it. A source that is a text, or a URL, leads to
+ * the file, as that of a module does.
+ */
+export async function report(source, { module } = {}) {
+  return reported(await Editor.create({ module }), source);
 }

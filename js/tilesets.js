@@ -1,7 +1,7 @@
 // SPDX-License-Identifier: MIT OR Apache-2.0
 // The tilesets of a document, and the tiles of its cells.
 import { DIAGONALLY, HORIZONTALLY, TURNED, VERTICALLY } from "./blocks.js";
-import { refusedCall } from "./faults.js";
+import { BadTileset, NotFound, refusedCall } from "./faults.js";
 import { BASE } from "./rows.js";
 import * as words from "./words.js";
 
@@ -16,8 +16,8 @@ const INSPECT = Symbol.for("nodejs.util.inspect.custom");
 
 /** What is thrown where there is nothing that a key stands for: it says which ids there are. */
 export function absent(kind, key, ids) {
-  const others = ids.length === 0 ? ", and no other one" : `; its ids are ${words.listed(ids)}`;
-  return new RangeError(`there is no ${kind} ${words.quoted(key)}${others}`);
+  const others = ids.length === 0 ? ", nor any other one" : `: the ids are ${words.listed(ids)}`;
+  return new NotFound(`there is no ${kind} ${words.quoted(key)} here${others}`);
 }
 
 // The most tiles that are listed.
@@ -79,7 +79,7 @@ export class Tileset {
   }
 
   /**
-   * Its tiles by their ids, where the map has it in itself; else null: no file of a tileset is read. Throws RangeError
+   * Its tiles by their ids, where the map has it in itself; else null: no file of a tileset is read. Throws BadTileset
    * where it has too many, or does not say how many.
    */
   get tiles() {
@@ -88,7 +88,7 @@ export class Tileset {
       return null;
     }
     if (!Number.isInteger(tilecount) || tilecount < 0 || tilecount > MOST_TILES) {
-      throw new RangeError(`a tileset has 0 to ${MOST_TILES} tiles: ${words.quoted(tilecount)}`);
+      throw new BadTileset(`a tileset has 0 to ${MOST_TILES} tiles, and this one says: ${words.quoted(tilecount)}`);
     }
     const said = new Map(objectsOf(tiles).map((tile) => [tile.id, tile]));
     return Array.from({ length: tilecount }, (_, id) => tileOfSet(id, said.get(id)));
@@ -185,7 +185,7 @@ export class Tilesets {
     return document._ids("tilesets").find(named) ?? null;
   }
 
-  /** The tileset with a first id, or the first with a source or a name. Throws RangeError. */
+  /** The tileset with a first id, or the first with a source or a name. Throws NotFound. */
   get(key) {
     const found = this.find(key);
     if (found === null) {

@@ -141,8 +141,8 @@ export class MapObject extends View {
 
 // What is set of an object by a call, or by nothing: why, for whoever sets it as a value.
 const NOT_SET = {
-  name: "no line changes it", type: "no line changes it", isPoint: "no line changes it",
-  visible: "no line changes it", x: "move(x, y) does", y: "move(x, y) does",
+  name: "the editor does not change it", type: "the editor does not change it", isPoint: "the editor does not change it",
+  visible: "the editor does not change it", x: "move(x, y) does", y: "move(x, y) does",
   width: "resize(width, height) does", height: "resize(width, height) does",
 };
 for (const [name, why] of Object.entries(NOT_SET)) {
@@ -464,7 +464,7 @@ export class Layers {
     return new Layer(this.#document, this._known(key));
   }
 
-  // The id of what a key stands for. Throws RangeError where there is none.
+  // The id of what a key stands for. Throws NotFound where there is none.
   _known(key) {
     const id = this._found(key);
     if (id === null) {
@@ -491,7 +491,7 @@ export class Layers {
 
   add(kind, name) {
     if (this.#group !== null) {
-      throw new RangeError("no line adds a layer to a group: document.layers.add(..)");
+      throw new RangeError("a layer is not added to a group, but over all others: document.layers.add(..)");
     }
     const said = words.oneOf(kind, ADDED, "the kind of a layer that is added");
     const id = this.#document._add("layer", `layer add ${said} ${words.text(name, "the name of a layer")}`);

@@ -48,17 +48,17 @@ export function text(word, what) {
     throw new TypeError(`${what} is a string: ${quoted(word)}`);
   }
   if (word === "") {
-    throw new RangeError(`${what} is empty, and no line can say that`);
+    throw new RangeError(`${what} is empty: give it one character or more`);
   }
   if (CONTROL.test(word)) {
-    throw new RangeError(`${what} has a control character in it: ${shown(word)}`);
+    throw new RangeError(`${what} has a newline, a tab or another control character in it: ${shown(word)}`);
   }
   if (HALF.test(word)) {
     throw new RangeError(`${what} has half of a character in it: ${shown(word)}`);
   }
   const size = encoder.encode(word).length;
   if (size > MAX_TEXT) {
-    throw new RangeError(`${what} has ${size} bytes, and a line takes at most ${MAX_TEXT}: ${shown(word)}`);
+    throw new RangeError(`${what} has ${size} bytes in UTF-8, and may have ${MAX_TEXT}: ${shown(word)}`);
   }
   return word;
 }
@@ -67,7 +67,7 @@ export function text(word, what) {
 export function key(word) {
   const said = text(word, "the name of a property");
   if (said.includes(" ")) {
-    throw new RangeError(`the name of a property has a space in it, and no line can say that: ${shown(said)}`);
+    throw new RangeError(`the name of a property has a space in it, which it may not have: ${shown(said)}`);
   }
   return said;
 }
@@ -143,9 +143,6 @@ export const TYPES = ["string", "file", "int", "bool", "color", "object"];
  * takes no such value, RangeError where no line can say it.
  */
 export function setting(name, value, kind) {
-  if (!TYPES.includes(kind)) {
-    throw new RangeError(`no line sets a property of the type ${kind}: ${shown(name)}`);
-  }
   const what = `the property ${shown(name)}`;
   if (kind === "object") {
     return `object ${number(value?.[OBJECT] ?? value, what)}`;
@@ -179,7 +176,7 @@ export function typeOf(name, value) {
   }
   if (typeof value === "number") {
     if (!Number.isInteger(value)) {
-      throw new RangeError(`no line sets a property of the type float: ${shown(name)}`);
+      throw new RangeError(`the property ${shown(name)} is given a fraction, and the editor sets whole numbers: ${value}`);
     }
     return "int";
   }

@@ -18,7 +18,8 @@ LINES = [
 ]
 #: What is raised, by a short word: in Python, and in JavaScript.
 FAULTS = {
-    'type': ('TypeError', 'TypeError'), 'value': ('ValueError', 'RangeError'), 'key': ('KeyError', 'RangeError'),
+    'type': ('TypeError', 'TypeError'), 'value': ('ValueError', 'RangeError'), 'key': ('NotFound', 'NotFound'),
+    'other type': ('OtherType', 'OtherType'),
     'closed': ('Closed', 'Closed'), 'busy': ('RuntimeError', ''),
 }
 #: What calls give, in Python and in TypeScript.
@@ -26,7 +27,8 @@ GIVEN = {
     '': ('', 'void'), 'int': ('int', 'number'), 'str': ('str', 'string'), 'bool': ('bool', 'boolean'), 'float': ('float', 'number'),
     'bytes': ('bytes', 'Uint8Array'), 'bytes?': ('bytes or None', 'Uint8Array | null'), 'int?': ('int or None', 'number | null'),
     'str?': ('str or None', 'string | null'), 'bool?': ('bool or None', 'boolean | null'), 'strs': ('list of str', 'string[]'),
-    'Tile?': ('Tile or None', 'Tile | null'), 'members': ('dict', 'Members'), 'Document?': ('Document or None', 'Document | null'),
+    'Tile?': ('Tile or None', 'Tile | null'), 'members': ('dict', 'Members'), 'members!': ('dict', 'Promise<Report>'),
+    'Document?': ('Document or None', 'Document | null'),
     'rows': ('list of lists of int', 'number[][]'), 'Path?': ('Path or None', ''), 'bytes!': ('bytes', 'Promise<Uint8Array>'),
     'Document!': ('Document', 'Promise<Document>'), 'str!': ('str', 'Promise<string>'), 'step rows': ('list of StepRow', 'StepRow[]'),
     'cells of a layer': ('CellArea, "all" or None', 'CellArea | "all" | null'), 'Subject?': ('Subject or None', 'Subject | null'),
@@ -48,6 +50,7 @@ ARGUMENTS = {
 #: What the time of calls grows with, by their classes, where that is more than the one thing that they are about: `answer` stands for
 #: what is given, changed or answered, and `map` for the whole map. All others have the cost 1.
 COSTS = {
+    '': {'map': 'report'},
     'Editor': {
         'answer': 'documents unsaved step step_bytes run_lines run_bytes put_file file files cells selection steps',
         'map': 'new open close open_map save_map open_file save_file map outline object_id',
@@ -341,7 +344,8 @@ PROPERTIES = Kind('Properties', 'The properties of a map, a layer or an object, 
          raises={'key': 'document.properties.type_of("a")'}, types={'key': 'string'}),
     Call('set', 'key, value; type=None, merge=False', 'Sets one: of a named type, else of the type that is there, else of the value\'s own.',
          'prop set OWNER KEY TYPE VALUE', '',
-         {'type': 'document.properties.set("people", "many")', 'value': 'document.properties.set("a", 1.5)',
+         {'type': 'document.properties.set("people", "many", type="int")',
+          'other type': 'document.properties.set("people", "many")', 'value': 'document.properties.set("a", 1.5)',
           'refused 40': 'many("prop set map a# int 1", 254) and document.properties.set("a", 1)'},
          written=('properties[key] = value, properties.set(key, value, type=None, merge=False)', 'properties.set(key, value, { type, merge })'),
          types={'key': 'string', 'value': 'string | number | boolean | MapObject'}),
@@ -402,6 +406,9 @@ FUNCTIONS = [
     Call('document_name', 'path', 'The name of a document that is made from that of a file.', gives='str', types={'path': 'string'}),
     Call('flipped_horizontally', 'rows', 'Rows of values flipped to the side, the tiles in them too.', gives='rows'),
     Call('flipped_vertically', 'rows', 'The same upside down.', gives='rows'),
+    Call('report', 'source', 'What is in a map, or why it is not opened: the bytes of a file{file_of_report}; an object as '
+         'that of [the report for scripts](map-files.md#the-report-for-scripts).', gives='members!',
+         written=('report(source)', 'await report(source, { module })')),
     Call('turned_right', 'rows', 'Rows of values turned by a quarter, the tiles in them too, as on a map with square cells.', gives='rows'),
 ]
 

@@ -10,6 +10,8 @@ TOP = Path(__file__).resolve().parent.parent
 TABLE = TOP / 'crates' / 'session' / 'forms.txt'
 #: The parts of the table that have forms, in their order.
 PARTS = ('files', 'edits', 'history')
+#: That of the lines of own members, which an editor for all edits reads, too.
+MEMBERS = 'members'
 #: The limits that the languages share: the crate's file, and the names of its constants.
 LIMITS_OF = {
     'session/src/limits.rt': ('MAX_LINE', 'MAX_DOCUMENT_NAME', 'MAX_FILE_NAME', 'MAX_TEXT', 'MAX_KEY', 'MAX_COORDINATE'),
@@ -102,9 +104,9 @@ def forms(part):
     return [Form(form, refusals, does) for form, refusals, does in ([*row, '', ''][:3] for row in parts()[part])]
 
 
-def help_forms():
-    """The forms as `--help` lists them."""
-    return [each for part in PARTS for form in forms(part) for each in form.all()]
+def help_forms(listed=PARTS):
+    """The forms of some parts as `--help` lists them."""
+    return [each for part in listed for form in forms(part) for each in form.all()]
 
 
 def typed(form):

@@ -8,13 +8,14 @@
 """
 from .document import Document, Status, Step
 from .editor import Editor
-from .faults import Closed, InCallback, Refused
+from .faults import BadTileset, Closed, Error, InCallback, NotFound, OtherType, Refused
 from .views import Layer, Layers, MapObject, Objects
 from .kinds import AddedLayerKind, LayerKind, Layout, PropertyType, Rows, SelectionMode, SetPropertyType
 from .library import VERSION as __version__
 from .map_faults import MapPlace
 from .names import document_name
 from .properties import Properties
+from .reports import report
 from .rows import flipped_horizontally, flipped_vertically, turned_right
 from .selection import Run, Selection
 from .tilesets import Tile, Tileset, Tilesets, TilesetTile
@@ -23,8 +24,8 @@ from .watches import Watch
 from .word_faults import WordAtFault
 
 __all__ = [
-    'AddedLayerKind', 'CellArea', 'Closed', 'Document', 'Editor', 'InCallback', 'Layer', 'LayerKind', 'Layers', 'Layout', 'MapObject', 'MapPlace',
-    'Objects', 'Properties', 'PropertyType', 'Refused', 'Rows', 'Run', 'Selection', 'SelectionMode', 'SetPropertyType', 'Status', 'Step', 'StepRow',
-    'Subject', 'Tile', 'Tileset', 'TilesetTile', 'Tilesets', 'Told', 'Watch', 'WordAtFault', '__version__', 'document_name', 'flipped_horizontally',
-    'flipped_vertically', 'turned_right',
+    'AddedLayerKind', 'BadTileset', 'CellArea', 'Closed', 'Document', 'Editor', 'Error', 'InCallback', 'Layer', 'LayerKind', 'Layers',
+    'Layout', 'MapObject', 'MapPlace', 'NotFound', 'Objects', 'OtherType', 'Properties', 'PropertyType', 'Refused', 'Rows', 'Run',
+    'Selection', 'SelectionMode', 'SetPropertyType', 'Status', 'Step', 'StepRow', 'Subject', 'Tile', 'Tileset', 'TilesetTile', 'Tilesets',
+    'Told', 'Watch', 'WordAtFault', '__version__', 'document_name', 'flipped_horizontally', 'flipped_vertically', 'report', 'turned_right',
 ]

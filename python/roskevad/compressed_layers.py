@@ -11,8 +11,8 @@ import base64
 import binascii
 from typing import Any, Iterator, NamedTuple, Optional
 
-from .json_scanner import NOTE, Edit, Members, Part, Path, edited, map_and_layers
-from .compressions import pack, unpack, why_not
+from .json_scanner import Edit, Members, Part, Path, edited, map_and_layers
+from .compressions import NOTE, pack, unpack, why_not
 from .limits import MAX_CELLS, MAX_FILE_BYTES
 
 _NOTE_TAKEN = f'a layer has a member of the reserved name "{NOTE}"'

@@ -1,11 +1,11 @@
 # SPDX-License-Identifier: MIT OR Apache-2.0
 """The ways in which Tiled packs the cells of a layer: zlib, gzip and Zstandard. Each is unpacked to a number of bytes that is
 known before, and no further, so memory is bounded by it."""
-import importlib
-import zlib
 from typing import Any, Optional
 
 ZLIB, GZIP, ZSTANDARD = 'zlib', 'gzip', 'zstd'
+#: The member of a layer that notes how it was packed, while it is unpacked.
+NOTE = 'roskevad_compression'
 # What `zlib` is told so that it reads both formats, as Tiled does, or writes one.
 _EITHER = 47
 _WINDOWS = {ZLIB: 15, GZIP: 31}
@@ -37,11 +37,15 @@ def pack(compression: str, data: bytes, level: int) -> bytes:
     """Packs bytes, with a level as Tiled takes it: -1 is the compression's own."""
     if compression == ZSTANDARD:
         return _pack_zstandard(data, _ZSTANDARD_LEVEL if level == _ANY_LEVEL else min(max(level, 1), _GREATEST_ZSTANDARD_LEVEL))
+    import zlib
+
     packer = zlib.compressobj(level if level == _ANY_LEVEL else min(max(level, 1), 9), zlib.DEFLATED, _WINDOWS[compression])
     return packer.compress(data) + packer.flush()
 
 
 def _unpack_zlib(data: bytes, size: int) -> Optional[bytes]:
+    import zlib
+
     unpacker = zlib.decompressobj(_EITHER)
     try:
         found = unpacker.decompress(data, size + 1)
@@ -53,6 +57,8 @@ def _unpack_zlib(data: bytes, size: int) -> Optional[bytes]:
 # ---- Zstandard
 def _zstandard() -> Any:
     """The first module that has Zstandard and is there, or `None`."""
+    import importlib
+
     for name in _MODULES:
         try:
             return importlib.import_module(name)

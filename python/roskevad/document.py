@@ -2,15 +2,11 @@
 """A document of an editor, in the words of its caller."""
 import contextlib
 import json
-import logging
 import os
-from dataclasses import dataclass, replace
-from hashlib import sha256
-from pathlib import Path
 from types import TracebackType
 from typing import TYPE_CHECKING, Any, Callable, ContextManager, Iterator, NamedTuple, Optional, TypeVar, Union
 
-from . import words
+from . import logs, words
 from .faults import Closed, Refused, refused_call
 from .kinds import Layout, Rows, SelectionMode
 from .library import LAYER_ROW, LayerRow, MapSizes, SelectionRun
@@ -25,9 +21,10 @@ from .views import Layer, Layers, Objects
 from .watches import Watch, Watched
 
 if TYPE_CHECKING:
+    from pathlib import Path
+
     from .editor import Editor
 
-_LOG = logging.getLogger('roskevad')
 _Answer = TypeVar('_Answer')
 #: A layer, its id, or the name of the first one of that name.
 LayerLike = Union[int, str, Layer]
@@ -36,12 +33,12 @@ MODES = ('replace', 'add', 'subtract', 'intersect')
 _NOWHERE = f'{MAX_COORDINATE} {MAX_COORDINATE}'
 
 
-@dataclass(frozen=True)
-class Status:
+class Status(NamedTuple):
     """How a document stands: the index and the count of its undo stack, whether it is clean, and how many macros are open."""
 
-    index: int
-    count: int
+    # A tuple has calls of these names.
+    index: int  # type: ignore[assignment]
+    count: int  # type: ignore[assignment]
     clean: bool
     depth: int
 
@@ -52,6 +49,13 @@ class Step(NamedTuple):
     text: str
     action: str
     is_macro: bool
+
+
+def _hash_of(data: bytes) -> bytes:
+    # It is imported here, since OpenSSL comes with it, and only files that are opened and saved need it.
+    from hashlib import sha256
+
+    return sha256(data).digest()
 
 
 class _Stroke:
@@ -81,7 +85,7 @@ class Document:
         self._stroke: Optional[_Stroke] = None
         # The texts of open macros that wait for their first edit: those around them have begun.
         self._begins: list[str] = []
-        self._path: Optional[Path] = None
+        self._path: 'Optional[Path]' = None
         # The bytes that it was opened from, or that were saved last, in whose layout it is saved; none of a new map.
         self._source = b''
         # What was read or saved last under each path, by hashes of the bytes; and behind that what saves have begun to write since.
@@ -116,8 +120,8 @@ class Document:
         if self._editor._events.is_telling:
             self._editor._refuse_in_callback(line)
         reply = self._editor._reply_to(line, line)
-        if _LOG.isEnabledFor(logging.DEBUG):
-            _LOG.debug('%s: %.200s: %.200s', self._name, line, reply.decode('utf-8', 'replace'))
+        if logs.hears_debug():
+            logs.debug('%s: %.200s: %.200s', self._name, line, reply.decode('utf-8', 'replace'))
 
     def _say_edit(self, line: str) -> None:
         """Says an edit, with which macros begin that wait for their first one, in a turn."""
@@ -229,7 +233,7 @@ class Document:
         return self._name
 
     @property
-    def path(self) -> Optional[Path]:
+    def path(self) -> 'Optional[Path]':
         """The file that it was opened from, or saved to last; None where there is none."""
         return self._path
 
@@ -304,7 +308,7 @@ class Document:
 
         def work() -> Status:
             status = self._status_now()
-            return replace(status, depth=status.depth + len(self._begins))
+            return status._replace(depth=status.depth + len(self._begins))
 
         return self._do(work)
 
@@ -460,8 +464,8 @@ class Document:
     def stamp(self, layer: LayerLike, x: int, y: int, rows: Rows, merge: bool = False) -> None:
         """Writes rows of values into a tile layer, from a cell on; a value 0 leaves its cell as it is. `rows` is any nested
         sequence, or an array with two dimensions; with `merge` it is one step with a stamp of the same layer before it. Raises
-        TypeError; ValueError, also for ragged rows and values beyond 32 bits; Refused: 31 where it is no tile layer, 33 for a
-        value without a tileset."""
+        TypeError; ValueError, also for ragged rows and values beyond 32 bits; NotFound; Refused: 31 where it is no tile layer, 33
+        for a value without a tileset."""
         listed = rows_of(rows)
         parts = list(parts_of(listed))
         left, top = words.coordinate(x, 'x'), words.coordinate(y, 'y')
@@ -572,7 +576,7 @@ class Document:
 
     def erase(self, layer: LayerLike, x: int, y: int, width: int, height: int, merge: bool = False) -> None:
         """Empties a rectangle of cells of a tile layer; with `merge` it is one step with an erase of the same layer before it.
-        Raises TypeError, ValueError; Refused: 31 where it is no tile layer."""
+        Raises TypeError, ValueError, NotFound; Refused: 31 where it is no tile layer."""
         left, top = words.coordinate(x, 'x'), words.coordinate(y, 'y')
         size = words.number(width, 'a width'), words.number(height, 'a height')
 
@@ -584,8 +588,8 @@ class Document:
         self._do(work)
 
     def fill(self, layer: LayerLike, x: int, y: int, value: int) -> None:
-        """Writes a value into the cell and the cells of the same value that are joined to it. Raises TypeError, ValueError;
-        Refused: 31 where it is no tile layer, 32 outside the map, 33 for a value without a tileset."""
+        """Writes a value into the cell and the cells of the same value that are joined to it. Raises TypeError, ValueError,
+        NotFound; Refused: 31 where it is no tile layer, 32 outside the map, 33 for a value without a tileset."""
         left, top, said = words.coordinate(x, 'x'), words.coordinate(y, 'y'), words.number(value, 'the value of a cell')
 
         def work() -> None:
@@ -596,7 +600,7 @@ class Document:
         self._do(work)
 
     def _id_of(self, layer: LayerLike) -> int:
-        """The id of a layer, in a turn. Raises KeyError where none has that name."""
+        """The id of a layer, in a turn. Raises NotFound where none has that name."""
         if isinstance(layer, Layer):
             if layer.document is not self:
                 raise ValueError(f'{layer!r} is no layer of {self._name!r}')
@@ -683,25 +687,27 @@ class Document:
         than those that this document has read from it or saved to it last; with `force` it replaces them."""
         if path is None and self._path is None:
             raise ValueError(f'{self._name} has no file yet: save(path) names it')
+        from pathlib import Path
+
         self._save(Path(path or self._path or ''), force, words.layout(layout))
 
-    def _note_written(self, path: Path, data: bytes, is_begun: bool = False) -> None:
+    def _note_written(self, path: 'Path', data: bytes, is_begun: bool = False) -> None:
         """Notes what was read or saved under a path, or what a save has begun to write there."""
         noted = self._written.setdefault(os.path.abspath(path), [])
-        noted[:] = [*(noted if is_begun else ()), sha256(data).digest()]
+        noted[:] = [*(noted if is_begun else ()), _hash_of(data)]
 
-    def _knows(self, path: Path, data: Optional[bytes]) -> bool:
+    def _knows(self, path: 'Path', data: Optional[bytes]) -> bool:
         """Whether the bytes under a path are known, or none were ever read from there or saved to it."""
         noted = self._written.get(os.path.abspath(path))
-        return noted is None or data is not None and sha256(data).digest() in noted
+        return noted is None or data is not None and _hash_of(data) in noted
 
-    def _save(self, path: Path, force: bool, layout: Optional[str]) -> None:
+    def _save(self, path: 'Path', force: bool, layout: Optional[str]) -> None:
         try:
             self._do(lambda: self._editor._saved_file(path, 'save', is_careful=not force, layout=layout))
         except Refused as refusal:
             raise refusal._of(f'save({os.fspath(path)!r})') from refusal.__cause__
         self._path = path
-        _LOG.info('%s: saved to %s', self._name, path)
+        logs.info('%s: saved to %s', self._name, path)
 
     def save_bytes(self, layout: Optional[Layout] = None) -> bytes:
         """The map as the bytes of a file, in a layout as `save` has it; it counts as saved then. Raises ValueError for a layout that there
@@ -719,7 +725,7 @@ class Document:
 
     def _leave(self, word: str) -> None:
         self._mark(f'{word} {self._name}')
-        _LOG.info('%s: closed', self._name)
+        logs.info('%s: closed', self._name)
 
     def __enter__(self) -> 'Document':
         return self

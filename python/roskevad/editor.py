@@ -4,28 +4,24 @@ import contextlib
 import ctypes
 import itertools
 import json
-import logging
 import os
 import threading
 import warnings
 from array import array
-from pathlib import Path
 from types import TracebackType
 from typing import TYPE_CHECKING, Any, Callable, ContextManager, Iterable, Iterator, NoReturn, Optional, TypeVar, Union, cast
 
-from . import library, words
-from .compressed_layers import UnpackedMap
+from . import library, logs, words
 from .document import Document
-from .faults import Closed, InCallback, Refused, refused_call
+from .faults import Closed, InCallback, NotFound, Refused, refused_call
 from .folder_files import read, refuse_unknown
 from .library import LIBRARY, OWNERS, CEditor, DocumentStatus, LinesDone, SelectionRun
-from .limits import MAX_LIMIT
+from .limits import MAX_FILE_NAME, MAX_LIMIT
 from .line_bytes import begins_macros, block_ends, bytes_of, data_of, word_of
 from .map_faults import refused_map
 from .names import document_name
 from .refusals import REFUSALS
 from .rooms import Room
-from .saving import Saving
 from .tiled_maps import Members, note_of, origin_of, restored, saved_text, set_aside, without_packing
 from .told import DOCUMENTS, STEP_ROW, StepRow, Told, step_of, told_of
 from .turns import busy_fault, fork_fault, forks, turn
@@ -34,9 +30,11 @@ from .views import Layer
 from .watches import Events
 
 if TYPE_CHECKING:
-    from _typeshed import ReadableBuffer
+    from pathlib import Path
 
-_LOG = logging.getLogger('roskevad')
+    from _typeshed import ReadableBuffer
+    from .compressed_layers import UnpackedMap
+
 _STEP = LIBRARY.roskevad_step
 # It takes two addresses, and is called behind each line: so it has no types, and keeps the lock of the interpreter.
 _TELL = ctypes.PyDLL('', handle=LIBRARY._handle).roskevad_tell
@@ -44,6 +42,13 @@ _TELL.restype = ctypes.c_size_t
 # The bytes that a telling has room for, and more.
 _TOLD_ROOM = 128
 _Answer = TypeVar('_Answer')
+
+
+def _path(name: 'Union[str, os.PathLike[str]]') -> 'Path':
+    # It is imported here, since it takes a tenth of the time that the import of the package takes.
+    from pathlib import Path
+
+    return Path(name)
 
 
 class Editor:
@@ -79,7 +84,7 @@ class Editor:
         # What the last line did: all zero of none.
         self._told = library.Told.from_buffer(ctypes.create_string_buffer(_TOLD_ROOM))
         self._told_at = ctypes.byref(self._told)
-        self.folder = Path(folder)
+        self.folder: Path = _path(folder)
         if not 0 <= limit <= MAX_LIMIT:
             raise ValueError(f'a limit is from 0 to {MAX_LIMIT}: {limit}')
         if LIBRARY.roskevad_open(self._c_editor, limit) != library.DONE:
@@ -299,7 +304,7 @@ class Editor:
         self._refuse_in_callback(f'put_file({name!r}, ..)')
         word = bytes_of(name)
         if self._call('put_file', word, len(word), data, len(data)) == library.BAD_NAME:
-            raise ValueError(f'no line can spell the name {name!r}')
+            raise ValueError(f'the name of a file is 1 to {MAX_FILE_NAME} of A-Z a-z 0-9 _ . -, and begins with neither . nor -: {name!r}')
 
     @turn
     def file(self, name: str) -> Optional[bytes]:
@@ -329,7 +334,7 @@ class Editor:
         """Opens a document of that name with a map that is given as the bytes of a file, in a bytes-like object; with `all_maps`
         any map that Tiled saves as JSON, as `open_file` does. Raises Refused."""
         given, call = data_of(data, 'open_map'), f'open_map({name!r})'
-        return self._open_any(name, given, call) if all_maps else self._open_text(name, given, given, UnpackedMap(given, {}), call)
+        return self._open_any(name, given, call) if all_maps else self._open_text(name, given, given, None, call)
 
     @turn
     def save_map(self, *, all_maps: bool = False) -> bytes:
@@ -381,9 +386,9 @@ class Editor:
             self._handle(document)._has_set_aside = True
         return reply
 
-    def _open_text(self, document: str, text: bytes, data: bytes, unpacked: UnpackedMap, call: str) -> str:
+    def _open_text(self, document: str, text: bytes, data: bytes, unpacked: 'Optional[UnpackedMap]', call: str) -> str:
         """Opens a document with the text of a map. Where it is refused the place is looked for in the file, which has other bytes
-        where it was unpacked."""
+        where it was unpacked; `None` where that was not tried."""
         try:
             reply = self._open(document, text, call)
         except Refused as refusal:
@@ -424,7 +429,7 @@ class Editor:
             return reply
         except Refused as refusal:
             if fault is not None and refusal.code == 50:
-                raise refused_call(51, call) from fault
+                raise refused_call(50 if isinstance(fault, FileNotFoundError) else 51, call) from fault
             raise
 
     @turn
@@ -441,6 +446,8 @@ class Editor:
     ) -> str:
         """The same, in a turn, of a call, perhaps in a layout. One that is careful replaces nothing that the document has not read or saved."""
         self._refuse_save(call)
+        from .saving import Saving
+
         data, document = self._whole(call, layout)
         place = self.folder / path
 
@@ -531,12 +538,12 @@ class Editor:
 
     @turn
     def layer_id(self, name: str) -> int:
-        """The id of the first layer of that name, in drawing order, groups and what stands in them too. Raises KeyError where there is none."""
+        """The id of the first layer of that name, in drawing order, groups and what stands in them too. Raises NotFound where there is none."""
         return self._first_id('layer', name)
 
     @turn
     def object_id(self, name: str) -> int:
-        """The id of the first object of that name, in drawing order. Raises KeyError where there is none."""
+        """The id of the first object of that name, in drawing order. Raises NotFound where there is none."""
         return self._first_id('object', name)
 
     def _first_id(self, subject: str, name: str) -> int:
@@ -544,7 +551,7 @@ class Editor:
         if found is None:
             if self._number('active') is None:
                 raise refused_call(10, f'{subject}_id({name!r})')
-            raise KeyError(name)
+            raise NotFound(f'the map has no {subject} {name!r}')
         return found
 
     def _find(self, subject: str, name: str) -> Optional[int]:
@@ -667,7 +674,7 @@ class Editor:
             return self._handle(name)
 
         document = self._in_turn(work)
-        _LOG.info('%s: made', name)
+        logs.info('%s: made', name)
         return document
 
     def open(self, source: "Union[str, os.PathLike[str], ReadableBuffer]", name: Optional[str] = None) -> Document:
@@ -676,7 +683,7 @@ class Editor:
         name, 50 where there is no such file, 51 where it cannot be read, 60 to 69 where it is no map that can be opened."""
         if name is not None:
             words.document(name)
-        path = Path(source) if isinstance(source, (str, os.PathLike)) else None
+        path = _path(source) if isinstance(source, (str, os.PathLike)) else None
         opened = name or (self._in_turn(self._free_name) if path is None else document_name(path))
         given = 'bytes' if path is None else repr(os.fspath(path))
         try:
@@ -688,7 +695,7 @@ class Editor:
             # The call of the caller, and not a name that the caller has not given.
             call = f'open({given})' if name is None else f'open({given}, {name!r})'
             raise refusal._of(call) from refusal.__cause__
-        _LOG.info('%s: opened from %s', opened, 'bytes' if path is None else path)
+        logs.info('%s: opened from %s', opened, 'bytes' if path is None else path)
         document = self._in_turn(lambda: self._handle(opened))
         document._path = path
         return document

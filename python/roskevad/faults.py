@@ -10,14 +10,35 @@ if TYPE_CHECKING:
     from .map_faults import MapPlace
 
 
-class Refused(Exception):
+class Error(Exception):
+    """What a file, or the map in it, is at fault for: a script that handles it can go on with the next map. What is wrong whatever the
+    map is raises ValueError or TypeError instead."""
+
+
+class NotFound(Error, KeyError):
+    """The map has nothing with this id or name. The text says which ids there are."""
+
+    def __str__(self) -> str:
+        return str(self.args[0]) if self.args else ''
+
+
+class OtherType(Error, TypeError, ValueError):
+    """A property has a type in this map that does not take the value. `properties.set(key, value, type=..)` gives it another type."""
+
+
+class BadTileset(Error, ValueError):
+    """The file of a tileset, or a tileset in a map, does not say which tiles it has. Where it is a file, `__cause__` may tell more."""
+
+
+class Refused(Error):
     """A line or a call was refused, and nothing was done.
 
     `code` is the number of the refusal, `words` what it says, and `line` what the caller wrote: a line, as `undo`, or a call,
     as `save_file('a.tmj')`. Where a line is of no command, or is not as its command has it, `forms` are the forms to write it
     in, and `word_at_fault` says at which word; a call has neither. Where it was one of many lines, `place` is its place among
     them, from 0, and `replies` are those to the lines before it, which are done. `why` says of a map why it is not set aside,
-    put back or unpacked, if that is so. Where a map is read and refused, `place_in_map` tells where in its file.
+    put back or unpacked, if that is so. Where a map is read and refused, `place_in_map` tells where in its file. Where a file can't be
+    read or written, `__cause__` has the OSError; of 50 it is a FileNotFoundError.
     """
 
     def __init__(

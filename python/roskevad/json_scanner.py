@@ -5,8 +5,8 @@ import json
 import re
 from typing import Any, Callable, Iterator, NamedTuple, Optional, Union
 
-#: The member of a layer that notes how it was packed, while it is unpacked.
-NOTE = 'roskevad_compression'
+from .compressions import NOTE
+
 # The members that are looked at. Others are gone over.
 _NAMES = {'chunks', 'compression', 'compressionlevel', 'data', 'encoding', 'height', 'id', 'layers', 'width', 'x', 'y', NOTE}
 # How deep layers of a map may stand, and how many it may have. A map with more is refused by the library.

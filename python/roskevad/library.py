@@ -1,8 +1,8 @@
 # SPDX-License-Identifier: MIT OR Apache-2.0
 """Loads the library, and declares its functions."""
 import ctypes
+import os
 import struct
-from pathlib import Path
 from typing import NamedTuple
 
 #: The version of this package, which that of the library must be.
@@ -100,6 +100,7 @@ _SIZE, _EDITOR, _BYTES = ctypes.c_size_t, ctypes.POINTER(CEditor), ctypes.c_char
 _ROOM, _ID = ctypes.c_void_p, ctypes.c_uint32
 _PARAMETERS = {
     'open': [_EDITOR, _SIZE],
+    'open_for': [_EDITOR, _SIZE, _SIZE],
     'step': [_EDITOR, _BYTES, _SIZE, _ROOM, _SIZE],
     'reply': [_EDITOR, _ROOM, _SIZE],
     'run_lines': [_EDITOR, _BYTES, _SIZE, _SIZE, _ROOM, _SIZE, ctypes.POINTER(LinesDone)],
@@ -147,16 +148,16 @@ _PARAMETERS = {
 }
 
 
-def library_path() -> Path:
+def library_path() -> str:
     """The library beside this file, where the package is installed, and else that of the clone."""
-    here = Path(__file__).resolve().parent
-    beside = here / 'libroskevad.so'
-    return beside if beside.exists() else here.parent.parent / 'lib' / 'libroskevad.so'
+    here = os.path.dirname(os.path.realpath(__file__))
+    beside = os.path.join(here, 'libroskevad.so')
+    return beside if os.path.exists(beside) else os.path.join(os.path.dirname(os.path.dirname(here)), 'lib', 'libroskevad.so')
 
 
 def load() -> ctypes.CDLL:
     """The library. Raises ImportError where it is of another version, and OSError where it cannot be loaded."""
-    library = ctypes.CDLL(str(library_path()))
+    library = ctypes.CDLL(library_path())
     for name, parameters in _PARAMETERS.items():
         function = getattr(library, f'roskevad_{name}')
         function.argtypes = parameters

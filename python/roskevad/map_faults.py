@@ -1,14 +1,16 @@
 # SPDX-License-Identifier: MIT OR Apache-2.0
 """Where a map has the fault that it is refused for, as the library tells it."""
 import json
-from typing import Any, NamedTuple, Optional
+from typing import TYPE_CHECKING, Any, NamedTuple, Optional
 
 from . import library
-from .compressed_layers import PackedLayer, UnpackedMap
 from .faults import Refused, refused_call
-from .json_scanner import Part, Path
 from .library import LIBRARY
 from .rooms import Room
+
+if TYPE_CHECKING:
+    from .compressed_layers import PackedLayer, UnpackedMap
+    from .json_scanner import Part, Path
 
 # The codes of a map that is read and refused, and some of them.
 _CODES = range(60, 70)
@@ -23,7 +25,7 @@ class MapPlace(NamedTuple):
     """Where in a file a map has its fault."""
 
     #: The way from the root to it: names of members and indexes of entries; `None` where the file is no JSON.
-    path: Optional[Path]
+    path: 'Optional[Path]'
     #: Whether the fault is there, and not somewhere in what stands there.
     is_exact: bool
     #: What stands there, short, as `an array of length 3`; `None` where the file is no JSON.
@@ -67,15 +69,17 @@ def refused_as_no_json(data: bytes, call: str) -> Optional[Refused]:
     return None if place is None else refused_call(_NOT_JSON, call, place_in_map=place)
 
 
-def refused_map(refusal: Refused, data: bytes, unpacked: UnpackedMap, call: str) -> Refused:
-    """How the bytes of a file are refused, by the refusal of what was unpacked of them: the place is the one in the file."""
+def refused_map(refusal: Refused, data: bytes, unpacked: 'Optional[UnpackedMap]', call: str) -> Refused:
+    """How the bytes of a file are refused, by the refusal of what was unpacked of them: the place is the one in the file. `None` where
+    that was not tried."""
     code, why = refusal.code, refusal.why
     if code not in _CODES:
         return refusal
-    place = place_in(data if code == _NOT_JSON else unpacked.data, code)
-    if place is not None and code != _NOT_JSON and unpacked.data is not data:
+    text = data if unpacked is None or code == _NOT_JSON else unpacked.data
+    place = place_in(text, code)
+    if place is not None and text is not data:
         place = place._replace(line=None, column=None)
-    if place is not None and place.path is not None and code == _COMPRESSED:
+    if unpacked is not None and place is not None and place.path is not None and code == _COMPRESSED:
         layer = unpacked.left.get(place.path[:-1])
         if layer is not None:
             code, why = layer.code, layer.why
@@ -83,7 +87,7 @@ def refused_map(refusal: Refused, data: bytes, unpacked: UnpackedMap, call: str)
     return refused_call(code, call, why, place)
 
 
-def _place_of_packed(place: MapPlace, layer: PackedLayer) -> MapPlace:
+def _place_of_packed(place: MapPlace, layer: 'PackedLayer') -> MapPlace:
     """Where the fault of a layer is that stays packed: its compression, or its data."""
     assert place.path is not None
     if layer.code == _COMPRESSED:
@@ -96,7 +100,7 @@ def _place_of_packed(place: MapPlace, layer: PackedLayer) -> MapPlace:
     return _at(MapPlace((*way, 'data'), True, shown, f'{front}.data is {shown}', None, None), data)
 
 
-def _at(place: MapPlace, part: Part) -> MapPlace:
+def _at(place: MapPlace, part: 'Part') -> MapPlace:
     line, column = part.line_column()
     return place._replace(line=line, column=column)
 

@@ -2,7 +2,6 @@
 """The names of documents and files that a session line can spell."""
 import os
 import re
-from pathlib import PurePath
 from typing import Union
 
 from .limits import MAX_DOCUMENT_NAME, MAX_FILE_NAME
@@ -26,5 +25,7 @@ def document_name(path: Union[str, 'os.PathLike[str]']) -> str:
     """The name of the document under which a file opens, where none is given: that of the file, without what follows its last
     point. Each character that no line can spell becomes `_`; points and hyphens at the front are left out, and so is what
     follows 64 characters. It is `map` where nothing is left."""
+    from pathlib import PurePath
+
     spelled = re.sub('[^A-Za-z0-9_.-]', '_', PurePath(path).stem)
     return spelled.lstrip('.-')[:MAX_DOCUMENT_NAME] or 'map'

@@ -3,6 +3,7 @@
 from typing import TYPE_CHECKING, Any, Iterator, MutableMapping, Optional, Union, cast
 
 from . import words
+from .faults import NotFound, OtherType
 from .kinds import PropertyType, SetPropertyType
 from .library import OWNERS
 from .tiled_maps import Members
@@ -52,11 +53,11 @@ class Properties(MutableMapping[str, Any]):
     def _there(self, key: str) -> Members:
         found = self._one(key)
         if found is None:
-            raise KeyError(key)
+            raise NotFound(f'{self._owner} has no property {key!r}')
         return found
 
     def __getitem__(self, key: str) -> Any:
-        """The value of the property of a name. Raises KeyError where there is none."""
+        """The value of the property of a name. Raises NotFound where there is none."""
         return _value_of(self._there(key))
 
     def __setitem__(self, key: str, value: Any) -> None:
@@ -64,7 +65,7 @@ class Properties(MutableMapping[str, Any]):
         self.set(key, value)
 
     def __delitem__(self, key: str) -> None:
-        """Removes the property of a name. Raises KeyError where there is none, ValueError where no line can say its name."""
+        """Removes the property of a name. Raises NotFound where there is none, ValueError where no line can say its name."""
         self._there(key)
         self._document._edit(f'prop remove {self._owner} {words.key(key)}')
 
@@ -79,26 +80,37 @@ class Properties(MutableMapping[str, Any]):
 
     def type_of(self, key: str) -> PropertyType:
         """The type of the property of a name, as Tiled has it: string, int, float, bool, color, file, object or class. Raises
-        KeyError where there is none."""
+        NotFound where there is none."""
         return cast(PropertyType, self._there(key).get('type', 'string'))
 
     def set(self, key: str, value: Any, type: Optional[SetPropertyType] = None, merge: bool = False) -> None:
         """Sets a property: of this type, or else of the type that is there, or else of the value's own. With `merge` it is one
-        step with a setting of the same property before it. Raises TypeError where that type takes no such value; ValueError for
-        what no line can say, as a float, an empty text or a name with a space; Refused."""
+        step with a setting of the same property before it. Raises OtherType where the type that is there takes no such value, TypeError
+        where the named one does not; ValueError for a float, an empty text or a name with a space; Refused."""
         name = words.key(key)
         named = None if type is None else words.one_of(type, words.TYPES, 'the type of a property')
 
         def work() -> None:
-            kind = named or self._type_for(name, value)
-            self._document._say_edit(f'prop set{"+" if merge else ""} {self._owner} {name} {words.setting(name, value, kind)}')
+            said = words.setting(name, value, named) if named else self._setting_for(name, value)
+            self._document._say_edit(f'prop set{"+" if merge else ""} {self._owner} {name} {said}')
 
         self._document._do(work)
 
-    def _type_for(self, name: str, value: Any) -> str:
-        """The type that a value is set with, in a turn."""
+    def _setting_for(self, name: str, value: Any) -> str:
+        """The type and the value that a line has where no type is named, in a turn. Raises OtherType where the property has a type that
+        does not take the value."""
         there = self._one_now(name)
-        return words.type_of(name, value) if there is None else str(there.get('type', 'string'))
+        if there is None:
+            return words.setting(name, value, words.type_of(name, value))
+        kind = str(there.get('type', 'string'))
+        if kind not in words.TYPES:
+            raise OtherType(f'the property {name!r} has the type {kind} in this map, which the editor does not set: set(.., type=..) changes it')
+        try:
+            return words.setting(name, value, kind)
+        except (TypeError, ValueError) as fault:
+            if isinstance(fault, ValueError) and kind != 'color':
+                raise
+            raise OtherType(f'{fault}; set(.., type=..) gives it another type') from None
 
     def __repr__(self) -> str:
         all_ = self._document._peek(lambda: {each['name']: _value_of(each) for each in self._now()})

@@ -2,16 +2,18 @@
 """What the editor's format refuses of a map is set aside before it is read, and put back when it is saved."""
 import math
 import struct
-from typing import Any, Iterable, Iterator, Optional
+from typing import TYPE_CHECKING, Any, Iterable, Iterator, Optional
 
 from . import library
 from .faults import Refused, refused_call
-from .compressed_layers import Unpackable, UnpackedMap, pack_layers, unpack_layers
-from .json_scanner import NOTE
+from .compressions import NOTE
 from .layouts import laid_out, laid_out_like
 from .limits import MAX_FILE_BYTES
 from .made_texts import made
 from .map_faults import refused_as_no_json
+
+if TYPE_CHECKING:
+    from .compressed_layers import Unpackable, UnpackedMap
 
 # The name under which it stands, in the map, in layers and objects.
 _RESERVED = 'roskevad'
@@ -35,9 +37,11 @@ _STORE_FAILED = 51
 Members = dict[str, Any]
 
 
-def set_aside(data: bytes, call: str) -> tuple[bytes, UnpackedMap]:
+def set_aside(data: bytes, call: str) -> 'tuple[bytes, UnpackedMap]':
     """The text of a map that `open` can read, where it can; and what was unpacked for it. Raises Refused, with the call: 51, and 60
     where the bytes are no JSON besides."""
+    from .compressed_layers import Unpackable, unpack_layers
+
     try:
         unpacked = unpack_layers(data)
     except Unpackable as fault:
@@ -48,13 +52,15 @@ def set_aside(data: bytes, call: str) -> tuple[bytes, UnpackedMap]:
 def put_back(data: bytes, source: bytes, call: str) -> bytes:
     """The text of a map as it was before. Packed layers whose cells are those of a source have its text of them. Raises Refused, with the
     call: 51."""
+    from .compressed_layers import Unpackable, pack_layers
+
     try:
         return pack_layers(_made('put_back', data, call), source)
     except Unpackable as fault:
         raise _refused(fault, call) from None
 
 
-def _refused(fault: Unpackable, call: str) -> Refused:
+def _refused(fault: 'Unpackable', call: str) -> Refused:
     return refused_call(_STORE_FAILED, call, fault.why)
 
 

@@ -1,15 +1,16 @@
 # SPDX-License-Identifier: MIT OR Apache-2.0
 """The tilesets of a document, and the tiles of its cells."""
 import json
-from pathlib import Path
 from typing import TYPE_CHECKING, Iterator, NamedTuple, Optional, TypeVar, Union, cast
 
 from . import words
-from .faults import refused_call
+from .faults import BadTileset, NotFound, refused_call
 from .rows import BASE, DIAGONALLY, HORIZONTALLY, TURNED, VERTICALLY
 from .tiled_maps import Members
 
 if TYPE_CHECKING:
+    from pathlib import Path
+
     from .document import Document
 
 _Default = TypeVar('_Default')
@@ -21,9 +22,10 @@ TILESET_ENDS = ('.tsj', '.json')
 MOST_TILES = 1_048_576
 
 
-def absent(kind: str, key: object, ids: list[int]) -> KeyError:
+def absent(kind: str, key: object, ids: list[int]) -> NotFound:
     """What is raised where there is nothing that a key stands for: it says which ids there are."""
-    return KeyError(f'no {kind} {key!r}; its ids are {words.listed(ids)}' if ids else f'no {kind} {key!r}, and no other one')
+    others = f': the ids are {words.listed(ids)}' if ids else ', nor any other one'
+    return NotFound(f'there is no {kind} {key!r} here{others}')
 
 
 def is_id(key: object) -> bool:
@@ -70,7 +72,7 @@ class Tileset:
     @property
     def tiles(self) -> 'Optional[list[TilesetTile]]':
         """Its tiles by their ids, as the map has them, or its file as JSON, beside the file that the document was opened from or saved to
-        last; None where no such file is there. Raises Refused; ValueError where the file is no tileset."""
+        last; None where no such file is there. Raises Refused; BadTileset where the file is no tileset."""
         said, path = self._members(), self._document.path
         source: Optional[str] = said.get('source')
         if source is None:
@@ -123,8 +125,8 @@ class TilesetTile(NamedTuple):
     shapes: list[Members]
 
 
-def tileset_file(path: Path) -> Optional[Members]:
-    """The tileset of a file as JSON; None where there is none. Raises ValueError where it is no tileset."""
+def tileset_file(path: 'Path') -> Optional[Members]:
+    """The tileset of a file as JSON; None where there is none. Raises BadTileset where it is no tileset."""
     if path.suffix not in TILESET_ENDS:
         return None
     try:
@@ -132,18 +134,18 @@ def tileset_file(path: Path) -> Optional[Members]:
     except OSError:
         return None
     except (ValueError, RecursionError) as fault:
-        raise ValueError(f'{path} is no tileset: {fault}') from fault
+        raise BadTileset(f'{path} is no tileset: {fault}') from fault
     if not isinstance(members, dict) or 'tilecount' not in members:
-        raise ValueError(f'{path} is no tileset: it does not say how many tiles there are')
+        raise BadTileset(f'{path} is no tileset: it does not say how many tiles there are')
     return members
 
 
 def tiles_of(members: Members) -> list[TilesetTile]:
-    """The tiles of a tileset, by its members; those of which it says nothing, too. Raises ValueError where it has too many, or does not say
+    """The tiles of a tileset, by its members; those of which it says nothing, too. Raises BadTileset where it has too many, or does not say
     how many. What else is of another kind than Tiled's is left out."""
     count = members.get('tilecount', 0)
     if not isinstance(count, int) or not 0 <= count <= MOST_TILES:
-        raise ValueError(f'a tileset has 0 to {MOST_TILES} tiles: {count!r}'[:200])
+        raise BadTileset(f'a tileset has 0 to {MOST_TILES} tiles, and this one says: {count!r}'[:200])
     said = {tile['id']: tile for tile in _objects(members.get('tiles')) if isinstance(tile.get('id'), int)}
     return [_tile_of(id, said.get(id, {})) for id in range(count)]
 
@@ -184,7 +186,7 @@ def tile_of(document: 'Document', value: int) -> Tile:
 
 class Tilesets:
     """The tilesets of a document, in order: `[int]` is the one with that first id, `[str]` the first with that source, or with
-    that name where the map has it in itself; else KeyError."""
+    that name where the map has it in itself; else NotFound."""
 
     __slots__ = '_document',
 
@@ -220,7 +222,7 @@ class Tilesets:
         return None
 
     def __getitem__(self, key: Union[int, str, Tileset]) -> Tileset:
-        """The tileset with a first id, or the first with a source or a name. Raises KeyError where there is none."""
+        """The tileset with a first id, or the first with a source or a name. Raises NotFound where there is none."""
         found = self.get(key)
         if found is None:
             raise absent('tileset', key, self._firsts())

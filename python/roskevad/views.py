@@ -175,7 +175,7 @@ class MapObject(_View):
 
 class Objects:
     """The objects of a layer, or of a whole document: in drawing order. `[int]` is the one with that id, `[str]` the first of
-    that name; else KeyError."""
+    that name; else NotFound."""
 
     __slots__ = '_document', '_layer'
 
@@ -211,7 +211,7 @@ class Objects:
         return reversed(list(self))
 
     def __getitem__(self, key: Union[int, str, MapObject]) -> MapObject:
-        """The object with an id, or the first of a name. Raises KeyError where there is none."""
+        """The object with an id, or the first of a name. Raises NotFound where there is none."""
         found = self.get(key)
         if found is None:
             raise absent('object', key, self._document._do(self._ids))
@@ -375,7 +375,7 @@ class Layer(_View):
 
 class Layers:
     """The layers of a document that are in no group, or those in a group: in drawing order. `[int]` is the layer with that id,
-    `[str]` the first of that name, in groups too; else KeyError. `walk` gives all, with those in groups."""
+    `[str]` the first of that name, in groups too; else NotFound. `walk` gives all, with those in groups."""
 
     __slots__ = '_document', '_group'
 
@@ -443,11 +443,11 @@ class Layers:
 
     def __getitem__(self, key: Union[int, str, Layer]) -> Layer:
         """The layer with an id, the first of a name, in groups too, or the one at a path: names of groups and its own, joined by
-        slashes. Raises KeyError where there is none."""
+        slashes. Raises NotFound where there is none."""
         return Layer(self._document, self._document._do(lambda: self._known(key)))
 
     def _known(self, key: object) -> int:
-        """The id of what a key stands for, in a turn. Raises KeyError where there is none."""
+        """The id of what a key stands for, in a turn. Raises NotFound where there is none."""
         id = self._found(key)
         if id is None:
             raise absent('layer', key, self._ids())
@@ -481,7 +481,7 @@ class Layers:
         """Adds a layer, tile or object, in no group, last, which is drawn over the others, and gives it. Raises TypeError;
         ValueError, also for the layers of a group; Refused."""
         if self._group is not None:
-            raise ValueError('no line adds a layer to a group: document.layers.add(..)')
+            raise ValueError('a layer is not added to a group, but over all others: document.layers.add(..)')
         said = words.one_of(kind, ADDED, 'the kind of a layer that is added')
         return Layer(self._document, self._document._add('layer', f'layer add {said} {words.text(name, "the name of a layer")}'))
 

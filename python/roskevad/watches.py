@@ -1,17 +1,16 @@
 # SPDX-License-Identifier: MIT OR Apache-2.0
 """Callbacks that are told what lines did to a document."""
-import logging
 from collections import deque
 from types import TracebackType
 from typing import TYPE_CHECKING, Callable, Optional
 
+from . import logs
 from .told import Told, told_of
 
 if TYPE_CHECKING:
     from . import library
     from .document import Document
 
-_LOG = logging.getLogger('roskevad')
 
 
 class Watch:
@@ -36,7 +35,7 @@ class Watch:
         try:
             self._callback(told)
         except Exception:
-            _LOG.exception('a callback of watch has failed')
+            logs.exception('a callback of watch has failed')
 
 
 class Watched:

@@ -2,7 +2,6 @@
 """Checks words before they become a line: what no line can say is told with the caller's own words, and nothing is sent."""
 import operator
 import re
-from numbers import Integral
 from typing import Any, Optional
 
 from .layouts import LAYOUTS
@@ -33,15 +32,15 @@ def text(word: object, what: str) -> str:
     if not isinstance(word, str):
         raise TypeError(f'{what} is a str: {type(word).__name__}')
     if not word:
-        raise ValueError(f'{what} is empty, and no line can say that')
+        raise ValueError(f'{what} is empty: give it one character or more')
     if any(ord(each) < 32 or ord(each) == 127 for each in word):
-        raise ValueError(f'{what} has a control character in it: {_shown(word)}')
+        raise ValueError(f'{what} has a newline, a tab or another control character in it: {_shown(word)}')
     try:
         size = len(word.encode())
     except UnicodeEncodeError:
         raise ValueError(f'{what} has half of a character in it: {_shown(word)}') from None
     if size > MAX_TEXT:
-        raise ValueError(f'{what} has {size} bytes, and a line takes at most {MAX_TEXT}: {_shown(word)}')
+        raise ValueError(f'{what} has {size} bytes in UTF-8, and may have {MAX_TEXT}: {_shown(word)}')
     return word
 
 
@@ -49,7 +48,7 @@ def key(word: object) -> str:
     """The name of a property. Raises as `text` does, and ValueError for a space."""
     said = text(word, 'the name of a property')
     if ' ' in said:
-        raise ValueError(f'the name of a property has a space in it, and no line can say that: {_shown(said)}')
+        raise ValueError(f'the name of a property has a space in it, which it may not have: {_shown(said)}')
     return said
 
 
@@ -123,8 +122,6 @@ _TAKES: dict[str, type] = {'string': str, 'file': str, 'int': int, 'bool': bool,
 def setting(name: str, value: Any, kind: str) -> str:
     """The type and the value of a property, as the line `prop set` has them. Raises TypeError where the type takes no such
     value, and ValueError where no line can say it."""
-    if kind not in TYPES:
-        raise ValueError(f'no line sets a property of the type {kind}: {name!r}')
     what = f'the property {name!r}'
     if kind == 'object':
         return f'object {number(getattr(value, OBJECT, value), what)}'
@@ -141,9 +138,18 @@ def setting(name: str, value: Any, kind: str) -> str:
     return f'{kind} {text(whole, what)}'
 
 
+def _is_whole(value: object) -> bool:
+    """Whether a value is a whole number, also of another library."""
+    if isinstance(value, int):
+        return True
+    from numbers import Integral
+
+    return isinstance(value, Integral)
+
+
 def _as_whole(value: Any) -> Any:
     """A number of another library as an int, and anything else as it is."""
-    return operator.index(value) if isinstance(value, Integral) and not isinstance(value, bool) else value
+    return operator.index(value) if _is_whole(value) and not isinstance(value, bool) else value
 
 
 def type_of(name: str, value: Any) -> str:
@@ -153,10 +159,10 @@ def type_of(name: str, value: Any) -> str:
         return 'string'
     if isinstance(value, bool):
         return 'bool'
-    if isinstance(value, Integral):
+    if _is_whole(value):
         return 'int'
     if isinstance(value, float):
-        raise ValueError(f'no line sets a property of the type float: {name!r}')
+        raise ValueError(f'the property {name!r} is given a float, and the editor sets whole numbers: {value!r}')
     if hasattr(value, OBJECT):
         return 'object'
     raise TypeError(f'the property {name!r} is a str, an int, a bool or a MapObject: {type(value).__name__}')
