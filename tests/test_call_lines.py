@@ -111,7 +111,7 @@ SCENARIOS = [
     Scenario('a macro that fails', 'try:\n  with document.macro("A"):\n    document.stamp(1, 0, 0, [[5]])\n    document.layers["none"]\n'
              'except KeyError:\n  pass',
              'try { document.macro("A", () => { document.stamp(1, 0, 0, [[5]]); document.layers.get("none"); }); } catch (fault) {'
-             ' if (!(fault instanceof RangeError)) throw fault; }',
+             ' if (!(fault instanceof roskevad.NotFound)) throw fault; }',
              ['begin A', 'stamp 1 0 0 1 5', 'end', 'undo']),
     Scenario('an inner macro that fails', 'with document.macro("A"):\n  try:\n    with document.macro("B"):\n      document.stamp(1, 0, 0, [[5]])\n'
              '      document.stamp(2, 0, 0, [[5]])\n  except roskevad.Refused:\n    document.stamp(1, 1, 0, [[6]])',
@@ -237,7 +237,9 @@ for look in (lambda: at[0], lambda: at['Roof'], lambda: groups.objects[1]):
     except KeyError as fault:
         said.append(fault.args[0])
 assert found == [4, 2, 5, 4] and gone == [None] * 4 and at.find('Walls').id == 2, (found, gone)
-assert said == ['no layer 0; its ids are 1, 2, 3, 4, 5', "no layer 'Roof'; its ids are 1, 2, 3, 4, 5", 'no object 1, and no other one'], said
+assert said == [
+    'there is no layer 0 here: the ids are 1, 2, 3, 4, 5', "there is no layer 'Roof' here: the ids are 1, 2, 3, 4, 5",
+    'there is no object 1 here, nor any other one'], said
 assert [layer.parent and layer.parent.id for layer in at.walk()] == [None, 1, 1, 3, None]
 assert [layer.id for layer in reversed(at)] == [5, 1] and [each.first_id for each in reversed(groups.tilesets)] == [3, 1]
 groups.stamp('Houses/Smithy/Walls', 0, 0, [[1]])
@@ -251,8 +253,8 @@ const gone = [at.find('Houses/Inn'), at.find('Smithy/Walls'), at.find('Roof'), g
 const said = [() => at.get(0), () => at.get('Roof'), () => groups.objects.get(1)].map((look) => {{
   try {{ return look(); }} catch (fault) {{ return fault.message; }}
 }});
-const wanted = ['there is no layer 0; its ids are 1, 2, 3, 4, 5', 'there is no layer "Roof"; its ids are 1, 2, 3, 4, 5',
-  'there is no object 1, and no other one'];
+const wanted = ['there is no layer 0 here: the ids are 1, 2, 3, 4, 5', 'there is no layer "Roof" here: the ids are 1, 2, 3, 4, 5',
+  'there is no object 1 here, nor any other one'];
 const parents = [...at.walk()].map((layer) => layer.parent?.id ?? 0);
 const came = JSON.stringify([found, gone, at.find('Walls').id, said, parents]);
 if (came !== JSON.stringify([[4, 2, 5, 4], [null, null, null, null, null], 2, wanted, [0, 1, 1, 3, 0]])) throw new Error(came);

@@ -3,7 +3,7 @@
 values and of their arguments; what each raises, by an expression that must raise it in Python and in
 JavaScript; what their texts say of that; that each call of a closed document raises Closed; and the
 tables of docs/python.md and docs/javascript.md and the declarations js/document.d.ts, which
-`tools/reference` writes."""
+`tools/reference` writes. No call of a release is gone."""
 import importlib.machinery
 import importlib.util
 import inspect
@@ -47,6 +47,12 @@ def rows():
     yield from (('Editor', call) for call in calls.LINE_CALLS)
 
 
+def costly():
+    """All that may have a cost: these calls, and the functions."""
+    yield from rows()
+    yield from (('', call) for call in calls.FUNCTIONS)
+
+
 def rows_of(language):
     return [(kind, call) for kind, call in rows() if call.only in ('', REFERENCE.LANGUAGES[language])]
 
@@ -68,9 +74,32 @@ def test_costs():
     def fault_of(case):
         kind, costs = case.given
         names = [name for each in costs.values() for name in each.split(' ')]
-        return unlike(sorted({*names}), sorted(names)) or unlike(set(), {*names} - {call.name for each, call in rows() if each == kind})
+        return unlike(sorted({*names}), sorted(names)) or unlike(set(), {*names} - {call.name for each, call in costly() if each == kind})
 
     check_each([Case(kind, (kind, costs), None) for kind, costs in calls.COSTS.items()], fault_of)
+
+
+# ---- what releases had
+
+
+def spelled(language, kind, call):
+    """The name of a call with its class, as the list of released calls has it."""
+    name = (call.renamed or REFERENCE.camel(call.name)) if language == JAVASCRIPT else call.name
+    special = SPECIAL.get(name, name)
+    if language == PYTHON and kind and hasattr(getattr(roskevad, kind), special):
+        name = special
+    return f'{REFERENCE.LANGUAGES[language]} {kind}.{name}' if kind else f'{REFERENCE.LANGUAGES[language]} {name}'
+
+
+def test_released_calls():
+    """Each call that a release with the same first two numbers had stands in the table, which both packages follow."""
+    release = '.'.join((TOP / 'VERSION').read_text().split('.')[:2])
+    lines_ = [line.split(' ', 1) for line in (TOP / 'tools' / 'released_calls.txt').read_text().splitlines() if not line.startswith('#')]
+    there = {spelled(language, kind, call) for language in (PYTHON, JAVASCRIPT) for kind, call in costly()
+             if call.only in ('', REFERENCE.LANGUAGES[language])}
+    released = [name for since, name in lines_ if since == release]
+    assert len(released) > 200, f'{len(released)} calls of {release}'
+    check_each([Case(name, name, None) for name in released], lambda case: None if case.given in there else 'a release had it')
 
 
 # ---- names and arguments
@@ -137,8 +166,10 @@ def test_functions():
         came = list(inspect.signature(getattr(roskevad, case.given.name)).parameters)
         declared = (TOP / 'js' / 'roskevad.d.ts').read_text()
         said = f'{case.given.takes}: {REFERENCE.typed(case.given, case.given.takes)}'
-        line = f'export function {REFERENCE.camel(case.given.name)}({said}): {REFERENCE.given(case.given, JAVASCRIPT)};'
-        return unlike(case.wanted, came) or (None if line in declared else f'no {line} in js/roskevad.d.ts')
+        front, back = f'export function {REFERENCE.camel(case.given.name)}(', f'): {REFERENCE.given(case.given, JAVASCRIPT)};'
+        # One with options of JavaScript alone is declared in several lines.
+        line = f'{front}{said}{back}' if not case.given.written[JAVASCRIPT] else f'{front}\n  {case.given.takes}: '
+        return unlike(case.wanted, came) or (None if line in declared and back in declared else f'no {line} in js/roskevad.d.ts')
 
     check_each([Case(call.name, call, [call.takes]) for call in calls.FUNCTIONS], fault_of)
 
@@ -281,7 +312,7 @@ def test_texts_of_python():
         told = inspect.getdoc(member_of(kind, call)) or ''
         names, codes = REFERENCE.raised(call, PYTHON)
         wanted = {*names, *(['Refused'] if codes else [])}
-        missing = sorted(name for name in wanted if name not in told and name != 'KeyError')
+        missing = sorted(name for name in wanted if name not in told)
         return f'its text does not name {", ".join(missing)}' if missing else None
 
     cases = [Case(f'{kind}.{call.name}', (kind, call), None) for kind, call in rows_of(PYTHON) if call.name not in ('create', 'delete')]

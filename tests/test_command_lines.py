@@ -51,6 +51,13 @@ COMMAND_LINES = [
         (0, '', 'tile_editor: no/maps: No such file or directory'),
     ),
     Case('all maps twice', ['--all-maps', '--all-maps'], (2, '', twice('--all-maps'))),
+    Case('all edits', ['--all-edits'], (0, '', '')),
+    Case(
+        'all edits, all maps, strict',
+        ['--all-edits', '--strict', '--all-maps', '--limit', '3', '--folder', '.'],
+        (0, '', ''),
+    ),
+    Case('all edits twice', ['--all-edits', '--all-edits'], (2, '', twice('--all-edits'))),
     Case('help', ['--help'], (0, ABOUT, '')),
     Case('no folder', ['--folder'], (2, '', NO_FOLDER)),
     Case('an empty folder', ['--folder', ''], (2, '', NO_FOLDER)),

@@ -22,7 +22,7 @@ import shutil
 import subprocess
 
 from lib.cases import CORES, Case, check_each, fail_with, passed, skip, unlike
-from lib.forms import HELP, spread
+from lib.forms import HELP, OF_MEMBERS, spread
 from lib.pages import CODE, Clone, Page, pages
 from lib.places import BIN, EXAMPLES, TOP
 from lib.refusals import OF_MAPS, ROWS
@@ -238,18 +238,28 @@ def test_refusals_of_maps():
     assert not fault, f'docs/map-files.md: {fault}'
 
 
+def forms_of_tables(text):
+    """The forms of the tables of a text, each without alternatives."""
+    cells = re.findall(r'^\| (`.*?) \| ', text, re.MULTILINE)
+    codes = [code for cell in cells for code in re.findall(r'`([^`]+)`', cell)]
+    return [form for code in codes for form in spread(code.replace('\\|', '|'))]
+
+
+def test_forms_of_own_members():
+    """So it has those of the lines of own members, which have a section of their own: `set` and `put`
+    may have a `+`."""
+    section = LINES.read_text().partition('<!-- forms: members -->')[2]
+    forms = forms_of_tables(section.partition('<!-- end of forms -->')[0])
+    forms += [form.replace(word, f'{word}+', 1) for form in forms for word in (' set', ' put') if word in form]
+    fault = unlike(sorted(forms), sorted(OF_MEMBERS))
+    assert forms and not fault, fault
+
+
 def test_forms_of_the_help():
     """The help has each form of a line that the page of lines has, on a line of its own, and no
     other."""
     page = LINES.read_text()
-    table = page.partition('### Commands')[2].partition('\n## ')[0]
-    cells = re.findall(r'^\| (`.*?) \| ', table, re.MULTILINE)
-    forms = [
-        form
-        for cell in cells
-        for code in re.findall(r'`([^`]+)`', cell)
-        for form in spread(code.replace('\\|', '|'))
-    ]
+    forms = forms_of_tables(page.partition('### Commands')[2].partition('\n## ')[0])
     merging = re.search(
         r'^(`.*?) have the same form', page.partition('## Lines with a `+`')[2], re.MULTILINE
     )[1]

@@ -33,7 +33,7 @@ SCRIPT = '''
 from pathlib import Path
 from typing import Any, Optional
 from roskevad import Closed, Document, Editor, Layer, LayerKind, MapObject, Refused, Rows, Run, SelectionMode, Status, Tile, TilesetTile
-from roskevad import document_name, turned_right
+from roskevad import BadTileset, Error, NotFound, OtherType, document_name, report, turned_right
 def run(path: Path) -> Optional[int]:
     with Editor(limit=5, folder='.') as editor:
         reply: str = editor.open_file(path)
@@ -46,6 +46,9 @@ def run(path: Path) -> Optional[int]:
             editor.save_file('a.tmj')
         except (Refused, Closed) as fault:
             print(fault, reply, told, tree, names, document_name(path))
+        faults: list[Error] = [NotFound('a'), OtherType('a'), BadTileset('a'), Refused(21, 'nothing to undo', 'undo')]
+        told_of_map: dict[str, Any] = report(path) or report('a.tmj') or report(b'{}')
+        print(faults, told_of_map['refused'])
         return editor.clean_index()
 def drawn(editor: Editor, path: Path) -> Status:
     document: Document = editor.open(path)

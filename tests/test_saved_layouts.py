@@ -18,7 +18,7 @@ from lib import tiled_package
 from lib.asides import OPTION, as_in, exact, exact_text, put_back
 from lib.cases import CORES, Case, check_each, passed, unlike
 from lib.json_texts import tree_of
-from lib.map_layouts import layouts, lines_changed, printed
+from lib.map_layouts import layouts, lines_changed, printed, turned
 from lib.maps import layers_in, text_of
 from lib.places import EXAMPLE_MAPS, SESSION_MAPS, TILE_EDITOR
 from lib.sessions import heard
@@ -38,12 +38,6 @@ def all_layouts(data):
         "Node's, on one line": json.dumps(tree, ensure_ascii=False, separators=(',', ':')).encode(),
         'members turned round': json.dumps(turned(tree), indent=1).encode(),
     }
-
-
-def turned(value):
-    if isinstance(value, dict):
-        return {name: turned(member) for name, member in reversed(value.items())}
-    return [turned(entry) for entry in value] if isinstance(value, list) else value
 
 
 def opened_maps():

@@ -11,7 +11,7 @@ from concurrent.futures import ThreadPoolExecutor
 from lib.cases import CORES, fail_with, in_processes, passed
 from lib.growths import Refuser, Session
 from lib.places import EXAMPLES, TOP, example_maps
-from lib.sessions import Run, all_runs
+from lib.sessions import Run, runs_of_files
 
 IS_LONG = True
 
@@ -20,7 +20,7 @@ def runs_to_refuse():
     """The session of `rt ci`, the examples over the maps beside them, and the marked sessions."""
     for file in [TOP / 'crates' / 'tile_editor' / 'stdin', *sorted(EXAMPLES.glob('*.session'))]:
         yield Run(file.name, example_maps(), file.read_bytes())
-    yield from (run for run in all_runs() if run.refuses_growths)
+    yield from (run for run in runs_of_files() if run.refuses_growths)
 
 
 def begun(run):

@@ -5,7 +5,7 @@ its bytes given one at a time, or 997 where it is large, which native/interpose.
 tells of a save that is not synced before it takes the old file's place."""
 from lib.cases import CORES, check_each
 from lib.native import interposed
-from lib.sessions import all_runs, fault_of_run
+from lib.sessions import fault_of_run, runs_of_files
 
 # The bytes of the longest session that is given a byte at a time.
 SMALL = 200_000
@@ -17,8 +17,8 @@ def fault_in_pieces(run):
 
 
 def test_replies_and_files():
-    check_each(all_runs(), fault_of_run, CORES)
+    check_each(runs_of_files(), fault_of_run, CORES)
 
 
 def test_bytes_in_pieces():
-    check_each(all_runs(), fault_in_pieces, CORES)
+    check_each(runs_of_files(), fault_in_pieces, CORES)

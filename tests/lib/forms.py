@@ -13,14 +13,15 @@ def spread(form):
     return [' '.join(words) for words in itertools.product(*choices)]
 
 
-def forms_in(help_text):
-    return re.findall(
-        r'^  (.+)$', help_text.partition('Session lines:\n')[2].partition('\n\n')[0], re.MULTILINE
-    )
+def forms_in(help_text, heading='Session lines:'):
+    """Those below a heading."""
+    listed = help_text.partition(f'{heading}\n')[2].partition('\n\n')[0]
+    return re.findall(r'^  (.+)$', listed, re.MULTILINE)
 
 
-HELP = forms_in(
-    subprocess.run(
-        [BIN / 'tile_editor', '--help'], capture_output=True, text=True, check=True
-    ).stdout
-)
+TEXT = subprocess.run(
+    [BIN / 'tile_editor', '--help'], capture_output=True, text=True, check=True
+).stdout
+HELP = forms_in(TEXT)
+# Those of the lines of own members.
+OF_MEMBERS = forms_in(TEXT, 'Lines of own members, with --all-edits:')

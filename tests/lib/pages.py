@@ -9,6 +9,7 @@ front of it says so, with a line for each:
   <!-- transcript
   file city.tmj examples/maps/town.tmj     a file of its folder, and where its bytes stand here
   say layer add object Things              a line that is said before those of the table
+  with --all-edits                         an option of the program
   go on                                    it goes on where the one before it on this page ends
   -->
 
@@ -209,6 +210,7 @@ class Transcript:
             if word.startswith('file ')
         }
         self.before = [word[4:] for word in told if word.startswith('say ')]
+        self.options = [word[5:] for word in told if word.startswith('with ')]
         if not any(
             line.split(' ')[0] in ('new', 'open') for line in (*self.before, self.rows[0][0])
         ):
@@ -229,9 +231,8 @@ class Transcript:
     def fault_in(self, program, folder):
         """The same in a folder, and the files that stand there behind it."""
         session = ''.join(line + '\n' for line in (*self.before, *self.lines()))
-        done = subprocess.run(
-            [program, '--folder', folder], input=session.encode(), capture_output=True, timeout=120
-        )
+        words = [program, '--folder', folder, *self.options]
+        done = subprocess.run(words, input=session.encode(), capture_output=True, timeout=120)
         replies = done.stdout.decode().split('\n')[len(self.before) : -1]
         if done.returncode != 0 or len(replies) != len(self.rows):
             return (

@@ -15,6 +15,7 @@ VALUE = re.compile(rb'\{=([^{}]*)\}')
 VALUES = re.compile(rb'\{values (\d+) ([^{}]*)\}')
 TIMES = re.compile(rb'\{([^{}]*)\*(\d+)\}')
 ESCAPE = re.compile(rb'\\(x[0-9a-f]{2}|\\)')
+ALL_EDITS = '--all-edits'
 
 
 class Run:
@@ -150,7 +151,9 @@ class Reader:
         elif row == b'@no last newline':
             run.has_last_newline = False
         elif word == b'@limit':
-            run.options = ['--limit', rest.decode()]
+            run.options += ['--limit', rest.decode()]
+        elif row == b'@all edits':
+            run.options.append(ALL_EDITS)
         elif word == b'@growths':
             run.refuses_growths = True
         elif word == b'@before':
@@ -163,9 +166,19 @@ class Reader:
 
 
 @functools.cache
-def all_runs():
+def runs_of_files():
     """The runs of all session files."""
     return [run for file in sorted(SESSIONS.rglob('*.session')) for run in Reader(file).runs]
+
+
+def all_runs():
+    """Those of the plain lines, which each editor reads."""
+    return [run for run in runs_of_files() if ALL_EDITS not in run.options]
+
+
+def runs_for_all_edits():
+    """Those that want an editor for all edits."""
+    return [run for run in runs_of_files() if ALL_EDITS in run.options]
 
 
 # ---- what the program does
@@ -245,9 +258,9 @@ def fault_of_run(run, env=None):
     )
 
 
-def replies_together(runs):
+def replies_together(runs, options):
     """The replies to each of some runs that the program hears as one session. It leaves no files."""
-    done, files = heard(b''.join(run.session for run in runs))
+    done, files = heard(b''.join(run.session for run in runs), options=options)
     came = (done.returncode, done.stderr[:300], sorted(files))
     assert came == (0, b'', []), f'wanted status 0, no errors and no files, came {came}'
     replies = iter(done.stdout.splitlines(keepends=True))
@@ -255,9 +268,10 @@ def replies_together(runs):
         yield b''.join(next(replies, b'') for _ in range(run.replies.count(b'\n')))
 
 
-def check_together(runs, at_once=None):
-    """The program hears some runs as one session, or so many at once; each of them is a case."""
+def check_together(runs, at_once=None, options=()):
+    """The program, made with these options, hears some runs as one session, or so many at once; each
+    of them is a case."""
     step = at_once or len(runs)
     parts = [runs[first : first + step] for first in range(0, len(runs), step)]
-    came = iter([replies for part in parts for replies in replies_together(part)])
+    came = iter([replies for part in parts for replies in replies_together(part, options)])
     check_each(runs, lambda run: fault_of_replies(run.session, run.replies, next(came)))

@@ -1,7 +1,7 @@
 // SPDX-License-Identifier: MIT OR Apache-2.0
 // Checks of the package that hold in Node and in browsers alike. Each fails by what it throws.
 import {
-  BadModule, Broken, Closed, Editor, Module, NoMemory, Refused, VERSION,
+  BadModule, Broken, Closed, Editor, Module, NoMemory, NotFound, Refused, VERSION,
 } from "../../js/roskevad.js";
 import {
   sections, stackOf, withLibraryVersion, withMark, withMostPages, withStack,
@@ -169,8 +169,8 @@ async function cellsAndOutlines() {
   same(editor.outline(), map);
   same([editor.layerId("Doors"), editor.lastLayerId()], [2, 2]);
   same([editor.objectId("key"), editor.lastObjectId()], [1, 1]);
-  thrown(RangeError, () => editor.layerId("Walls"));
-  thrown(RangeError, () => editor.objectId("Doors"));
+  thrown(NotFound, () => editor.layerId("Walls"));
+  thrown(NotFound, () => editor.objectId("Doors"));
   same([0, 2, 9, -1, 0.5].map((at) => editor.actionText(at)), [
     "add layer", "stamp tiles", null, null, null,
   ]);

@@ -1,6 +1,6 @@
 // SPDX-License-Identifier: MIT OR Apache-2.0
 // Checks of documents that hold in Node and in browsers alike. What each call does, test_call_lines.py has.
-import { Closed, Document, Editor, Refused } from "../../js/roskevad.js";
+import { Closed, Document, Editor, NotFound, OtherType, Refused } from "../../js/roskevad.js";
 
 function same(given, wanted) {
   const [came, want] = [given, wanted].map((each) => JSON.stringify(each));
@@ -97,7 +97,7 @@ async function propertiesOfOtherTypes() {
   const document = await editor.open(JSON.stringify({ ...made.map(), properties }));
   document.properties.get("c").a = 2;
   same([...document.properties], [["c", { a: 1 }]]);
-  thrown(RangeError, () => document.properties.set("c", { a: 2 }));
+  thrown(OtherType, () => document.properties.set("c", { a: 2 }));
   editor.close();
 }
 
@@ -275,7 +275,7 @@ async function namesThatAreNotThere() {
   const { message } = thrown(TypeError, () => {
     key.type = "Door";
   });
-  same(message, "type of an object is not set as a value: no line changes it");
+  same(message, "type of an object is not set as a value: the editor does not change it");
   editor.close();
 }
 
@@ -394,7 +394,7 @@ async function thingsAndIds() {
   ];
   for (const [things, others, thing] of rows) {
     same([things.has(thing), Number(things.get(thing)), others.has(thing)], [true, Number(thing), false]);
-    thrown(RangeError, () => others.get(thing));
+    thrown(NotFound, () => others.get(thing));
   }
   town.layers.get(1).name = "Ground";
   town.stamp("Ground", 0, 0, [[33]]);

@@ -1,8 +1,8 @@
 // SPDX-License-Identifier: MIT OR Apache-2.0
 // What the declarations must take, and what they must not. It is checked, and never run.
 import {
-  BadModule, Broken, CellArea, Closed, Document, Editor, FORMS, InCallback, Layer, Module, NoMemory, Refused, Run, Status,
-  StepRow, Subject, Tile, Told, VERSION, documentName, formsOf,
+  BadModule, BadTileset, Broken, CellArea, Closed, Document, Editor, Error as MapError, FORMS, InCallback, Layer, Module, NoMemory,
+  NotFound, OtherType, Refused, Report, ReportedObject, Run, Status, StepRow, Subject, Tile, Told, VERSION, documentName, formsOf, report,
 } from "../../js/roskevad.js";
 
 async function used(bytes: Uint8Array): Promise<void> {
@@ -57,6 +57,17 @@ async function used(bytes: Uint8Array): Promise<void> {
   for (const [x, y] of town.selection) {
     void (x + y);
   }
+  const reported: Report = await report(bytes, { module: await Module.load() });
+  if (reported.refused === null) {
+    const objects: ReportedObject[] = reported.objects;
+    void [objects, reported.width];
+  } else {
+    const told: [number, string, string | undefined] = [reported.refused.code, reported.refused.words, reported.refused.reason];
+    void told;
+  }
+  const ofMaps: MapError[] = [new NotFound(), new OtherType(), new BadTileset(), new Refused(21, "nothing to undo", "undo")];
+  const cause: unknown = ofMaps[0].cause;
+  void [cause, ofMaps[0] instanceof globalThis.Error];
   const written: Uint8Array = await town.saveBytes();
   const walls: Layer | null = town.layers.find("Walls", "tile");
   const isPoint: boolean = town.objects.get(1).isPoint;

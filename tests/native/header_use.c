@@ -92,6 +92,7 @@ int main(void)
     if (ROSKEVAD_IS_FAULT(faults[1]))
         sum += roskevad_words_of(faults[1])[0] == 'a' ? 1u : 0u;
     sum += roskevad_editor_open(&editor, ROSKEVAD_GREATEST_LIMIT);
+    sum += roskevad_editor_open_for(&editor, 0, ROSKEVAD_PLAIN_LINES) + roskevad_editor_open_for(&editor, 0, ROSKEVAD_ALL_EDITS);
     sum += roskevad_editor_step(&editor, line, sizeof line - 1, room, sizeof room);
     sum += roskevad_editor_reply(&editor, room, sizeof room);
     sum += roskevad_editor_run_lines(&editor, line, sizeof line - 1, 1, room, sizeof room, &done);

@@ -238,6 +238,44 @@ static void check_what_lines_did(void)
     roskevad_editor_close(&editor);
 }
 
+/* An editor for all edits reads the lines of own members, and one of the plain lines does not. For a number that stands for neither all is as
+ * it was. */
+static void check_all_edits(void)
+{
+    static const char MADE[] = "new a 4 3 16 16 a.tsj\nlayer add object Things\nobject add 2 16 16 8 8 door\n", SET[] = "member set object:1 rotation 45";
+    static const char STROKE[] = "member set+ object:1 rotation 90\nmember set+ object:1 rotation 0\n";
+    roskevad_editor editor = ROSKEVAD_CLOSED;
+    roskevad_lines_done done;
+    roskevad_told told;
+    char room[128];
+    WANT(roskevad_editor_open_for(&editor, 0, 2) == ROSKEVAD_TOO_GREAT && roskevad_editor_file_count(&editor) == ROSKEVAD_IS_CLOSED);
+    WANT(roskevad_editor_open_for(&editor, 0, ROSKEVAD_PLAIN_LINES) == ROSKEVAD_DONE);
+    WANT(roskevad_editor_run_lines(&editor, MADE, sizeof MADE - 1, true, room, sizeof room, &done) == 3 && done.is_refused == 0);
+    WANT(told_of(&editor, SET).refusal == 3);
+    WANT(roskevad_editor_open_for(&editor, 0, 2) == ROSKEVAD_TOO_GREAT && roskevad_editor_open_for(&editor, 0, SIZE_MAX) == ROSKEVAD_TOO_GREAT);
+    WANT(roskevad_editor_document_count(&editor) == 1);
+    WANT(roskevad_editor_open_for(&editor, ROSKEVAD_GREATEST_LIMIT + 1, ROSKEVAD_ALL_EDITS) == ROSKEVAD_TOO_GREAT);
+    WANT(roskevad_editor_document_count(&editor) == ROSKEVAD_IS_CLOSED);
+    WANT(roskevad_editor_open_for(&editor, ROSKEVAD_GREATEST_LIMIT, ROSKEVAD_ALL_EDITS) == ROSKEVAD_DONE);
+    WANT(roskevad_editor_document_count(&editor) == 0);
+    WANT(roskevad_editor_run_lines(&editor, MADE, sizeof MADE - 1, true, room, sizeof room, &done) == 3 && done.is_refused == 0);
+    told = told_of(&editor, SET);
+    WANT(told.refusal == 0 && told.became == ROSKEVAD_BECAME_ADDED && told.differs == ROSKEVAD_DIFFERS_OUTLINE && told.index == 3);
+    WANT(told.subject == ROSKEVAD_OBJECT && told.id == 1);
+    told = told_of(&editor, "member set object:1 id 7");
+    WANT(told.refusal == 41 && told.differs == 0 && told.word == 0);
+    told = told_of(&editor, "member set object:1");
+    WANT(told.refusal == 4 && told.word == 0);
+    told = told_of(&editor, "stamp 1 0 x 1 5");
+    WANT(told.refusal == 4 && told.word == 4);
+    told = told_of(&editor, "frob x");
+    WANT(told.refusal == 3 && told.word == 0);
+    WANT(roskevad_editor_run_lines(&editor, STROKE, sizeof STROKE - 1, true, room, sizeof room, &done) == 2 && done.is_refused == 0);
+    WANT(roskevad_editor_tell(&editor, &told) == ROSKEVAD_DONE && told.before == 3 && told.index == 2 && told.count == 2);
+    WANT((told.differs & ROSKEVAD_DIFFERS_OUTLINE) != 0 && told.subject == ROSKEVAD_OBJECT && told.id == 1);
+    roskevad_editor_close(&editor);
+}
+
 /* Cells of a map of 4 by 3, which has the value 5 in its first two. */
 static void check_cells(roskevad_editor *editor)
 {
@@ -648,6 +686,7 @@ static void run_random(size_t lines)
     check_map_faults();
     check_word_faults();
     check_what_lines_did();
+    check_all_edits();
     check_lines(&editor);
     check_told(&editor);
     check_cells(&editor);

@@ -1,0 +1,135 @@
+# SPDX-License-Identifier: MIT OR Apache-2.0
+"""Runs the program with `--all-edits` and without it: which lines it reads, which forms standard error
+says of a strict run's last line, and how the option stands beside others. What the lines of own
+members do, the sessions of `sessions/members` say."""
+import json
+
+from lib.asides import OPTION as ALL_MAPS
+from lib.cases import CORES, Case, check_each, unlike
+from lib.forms import OF_MEMBERS
+from lib.maps import map_of, text_of, thing, things
+from lib.refusals import refusal
+from lib.sessions import ALL_EDITS, Run, fault_of_replies, fault_of_run, heard, joined
+
+START = [
+    ('new town 4 3 16 16 town.tsj', 'ok 0/0 clean 0'),
+    ('layer add object Things', 'ok 1/1 dirty 0'),
+    ('object add 2 16 16 8 8 door', 'ok 2/2 dirty 0'),
+]
+# Lines that no editor of the plain lines reads, and the refusals of that.
+NOT_READ = [
+    ('member set object:1 name "x"', 3),
+    ('member set+ object:1 name "x"', 3),
+    ('member put object:1 {}', 3),
+    ('member remove object:1 name', 3),
+    ('member', 3),
+    ('object put 2 {}', 4),
+    ('object into 1 2 0', 4),
+    ('layer add group x', 4),
+    ('layer into 1 0 0', 4),
+    ('prop put map {}', 4),
+    ('prop take map "x"', 4),
+    ('tileset put {}', 4),
+    ('layer put 0 0 {}', 4),
+    ('tileset number 1 2', 4),
+    ('extend 0 0 0 1', 3),
+]
+
+
+def run_of(name, rows, *options):
+    """A run of the program over an empty folder, behind the lines of the start."""
+    run = Run(name)
+    run.options = [*options]
+    run.say_all([*START, *rows])
+    return run
+
+
+def test_lines_without_the_option():
+    """They are refused as lines of no command, or as spelled wrong."""
+    rows = [(line, refusal(code)) for line, code in NOT_READ]
+    fault = fault_of_run(run_of('without the option', rows))
+    assert not fault, fault
+
+
+def test_a_limit():
+    """A step of own members is one of those that a document keeps."""
+    rows = [
+        ('member set object:1 rotation 45', 'ok 2/2 dirty 0'),
+        ('member remove object:1 rotation', 'ok 2/2 dirty 0'),
+        ('goto 0', 'ok 0/2 dirty 0'),
+    ]
+    fault = fault_of_run(run_of('with a limit', rows, ALL_EDITS, '--limit', '2'))
+    assert not fault, fault
+
+
+def test_all_maps():
+    """A map with fractions is opened, and has them back when it is saved. A fraction in a line is
+    refused."""
+    row = things(1, thing(1, x=1.5, y=2))
+    text = text_of(map_of(row, width=1, height=1, nextlayerid=2, nextobjectid=2))
+    rows = [
+        ('open a a.tmj', 'ok 0/0 clean 0'),
+        ('member set object:1 rotation 0.5', refusal(61)),
+        ('member put object:1 {"rotation":0.5}', refusal(61)),
+        ('member set object:1 rotation 90', 'ok 1/1 dirty 0'),
+        ('save a.tmj', None),
+    ]
+    session = joined(line.encode() for line, _ in rows)
+    done, files = heard(session, {'a.tmj': text}, [ALL_EDITS, ALL_MAPS])
+    replies = done.stdout.split(b'\n')[:-1]
+    wanted = [reply.encode() for _, reply in rows[:-1]]
+    fault = fault_of_replies(session, joined(wanted), joined(replies[:-1]))
+    assert not fault, fault
+    assert len(replies) == len(rows) and replies[-1].startswith(b'saved a.tmj '), replies
+    saved = json.loads(files['a.tmj'])['layers'][0]['objects'][0]
+    fault = unlike((1.5, 2, 90), (saved['x'], saved['y'], saved['rotation']))
+    assert not fault, fault
+
+
+# ---- strict runs
+
+
+def forms_behind(told, forms):
+    return '\n'.join([told, *(f'  {form}' for form in forms)])
+
+
+def strict_cases():
+    """The last line of a strict run, and what standard error says of it behind its number."""
+    bad, unknown = refusal(4), refusal(3)
+    lines = {
+        'member set object:1 rotation': forms_behind(bad, OF_MEMBERS),
+        'member set object:1 rotation ': forms_behind(bad, OF_MEMBERS),
+        'member set nothing a 1': forms_behind(bad, OF_MEMBERS),
+        'member remove object:1 name x': forms_behind(bad, OF_MEMBERS),
+        'member': forms_behind(bad, OF_MEMBERS),
+        'member undo': forms_behind(bad, OF_MEMBERS),
+        'members': forms_behind(f'{unknown}: word 1 is not a command', OF_MEMBERS),
+        'member+ set object:1 a 1': forms_behind(f'{unknown}: word 1 is not a command', OF_MEMBERS),
+        'frob': f'{unknown}: word 1 is not a command\n  fill LAYER X Y TILE',
+        'undo x': f'{bad}: word 2 is one too many\n  undo',
+        'member set object:1 id 7': refusal(41),
+        'member set object:1 rotation 0.5': refusal(61),
+        'member remove object:1 point': refusal(42),
+    }
+    return [Case(line, line, f'{line}: {told}') for line, told in lines.items()]
+
+
+def fault_of_strict(case):
+    lines = [line.encode() for line, _ in START]
+    done, _ = heard(joined([*lines, case.given.encode(), b'status']), options=[ALL_EDITS, '--strict'])
+    wanted = f'tile_editor: line {len(lines) + 1}: {case.wanted}\n'
+    return unlike((3, len(lines) + 1, wanted), (done.returncode, done.stdout.count(b'\n'), done.stderr.decode()))
+
+
+def test_strict_runs():
+    check_each(strict_cases(), fault_of_strict, CORES)
+
+
+def test_a_strict_run_to_its_end():
+    """It ends well where the map is saved, and names a document with unsaved changes."""
+    line = 'member set object:1 rotation 45'
+    for last, status, told in (('clean', 0, ''), ('status', 3, 'tile_editor: end of input: town: unsaved changes\n')):
+        lines = [*(each for each, _ in START), line, last]
+        done, _ = heard(joined(each.encode() for each in lines), options=[ALL_EDITS, '--strict'])
+        fault = unlike((status, told), (done.returncode, done.stderr.decode()))
+        assert not fault, fault
