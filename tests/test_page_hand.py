@@ -300,12 +300,14 @@ def test_keys_in_fields():
         told = [each for each in page.js('return kept') if each[:2] in ('st', 'sf', 'St', 'Sf')]
         assert told == ['strue', 'strue', 'Strue', 'strue'], told
         stamp = page.js('return roskevad.bench.stamp')
-        code = page.driver.find_elements(By.CSS_SELECTOR, '#lines code')[-2]
-        across = 8 - code.size['width'] // 2
-        chain = ActionChains(page.driver).move_to_element_with_offset(code, across, 0)
-        chain.double_click().perform()
+        codes = '#lines code'
+        across = 8 - page.driver.find_elements(By.CSS_SELECTOR, codes)[-2].size['width'] // 2
+        page.double_click(
+            lambda: page.driver.find_elements(By.CSS_SELECTOR, codes)[-2],
+            lambda: page.js('return String(getSelection()).trim()'),
+            across,
+        )
         marked = page.js('return String(getSelection()).trim()')
-        assert marked
         chain = ActionChains(page.driver).key_down(Keys.CONTROL).send_keys('c')
         chain.key_up(Keys.CONTROL).perform()
         page.find('#line').send_keys(Keys.CONTROL, 'v')

@@ -64,7 +64,9 @@ def test_double_click():
         choose(page, 'Square')
         choose(page, 'Ground')
         assert page.js('return window.rows.every((row, at) => document.querySelectorAll("#layers li")[at] === row)')
-        ActionChains(page.driver).double_click(page.find(f'#layers li[data-layer="{square}"] .name')).perform()
+        page.double_click(
+            lambda: page.find(f'#layers li[data-layer="{square}"] .name'), lambda: page.texts('dialog[open]')
+        )
         page.fill_in(name='Market place')
         assert spelled(page) == [f'layer rename {square} Market place']
         assert page.texts('#layers li.now .name') == ['Market place']

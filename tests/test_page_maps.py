@@ -5,7 +5,7 @@ import json
 
 from lib.places import EXAMPLE_MAPS
 from page.bench import Bench, choose, standing, take_tile
-from page.browser import ActionChains, Keys
+from page.browser import Keys
 from selenium.webdriver.support.ui import Select
 
 NEEDS_BROWSER = True
@@ -110,7 +110,8 @@ def test_list():
         page.settle()
         assert active(page) == 'layers'
         open_list(page)
-        ActionChains(page.driver).double_click(page.find('#file-list li[data-path="house.tmj"]')).perform()
+        row = '#file-list li[data-path="house.tmj"]'
+        page.double_click(lambda: page.find(row), lambda: not page.texts('dialog[open]'))
         page.wait(lambda: active(page) == 'house', 'it is opened')
         page.ctrl('o')
         page.fill_in(file='broken.tmj')

@@ -181,8 +181,7 @@ def test_new():
         assert spelled(page)[-1] == f'object add {layer} 320 80 48 32 Camp', 'the only object layer takes it'
         assert page.js('return roskevad.bench.layerId') == layer
         page.js('roskevad.bench.bubble.hide()')
-        row = page.find('#objects li.now')
-        ActionChains(page.driver).double_click(row).perform()
+        page.double_click(lambda: page.find('#objects li.now'), page.bubble)
         assert 'stays as it is' in page.bubble() and 'Insert a new one' in page.bubble()
 
 

@@ -250,6 +250,21 @@ class Page:
         self.click_at(css)
         self.settle()
 
+    @anew
+    def double_click(self, find, is_done, across=0):
+        """Clicks twice at what `find` gives, so many pixels right of its middle, until it is done: where other
+        steps take the processors, two clicks may be so far apart that they are no double click."""
+        end = time.monotonic() + WAIT
+        while time.monotonic() < end:
+            hand = ActionChains(self.driver, duration=0).move_to_element_with_offset(find(), across, 0)
+            hand.double_click().perform()
+            soon = time.monotonic() + 2
+            while time.monotonic() < soon:
+                if is_done():
+                    return
+                time.sleep(0.04)
+        raise AssertionError(f'not within {WAIT} seconds: a double click is one')
+
     def point(self, cell):
         """Where the middle of a cell is in the window."""
         return [int(each) for each in self.js('return roskevad.view.middleOf(...arguments)', *cell)]
