@@ -44,6 +44,10 @@ export const FORMS = new Map([
   ["show", ["show"]],
   ["text", ["text PLACE"]],
   ["tile", ["tile LAYER X Y"]],
+  ["member", [
+    "member set OWNER KEY JSON", "member set+ OWNER KEY JSON", "member put OWNER JSON",
+    "member put+ OWNER JSON", "member remove OWNER KEY",
+  ]],
 ]);
 
 /**
@@ -57,4 +61,9 @@ export function formsOf(line) {
   }
   const letter = word.charAt(0).toLowerCase();
   return [...FORMS].flatMap(([name, forms]) => (name.charAt(0) === letter ? forms : []));
+}
+
+/** Whether a line is one of own members: the library does not tell at which word it is refused. */
+export function isOfMembers(line) {
+  return line.split(" ")[0] === "member";
 }

@@ -1,6 +1,7 @@
 // SPDX-License-Identifier: MIT OR Apache-2.0
 // The module of the proved library: how it is loaded, and how it is called.
 import { BadModule, Broken, NoMemory } from "./faults.js";
+import { isOfMembers } from "./forms.js";
 import { MAX_FILE_BYTES } from "./limits.js";
 import { TOLD_BYTES } from "./told.js";
 
@@ -13,6 +14,8 @@ export const NONE = 2 ** 32 - 1;
 export const CLOSED = NONE - 1;
 export const NO_MEMORY = NONE - 2;
 export const BAD_NAME = NONE - 4;
+/** Which edits an editor reads: all that there are. */
+export const ALL_EDITS = 1;
 /** The numbers of what has properties, and of what is found by a name. */
 export const OWNERS = { map: 1, layer: 2, object: 3 };
 /** The kinds of layers by their numbers. */
@@ -298,9 +301,13 @@ export class Module {
 
   /**
    * The word at which a line is refused: which it is, from 1, the word itself, null where the line ends in front of it, and what is wrong
-   * with it, as `word 1 is not a command`. Null where the line is read, or refused as a whole. Throws NoMemory.
+   * with it, as `word 1 is not a command`. Null where the line is read, or refused as a whole, and for a line of own members. Throws
+   * NoMemory.
    */
   wordFault(line) {
+    if (isOfMembers(line)) {
+      return null;
+    }
     const given = encoder.encode(line);
     return this.holding(FAULTY_WORD_BYTES + given.length, (to) => {
       const from = to + FAULTY_WORD_BYTES;

@@ -10,7 +10,7 @@ import { Document } from "./document.js";
 import { Closed, NoMemory, NotFound, Refused, refusedCall } from "./faults.js";
 import { MAX_FILE_NAME, MAX_LIMIT } from "./limits.js";
 import { openedMap, savedMap } from "./map_files.js";
-import { BAD_NAME, DONE, Module, NONE, OWNERS, bytesOf, textOf } from "./module.js";
+import { ALL_EDITS, BAD_NAME, DONE, Module, NONE, OWNERS, bytesOf, textOf } from "./module.js";
 import { REFUSALS } from "./refusals.js";
 import { reported } from "./reports.js";
 import { DIFFERS, DOCUMENTS, REFUSAL, STEP_BYTES, stepOf, toldOf } from "./told.js";
@@ -81,7 +81,7 @@ export class Editor {
     this.#module = module;
     this.#cEditor = module.take(EDITOR_BYTES);
     module.bytes().fill(0, this.#cEditor, this.#cEditor + EDITOR_BYTES);
-    if (module.calls.open(this.#cEditor, limit) !== DONE) {
+    if (module.calls.open_for(this.#cEditor, limit, ALL_EDITS) !== DONE) {
       this.close();
       throw new NoMemory();
     }

@@ -488,7 +488,8 @@ FORMS_BY_CHANCE = """stamp 1 0 0 2 #,3;stamp+ 1 1 0 1 #;erase 1 0 0 2 #;erase+ 1
 layer add tile L;layer add object O;layer rename # N;layer show # no;layer show # yes;layer move # 0;layer remove #;resize 1# 6 0 0
 object add # 1 1 2 2 o;object move # 5 5;object move+ # 6 6;object resize # 3 3;object remove #;prop set map k# int 1;prop set+ map k# int 2
 prop remove map k#;tileset add 10# t.tsj;tileset remove 10#;undo;redo;goto #;clean;dirty;clear;begin A;end;limit #;show;status;undotext
-redotext;text #;list;use other;use town;use -;save s.tmj;new n# 2 2 8 8 n.tsj;close n#;discard n#;open o# s.tmj;discard o#;# a comment;"""
+redotext;text #;list;use other;use town;use -;save s.tmj;new n# 2 2 8 8 n.tsj;close n#;discard n#;open o# s.tmj;discard o#;# a comment;
+member set object:# rotation #;member set+ object:# rotation 1;member put object:# {"name":"m#","x":#};member remove object:# rotation"""
 
 
 def test_what_is_read_is_what_is_there():

@@ -13,6 +13,7 @@ import time
 from pathlib import Path
 
 from lib.cases import Case, check_each, unlike
+from lib.forms import OF_MEMBERS
 from lib.map_layouts import printed
 from lib.places import BIN, EXAMPLE_MAPS, TOP
 
@@ -187,6 +188,19 @@ def test_all_maps():
             [0.5, 'Hall'], [saved['layers'][0][name] for name in ('opacity', 'name')]
         )
         assert not fault, fault
+
+
+def test_lines_of_own_members():
+    """The prompt reads them, and lists their forms."""
+    forms = [f'  {form}' for form in OF_MEMBERS]
+    rows = [
+        (NEW, ['ok 0/0 clean 0']), ('layer add object Things', ['ok 1/1 dirty 0']), ('object add 2 0 0 8 8 door', ['ok 2/2 dirty 0']),
+        ('member set object:1 rotation 45', ['ok 3/3 dirty 0']), ('member set object:1', ['no 4 bad word', *forms]),
+        ('member set object:1 id 5', ['no 41 member of other lines']), ('? member', OF_MEMBERS),
+    ]
+    with tempfile.TemporaryDirectory() as folder:
+        fault = unlike([reply for _, told in rows for reply in told], replies([line for line, _ in rows], folder))
+    assert not fault, fault
 
 
 # ---- at a terminal

@@ -122,7 +122,7 @@ def typed(form):
 def forms_by_command():
     """The forms of the packages by their first words, without a `+`."""
     found = {}
-    for part in PARTS:
+    for part in (*PARTS, MEMBERS):
         for form in forms(part):
             fronts = [form.shown()] + ([form.form.replace('[+]', '+')] if '[+]' in form.form else [])
             found.setdefault(form.shown().split(' ')[0], []).extend(each for front in fronts for each in typed(front))

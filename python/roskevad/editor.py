@@ -87,7 +87,7 @@ class Editor:
         self.folder: Path = _path(folder)
         if not 0 <= limit <= MAX_LIMIT:
             raise ValueError(f'a limit is from 0 to {MAX_LIMIT}: {limit}')
-        if LIBRARY.roskevad_open(self._c_editor, limit) != library.DONE:
+        if LIBRARY.roskevad_open_for(self._c_editor, limit, library.ALL_EDITS) != library.DONE:
             raise MemoryError
 
     # ---- its life

@@ -42,6 +42,10 @@ FORMS: dict[str, tuple[str, ...]] = {
     'show': ('show',),
     'text': ('text PLACE',),
     'tile': ('tile LAYER X Y',),
+    'member': (
+        'member set OWNER KEY JSON', 'member set+ OWNER KEY JSON', 'member put OWNER JSON', 'member put+ OWNER JSON',
+        'member remove OWNER KEY',
+    ),
 }
 
 
@@ -51,3 +55,8 @@ def forms_of(line: str) -> tuple[str, ...]:
     if word in FORMS:
         return FORMS[word]
     return tuple(form for name, forms in FORMS.items() if word and name[0] == word[0].lower() for form in forms)
+
+
+def is_of_members(line: str) -> bool:
+    """Whether a line is one of own members: the library does not tell at which word it is refused."""
+    return line.split(' ')[0] == 'member'

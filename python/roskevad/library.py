@@ -8,6 +8,8 @@ from typing import NamedTuple
 #: The version of this package, which that of the library must be.
 VERSION = '0.3.0'
 
+#: Which edits an editor reads: all that there are.
+ALL_EDITS = 1
 DONE = 0
 NONE = 2**64 - 1
 CLOSED = 2**64 - 2

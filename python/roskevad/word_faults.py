@@ -3,6 +3,7 @@
 import ctypes
 from typing import NamedTuple, Optional
 
+from .forms import is_of_members
 from .library import LIBRARY, FaultyWord
 from .rooms import Room
 
@@ -25,7 +26,9 @@ class WordAtFault(NamedTuple):
 
 
 def word_fault_of(line: str) -> Optional[WordAtFault]:
-    """The word at which a line is refused; `None` where it is read, or refused as a whole."""
+    """The word at which a line is refused; `None` where it is read, or refused as a whole, and for a line of own members."""
+    if is_of_members(line):
+        return None
     data, word, room = line.encode('utf-8', 'surrogateescape'), FaultyWord(), Room(_ROOM)
     size: int = LIBRARY.roskevad_word_fault(data, len(data), ctypes.byref(word), room.at, room.size)
     if size > room.size:
