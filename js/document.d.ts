@@ -395,8 +395,8 @@ export class Objects {
   /** How many there are. */
   readonly size: number;
   /**
-   * Adds a rectangle to an object layer, last, in whole pixels, and gives it; no line adds a
-   * point. Throws TypeError, RangeError, Refused (31, 39).
+   * Adds a rectangle to an object layer, last, in whole pixels, and gives it. Throws TypeError,
+   * RangeError, Refused (31, 39).
    */
   add(name: string, x: number, y: number, width?: number, height?: number): MapObject;
   /** What JSON has of them: the list. */
@@ -417,11 +417,16 @@ export class MapObject {
   readonly document: Document;
   /** The layer that it is in. */
   readonly layer: Layer;
-  /** Its name. */
-  readonly name: string;
-  /** Its class, as Tiled calls it; no line changes it. */
+  /** Its name; set, it renames the object. Throws TypeError. */
+  name: string;
+  /**
+   * Its class, as Tiled calls it: the member `type` of the file. Set, it gives it another one.
+   * Throws TypeError.
+   */
+  className: string;
+  /** The same, by its name in the file; `className` sets it. */
   readonly type: string;
-  /** Whether it is a point of Tiled; no line changes it. */
+  /** Whether it is a point of Tiled; the member `point` makes it one. */
   readonly isPoint: boolean;
   /** Its column in pixels. */
   readonly x: number;
@@ -431,14 +436,32 @@ export class MapObject {
   readonly width: number;
   /** Its height in pixels; 0 of a point, and of a rectangle of no size. */
   readonly height: number;
-  /** Whether it is shown. */
-  readonly visible: boolean;
-  /** Its tile, where it is one. */
-  readonly tile: Tile | null;
+  /**
+   * How far it is turned, in degrees clockwise; set, it turns the object. Throws TypeError,
+   * Refused (61).
+   */
+  rotation: number;
+  /** Whether it is shown; set, it shows or hides the object. */
+  visible: boolean;
+  /**
+   * Its tile, where it is one; set to a `Tile`, or to the value of a cell, it gives the object
+   * that tile, and null takes its tile away. Throws TypeError, RangeError.
+   */
+  get tile(): Tile | null;
+  set tile(value: Tile | number | null);
   /** Its properties. */
   readonly properties: Properties;
   /** All that the map says of it: a copy. */
   readonly members: Members;
+  /**
+   * Gives it an own member, or adds one: any that Tiled writes for it, but its id and its
+   * properties. Throws TypeError, RangeError, Refused (41, 61, 63).
+   */
+  setMember(key: string, value: unknown, options?: { merge?: boolean }): void;
+  /** Gives it some own members at once, as one step. Throws TypeError, Refused (41, 63). */
+  setMembers(members: Record<string, unknown>, options?: { merge?: boolean }): void;
+  /** Takes an own member out, and says whether there was one. Throws Refused (41). */
+  removeMember(key: string): boolean;
   /** Moves it to a place, in whole pixels. Throws TypeError, RangeError. */
   move(x: number, y: number, options?: { merge?: boolean }): void;
   /** Gives it a size, in whole pixels. Throws TypeError, RangeError, Refused (39). */

@@ -2,7 +2,9 @@
 // The layers of a document, and their objects, as they are at each call.
 import { replaced, tileValue } from "./blocks.js";
 import { refusedCall } from "./faults.js";
+import * as json from "./json_values.js";
 import { KINDS } from "./module.js";
+import { putMembers, removeMember, setMember } from "./own_members.js";
 import { Properties } from "./properties.js";
 import { BASE } from "./rows.js";
 import { absent, tileOf } from "./tilesets.js";
@@ -82,8 +84,20 @@ export class MapObject extends View {
     return this._now.name ?? "";
   }
 
-  get type() {
+  set name(name) {
+    setMember(this, "name", json.text(name, "the name of an object"));
+  }
+
+  get className() {
     return this._now.type ?? "";
+  }
+
+  set className(name) {
+    setMember(this, "type", json.text(name, "the class of an object"));
+  }
+
+  get type() {
+    return this.className;
   }
 
   get isPoint() {
@@ -106,8 +120,20 @@ export class MapObject extends View {
     return this._now.height ?? 0;
   }
 
+  get rotation() {
+    return this._now.rotation ?? 0;
+  }
+
+  set rotation(degrees) {
+    setMember(this, "rotation", json.number(degrees, "the rotation of an object"));
+  }
+
   get visible() {
     return this._now.visible ?? true;
+  }
+
+  set visible(visible) {
+    setMember(this, "visible", Boolean(visible));
   }
 
   get tile() {
@@ -115,8 +141,30 @@ export class MapObject extends View {
     return gid ? tileOf(this.document, gid) : null;
   }
 
+  // A tile, the value of a cell, or null.
+  set tile(tile) {
+    const value = tile === null ? 0 : words.number(tile?.value ?? tile, "the tile of an object");
+    if (value === 0) {
+      removeMember(this, "gid");
+    } else {
+      setMember(this, "gid", value);
+    }
+  }
+
   get properties() {
     return new Properties(this.document, "object", this);
+  }
+
+  setMember(key, value, { merge = false } = {}) {
+    setMember(this, key, value, merge);
+  }
+
+  setMembers(members, { merge = false } = {}) {
+    putMembers(this, members, merge);
+  }
+
+  removeMember(key) {
+    return removeMember(this, key);
   }
 
   move(x, y, { merge = false } = {}) {
@@ -139,10 +187,9 @@ export class MapObject extends View {
   }
 }
 
-// What is set of an object by a call, or by nothing: why, for whoever sets it as a value.
+// What is set of an object by a call, or by another name: which, for whoever sets it as a value.
 const NOT_SET = {
-  name: "the editor does not change it", type: "the editor does not change it", isPoint: "the editor does not change it",
-  visible: "the editor does not change it", x: "move(x, y) does", y: "move(x, y) does",
+  type: "className does", isPoint: 'setMember("point", true) does', x: "move(x, y) does", y: "move(x, y) does",
   width: "resize(width, height) does", height: "resize(width, height) does",
 };
 for (const [name, why] of Object.entries(NOT_SET)) {

@@ -53,21 +53,26 @@ export function text(word, what) {
   if (CONTROL.test(word)) {
     throw new RangeError(`${what} has a newline, a tab or another control character in it: ${shown(word)}`);
   }
-  if (HALF.test(word)) {
-    throw new RangeError(`${what} has half of a character in it: ${shown(word)}`);
-  }
-  const size = encoder.encode(word).length;
+  const size = encoder.encode(wholeText(word, what)).length;
   if (size > MAX_TEXT) {
     throw new RangeError(`${what} has ${size} bytes in UTF-8, and may have ${MAX_TEXT}: ${shown(word)}`);
   }
   return word;
 }
 
-/** The name of a property. Throws as `text` does, and RangeError for a space. */
-export function key(word) {
-  const said = text(word, "the name of a property");
+/** A text of whole characters. Throws RangeError where it has half of one. */
+export function wholeText(word, what) {
+  if (HALF.test(word)) {
+    throw new RangeError(`${what} has half of a character in it: ${shown(word)}`);
+  }
+  return word;
+}
+
+/** The name of a property, or of what is spelled as one. Throws as `text` does, and RangeError for a space. */
+export function key(word, what = "the name of a property") {
+  const said = text(word, what);
   if (said.includes(" ")) {
-    throw new RangeError(`the name of a property has a space in it, which it may not have: ${shown(said)}`);
+    throw new RangeError(`${what} has a space in it, which it may not have: ${shown(said)}`);
   }
   return said;
 }

@@ -386,6 +386,53 @@ editor.active = document;""", []),
     Scenario('no tileset', 'document.erase(1, 0, 0, 1, 1)\ndocument.tilesets.first.remove()',
              'document.erase(1, 0, 0, 1, 1); document.tilesets.first.remove()', ['erase 1 0 0 1 1', 'tileset remove 1'],
              [('document.tilesets.first', 'document.tilesets.first', None)]),
+    # ---- own members of objects
+    Scenario('values of an object', 'door = document.objects["door"]\ndoor.name = "Tavern"\ndoor.class_name = "Inn"\ndoor.rotation = 45.0\n'
+             'door.visible = False\ndoor.tile = 2147483650',
+             'const door = document.objects.get("door"); door.name = "Tavern"; door.className = "Inn"; door.rotation = 45; door.visible = false;'
+             'door.tile = 2147483650',
+             ['member set object:1 name "Tavern"', 'member set object:1 type "Inn"', 'member set object:1 rotation 45',
+              'member set object:1 visible false', 'member set object:1 gid 2147483650'],
+             [('[[each.name, each.class_name, each.type, each.rotation, each.visible, each.tile.value] for each in document.objects]',
+               '[...document.objects].map((each) => [each.name, each.className, each.type, each.rotation, each.visible, each.tile.value])',
+               [['Tavern', 'Inn', 'Inn', 45, False, 2147483650]])]),
+    Scenario('values that a file may have', 'door = document.objects["door"]\ndoor.name = ""\ndoor.class_name = "a \\"b\\"\\n\\\\ ü"\ndoor.rotation = -90',
+             'const door = document.objects.get("door"); door.name = ""; door.className = "a \\"b\\"\\n\\\\ ü"; door.rotation = -90',
+             ['member set object:1 name ""', r'member set object:1 type "a \"b\"\n\\ ü"', 'member set object:1 rotation -90'],
+             [('[document.objects[1].name, document.objects[1].class_name]', '[document.objects.get(1).name, document.objects.get(1).className]',
+               ['', 'a "b"\n\\ ü'])]),
+    Scenario('a tile of another object, and none', 'key = document.layers["Things"].objects.add("key", 0, 0)\nkey.tile = 7\ndoor = document.objects["door"]\n'
+             'door.tile = key.tile\nkey.tile = None\nkey.tile = None\ndoor.tile = 0',
+             'const key = document.layers.get("Things").objects.add("key", 0, 0); key.tile = 7; const door = document.objects.get("door");'
+             'door.tile = key.tile; key.tile = null; key.tile = null; door.tile = 0',
+             ['object add 2 0 0 0 0 key', 'member set object:2 gid 7', 'member set object:1 gid 7', 'member remove object:2 gid',
+              'member remove object:1 gid'],
+             [('[each.tile for each in document.objects]', '[...document.objects].map((each) => each.tile)', [None, None])]),
+    Scenario('own members', 'members = document.objects[1].members\nmembers["point"] = True\nmembers["polygon"] = ({"x": 0, "y": 0.0}, {"y": 8, "x": 8})\n'
+             'members.set("rotation", 10, merge=True)\nmembers.set("rotation", 20, merge=True)\nmembers.update(x=32, rotation=90)\n'
+             'members.update({"y": 1}, name="gate")\nmembers.put({"y": 2}, merge=True)\nassert members == document.objects[1].members\n'
+             'del members["point"]\nassert "point" not in members and members.pop("none", 5) == 5 and members["y"] == 2',
+             'const door = document.objects.get(1); door.setMember("point", true); door.setMember("polygon", [{ x: 0, y: -0 }, { y: 8, x: 8 }]);'
+             'door.setMember("rotation", 10, { merge: true }); door.setMember("rotation", 20, { merge: true });'
+             'door.setMembers({ x: 32, rotation: 90 }); door.setMembers({ y: 1, name: "gate" }); door.setMembers({ y: 2 }, { merge: true });'
+             'if (!door.removeMember("point") || door.removeMember("point")) throw new Error("removed")',
+             ['member set object:1 point true', 'member set object:1 polygon [{"x":0,"y":0},{"x":8,"y":8}]', 'member set+ object:1 rotation 10',
+              'member set+ object:1 rotation 20', 'member put object:1 {"x":32,"rotation":90}', 'member put object:1 {"y":1,"name":"gate"}',
+              'member put+ object:1 {"y":2}', 'member remove object:1 point'],
+             [('document.objects[1].members', 'document.objects.get(1).members',
+               {'height': 16, 'id': 1, 'name': 'gate', 'polygon': [{'x': 0, 'y': 0}, {'x': 8, 'y': 8}],
+                'properties': [{'name': 'locked', 'type': 'bool', 'value': True}], 'rotation': 90, 'type': '', 'visible': True, 'width': 16,
+                'x': 32, 'y': 2})]),
+    Scenario('own members of any kind', 'members = document.objects[1].members\nmembers["a"] = {"b": [None, True, "c\\nd", {}, []], "\\"": -1e15}\n'
+             'members.put({"a b": 1})\nmembers.put({})',
+             'const door = document.objects.get(1); door.setMember("a", { b: [null, true, "c\\nd", {}, []], "\\"": -1e15 });'
+             'door.setMembers({ "a b": 1 }); door.setMembers({})',
+             [r'member set object:1 a {"b":[null,true,"c\nd",{},[]],"\"":-1000000000000000}', 'member put object:1 {"a b":1}', 'member put object:1 {}']),
+    Scenario('own members in macros', 'door = document.objects[1]\nwith document.macro("A"):\n  door.name = "door"\n  door.members.update(x=16, y=0)\n'
+             'with document.macro("B"):\n  door.rotation = 90\nwith document.macro("C"):\n  editor.step("member set object:1 rotation 0")',
+             'const door = document.objects.get(1); document.macro("A", () => { door.name = "door"; door.setMembers({ x: 16, y: 0 }); });'
+             'document.macro("B", () => { door.rotation = 90; }); document.macro("C", () => editor.step("member set object:1 rotation 0"))',
+             ['begin B', 'member set object:1 rotation 90', 'end', 'begin C', 'member set object:1 rotation 0', 'end']),
     # ---- documents
     Scenario('a document that is not active', 'other = editor.new("b", 2, 2, 8, 8, "b.tsj")\ndocument.stamp(1, 0, 0, [[5]])',
              'editor.new("b", 2, 2, 8, 8, "b.tsj"); document.stamp(1, 0, 0, [[5]])', ['new b 2 2 8 8 b.tsj', 'use town', 'stamp 1 0 0 1 5'],
@@ -417,6 +464,15 @@ editor.active = document;""", []),
              'for (const look of [() => layer.name, () => thing.x, () => layer.layers.get(1), () => thing.properties.get("a")]) {'
              ' try { look(); } catch (fault) { codes.push(fault.code); } } if (String(codes) !== "30,34,30,34") throw new Error(codes)',
              ['layer remove 3', 'object remove 1']),
+    Scenario('own members of what is gone', 'thing = document.objects[1]\nmembers = thing.members\nthing.remove()\ncodes = []\n'
+             'for work in (lambda: setattr(thing, "name", "a"), lambda: members.put({}), lambda: members.update(x=1), lambda: members.pop("x"),\n'
+             '             lambda: setattr(thing, "tile", None), lambda: thing.rotation, lambda: thing.members):\n'
+             '  try:\n    work()\n  except roskevad.Refused as refusal:\n    codes.append(refusal.code)\nassert codes == [34] * 7, codes',
+             'const thing = document.objects.get(1); thing.remove(); const codes = [];'
+             'for (const work of [() => { thing.name = "a"; }, () => thing.setMembers({}), () => thing.setMembers({ x: 1 }), () => thing.removeMember("x"),'
+             ' () => { thing.tile = null; }, () => thing.rotation, () => thing.members]) { try { work(); } catch (fault) { codes.push(fault.code); } }'
+             'if (String(codes) !== String(Array(7).fill(34))) throw new Error(codes)',
+             ['object remove 1']),
 ]
 
 

@@ -61,6 +61,11 @@ SCENARIOS = [
     plain('a selection', 'document.select(0, 0, 2, 2)', row('added', (8, 8, 0), selection=True)),
     Scenario('an object', 'document.objects["door"].move(3, 4)', 'document.objects.get("door").move(3, 4)',
              [row('added', (8, 8, 0), outline=True, about=['object', 1])]),
+    Scenario('own members of an object', 'door = document.objects["door"]\ndoor.rotation = 90\ndoor.rotation = 90\ndoor.members.update(x=3, point=True)\n'
+             'del door.members["point"]\neditor.step(\'member set+ object:1 name "gate"\')',
+             'const door = document.objects.get("door"); door.rotation = 90; door.rotation = 90; door.setMembers({ x: 3, point: true });'
+             'door.removeMember("point"); editor.step(\'member set+ object:1 name "gate"\')',
+             [row('added', (count, count, 0), outline=True, about=['object', 1]) for count in (8, 9, 10, 11)]),
     Scenario('a property of the map', 'document.properties["people"] = 4', 'document.properties.set("people", 4)',
              [row('added', (8, 8, 0), outline=True, about=['map', 0])]),
     plain('a tileset', 'document.tilesets.add(33, "b.tsj")', row('added', (8, 8, 0), outline=True, about=['tileset', 33])),
@@ -323,7 +328,8 @@ def test_refusals():
 # Lines by chance, and calls of them.
 FORMS = """stamp 1 # # 2 5,6,7,8;stamp+ 1 # # 1 #;erase 1 # # 2 #;fill 1 # # #;select add # # 2 2;select none;layer add tile L;layer add object O
 layer rename # N;layer show # no;layer move # 0;layer remove #;resize 3# 30 # 0;object add 5 1 1 2 2 o;object move # 5 #;object move+ # 6 #
-object remove #;prop set map k# int 1;prop remove map k#;tileset add 10#0 t.tsj;undo;undo;redo;goto #;clean;dirty;clear;begin A;end;end;status
+object remove #;member set object:# rotation #;member put object:# {"name":"n#","x":#};member remove object:# rotation
+prop set map k# int 1;prop remove map k#;tileset add 10#0 t.tsj;undo;undo;redo;goto #;clean;dirty;clear;begin A;end;end;status
 use other;use town;limit #"""
 
 

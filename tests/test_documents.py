@@ -5,10 +5,13 @@ stamp; how often loops call the library; what is logged, and what documents and 
 themselves."""
 import collections
 import contextlib
+import copy
 import functools
 import json
 import logging
+import operator
 import os
+import pickle
 import random
 import signal
 import subprocess
@@ -245,6 +248,75 @@ def test_tilesets_that_renumber():
         see(33, editor.open(text_of(map_of(tiles(1, data=[40, 0]), tilesets=[]))).tilesets.add(33, 'walls.tsj').first_id)
 
 
+# ---- own members of objects
+
+
+def endless():
+    value = []
+    value.append(value)
+    return value
+
+
+def fault_of_no_json(case):
+    """How a value that no line can say does something else than raise its fault, or says a line, or None."""
+    with Editor() as editor:
+        door = made(editor).layers.add('object', 'Things').objects.add('door', 0, 0)
+        with Calls(editor) as calls:
+            for call in (lambda value: door.members.set('a', value), lambda value: door.members.update(a=[value])):
+                raised(case.wanted, call, case.given)
+        return unlike(0, calls.counts['step'])
+
+
+def test_values_that_no_line_says():
+    check_each([
+        Case('a set', {1}, TypeError), Case('bytes', b'a', TypeError), Case('a function', print, TypeError), Case('a complex', 1j, TypeError),
+        Case('a name that is no text', {1: 2}, TypeError), Case('NaN', float('nan'), ValueError), Case('an infinity', {'a': -float('inf')}, ValueError),
+        Case('half of a character', '\ud800', ValueError), Case('half of one in a name', {'\udc80': 1}, ValueError), Case('itself', endless(), ValueError),
+    ], fault_of_no_json)
+    with Editor() as editor:
+        door = made(editor).layers.add('object', 'Things').objects.add('door', 0, 0)
+        for name, value, kind in (('name', None, TypeError), ('class_name', b'a', TypeError), ('rotation', True, TypeError), ('rotation', '90', TypeError),
+                                  ('rotation', float('nan'), ValueError), ('tile', 1.5, TypeError), ('tile', 2**32, ValueError), ('name', '\ud800', ValueError)):
+            raised(kind, setattr, door, name, value)
+        for name in ('', 'a b', 'a\nb', '\ud800'):
+            raised(ValueError, door.members.set, name, 1)
+        raised(TypeError, door.members.set, 5, 1)
+        see(2, door.document.status.count)
+
+
+def test_values_that_are_refused():
+    """What the editor refuses is refused by it, and a fraction is not rounded."""
+    with Editor() as editor:
+        door = made(editor).layers.add('object', 'Things').objects.add('door', 0, 0)
+        deep = functools.reduce(lambda inner, _: [inner], range(88), 0)
+        for code, name, value in ((61, 'rotation', 22.5), (61, 'a', [1, 0.1]), (63, 'x', 'left'), (63, 'visible', 1), (68, 'x', 10**12), (41, 'id', 7),
+                                  (41, 'properties', []), (60, 'a', [deep]), (63, 'a', {'roskevad': 1}), (1, 'a', 'x' * 65_535)):
+            for call in (lambda: door.members.set(name, value), lambda: door.members.put({'a': 1, name: value})):
+                see((code, 2), (raised(Refused, call).code, door.document.status.count))
+        door.members['a'] = deep
+        see(deep, door.members['a'])
+
+
+def test_members_are_a_dict():
+    """So they are read as any other one; and what is no edit of one member or of some is none."""
+    with Editor() as editor:
+        door = made(editor).layers.add('object', 'Things').objects.add('door', 3, 4)
+        members = door.members
+        whole = {'height': 0, 'id': 1, 'name': 'door', 'rotation': 0, 'type': '', 'visible': True, 'width': 0, 'x': 3, 'y': 4}
+        see((whole, whole, True), (members, json.loads(json.dumps(members)), isinstance(members, dict)))
+        for other in (members.copy(), copy.copy(members), copy.deepcopy(members), pickle.loads(pickle.dumps(members))):
+            other['a'] = 5
+            see((dict, {**whole, 'a': 5}), (type(other), other))
+        for call in (members.clear, members.popitem, functools.partial(operator.ior, members, {'a': 1})):
+            raised(TypeError, call)
+        door.move(5, 6)
+        see((whole, 5, 3), (members, door.members['x'], door.document.status.count))
+        see((0, 7, 7), (members.setdefault('rotation', 5), members.setdefault('a', 7), door.members['a']))
+        see((7, 5), (members.pop('a'), members['x']))
+        raised(KeyError, members.pop, 'a')
+        raised(KeyError, lambda: members['a'])
+
+
 # ---- work that is not saved
 
 
@@ -429,7 +501,8 @@ def test_loops_of_objects():
         with Calls(editor) as calls:
             for each in document.objects:
                 each.properties['team'] = 1
-        see({'object_ids': 1, 'property': 1000, 'step': 1000, 'tell': 1000}, dict(+calls.counts))
+                each.rotation = 90
+        see({'object_ids': 1, 'property': 1000, 'step': 2000, 'tell': 2000}, dict(+calls.counts))
         with Calls(editor) as calls:
             for at in range(1000):
                 document.layers['Things'].objects.add('door', at, 9).properties['open'] = True
@@ -437,7 +510,7 @@ def test_loops_of_objects():
         with Calls(editor) as calls:
             found = [document.objects[at] for at in range(1, 1001)] + [document.objects['door'] for _ in range(1000)]
         see({'object_layer': 1000, 'find': 1000}, dict(+calls.counts))
-        see(({1001}, 5001), ({each.id for each in found[1000:]}, document.status.count))
+        see(({1001}, 6001), ({each.id for each in found[1000:]}, document.status.count))
 
 
 def test_what_needs_no_document():

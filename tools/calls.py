@@ -9,7 +9,7 @@ Python, and the members of one object, the last argument, in JavaScript. `work` 
 has a `with`.
 """
 from dataclasses import dataclass, field
-from typing import Dict, List, Optional, Tuple
+from typing import Dict, List, Optional, Sequence, Tuple
 
 #: What a trial finds: a document of these lines, and an editor that has it alone.
 LINES = [
@@ -35,6 +35,7 @@ GIVEN = {
     'became': ('str', '"nothing" | "added" | "added and dropped" | "merged" | "gone" | "turned"'),
     'end of a watch': ('Watch', '() => void'),
     'Layer?': ('Layer or None', 'Layer | null'), 'MapObject?': ('MapObject or None', 'MapObject | null'),
+    'own members': ('ObjectMembers', 'Members'),
     'Tileset?': ('Tileset or None', 'Tileset | null'), 'tiles': ('list of TilesetTile or None', 'TilesetTile[] | null'),
 }
 #: The types of arguments in TypeScript, by their names.
@@ -43,6 +44,7 @@ ARGUMENTS = {
     'mode': 'SelectionMode', 'text': 'string', 'action': 'string | null', 'tileset': 'string', 'source': 'string', 'type': 'SetPropertyType | null',
     'renumbers': 'boolean', 'force': 'boolean', 'keep_empty': 'boolean', 'layout': 'Layout',
     'flipped_horizontally': 'boolean', 'flipped_vertically': 'boolean', 'flipped_diagonally': 'boolean', 'turned': 'boolean',
+    'members': 'Record<string, unknown>',
     'work': 'Work<Given>', 'value': 'number', 'callback': '(told: Told) => void', 'stop': 'number | null',
 }
 
@@ -109,6 +111,17 @@ class Kind:
 
 def value(name: str, gives: str, does: str, **more: object) -> Call:
     return Call(name, None, does, gives=gives, **more)  # type: ignore[arg-type]
+
+
+def own_value(name: str, gives: str, does: str, wrong: Sequence[str] = (), *refused: str, **more: object) -> Call:
+    """A value of an object that is read, and set as an own member: with values that have another type or are out of range, and one that is
+    refused."""
+    trials = {**dict(zip(('type', 'value'), wrong)), **dict([refused] if refused else [])}
+    camel = name.title().replace('_', '')
+    spelled = camel[0].lower() + camel[1:]
+    raises = {word: (f'setattr(document.objects[1], "{name}", {value})', f'Reflect.set(document.objects.get(1), "{spelled}", {value})')
+              for word, value in trials.items()}
+    return value(name, gives, does, line='member set OWNER KEY JSON', is_set=True, raises=raises, **more)
 
 
 def to_json(kind: str, gives: str, does: str) -> Call:
@@ -300,7 +313,7 @@ OBJECTS = Kind('Objects', 'The objects of a layer, or of all layers, as they are
     Call('has', 'key', 'Whether there is one with an id, or of a name.', gives='bool', written=('key in objects', 'objects.has(key)'),
          types={'key': 'ObjectLike'}),
     value('size', 'int', 'How many there are.', written=('len(objects)', 'objects.size')),
-    Call('add', 'name, x, y, width=0, height=0', 'Adds a rectangle to an object layer, last, in whole pixels, and gives it; no line adds a point.',
+    Call('add', 'name, x, y, width=0, height=0', 'Adds a rectangle to an object layer, last, in whole pixels, and gives it.',
          'object add LAYER X Y WIDTH HEIGHT NAME', 'MapObject',
          {'type': 'document.layers{2}.objects.add(5, 0, 0)', 'value': 'document.objects.add("a", 0, 0)',
           'refused 31': 'document.layers{1}.objects.add("a", 0, 0)', 'refused 39': 'document.layers{2}.objects.add("a", 0, 0, 4294967295, 0)'}),
@@ -312,17 +325,31 @@ OBJECT = Kind('MapObject', 'An object, by its id. Where it was removed, a call r
     Call('value_of', '', 'The same.', gives='int', written=('int(object)', 'object.valueOf()')),
     value('document', 'Document', 'The document that it belongs to.'),
     value('layer', 'Layer', 'The layer that it is in.'),
-    value('name', 'str', 'Its name.'),
-    value('type', 'str', 'Its class, as Tiled calls it; no line changes it.'),
-    value('is_point', 'bool', 'Whether it is a point of Tiled; no line changes it.'),
+    own_value('name', 'str', 'Its name; set, it renames the object.', ['5']),
+    own_value('class_name', 'str', 'Its class, as Tiled calls it: the member `type` of the file. Set, it gives it another one.', ['5']),
+    value('type', 'str', 'The same, by its name in the file; `class_name` sets it.'),
+    value('is_point', 'bool', 'Whether it is a point of Tiled; the member `point` makes it one.'),
     value('x', 'float', 'Its column in pixels.'),
     value('y', 'float', 'Its row in pixels.'),
     value('width', 'float', 'Its width in pixels; 0 of a point, and of a rectangle of no size.'),
     value('height', 'float', 'Its height in pixels; 0 of a point, and of a rectangle of no size.'),
-    value('visible', 'bool', 'Whether it is shown.'),
-    value('tile', 'Tile?', 'Its tile, where it is one.'),
+    own_value('rotation', 'float', 'How far it is turned, in degrees clockwise; set, it turns the object.', ['"north"'], 'refused 61', '22.5'),
+    own_value('visible', 'bool', 'Whether it is shown; set, it shows or hides the object.'),
+    own_value('tile', 'Tile?', 'Its tile, where it is one; set to a `Tile`, or to the value of a cell, it gives the object that tile, and {None} '
+              'takes its tile away.', ['"a"', '-1'], types={'tile': 'Tile | number | null'}),
     value('properties', 'Properties', 'Its properties.'),
-    value('members', 'members', 'All that the map says of it: a copy.'),
+    value('members', 'own members', 'All that the map says of it: a copy{own_members}.'),
+    Call('set_member', 'key, value; merge=False', 'Gives it an own member, or adds one: any that Tiled writes for it, but its id and its properties.',
+         'member set OWNER KEY JSON', '',
+         {'type': ('', 'document.objects.get(1).setMember("a", undefined)'), 'value': ('', 'document.objects.get(1).setMember("a b", 1)'),
+          'refused 41': ('', 'document.objects.get(1).setMember("id", 7)'), 'refused 61': ('', 'document.objects.get(1).setMember("rotation", 22.5)'),
+          'refused 63': ('', 'document.objects.get(1).setMember("x", "left")')},
+         only='javascript', types={'key': 'string', 'value': 'unknown'}),
+    Call('set_members', 'members; merge=False', 'Gives it some own members at once, as one step.', 'member put OWNER JSON', '',
+         {'type': ('', 'document.objects.get(1).setMembers(5)'), 'refused 41': ('', 'document.objects.get(1).setMembers({ x: 1, id: 7 })'),
+          'refused 63': ('', 'document.objects.get(1).setMembers({ x: "left" })')}, only='javascript'),
+    Call('remove_member', 'key', 'Takes an own member out, and says whether there was one.', 'member remove OWNER KEY', 'bool',
+         {'refused 41': ('', 'document.objects.get(1).removeMember("id")')}, only='javascript', types={'key': 'string'}),
     Call('move', 'x, y; merge=False', 'Moves it to a place, in whole pixels.', 'object move OBJECT X Y', '',
          {'type': 'document.objects{1}.move(0.5, 0)', 'value': 'document.objects{1}.move(1000000001, 0)'}),
     Call('resize', 'width, height', 'Gives it a size, in whole pixels.', 'object resize OBJECT WIDTH HEIGHT', '',
@@ -331,6 +358,27 @@ OBJECT = Kind('MapObject', 'An object, by its id. Where it was removed, a call r
     Call('remove', '', 'Removes it.', 'object remove OBJECT'),
     to_json('object', 'members', 'What JSON has of it: `object.members`.'),
 ])
+
+OBJECT_MEMBERS = Kind('ObjectMembers', 'All that the map says of an object, when it was asked for: a dict. What is set in it or taken out of it '
+                      'is an edit of the object. Its own members are those that Tiled writes for it, but its id and its properties.', [
+    Call('get', 'key', 'The member of a name.', gives='Any', raises={'key': ('document.objects[1].members["point"]', '')},
+         written=('members[key]', ''), only='python'),
+    Call('set', 'key, value; merge=False', 'Gives the object an own member, or adds one.', 'member set OWNER KEY JSON', '',
+         {'type': ('document.objects[1].members.set("a", {1})', ''), 'value': ('document.objects[1].members.set("a b", 1)', ''),
+          'refused 41': ('document.objects[1].members.set("id", 7)', ''), 'refused 61': ('document.objects[1].members.set("rotation", 22.5)', ''),
+          'refused 63': ('document.objects[1].members.set("x", "left")', '')},
+         written=('members[key] = value, members.set(key, value, merge=False)', ''), only='python'),
+    Call('put', 'members; merge=False', 'Gives it some own members at once, as one step.', 'member put OWNER JSON', '',
+         {'type': ('document.objects[1].members.put({1: 2})', ''), 'value': ('document.objects[1].members.put({"a": float("inf")})', ''),
+          'refused 41': ('document.objects[1].members.put({"x": 1, "id": 7})', ''),
+          'refused 63': ('document.objects[1].members.put({"x": "left"})', '')}, only='python'),
+    Call('update', 'others, more', 'The same, as a dict takes what is new.', 'member put OWNER JSON', '',
+         {'type': ('document.objects[1].members.update(a=print)', ''), 'refused 63': ('document.objects[1].members.update(x="left")', '')},
+         written=('members.update(members, **more)', ''), only='python'),
+    Call('delete', 'key', 'Takes an own member out.', 'member remove OWNER KEY', '',
+         {'key': ('document.objects[1].members.pop("point")', ''), 'refused 41': ('document.objects[1].members.pop("id")', '')},
+         written=('del members[key]', ''), only='python'),
+], only='python')
 
 PROPERTIES = Kind('Properties', 'The properties of a map, a layer or an object, as they are at each call: {mapping}. A value that is '
                   'set keeps the type of the one that is there.', [
@@ -399,7 +447,7 @@ WATCH = Kind('Watch', 'A callback that is told of changes, until its end, or the
 ], only='python')
 
 #: The classes of documents and of what they have, in the order of the pages.
-KINDS = [EDITOR, DOCUMENT, LAYERS, LAYER, OBJECTS, OBJECT, PROPERTIES, TILESETS, TILESET, SELECTION, WATCH]
+KINDS = [EDITOR, DOCUMENT, LAYERS, LAYER, OBJECTS, OBJECT, OBJECT_MEMBERS, PROPERTIES, TILESETS, TILESET, SELECTION, WATCH]
 
 #: What is imported beside the classes.
 FUNCTIONS = [

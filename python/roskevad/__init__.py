@@ -14,6 +14,7 @@ from .kinds import AddedLayerKind, LayerKind, Layout, PropertyType, Rows, Select
 from .library import VERSION as __version__
 from .map_faults import MapPlace
 from .names import document_name
+from .own_members import ObjectMembers
 from .properties import Properties
 from .reports import report
 from .rows import flipped_horizontally, flipped_vertically, turned_right
@@ -25,7 +26,7 @@ from .word_faults import WordAtFault
 
 __all__ = [
     'AddedLayerKind', 'BadTileset', 'CellArea', 'Closed', 'Document', 'Editor', 'Error', 'InCallback', 'Layer', 'LayerKind', 'Layers',
-    'Layout', 'MapObject', 'MapPlace', 'NotFound', 'Objects', 'OtherType', 'Properties', 'PropertyType', 'Refused', 'Rows', 'Run',
+    'Layout', 'MapObject', 'MapPlace', 'NotFound', 'ObjectMembers', 'Objects', 'OtherType', 'Properties', 'PropertyType', 'Refused', 'Rows', 'Run',
     'Selection', 'SelectionMode', 'SetPropertyType', 'Status', 'Step', 'StepRow', 'Subject', 'Tile', 'Tileset', 'TilesetTile', 'Tilesets',
     'Told', 'Watch', 'WordAtFault', '__version__', 'document_name', 'flipped_horizontally', 'flipped_vertically', 'report', 'turned_right',
 ]

@@ -2,10 +2,11 @@
 """The layers of a document, and their objects."""
 from typing import TYPE_CHECKING, Any, Callable, Iterator, Optional, TypeVar, Union, cast, get_args
 
-from . import words
+from . import json_values, words
 from .faults import Refused, refused_call
 from .kinds import AddedLayerKind, LayerKind, Rows
 from .library import KINDS, LayerRow
+from .own_members import ObjectMembers, remove_member, set_member
 from .properties import Properties
 from .tiled_maps import Members
 from .rows import BASE, replaced, tile_value
@@ -98,17 +99,31 @@ class MapObject(_View):
 
     @property
     def name(self) -> str:
-        """Its name; no line changes it. Raises Refused."""
+        """Its name. Set, it renames the object. Raises Refused; set, also TypeError, ValueError."""
         return self._look(lambda members: str(members.get('name', '')))
+
+    @name.setter
+    def name(self, name: str) -> None:
+        set_member(self, 'name', json_values.text(name, 'the name of an object'))
+
+    @property
+    def class_name(self) -> str:
+        """Its class, as Tiled calls it: the member `type` of the file. Set, it gives the object another one. Raises Refused; set, also
+        TypeError, ValueError."""
+        return self._look(lambda members: str(members.get('type', '')))
+
+    @class_name.setter
+    def class_name(self, name: str) -> None:
+        set_member(self, 'type', json_values.text(name, 'the class of an object'))
 
     @property
     def type(self) -> str:
-        """Its class, as Tiled calls it; no line changes it. Raises Refused."""
-        return self._look(lambda members: str(members.get('type', '')))
+        """The same, by its name in the file; `class_name` sets it. Raises Refused."""
+        return self.class_name
 
     @property
     def is_point(self) -> bool:
-        """Whether it is a point of Tiled; no line changes it. An object without a size need not be one. Raises Refused."""
+        """Whether it is a point of Tiled; the member `point` makes it one. An object without a size need not be one. Raises Refused."""
         return self._look(lambda members: members.get('point') is True)
 
     @property
@@ -135,13 +150,29 @@ class MapObject(_View):
         return self._look(lambda members: cast(float, members.get(name, 0)))
 
     @property
-    def visible(self) -> bool:
-        """Whether it is shown; no line changes it. Raises Refused."""
-        return self._look(lambda members: bool(members.get('visible', True)))
+    def rotation(self) -> float:
+        """How far it is turned, in degrees clockwise. Set, it turns the object. Raises Refused; set, also TypeError, ValueError; Refused:
+        61 for a fraction."""
+        return self._number('rotation')
+
+    @rotation.setter
+    def rotation(self, degrees: float) -> None:
+        set_member(self, 'rotation', json_values.number(degrees, 'the rotation of an object'))
 
     @property
-    def tile(self) -> Optional[Tile]:
-        """Its tile, where it is one; else None. Raises Refused."""
+    def visible(self) -> bool:
+        """Whether it is shown. Set, it shows or hides the object. Raises Refused."""
+        return self._look(lambda members: bool(members.get('visible', True)))
+
+    @visible.setter
+    def visible(self, visible: bool) -> None:
+        set_member(self, 'visible', bool(visible))
+
+    # A checker of types holds what is set against the type that is read, and a value is a number.
+    @property
+    def tile(self) -> Union[Tile, Any, None]:
+        """Its tile, where it is one; else None. Set to a tile, or to the value of a cell, it gives the object that tile; None, or the value
+        0, takes its tile away. Raises Refused; set, also TypeError, ValueError."""
 
         def find(members: Members) -> Optional[Tile]:
             value = members.get('gid', 0)
@@ -149,10 +180,23 @@ class MapObject(_View):
 
         return self._look(find)
 
+    @tile.setter
+    def tile(self, tile: Union[Tile, int, None]) -> None:
+        value = words.number(0 if tile is None else tile.value if isinstance(tile, Tile) else tile, 'the tile of an object')
+        if value:
+            set_member(self, 'gid', value)
+        else:
+            remove_member(self, 'gid')
+
     @property
     def properties(self) -> Properties:
         """Its properties, a live view."""
         return Properties(self._document, 'object', self)
+
+    @property
+    def members(self) -> ObjectMembers:
+        """All that the map says of it: a copy, whose own members can be set and taken out. Raises Refused."""
+        return ObjectMembers(self, super().members)
 
     def move(self, x: int, y: int, merge: bool = False) -> None:
         """Moves it to a place in pixels; with `merge` as one step with a move of it before. Raises TypeError, ValueError; Refused."""

@@ -35,20 +35,26 @@ def text(word: object, what: str) -> str:
         raise ValueError(f'{what} is empty: give it one character or more')
     if any(ord(each) < 32 or ord(each) == 127 for each in word):
         raise ValueError(f'{what} has a newline, a tab or another control character in it: {_shown(word)}')
-    try:
-        size = len(word.encode())
-    except UnicodeEncodeError:
-        raise ValueError(f'{what} has half of a character in it: {_shown(word)}') from None
+    size = len(whole_text(word, what).encode())
     if size > MAX_TEXT:
         raise ValueError(f'{what} has {size} bytes in UTF-8, and may have {MAX_TEXT}: {_shown(word)}')
     return word
 
 
-def key(word: object) -> str:
-    """The name of a property. Raises as `text` does, and ValueError for a space."""
-    said = text(word, 'the name of a property')
+def whole_text(word: str, what: str) -> str:
+    """A text of whole characters. Raises ValueError where it has half of one."""
+    try:
+        word.encode()
+    except UnicodeEncodeError:
+        raise ValueError(f'{what} has half of a character in it: {_shown(word)}') from None
+    return word
+
+
+def key(word: object, what: str = 'the name of a property') -> str:
+    """The name of a property, or of what is spelled as one. Raises as `text` does, and ValueError for a space."""
+    said = text(word, what)
     if ' ' in said:
-        raise ValueError(f'the name of a property has a space in it, which it may not have: {_shown(said)}')
+        raise ValueError(f'{what} has a space in it, which it may not have: {_shown(said)}')
     return said
 
 
@@ -138,7 +144,7 @@ def setting(name: str, value: Any, kind: str) -> str:
     return f'{kind} {text(whole, what)}'
 
 
-def _is_whole(value: object) -> bool:
+def is_whole(value: object) -> bool:
     """Whether a value is a whole number, also of another library."""
     if isinstance(value, int):
         return True
@@ -149,7 +155,7 @@ def _is_whole(value: object) -> bool:
 
 def _as_whole(value: Any) -> Any:
     """A number of another library as an int, and anything else as it is."""
-    return operator.index(value) if _is_whole(value) and not isinstance(value, bool) else value
+    return operator.index(value) if is_whole(value) and not isinstance(value, bool) else value
 
 
 def type_of(name: str, value: Any) -> str:
@@ -159,7 +165,7 @@ def type_of(name: str, value: Any) -> str:
         return 'string'
     if isinstance(value, bool):
         return 'bool'
-    if _is_whole(value):
+    if is_whole(value):
         return 'int'
     if isinstance(value, float):
         raise ValueError(f'the property {name!r} is given a float, and the editor sets whole numbers: {value!r}')

@@ -275,7 +275,56 @@ async function namesThatAreNotThere() {
   const { message } = thrown(TypeError, () => {
     key.type = "Door";
   });
-  same(message, "type of an object is not set as a value: the editor does not change it");
+  same(message, "type of an object is not set as a value: className does");
+  editor.close();
+}
+
+// What JSON has not, or no line can say, is told before any line is said; what the editor refuses is refused by it, and no
+// fraction is rounded.
+async function valuesOfOwnMembers() {
+  const editor = await Editor.create();
+  const town = editor.new("town", 4, 3, 16, 16, "town.tsj");
+  const key = town.layers.add("object", "Things").objects.add("key", 16, 8);
+  const endless = [];
+  endless.push(endless);
+  const values = [
+    [TypeError, undefined], [TypeError, () => 0], [TypeError, NaN], [TypeError, -Infinity], [TypeError, 5n], [TypeError, Symbol("a")],
+    [TypeError, new Map()], [TypeError, new Date(0)], [TypeError, key], [TypeError, [1, , 2]], [RangeError, "\ud800"],
+    [RangeError, { "\udc80": 1 }], [RangeError, endless],
+  ];
+  const calls = countedCalls(editor, () => {
+    for (const [kind, value] of values) {
+      thrown(kind, () => key.setMember("a", value));
+      thrown(kind, () => key.setMembers({ a: [value] }));
+    }
+    const wrong = { name: null, className: 5, rotation: "90", tile: 1.5 };
+    for (const [name, value] of Object.entries(wrong)) {
+      thrown(TypeError, () => Reflect.set(key, name, value));
+    }
+    thrown(RangeError, () => Reflect.set(key, "tile", 2 ** 32));
+    for (const name of ["", "a b", "a\nb", "\ud800"]) {
+      thrown(RangeError, () => key.setMember(name, 1));
+    }
+    for (const members of [5, null, "a", [], new Map()]) {
+      thrown(TypeError, () => key.setMembers(members));
+    }
+  });
+  same(calls.step ?? 0, 0);
+  const deep = Array.from({ length: 88 }).reduce((inner) => [inner], 0);
+  const refused = [
+    [61, "rotation", 22.5], [61, "a", [1, 0.1]], [63, "x", "left"], [63, "visible", 1], [68, "x", 1e12], [41, "id", 7], [41, "properties", []],
+    [60, "a", [deep]], [63, "a", { roskevad: 1 }], [1, "a", "x".repeat(65_535)],
+  ];
+  for (const [code, name, value] of refused) {
+    same(thrown(Refused, () => key.setMember(name, value)).code, code);
+    same(thrown(Refused, () => key.setMembers({ a: 1, [name]: value })).code, code);
+  }
+  same(town.status.count, 2);
+  key.setMember("a", deep);
+  key.setMembers({ b: Object.assign(Object.create(null), { c: 1e15 }) });
+  same([key.members.a, key.members.b], [deep, { c: 1e15 }]);
+  const { message, wordAtFault, forms } = thrown(Refused, () => editor.step("member set object:1"));
+  same([wordAtFault, forms.length, message.includes("member put OWNER JSON")], [null, 5, true]);
   editor.close();
 }
 
@@ -470,7 +519,7 @@ async function readThings() {
 }
 
 export const DOCUMENT_CHECKS = [
-  drawnDocuments, worksThatGoOnLater, savedDocuments, propertiesOfOtherTypes, points, whatAFileLeavesOut,
+  drawnDocuments, worksThatGoOnLater, savedDocuments, propertiesOfOtherTypes, points, valuesOfOwnMembers, whatAFileLeavesOut,
   callsThatRefusalsName, textsInJSON, propertiesAsObjects, tilesetsThatRenumber, disposedEditors, namesThatAreNotThere,
   loopsOfStamps, loopsOfObjects,
   textsOfDocuments, thingsAndIds, groupsAndRemovals, readThings,

@@ -1,7 +1,7 @@
 // SPDX-License-Identifier: MIT OR Apache-2.0
 // What the declarations must take, and what they must not. It is checked, and never run.
 import {
-  BadModule, BadTileset, Broken, CellArea, Closed, Document, Editor, Error as MapError, FORMS, InCallback, Layer, Module, NoMemory,
+  BadModule, BadTileset, Broken, CellArea, Closed, Document, Editor, Error as MapError, FORMS, InCallback, Layer, MapObject, Module, NoMemory,
   NotFound, OtherType, Refused, Report, ReportedObject, Run, Status, StepRow, Subject, Tile, Told, VERSION, documentName, formsOf, report,
 } from "../../js/roskevad.js";
 
@@ -71,6 +71,14 @@ async function used(bytes: Uint8Array): Promise<void> {
   const written: Uint8Array = await town.saveBytes();
   const walls: Layer | null = town.layers.find("Walls", "tile");
   const isPoint: boolean = town.objects.get(1).isPoint;
+  const door: MapObject = town.objects.get(1);
+  [door.name, door.className, door.rotation, door.visible] = ["a", "b", 90, door.tile !== null];
+  door.tile = town.tilesets.first?.value(3) ?? null;
+  door.tile = tile;
+  door.setMember("point", true, { merge: true });
+  door.setMembers({ x: 5, polygon: [{ x: 0, y: 0 }] });
+  const wasThere: boolean = door.removeMember("point");
+  void wasThere;
   void [given, id, same, drawn, author, tile, run.length, status.depth, written, walls, isPoint, town.tilesets.first?.firstId];
   // @ts-expect-error: a mode is one of four
   town.select(0, 0, 1, 1, { mode: "cut" });
@@ -78,6 +86,10 @@ async function used(bytes: Uint8Array): Promise<void> {
   town.macro("D", async () => undefined);
   // @ts-expect-error: so it is of a stroke
   town.stroke(() => town.saveBytes());
+  // @ts-expect-error: a class is set by its own name
+  door.type = "b";
+  // @ts-expect-error: a rotation is a number
+  door.rotation = "90";
   // @ts-expect-error: an index is only read
   status.index = 5;
   // @ts-expect-error: documents are opened
