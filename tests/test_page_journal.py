@@ -85,7 +85,9 @@ def test_all_that_is_restored():
         page.ctrl('s')
         draw(page, 21)
         page.ctrl('z')
+        page.say('member put object:2 {"name":"Gate","rotation":90}')
         page.say('begin A wall')
+        page.say('member set object:2 type "Door of all"')
         page.say('select replace 2 2 5 5')
         draw(page, 3)
         before = page.editor.state(), page.editor.shown(), page.editor.session()
@@ -175,9 +177,9 @@ def test_journals_that_are_not_restored():
     with Life(PAGE.as_uri()) as life:
         page = opened(life)
         page.editor.lines('stamp 1 3 20 1 12')
-        page.editor.lines('stamp 1 4 20 1 12')
+        page.editor.lines('stamp 1 4 20 1 12', 'member set object:2 rotation 90')
         life.kill()
-        page = life.begin()
+        page, marked = life.begin(), 0
         for change, told in CHANGES.items():
             assert page.driver.execute_async_script(CHANGE, change) == ''
             page.js('return roskevad.recovery.start()')
@@ -190,11 +192,15 @@ def test_journals_that_are_not_restored():
             page.wait(file.exists, 'the session is downloaded')
             said = file.read_text().splitlines()
             file.unlink()
-            assert said[0] == 'open town town.tmj', said
+            # A damaged one has the lines before the damage.
+            marks = ['# all edits'] if 'member set object:2 rotation 90' in said else []
+            assert said[:len(marks) + 1] == [*marks, 'open town town.tmj'], said
+            marked += len(marks)
             assert page.editor.state()['active'] is None
             assert page.driver.execute_async_script(CHANGE, 'back') == ''
             page.reload()
             passed()
+        assert marked > 0
 
 
 def test_a_full_journal():

@@ -199,12 +199,12 @@ def test_box():
         assert page.texts('#lines li .reply')[-1] == 'ok 0/0 clean 0'
 
 
-def played(bench, session, before):
+def played(bench, session, before, *options):
     """The folder behind a session that `tile_editor` plays over files as they were."""
     folder = Path(bench.top.name) / 'played'
     shutil.copytree(before, folder)
     done = subprocess.run(
-        [BIN / 'tile_editor', '--all-maps', '--folder', folder, *bench.options],
+        [BIN / 'tile_editor', '--all-maps', '--folder', folder, *options, *bench.options],
         input=session,
         capture_output=True,
         timeout=60,
@@ -275,6 +275,37 @@ def test_session():
 def test_session_of_a_folder():
     """The same with a limit."""
     copy_and_play(Bench(limit=6, served=True))
+
+
+def test_session_of_own_members():
+    """A session with lines of own members says at its front that it is for all edits, and is played by the
+    program for all edits to the same map; its edits are played on the page as one step. The log words
+    each of them, and so do the steps."""
+    lines = ['member set object:2 rotation 45', 'member set+ object:2 rotation 90', 'member put object:2 {"name":"Gate","x":32}',
+             'member remove object:3 type']
+    bench = Bench()
+    with bench as page:
+        assert not copied(page).startswith('#')
+        before = page.editor.shown()
+        for line in lines:
+            page.editor.lines(line)
+        assert page.texts('#steps li .name')[-3:] == [
+            'Set Member · Gate: rotation', 'Set Members · Gate: name, x', 'Remove Member · Smithy: class',
+        ]
+        told = ['Set rotation of Inn', 'Set name, x of Inn', 'Remove class of Smithy']
+        assert [text for text in page.texts('#lines li .words') if text][-3:] == told
+        page.say('member set object:2')
+        assert 'bad word' in page.bubble() and 'member put OWNER JSON' in page.bubble()
+        page.say('save end.tmj')
+        session = copied(page)
+        assert session.splitlines()[0] == '# all edits' and session.count('#') == 1, session
+        folder = played(bench, session.encode(), EXAMPLE_MAPS, '--all-edits')
+        assert compact((folder / 'end.tmj').read_bytes()) == compact(bench.saved('end.tmj'))
+        after = page.editor.shown()
+        page.editor.lines('goto 0')
+        assert page.editor.shown() == before
+        play(page, '\n'.join(['# all edits', *lines]))
+        assert page.editor.shown() == after and standing(page) == (1, 1)
 
 
 def play(page, text):

@@ -7,7 +7,7 @@ const LOOKS = new Set(["list", "tile", "show", "status", "undotext", "redotext",
 // The lines about which documents there are.
 const DOCUMENTS = new Set(["new", "open", "close", "discard", "use"]);
 // The edits of the active document.
-const EDITS = new Set(["stamp", "erase", "fill", "select", "layer", "resize", "object", "prop", "tileset"]);
+const EDITS = new Set(["stamp", "erase", "fill", "select", "layer", "resize", "object", "prop", "tileset", "member"]);
 // The lines that go along the steps, or end a macro.
 const TURNS = new Set(["undo", "redo", "goto", "end"]);
 

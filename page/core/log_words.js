@@ -2,6 +2,7 @@
 // What a line has done, in words for those who draw: `Stamp on Ground: 12 cells`. It words the line, which has what no step has: new
 // names, sizes, modes, and how many cells it names.
 import { wordOf } from "./line_kinds.js";
+import { wayOf } from "./step_ways.js";
 
 // How many cells a line names that it stamps or empties; 0 of any other. (It may be spelled wrong.)
 export function cellsIn(line) {
@@ -58,6 +59,7 @@ const OF_WORDS = {
   layer: (words, names) => ofLayer(words, names),
   object: (words, names) => ofObject(words, names),
   prop: (words, names) => ofProperty(words, names),
+  member: (words, names) => ofMember(words, names),
   tileset: words => (words[1] === "add" ? `Add tileset ${rest(words, 3)}` : `${capitalised(words[1])} tileset ${rest(words, 2)}`),
 };
 
@@ -83,7 +85,14 @@ function ofObject(words, names) {
   return what.startsWith("add") ? `Add object ${rest(words, 7)}` : `${capitalised(what)} ${names.object(id)}`;
 }
 
-function ofProperty([, what, owner, key], names) {
+function ownerIn(owner, names) {
   const [kind, id] = owner.split(":");
-  return `${capitalised(what)} ${key} of ${kind === "map" ? "the map" : names[kind]?.(id) ?? owner}`;
+  return kind === "map" ? "the map" : names[kind]?.(id) ?? owner;
+}
+
+const ofProperty = ([, what, owner, key], names) => `${capitalised(what)} ${key} of ${ownerIn(owner, names)}`;
+
+function ofMember(words, names) {
+  const [, what, owner] = words;
+  return `${what === "remove" ? "Remove" : "Set"} ${wayOf(words.join(" "), null)} of ${ownerIn(owner, names)}`;
 }

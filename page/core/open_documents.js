@@ -3,6 +3,7 @@
 // lines about documents are read for that, and those that were kept, for the names of files.
 import { isAboutDocuments, wordOf } from "./line_kinds.js";
 import { OpenDocument } from "./open_document.js";
+import { marksOf } from "./session_marks.js";
 
 export class OpenDocuments {
   constructor() {
@@ -79,11 +80,11 @@ export class OpenDocuments {
     for (const document of this.byName.values()) document.part();
   }
 
-  // The session of the active document, where a comment names each file that no line can spell.
+  // The session of the active document, where comments say for which edits it is and name each file that no line can spell.
   session(names) {
     const lines = this.document?.lines ?? [];
     const words = new Set(lines.filter(line => /^(open|save) /.test(line)).map(line => line.slice(line.lastIndexOf(" ") + 1)));
     const named = [...words].filter(word => names.pathOf(word) !== word).map(word => `# ${word} is the file ${names.pathOf(word)}`);
-    return [...named, ...lines].map(line => `${line}\n`).join("");
+    return [...marksOf(lines), ...named, ...lines].map(line => `${line}\n`).join("");
   }
 }

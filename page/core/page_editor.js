@@ -15,7 +15,7 @@ import { FileNames, freeName } from "../files/names.js";
 import { OpenDocuments } from "./open_documents.js";
 import { loadModule } from "./own_module.js";
 import { Changed, ChosenFiles } from "../files/places.js";
-import { wordsOfWord } from "./refusals.js";
+import { whyOf } from "./refusals.js";
 import { Replay } from "./replay.js";
 import { MOST_AT_ONCE, NO_MEMORY, SAVED, answerTo, cut, opened, pause, refused } from "./replies.js";
 import { sourceOf } from "../files/sources.js";
@@ -42,9 +42,6 @@ function whyNotShown(fault) {
   const isMemory = fault instanceof NoMemory || fault instanceof RangeError;
   return isMemory ? "it takes more memory than there is" : `the page fails at something in it (${fault.message})`;
 }
-
-// What is wrong with the word at which a line is refused; null where no word is at fault.
-const whyOf = (refusal, line) => (refusal?.wordAtFault ? wordsOfWord(refusal.wordAtFault, line) : null);
 
 // A file that the user has kept as it is.
 class NotReplaced extends Error {}

@@ -11,6 +11,7 @@ import { brokenNames, isOld, isUntouched, isWhole, leftOf, namesOf } from "./lef
 import { notice } from "../panels/notice_bars.js";
 import { ChosenFiles, FolderFiles, download } from "../files/places.js";
 import { OfDocument } from "./replay.js";
+import { marksOf } from "./session_marks.js";
 import { isSameSource, wordsOf } from "../files/sources.js";
 
 // How many documents of a journal are left out at most, where they fail.
@@ -302,7 +303,7 @@ export class Recovery {
       lines.push(`# ${fault.message}`);
     }
     const name = isWhole(row) ? row.documents[0].name : "journal";
-    download(`${name}.session`, new TextEncoder().encode(lines.map(line => `${line}\n`).join("")), "text/plain");
+    download(`${name}.session`, new TextEncoder().encode([...marksOf(lines), ...lines].map(line => `${line}\n`).join("")), "text/plain");
     return false;
   }
 

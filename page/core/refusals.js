@@ -21,6 +21,8 @@ const HINTS = {
   34: "The object is not there: it may have been undone.",
   39: "A size, a place or a number is past its limit; docs/map-files.md has the limits.",
   40: "The map, the layer or the owner is full; docs/map-files.md has the limits.",
+  41: "Other lines change that, or nothing does.",
+  42: "The object has nothing of that name.",
   50: "The folder has no such file.",
   51: "The file cannot be read or written.",
   60: "docs/map-files.md says what to change in a map.",
@@ -45,8 +47,14 @@ function wrongWith({ place, word, text }, line) {
   return `Word ${place}, '${cut(word)}', ${text.slice(`word ${place} `.length)}.`;
 }
 
+// Why a line is refused that is spelled wrong: by the word at fault, or else by the forms that it may have. null of any other.
+export function whyOf(refusal, line) {
+  if (refusal?.wordAtFault) return wordsOfWord(refusal.wordAtFault, line);
+  return refusal?.forms?.length ? ["It is to have one of these forms.", ...refusal.forms].join("\n") : null;
+}
+
 // Says at which word a line is refused, what it is to be, and in which forms a line may go on there.
-export function wordsOfWord(fault, line) {
+function wordsOfWord(fault, line) {
   if (line.startsWith(" ")) return "The line begins with a space.";
   const forms = fault.place === 1 ? formsOf(line).slice(0, MOST_COMMANDS) : formsFrom(line, fault.place - 1).slice(0, MOST_FORMS);
   return [wrongWith(fault, line), ...forms].join("\n");

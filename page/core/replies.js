@@ -13,17 +13,17 @@ export const cut = text => (text.length <= LISTED ? text : `${text.slice(0, LIST
 export const pause = (time = 0) => new Promise(done => setTimeout(done, time));
 
 // What comes of a line: its reply, which is null where it is quiet; and what it is refused with, { code, words }, or null. Where a word is
-// at fault, the refusal has that, too, as `wordAtFault`.
+// at fault, the refusal has that, too, as `wordAtFault`, and where the line has other forms, these as `forms`.
 const accepted = reply => ({ reply, refusal: null });
 
-export function refused(code, words, wordAtFault = null) {
-  return { reply: `no ${code} ${words}`, refusal: { code, words, wordAtFault } };
+export function refused(code, words, wordAtFault = null, forms = []) {
+  return { reply: `no ${code} ${words}`, refusal: { code, words, wordAtFault, forms } };
 }
 
 export const NO_MEMORY = refused(90, "no memory");
 
 function ofFault(fault) {
-  if (fault instanceof Refused) return refused(fault.code, fault.words, fault.wordAtFault);
+  if (fault instanceof Refused) return refused(fault.code, fault.words, fault.wordAtFault, fault.forms);
   if (fault instanceof NoMemory) return NO_MEMORY;
   throw fault;
 }

@@ -1,6 +1,6 @@
 // SPDX-License-Identifier: MIT OR Apache-2.0
 // The way in which a line makes its step, in words that stand behind what the step is about. They are read from the line, since no step
-// has them: what the hand did, the mode and the size of a selection, whether a layer is shown, and the name of a property.
+// has them: what the hand did, the mode and the size of a selection, whether a layer is shown, and the names of properties and members.
 import { wordOf } from "./line_kinds.js";
 
 const GESTURES = { rectangle: "rectangle", pattern: "pattern", cut: "cut", empty: "the selected cells", paste: "none, to paste" };
@@ -10,7 +10,13 @@ const WAYS = {
   select: ([, how, , , width, height]) => (how === "none" ? how : `${SIGNS[how] ?? ""}${width} × ${height}`),
   layer: ([, what, , isShown]) => (wordOf(what) === "show" ? (isShown === "no" ? "hidden" : "shown") : null),
   prop: ([, , , name]) => name,
+  member: ([, what, , name, ...rest]) => (wordOf(what) === "put" ? namesIn([name, ...rest].join(" ")) : called(name)),
 };
+
+// What own members are called by those who draw, where files call them otherwise.
+const CALLED = { type: "class", gid: "tile" };
+const called = name => CALLED[name] ?? name;
+const namesIn = members => Object.keys(JSON.parse(members)).map(called).join(", ");
 
 // The way of a line by which the hand may have done something more; null where there is none.
 export function wayOf(line, gesture) {

@@ -131,8 +131,8 @@ def focus(page):
 
 
 def spelled(page):
-    """The lines of the session so far, without the first one."""
-    return page.editor.session().decode().splitlines()[1:]
+    """The lines of the session so far, without the first one and what is said before it."""
+    return [line for line in page.editor.session().decode().splitlines() if not line.startswith('#')][1:]
 
 
 def standing(page):
