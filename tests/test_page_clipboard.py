@@ -609,7 +609,7 @@ def test_kinds():
 
 
 def test_tile_objects():
-    """No line makes a tile object, so no number of one reaches another map: what is copied of it is named, and
+    """No copy of an object has its tile, so no number of one reaches another map: what is copied of it is named, and
     pasted without its tile."""
     with Bench('objects.tmj', 'town.tmj', has_log=False) as page:
         page.click('.tab[data-document="objects"]')

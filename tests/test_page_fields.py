@@ -8,7 +8,7 @@ import re
 
 from lib.cases import passed
 from lib.lines_at_fault import lines_at_fault
-from lib.maps import layers_in
+from lib.maps import layers_in, objects_in
 from lib.refusals import refusal
 from page.bench import Bench, choose, middle_of, object_of, spelled, standing
 from page.browser import ActionChains, Keys
@@ -169,6 +169,74 @@ def test_refused_values():
         assert value_of(page, ' x') == '128'
         page.type_into('#properties [data-key=" width"]', '-3')
         assert 'from 0 to' in faults(page)[0] and len(spelled(page)) == 2
+
+
+def test_name_class_and_rotation():
+    """An object's name, class and rotation are fields. Each is set by one line, which is a step that the page
+    names, and that the journal keeps; what is refused, Escape and Ctrl+Z are as in other fields."""
+    names = (' name', ' class', ' rotation')
+
+    def shown(page):
+        return [value_of(page, name) for name in names]
+
+    with Bench() as page:
+        page.keys('s')
+        page.drag_points([middle_of(page, 2)])
+        inn = object_of(page, 2)
+        assert shown(page) == ['Inn', 'Door', '0'] == [inn['name'], inn['type'], str(inn['rotation'])]
+        for name, typed in zip(names, ('The "Inn" \\ ü', 'House', '045')):
+            page.type_into(f'#properties [data-key="{name}"]', typed)
+        lines = [r'member set object:2 name "The \"Inn\" \\ ü"', 'member set object:2 type "House"', 'member set object:2 rotation 45']
+        assert spelled(page) == lines and standing(page) == (3, 3)
+        assert object_of(page, 2) == {**inn, 'name': 'The "Inn" \\ ü', 'type': 'House', 'rotation': 45}
+        assert page.texts('#owner') == ['Object The "Inn" \\ ü'] and page.texts('#objects .now .name') == ['The "Inn" \\ ü']
+        assert page.texts('#steps li .name')[-3:] == [f'Set Member · The "Inn" \\ ü: {what.strip()}' for what in names]
+        page.reload()
+        assert page.editor.state()['count'] == 3 and object_of(page, 2)['rotation'] == 45
+        page.keys('s')
+        page.drag_points([middle_of(page, 2)])
+        for typed in ('22.5', 'north', ''):
+            page.type_into('#properties [data-key=" rotation"]', typed or Keys.DELETE)
+            assert faults(page) == ['a whole number'] and value_of(page, ' rotation') == typed, typed
+        field_of(page, ' rotation').send_keys(Keys.ESCAPE)
+        assert value_of(page, ' rotation') == '45' and not faults(page)
+        page.type_into('#properties [data-key=" name"]', 'x' * 201)
+        assert 'at most 200 bytes' in faults(page)[0] and spelled(page) == lines
+        field_of(page, ' name').send_keys(Keys.ESCAPE)
+        field_of(page, ' rotation').click()
+        type_keys(page, Keys.ARROW_UP)
+        assert spelled(page)[3:] == ['member set object:2 rotation 46'] and value_of(page, ' rotation') == '46'
+        with_ctrl(page, 'z')
+        assert shown(page) == ['The "Inn" \\ ü', 'House', '45'] and standing(page) == (3, 4)
+        for name in names[:2]:
+            page.type_into(f'#properties [data-key="{name}"]', Keys.DELETE)
+        assert spelled(page)[-2:] == ['member set object:2 name ""', 'member set object:2 type ""']
+        assert page.texts('#owner') == ['Object 2'] and shown(page) == ['', '', '45']
+
+
+def test_names_that_files_have():
+    """A class that a file calls `class` is set there. A fraction of a rotation is shown. A name that is longer than
+    what is shown is barred, with a word."""
+    bench = Bench(empty=True)
+    with bench as page:
+        town = json.loads((bench.folder / 'town.tmj').read_text())
+        objects = {each['id']: each for each in objects_in(town)}
+        objects[2].update({'class': objects[2].pop('type'), 'rotation': 22.5})
+        objects[3]['name'] = 'a' * 300
+        (bench.folder / 'kinds.tmj').write_text(json.dumps(town))
+        page.choose_files(bench.folder / 'kinds.tmj', *bench.folder.glob('*.ts?'))
+        page.keys('s')
+        page.click('#objects li[data-object="2"]')
+        assert (value_of(page, ' class'), value_of(page, ' rotation')) == ('Door', '22.5')
+        page.type_into('#properties [data-key=" class"]', 'House')
+        assert spelled(page) == ['member set object:2 class "House"'] and value_of(page, ' class') == 'House'
+        page.type_into('#properties [data-key=" rotation"]', '90')
+        assert spelled(page)[1:] == ['member set object:2 rotation 90'] and value_of(page, ' rotation') == '90'
+        page.click('#objects li[data-object="3"]')
+        assert not page.js('return document.querySelector(\'#properties [data-key=" name"]\')')
+        assert any('Tiled' in text for text in page.texts('#properties .barred'))
+        page.double_click(lambda: page.find('#objects li[data-object="3"]'), page.bubble)
+        assert 'Tiled' in page.bubble() and len(spelled(page)) == 2
 
 
 def test_fields_of_types():

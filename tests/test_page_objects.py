@@ -1,7 +1,7 @@
 # SPDX-License-Identifier: MIT OR Apache-2.0
 """Works with objects on the page in Chromium, by mouse and keys: which one a click chooses, the
-list with its search, a new one and its name, handles and arrow keys, copies and what no line can
-copy, and keys that act on what the tool in hand shows as chosen."""
+list with its search, a new one and its name, handles and arrow keys, copies and what these do not
+keep, and keys that act on what the tool in hand shows as chosen."""
 import json
 import math
 
@@ -180,9 +180,11 @@ def test_new():
         type_keys(page, 'Camp', Keys.ENTER)
         assert spelled(page)[-1] == f'object add {layer} 320 80 48 32 Camp', 'the only object layer takes it'
         assert page.js('return roskevad.bench.layerId') == layer
-        page.js('roskevad.bench.bubble.hide()')
-        page.double_click(lambda: page.find('#objects li.now'), page.bubble)
-        assert 'stays as it is' in page.bubble() and 'Insert a new one' in page.bubble()
+        number = chosen(page)
+        page.double_click(lambda: page.find('#objects li.now'), lambda: page.texts('dialog[open]'))
+        type_keys(page, 'Old camp', Keys.ENTER)
+        assert spelled(page)[-1] == f'member set object:{number} name "Old camp"' and page.texts('#owner') == ['Object Old camp']
+        assert page.texts('#objects .now .name') == ['Old camp'] and object_of(page, number)['name'] == 'Old camp'
 
 
 def test_handles():
@@ -266,7 +268,7 @@ def test_arrows():
 
 def test_copies():
     """Ctrl+D copies a plain rectangle with its properties as one step, and chooses the copy. Of
-    others a notice names what no line can copy, and offers the rest."""
+    others a notice names what a copy would not keep, and offers the rest."""
     with Bench() as page:
         layer = layer_of(page, 'Places')['id']
         page.editor.lines(
@@ -303,8 +305,8 @@ def test_copies():
 
 
 def test_clipboard():
-    """With Objects Ctrl+C, Ctrl+V and Ctrl+X are about the chosen object; one that no line can copy
-    is not cut."""
+    """With Objects Ctrl+C, Ctrl+V and Ctrl+X are about the chosen object; one that a copy would not keep
+    whole is not cut."""
     with Bench() as page:
         layer = layer_of(page, 'Places')['id']
         page.editor.lines(f'object add {layer} 32 400 32 16 trap')

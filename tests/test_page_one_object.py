@@ -66,6 +66,11 @@ def test_one_of_many():
             assert see_one_read(page, lambda: page.editor.lines(line)) == [], (line, at)
             shown_place(page, number)
         assert object_of(page, number)['width'] == 48 and page.js('return roskevad.bench.objectId') == number
+        for name, text in ((' name', 'gate'), (' class', 'Door'), (' rotation', '45')):
+            see_one_read(page, lambda: page.type_into(f'#properties [data-key="{name}"]', text))
+        now = page.js('const {name, type, rotation} = roskevad.editor.map.object(arguments[0]).object; return [name, type, rotation]', number)
+        assert now == ['gate', 'Door', 45] == [object_of(page, number)[each] for each in ('name', 'type', 'rotation')]
+        see_one_read(page, lambda: page.editor.lines('goto 5'))
         page.editor.lines('new other 4 4 16 16 tiles.tsx', 'use crates')
         used = see_one_read(page, lambda: page.editor.lines(f'object move {number} 9 9'))
         assert set(used) <= {'use other', 'use crates'} and used.count('use other') == used.count('use crates'), used

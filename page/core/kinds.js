@@ -8,13 +8,15 @@ const CONTROL = /[\u0000-\u001f\u007f]/;
 
 const grouped = number => number.toLocaleString("en-US");
 
-// What is wrong with a text of a line; "" where nothing is.
-function textFault(text) {
-  if (text === "") return "not empty: no line takes an empty text";
+// What is wrong with a text that may be empty; "" where nothing is.
+function labelFault(text) {
   if (CONTROL.test(text)) return "one line, without tabs";
   const size = encoder.encode(text).length;
   return size > MAX_TEXT ? `at most ${MAX_TEXT} bytes; this has ${grouped(size)}` : "";
 }
+
+// The same of a text of a line.
+const textFault = text => (text === "" ? "not empty: no line takes an empty text" : labelFault(text));
 
 const keyFault = text => (text.includes(" ") ? "no space in it: no line can say such a name" : textFault(text));
 
@@ -47,6 +49,7 @@ const asIs = text => text;
 
 export const KINDS = {
   text: { wanted: `a text of 1 to ${MAX_TEXT} bytes`, fault: textFault, spelled: asIs },
+  label: { wanted: `a text of at most ${MAX_TEXT} bytes`, fault: labelFault, spelled: asIs },
   key: { wanted: `a name of 1 to ${MAX_TEXT} bytes, without a space`, fault: keyFault, spelled: asIs },
   coordinate: whole(-MAX_COORDINATE, MAX_COORDINATE),
   size: whole(0, MAX_PIXELS),

@@ -1,11 +1,12 @@
 // SPDX-License-Identifier: MIT OR Apache-2.0
 // What no line can say of a property or of an object, in words.
 import { KINDS, TYPES } from "./kinds.js";
-import { ODD } from "../files/members.js";
+import { LONGEST_NAME, ODD } from "../files/members.js";
 
-// What is said where somebody would rename an object.
-export const NO_NAME = "The name of an object stays as it is: the editor has no step that changes it. "
-  + "Insert a new one under the other name, or rename it in Tiled.";
+// Why a name or a class has no field, of which the page has no more than its first letters; "" where it has one.
+export function whyNotNamed(text) {
+  return text.length > LONGEST_NAME ? `It has more than ${LONGEST_NAME} letters: Tiled changes it.` : "";
+}
 
 // Why no line sets a property; "" where one does.
 export function whyNotSet({ name, type = "string", value }) {
@@ -23,7 +24,7 @@ function whyNotCopied(property) {
   return why ? `the property ${name}` : "";
 }
 
-// What a copy of an object cannot have, in words: no line makes it.
+// What a copy of an object does not have, in words.
 export function lostByCopy(object) {
   const isWhole = [object.width ?? 0, object.height ?? 0].every(Number.isInteger);
   const parts = [

@@ -5,7 +5,7 @@ import { partsOfColour } from "../view/tints.js";
 
 // How many characters of a name, of a text and of all texts of a map are shown; how long a path may be; the largest size of a letter, and the
 // largest side of a hexagon.
-const LONGEST_NAME = 200;
+export const LONGEST_NAME = 200;
 export const LONGEST_TEXT = 4096;
 const MOST_LETTERS = 262_144;
 const LONGEST_PATH = 4096;

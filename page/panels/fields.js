@@ -253,4 +253,5 @@ export function fieldFor(type, value, take, around) {
   return type === "int" ? new NumberField(kind, value, take) : new TextField(kind, value, take);
 }
 
+export const textField = (kind, value, take) => new TextField(kind, value, take);
 export const numberField = (kind, value, take) => new NumberField(kind, value, take);

@@ -1,8 +1,10 @@
 // SPDX-License-Identifier: MIT OR Apache-2.0
 // The objects of the map in a list, by their layers, with a search. It stands in the place of the tiles while a tool for objects is in hand.
-import { byId, element } from "./dom.js";
+import { KINDS } from "../core/kinds.js";
+import { ask, byId, element } from "./dom.js";
+import { memberLine } from "../core/member_lines.js";
 import { boxOf } from "../view/object_shapes.js";
-import { NO_NAME } from "../core/unsupported_edits.js";
+import { whyNotNamed } from "../core/unsupported_edits.js";
 
 // How many rows the list has at most: others are found by the search.
 const MOST_ROWS = 1000;
@@ -28,7 +30,7 @@ export class ObjectList {
     this.search.oninput = () => this.show();
     this.search.onkeydown = event => this.key(event);
     this.list.onclick = event => this.click(event);
-    this.list.ondblclick = event => event.target.closest("[data-object]") && bench.say(NO_NAME);
+    this.list.ondblclick = event => this.rename(event.target.closest("[data-object]"));
     bench.addEventListener("chosen", () => this.show());
     bench.addEventListener("object chosen", () => this.list.querySelector(".now")?.scrollIntoView({ block: "nearest" }));
     bench.addEventListener("tool", () => this.turnTo(SIDES[tools.name]));
@@ -118,6 +120,17 @@ export class ObjectList {
     const row = event.target.closest("li");
     if (row?.dataset.layer) this.bench.chooseLayer(Number(row.dataset.layer));
     if (row?.dataset.object) this.choose(Number(row.dataset.object));
+  }
+
+  // Asks for another name of the object of a row.
+  async rename(row) {
+    const { bench } = this;
+    const id = Number(row?.dataset.object);
+    const value = bench.map?.object(id)?.object.name ?? "";
+    if (!row) return;
+    if (whyNotNamed(value)) return void bench.say(`This name is not changed here. ${whyNotNamed(value)}`);
+    const field = { name: "name", label: "Name", value, kind: KINDS.label };
+    await ask("Rename an object", [field], ["OK"], ({ name }) => bench.attempt([memberLine(`object:${id}`, "name", name)]));
   }
 
   // Chooses an object, with the tool that shows it, and moves the view to it where it is not seen.

@@ -1,12 +1,13 @@
 // SPDX-License-Identifier: MIT OR Apache-2.0
 // The properties of the map, of a layer or of an object, in a table; and what else a line can set of an object.
 import { button, byId, element, mark } from "./dom.js";
-import { fieldFor, numberField } from "./fields.js";
+import { fieldFor, numberField, textField } from "./fields.js";
 import { KINDS, TYPES } from "../core/kinds.js";
+import { memberLine } from "../core/member_lines.js";
 import { cutText } from "../files/members.js";
 import { folderOf } from "../files/names.js";
 import { saidOf } from "../core/refusals.js";
-import { NO_NAME, whyNotSet } from "../core/unsupported_edits.js";
+import { whyNotNamed, whyNotSet } from "../core/unsupported_edits.js";
 
 const OWNERS = ["map", "layer", "object"];
 // What a field has where a new property is made, and nothing was typed.
@@ -63,7 +64,6 @@ export class PropertyPanel {
     for (const kind of OWNERS) byId(`of-${kind}`).classList.toggle("on", kind === this.kind);
     const none = this.kind === "object" ? "No object is chosen: click at one with the tool Objects." : "Nothing is open.";
     byId("owner").textContent = owner?.title ?? none;
-    byId("owner").title = owner && this.kind === "object" ? NO_NAME : "";
     this.last.hidden = !owner;
     if (owner?.word !== this.shownOwner) this.unmark();
     this.shownOwner = owner?.word;
@@ -86,14 +86,33 @@ export class PropertyPanel {
   }
 
   // ---- what is no property
-  // The size of the map; the class, the place and the size of an object.
+  // The size of the map; the name, the class, the place, the size and the rotation of an object.
   factRows(owner) {
     const { data } = owner;
     if (this.kind === "map") return [this.fact("size", `${data.width} × ${data.height}`, "")];
     if (this.kind !== "object") return [];
-    const type = data.type || data.class;
-    const known = type ? [this.fact("class", type, "No line sets a class.")] : [];
-    return [...known, this.partRow(owner, PARTS.slice(0, 2), "place"), this.partRow(owner, PARTS.slice(2), "size")];
+    // Tiled 1.9 has it elsewhere.
+    const kind = !data.type && data.class ? "class" : "type";
+    return [
+      this.memberRow(owner, "name", "name", data.name ?? ""),
+      this.memberRow(owner, "class", kind, data[kind] ?? ""),
+      this.partRow(owner, PARTS.slice(0, 2), "place"),
+      this.partRow(owner, PARTS.slice(2), "size"),
+      this.memberRow(owner, "rotation", "rotation", data.rotation ?? 0),
+    ];
+  }
+
+  // A text or a number of an object, which is an own member of it.
+  memberRow({ word }, name, member, value) {
+    const isNumber = typeof value === "number";
+    const why = isNumber ? "" : whyNotNamed(value);
+    if (why) return this.fact(name, value, why);
+    return this.kept(` ${word} ${member}`, [String(value)], () => {
+      const take = text => this.send(memberLine(word, member, isNumber ? Number(text) : text));
+      const field = isNumber ? numberField(KINDS.coordinate, String(value), take) : textField(KINDS.label, value, take);
+      Object.assign(field.input.dataset, { key: ` ${name}`, owner: word });
+      return { element: rowOf(name, "", isNumber ? "in degrees, clockwise" : "", element("td", { colSpan: 2 }, field.box)), fields: [field] };
+    });
   }
 
   fact(name, text, why) {

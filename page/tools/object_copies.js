@@ -1,5 +1,5 @@
 // SPDX-License-Identifier: MIT OR Apache-2.0
-// Copies of objects: one step of `object add` and of a `prop set` for each property. What no line can copy is named.
+// Copies of objects: one step of `object add` and of a `prop set` for each property. What a copy would not keep is named.
 import { ask } from "../panels/dom.js";
 import { KINDS } from "../core/kinds.js";
 import { endNotice, notice } from "../panels/notice_bars.js";
@@ -40,12 +40,12 @@ export class ObjectCopies {
     for (const name of ["object chosen", "document"]) bench.addEventListener(name, () => endNotice(ABOUT));
   }
 
-  // Calls `go` where lines can copy an object whole. Else it says what they cannot, and offers to copy the rest.
+  // Calls `go` where a copy keeps an object whole. Else it says what it would not keep, and offers to copy the rest.
   whole(object, done, go) {
     endNotice(ABOUT);
     const lost = lostByCopy(object);
     if (!lost.length) return go();
-    const words = `${nameOf(object)} is not ${done}: no line can copy ${listed(lost)}.`;
+    const words = `${nameOf(object)} is not ${done}: a copy would not keep ${listed(lost)}.`;
     this.bench.say(words);
     notice(ABOUT, words, done === "cut" ? [["OK", () => {}]] : [["Copy the rest", () => void go()], ["OK", () => {}]], "mild");
     return null;
@@ -106,7 +106,7 @@ export class ObjectCopies {
     const id = bench.map.data.nextobjectid;
     if (!bench.doAsOne(step, linesOf(object, id, layer, x, y, name)).isAccepted) return false;
     bench.chooseObject(id);
-    if (object.point) bench.say("The copy is a rectangle of no size: no line makes a point.");
+    if (object.point) bench.say("The copy is a rectangle of no size, and no point.");
     return true;
   }
 
