@@ -13,10 +13,12 @@ from lib.refusals import refusal
 
 sys.path.insert(0, str(TOP / 'python'))
 from roskevad import Editor, Refused  # noqa: E402
+from roskevad.forms import FORMS  # noqa: E402
 
 PACKAGES = ('nodejs',)
-# Lines that are refused as a whole, or for another reason than one of their words.
-WHOLE = ['x' * 65_536, 'undo', 'stamp 9 0 0 1 5', 'use none']
+# Lines that are refused as a whole, or for another reason than one of their words; of a line of own members no word is told.
+OF_MEMBERS = ['member', 'member ', 'member set', 'member set object:1 rotation', 'member frob object:1 rotation 45', 'member set layer a 1']
+WHOLE = ['x' * 65_536, 'undo', 'stamp 9 0 0 1 5', 'use none', *OF_MEMBERS]
 
 
 def lines_refused():
@@ -24,7 +26,7 @@ def lines_refused():
     for words, fault, form in lines_at_fault(random.Random(64)):
         word = words[fault] if fault < len(words) else None
         yield ' '.join(words), [4, fault + 1, word, told_of(form, fault, words)]
-    for line in ('Undo', ' undo', 'frob 1', 'undone'):
+    for line in ('Undo', ' undo', 'frob 1', 'undone', 'members set object:1 rotation 45', 'member+ set object:1 rotation 45', 'Member'):
         yield line, [3, 1, line.split(' ')[0], 'word 1 is not a command']
 
 
@@ -83,3 +85,5 @@ def test_what_people_see():
     first = f"{refusal(4).removeprefix('no ')}: stamp 1 0 0 2 5,6,7"
     second = 'word 6 is not whole numbers joined by commas, which fill rows of 2'
     assert str(refused('stamp 1 0 0 2 5,6,7')).split('\n  ')[:3] == [first, second, 'stamp LAYER X Y WIDTH TILES']
+    for line in OF_MEMBERS:
+        assert str(refused(line)).split('\n  ') == [f"{refusal(4).removeprefix('no ')}: {line}", *FORMS['member']], line
