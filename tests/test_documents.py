@@ -312,7 +312,8 @@ def test_members_are_a_dict():
         door.move(5, 6)
         see((whole, 5, 3), (members, door.members['x'], door.document.status.count))
         see((0, 7, 7), (members.setdefault('rotation', 5), members.setdefault('a', 7), door.members['a']))
-        see((7, 5), (members.pop('a'), members['x']))
+        door.members['b'] = 8
+        see((8, 7, 5), (members.pop('b', None), members.pop('a'), members['x']))
         raised(KeyError, members.pop, 'a')
         raised(KeyError, lambda: members['a'])
 

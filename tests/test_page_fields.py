@@ -203,6 +203,10 @@ def test_name_class_and_rotation():
         page.type_into('#properties [data-key=" name"]', 'x' * 201)
         assert 'at most 200 bytes' in faults(page)[0] and spelled(page) == lines
         field_of(page, ' name').send_keys(Keys.ESCAPE)
+        page.js('arguments[0].value = "a\\ud800"; arguments[0].dispatchEvent(new Event("change"))', field_of(page, ' name'))
+        page.settle()
+        assert 'half of one' in faults(page)[0] and spelled(page) == lines
+        field_of(page, ' name').send_keys(Keys.ESCAPE)
         field_of(page, ' rotation').click()
         type_keys(page, Keys.ARROW_UP)
         assert spelled(page)[3:] == ['member set object:2 rotation 46'] and value_of(page, ' rotation') == '46'

@@ -1,6 +1,7 @@
 // SPDX-License-Identifier: MIT OR Apache-2.0
 // What may stand in a field, or at a word of a line. Each kind says what is wanted, what is wrong with a text, and how a line spells it.
 import { MAX_COORDINATE, MAX_DOCUMENT_NAME, MAX_FILE_NAME, MAX_NUMBER, MAX_PIXELS, MAX_SIDE, MAX_TEXT, MAX_TILE_SIDE } from "../../js/limits.js";
+import { isWhole } from "../../js/words.js";
 
 const encoder = new TextEncoder();
 // eslint-disable-next-line no-control-regex
@@ -11,6 +12,7 @@ const grouped = number => number.toLocaleString("en-US");
 // What is wrong with a text that may be empty; "" where nothing is.
 function labelFault(text) {
   if (CONTROL.test(text)) return "one line, without tabs";
+  if (!isWhole(text)) return "whole characters: this has half of one";
   const size = encoder.encode(text).length;
   return size > MAX_TEXT ? `at most ${MAX_TEXT} bytes; this has ${grouped(size)}` : "";
 }

@@ -60,6 +60,7 @@ class ObjectMembers(dict[str, Any]):
 
     def pop(self, key: str, *default: Any) -> Any:
         """Takes an own member out, and gives its value; the default where there is none. Raises as `del` does."""
+        self._read()
         if key not in self and default:
             return default[0]
         value = self[key]
@@ -68,6 +69,7 @@ class ObjectMembers(dict[str, Any]):
 
     def setdefault(self, key: str, default: Any = None) -> Any:
         """The member of a name, which is set first where there is none. Raises as `set` does."""
+        self._read()
         if key not in self:
             self.set(key, default)
         return self[key]
