@@ -63,6 +63,37 @@ fn unchanged(rt: HostRuntime) -> Result<(), Fail> {
     Ok(())
 }
 
+// What only looks like an escaped letter or slash is none: what stands behind a backslash that is escaped itself, and a control
+// character, which each layout escapes.
+#[test]
+fn backslashes_and_controls(rt: HostRuntime) {
+    let cases = [
+        [
+            "[\"C:\\\\ui\",\"é\"]",
+            "[\n  \"C:\\\\ui\"\n]\n",
+            "[\n  \"C:\\\\ui\",\n  \"é\"\n]\n",
+        ],
+        [
+            "[\"C:\\\\/\",\"a/b\"]",
+            "[\n  \"C:\\\\/\"\n]\n",
+            "[\n  \"C:\\\\/\",\n  \"a/b\"\n]\n",
+        ],
+        [
+            "[\"\\u001f\",\"é\"]",
+            "[\n  \"\\u001f\"\n]\n",
+            "[\n  \"\\u001f\",\n  \"é\"\n]\n",
+        ],
+        [
+            "[\"ö\",\"é\"]",
+            "[\n  \"\\u00f6\"\n]\n",
+            "[\n  \"\\u00f6\",\n  \"\\u00e9\"\n]\n",
+        ],
+    ];
+    for [text, source, wanted] in cases {
+        assert!(rt; gets(rt.alloc(), text, source, wanted));
+    }
+}
+
 const STAMP: [&str; 2] = ["[1,2,3,0,1,4]", "[1,2,2,0,1,4]"];
 
 const MOVE: [&str; 2] = ["\"x\":8,\"y\":12.5", "\"x\":24,\"y\":28.5"];

@@ -12,6 +12,8 @@ struct Signs {
     has_escaped_slashes: bool,
     has_plain_letters: bool,
     has_escaped_letters: bool,
+    // How many digits of an escaped letter are still to come.
+    digits_left: u8,
     // Whether a line begins with a digit, as a row of cells does.
     has_rows: bool,
     has_spaced_colons: bool,
@@ -26,22 +28,36 @@ impl Signs {
             has_escaped_slashes: false,
             has_plain_letters: false,
             has_escaped_letters: false,
+            digits_left: 0,
             has_rows: false,
             has_spaced_colons: false,
         }
     }
 
-    // Sees a byte of a text between quotes, and the one before.
-    fn see_text(&mut self, before: u8, byte: u8) {
-        if byte == b'/' && before == b'\\' {
+    // Sees a byte of a text between quotes, which a backslash may escape.
+    fn see_text(&mut self, is_escaped: bool, byte: u8) {
+        if self.digits_left > 0 {
+            self.see_digit(byte);
+        } else if byte == b'/' && is_escaped {
             self.has_escaped_slashes = true;
         } else if byte == b'/' {
             self.has_plain_slashes = true;
-        } else if byte == b'u' && before == b'\\' {
-            self.has_escaped_letters = true;
+        } else if byte == b'u' && is_escaped {
+            self.digits_left = 4;
         } else if byte > 127 {
             self.has_plain_letters = true;
         }
+    }
+
+    // Sees a digit of an escaped letter. Those of control characters, from 0000 to 001f, tell nothing: each layout escapes these.
+    fn see_digit(&mut self, byte: u8) {
+        let is_of_control = match self.digits_left {
+            4 | 3 => byte == b'0',
+            2 => byte == b'0' || byte == b'1',
+            _ => true,
+        };
+        self.has_escaped_letters |= !is_of_control;
+        self.digits_left = self.digits_left.saturating_sub(1);
     }
 
     // Sees a byte between texts, and the one before.
@@ -62,7 +78,7 @@ fn signs_of(text: &[u8]) -> Signs {
     let mut is_line_empty = false;
     for byte in text {
         if scan.is_in_text {
-            signs.see_text(before, *byte);
+            signs.see_text(scan.is_escaped, *byte);
         } else {
             signs.see_space(before, *byte);
             signs.has_rows |= is_line_empty && byte.is_ascii_digit();

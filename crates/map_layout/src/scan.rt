@@ -10,8 +10,8 @@ pub struct Scan {
     pub depth: u32,
     /// Whether it stands in a text between quotes.
     pub is_in_text: bool,
-    // Whether a backslash stands in front.
-    is_escaped: bool,
+    /// Whether a backslash in front escapes the byte that comes.
+    pub is_escaped: bool,
 }
 
 impl Scan {
