@@ -5,6 +5,8 @@ use Rattle.map_model.specs.Document.{DocumentParts}
 use Rattle.command_api.specs.Names.{Names}
 use Rattle.member_commands.specs.Edits.{after_put_members, after_remove_member, after_set_member}
 use Rattle.member_commands.specs.Names.{put_members_names, remove_member_names, set_member_names}
+use Rattle.member_commands.specs.Layers.{layer_heads}
+use Rattle.member_commands.specs.Maps.{map_heads}
 use Rattle.member_commands.specs.Objects.{object_heads}
 use Rattle.undo_stack.specs.History.{Step, current, step_named}
 use Rattle.refusals.specs.declared.line_fault.LineFault.{LineFault}
@@ -31,11 +33,17 @@ more_names_of (SetMember owner name json follows) = set_member_names owner name 
 more_names_of (PutMembers owner json follows) = put_members_names owner follows
 more_names_of (RemoveMember owner name) = remove_member_names
 
--- the document after it, or its refusal; members of no owner but an object have an edit yet
+-- the document after it, or its refusal; members of tilesets have no edit yet
 abbrev pub after_more : MoreLine → DocumentParts → Result DocumentParts MoreFault
 after_more (SetMember (owners.Object id) name json follows) d = after_set_member object_heads d id name json
 after_more (PutMembers (owners.Object id) json follows) d = after_put_members object_heads d id json
 after_more (RemoveMember (owners.Object id) name) d = after_remove_member object_heads d id name
+after_more (SetMember (owners.Layer id) name json follows) d = after_set_member layer_heads d id name json
+after_more (PutMembers (owners.Layer id) json follows) d = after_put_members layer_heads d id json
+after_more (RemoveMember (owners.Layer id) name) d = after_remove_member layer_heads d id name
+after_more (SetMember owners.Map name json follows) d = after_set_member map_heads d 0 name json
+after_more (PutMembers owners.Map json follows) d = after_put_members map_heads d 0 json
+after_more (RemoveMember owners.Map name) d = after_remove_member map_heads d 0 name
 after_more line d = Err MemberOfOtherLines
 
 -- the step of an edit with these names, or the edit's refusal

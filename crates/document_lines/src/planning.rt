@@ -10,6 +10,7 @@ ghost use Rattle.document_lines.specs.EditLines.{IsOfCells, IsOfLayers, IsOfObje
 ghost use Rattle.document_lines.specs.Planning.{IsOfActive, IsOfHistory, PlansOn, plan_of, refused};
 
 mod edit_plans;
+mod edited_head;
 mod member_plans;
 
 use crate::planned::{Edit, Planned};

@@ -109,4 +109,4 @@ put-well_formed id words own new d h given are e = with_head id d own new h give
 
 pub without-well_formed : (id : ℕ) (name : List ℕ) (own new : ObjectHead) (d : DocumentParts) → IsWellFormed d.map → (head_with_id id).get d ≡ Some own
     → head_at (without name (head_members own)) ≡ Ok new → IsWellFormed (put (head_with_id id) new d).map
-without-well_formed id name own new d h given e = with_head id d own new h given (λ tier room is. head_drop_sound tier name own new is e)
+without-well_formed id name own new d h given e = with_head id d own new h given (λ tier room is. head_drop_sound tier name own new room is e)

@@ -28,10 +28,14 @@ mod writing;
 mod part_text;
 
 // What a text of a line says, and the heads that such values go into.
+mod layer_head;
+mod map_head;
 mod object_head;
 mod same_head;
 mod word;
 
+pub use layer_head::{is_layer_head, is_layer_member, layer_head_members, read_layer_head};
+pub use map_head::{is_map_head, is_map_member, map_head_members, read_map_head};
 pub use map_text::{saved_is_opened, write_map, write_outline, written_is_read};
 pub use map_values::{MapFault, NoTrail, Segment, Trail};
 pub use object_head::{object_head_members, read_object_head};

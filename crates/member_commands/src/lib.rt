@@ -3,7 +3,9 @@
 
 mod command;
 mod head;
+mod layer;
 mod making;
+mod map;
 mod object;
 mod set_head;
 

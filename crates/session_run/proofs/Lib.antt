@@ -4,6 +4,7 @@ pub mod Dialects
 pub mod Endings
 pub mod Ends
 pub mod Planned
+pub mod Bytes
 pub mod Tame
 pub mod Once
 pub mod Acts

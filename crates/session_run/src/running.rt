@@ -2,15 +2,16 @@ ghost use Rattle.std.specs.Prelude.{◌≡◌, ◌≤◌, [], Err, Option, Some,
 ghost use Rattle.undo_stack.specs.declared.limits.TheConstants.{MAX_LIMIT};
 ghost use Rattle.document_lines.specs.declared.planned.Edit.{Edit};
 ghost use Rattle.document_lines.specs.Machine.{started_machine, workspace};
-ghost use Rattle.document_lines.specs.MoreRules.{AnyStepIn, MachineStepFor, MoreStep};
-ghost use Rattle.document_lines.specs.Rules.{MachineStep, MachineStepIn};
+ghost use Rattle.document_lines.specs.MoreRules.{AnyStepIn, MachineStepFor};
+ghost use Rattle.document_lines.specs.Rules.{MachineStepIn};
 ghost use Rattle.editor.specs.Editors.{IsSound, machine_of};
-ghost use Rattle.editor.specs.Kinds.{StepKinds, kinds_in};
-ghost use Rattle.editor.specs.MoreKinds.{MoreStepKinds, StepKindsFor};
+ghost use Rattle.editor.specs.Kinds.{kinds_in};
+ghost use Rattle.editor.specs.MoreKinds.{StepKindsFor};
+ghost use Rattle.editor.specs.Planning.{FitsPlan};
 ghost use Rattle.map_store.specs.Files.{StoreParts};
 ghost use Rattle.session.specs.Grammar.{line_of};
-ghost use Rattle.session.specs.Spelling.{CanBeSpelled};
-ghost use Rattle.session_run.specs.Asking.{AsksIn, LineAsks};
+ghost use Rattle.session_run.specs.Asking.{AsksIn};
+ghost use Rattle.session_run.specs.Planned.{PlansBytes, PlansKinds, plan_or_refusal};
 ghost use Rattle.session_run.specs.Runs.{RunsAll, RunsToUnread, RunsToWrite};
 ghost use Rattle.session_run.specs.StrictRuns.{Tells};
 ghost use Rattle.session_run.specs.WithinRuns.{EndsAs, EndsInWrite, PutsSame, StepFound, fault_of_both, Stops, StopsInWrite, StopsUnread, TellsEnd};
@@ -25,7 +26,7 @@ use editor::{Edit, Editor, NoTell, Planned, Tell};
 use lines::{Found, LineReader};
 use map_store::MapStore;
 use refusals::{LineFault, Refusal};
-use session::{Line, MoreLine, Reply, parse_line, parse_more_line};
+use session::{Reply, parse_line, parse_more_line};
 use std::alloc::Global;
 use std::io::{Read, Write};
 use thiserror::Error;
@@ -75,69 +76,6 @@ fn boxed<K: Command>(alloc: Global, command: K) -> Option<Box<K>>
     Box::new(alloc, command).ok()
 }
 
-// Carries out a line that was read: the reply to it, and none to a quiet one. What it plans is put into a command and
-// committed.
-#[inline(always)]
-fn carry_out<C: Command, S: MapStore, F: Fn(Edit) -> Option<C>, T: Tell>(
-    alloc: Global,
-    editor: &mut Editor<C>,
-    store: &mut S,
-    line: &Line<'_>,
-    put: &F,
-    tell: &mut T,
-) -> Option<Reply>
-    requires sound { IsSound C.change editor.old }
-    requires spelled { CanBeSpelled line.now }
-    requires callable { F.IsAlwaysCallable put.now }
-    requires same { (edit : Edit) (command : Option C) → F.post put.now edit command → PutsSame C.change edit command }
-    ensures sound { IsSound C.change editor.new }
-    ensures step { MachineStep line.now
-        (workspace (machine_of C.change editor.old) (S.stored store.old)) result (workspace (machine_of C.change editor.new) (S.stored store.new)) }
-    ensures kinds { StepKinds line.now (machine_of C.change editor.old) result (machine_of C.change editor.new) (kinds_in editor.old) (kinds_in editor.new) }
-    ensures asks { LineAsks line.now (machine_of C.change editor.old) (S.keeps store.new) result (S.asked store.old) (S.asked store.new) }
-{
-    match editor.plan(alloc, store, line) {
-        Planned::Quiet => None,
-        Planned::Reply(reply) => Some(reply),
-        Planned::Push(edit) => {
-            tell.edit(&edit);
-            match put(edit) {
-                Some(command) => Some(editor.commit_told(command, tell)),
-                None => Some(Reply::Refused(Refusal::NoMemory)),
-            }
-        }
-    }
-}
-
-// Carries out a line of own members, and gives the reply to it.
-fn carry_out_more<C: Command, F: Fn(Edit) -> Option<C>, T: Tell>(
-    alloc: Global,
-    editor: &mut Editor<C>,
-    line: &MoreLine<'_>,
-    put: &F,
-    tell: &mut T,
-) -> Reply
-    requires sound { IsSound C.change editor.old }
-    requires callable { F.IsAlwaysCallable put.now }
-    requires same { (edit : Edit) (command : Option C) → F.post put.now edit command → PutsSame C.change edit command }
-    ensures sound { IsSound C.change editor.new }
-    ensures step { (stored : StoreParts)
-        → MoreStep line.now (workspace (machine_of C.change editor.old) stored) (Some result) (workspace (machine_of C.change editor.new) stored) }
-    ensures kinds { MoreStepKinds line.now (machine_of C.change editor.old) (Some result) (machine_of C.change editor.new) (kinds_in editor.old) (kinds_in editor.new) }
-{
-    match editor.plan_more(alloc, line) {
-        Planned::Quiet => unreachable!(),
-        Planned::Reply(reply) => reply,
-        Planned::Push(edit) => {
-            tell.edit(&edit);
-            match put(edit) {
-                Some(command) => editor.commit_told(command, tell),
-                None => Reply::Refused(Refusal::NoMemory),
-            }
-        }
-    }
-}
-
 // The fault of a line that is neither one of the other lines nor one of own members: the first, where the line begins with no
 // word of own members.
 fn fault_of_both(first: LineFault, more: LineFault) -> LineFault
@@ -149,38 +87,41 @@ fn fault_of_both(first: LineFault, more: LineFault) -> LineFault
     }
 }
 
-// Does the step of bytes that are none of the lines that `parse_line` reads. It stands by itself, so that only such bytes ask which
-// lines are read.
+// Plans bytes that are none of the lines that `parse_line` reads: their edit, or why they are refused. It stands by itself, so that
+// only such bytes ask which lines are read; and it answers no reply, which would then go through memory for all lines.
 #[cold]
 #[inline(never)]
-fn step_refused<C: Command, F: Fn(Edit) -> Option<C>, T: Tell>(
+fn plan_refused<C: Command>(
     alloc: Global,
     editor: &mut Editor<C>,
     dialect: Dialect,
     fault: LineFault,
     line: &[u8],
-    put: &F,
-    tell: &mut T,
-) -> Option<Reply>
+) -> Result<Edit, Refusal>
     requires sound { IsSound C.change editor.old }
     requires unread { line_of line.now ≡ Err fault }
-    requires callable { F.IsAlwaysCallable put.now }
-    requires same { (edit : Edit) (command : Option C) → F.post put.now edit command → PutsSame C.change edit command }
     ensures sound { IsSound C.change editor.new }
-    ensures step { (stored : StoreParts)
-        → MachineStepFor dialect line.now (workspace (machine_of C.change editor.old) stored) result (workspace (machine_of C.change editor.new) stored) }
-    ensures kinds { StepKindsFor dialect line.now (machine_of C.change editor.old) result (machine_of C.change editor.new) (kinds_in editor.old) (kinds_in editor.new) }
+    ensures fits { FitsPlan (machine_of C.change editor.new) (plan_or_refusal result) }
+    ensures plans { (stored : StoreParts)
+        → PlansBytes C.change dialect line.now (workspace (machine_of C.change editor.old) stored) (plan_or_refusal result) (workspace (machine_of C.change editor.new) stored) }
+    ensures kinds { PlansKinds C.change dialect line.now (machine_of C.change editor.old) (plan_or_refusal result) (machine_of C.change editor.new) (kinds_in editor.old) (kinds_in editor.new) }
 {
     match dialect {
-        Dialect::Plain => Some(Reply::Refused(Refusal::Line(fault))),
+        Dialect::Plain => Err(Refusal::Line(fault)),
         Dialect::AllEdits => match &parse_more_line(line) {
-            Ok(own) => Some(carry_out_more(alloc, editor, own, put, tell)),
-            Err(more) => Some(Reply::Refused(Refusal::Line(fault_of_both(fault, *more)))),
+            Ok(own) => match editor.plan_more(alloc, own) {
+                Planned::Push(edit) => Ok(edit),
+                Planned::Reply(Reply::Refused(refusal)) => Err(refusal),
+                Planned::Reply(_) => unreachable!(),
+                Planned::Quiet => unreachable!(),
+            },
+            Err(more) => Err(Refusal::Line(fault_of_both(fault, *more))),
         },
     }
 }
 
-// Does the step of bytes that may be any line.
+// Does the step of bytes that may be any line. What they plan is put into a command and committed here alone, whichever lines are
+// read, so that both stand in the loop over the lines.
 #[inline(always)]
 fn step_parsed<C: Command, S: MapStore, F: Fn(Edit) -> Option<C>, T: Tell>(
     alloc: Global,
@@ -200,9 +141,21 @@ fn step_parsed<C: Command, S: MapStore, F: Fn(Edit) -> Option<C>, T: Tell>(
     ensures kinds { StepKindsFor dialect line.now (machine_of C.change editor.old) result (machine_of C.change editor.new) (kinds_in editor.old) (kinds_in editor.new) }
     ensures asks { AsksIn line.now (machine_of C.change editor.old) (S.keeps store.new) result (S.asked store.old) (S.asked store.new) }
 {
-    match &parse_line(line) {
-        Ok(line) => carry_out(alloc, editor, store, line, put, tell),
-        Err(fault) => step_refused(alloc, editor, dialect, *fault, line, put, tell),
+    let edit = match &parse_line(line) {
+        Ok(read) => match editor.plan(alloc, store, read) {
+            Planned::Quiet => return None,
+            Planned::Reply(reply) => return Some(reply),
+            Planned::Push(edit) => edit,
+        },
+        Err(fault) => match plan_refused(alloc, editor, dialect, *fault, line) {
+            Ok(edit) => edit,
+            Err(refusal) => return Some(Reply::Refused(refusal)),
+        },
+    };
+    tell.edit(&edit);
+    match put(edit) {
+        Some(command) => Some(editor.commit_told(command, tell)),
+        None => Some(Reply::Refused(Refusal::NoMemory)),
     }
 }
 
@@ -402,6 +355,8 @@ pub fn run_lines<R: Read, W: Write, S: MapStore>(
             Edit::AddTileset(command) => Some(boxed(alloc, command)?),
             Edit::RemoveTileset(command) => Some(boxed(alloc, command)?),
             Edit::SetObjectHead(command) => Some(command),
+            Edit::SetLayerHead(command) => Some(command),
+            Edit::SetMapHead(command) => Some(command),
         }
     };
     let stopped = match step_all(
