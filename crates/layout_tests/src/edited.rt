@@ -63,6 +63,37 @@ fn unchanged(rt: HostRuntime) -> Result<(), Fail> {
     Ok(())
 }
 
+// What only looks like an escaped letter or slash is none: what stands behind a backslash that is escaped itself, and a control
+// character, which each layout escapes.
+#[test]
+fn backslashes_and_controls(rt: HostRuntime) {
+    let cases = [
+        [
+            "[\"C:\\\\ui\",\"é\"]",
+            "[\n  \"C:\\\\ui\"\n]\n",
+            "[\n  \"C:\\\\ui\",\n  \"é\"\n]\n",
+        ],
+        [
+            "[\"C:\\\\/\",\"a/b\"]",
+            "[\n  \"C:\\\\/\"\n]\n",
+            "[\n  \"C:\\\\/\",\n  \"a/b\"\n]\n",
+        ],
+        [
+            "[\"\\u001f\",\"é\"]",
+            "[\n  \"\\u001f\"\n]\n",
+            "[\n  \"\\u001f\",\n  \"é\"\n]\n",
+        ],
+        [
+            "[\"ö\",\"é\"]",
+            "[\n  \"\\u00f6\"\n]\n",
+            "[\n  \"\\u00f6\",\n  \"\\u00e9\"\n]\n",
+        ],
+    ];
+    for [text, source, wanted] in cases {
+        assert!(rt; gets(rt.alloc(), text, source, wanted));
+    }
+}
+
 const STAMP: [&str; 2] = ["[1,2,3,0,1,4]", "[1,2,2,0,1,4]"];
 
 const MOVE: [&str; 2] = ["\"x\":8,\"y\":12.5", "\"x\":24,\"y\":28.5"];
@@ -219,6 +250,46 @@ fn by_hand(rt: HostRuntime) {
     let wanted =
         "{ \"width\":2, \"height\":2,\n \"data\":[\n  1, 2,\n  9, 4 ],\n\n \"class\":1.50, \"name\":\"\" }\n";
     assert!(rt; gets(rt.alloc(), text, source, wanted));
+}
+
+// Cells keep their bytes and what stands between them; others come where they differ, and behind them where there are more. A number
+// that is no cell keeps its spelling too.
+#[test]
+fn cells(rt: HostRuntime) {
+    let source =
+        "{ \"a\":[1, 2,  3 ,4\n],\n \"b\":[ [5 ,6], [7, 8] ], \"c\":[ 9 ], \"d\":[1.50, 2, -3] }";
+    let cases = [
+        [
+            "{\"a\":[1,2,0,4],\"b\":[[5,6],[7,18446744073709551615]],\"c\":[9],\"d\":[1.5,2,-4]}",
+            "{ \"a\":[1, 2,  0 ,4\n],\n \"b\":[ [5 ,6], [7, 18446744073709551615] ], \"c\":[ 9 ], \"d\":[1.50, 2, -4] }",
+        ],
+        [
+            "{\"a\":[1,2,3,4,5],\"b\":[[5],[7,8,8]],\"c\":[9],\"d\":[1.5,2]}",
+            "{ \"a\":[1, 2, 3, 4, 5\n],\n \"b\":[ [5], [7, 8, 8] ], \"c\":[ 9 ], \"d\":[1.50, 2] }",
+        ],
+        [
+            "{\"a\":[],\"b\":[[5,6],[7,8]],\"c\":9,\"d\":[1.5,2,-3]}",
+            "{ \"a\":[],\n \"b\":[ [5 ,6], [7, 8] ], \"c\":9, \"d\":[1.50, 2, -3] }",
+        ],
+        [
+            "{\"a\":[1,2,3,4],\"b\":[[5,6],[7,8]],\"c\":[true],\"d\":[1.5,2,-3]}",
+            "{ \"a\":[1, 2,  3 ,4\n],\n \"b\":[ [5 ,6], [7, 8] ], \"c\":[ true ], \"d\":[1.50, 2, -3] }",
+        ],
+    ];
+    for [text, wanted] in cases {
+        assert!(rt; gets(rt.alloc(), text, source, wanted));
+    }
+    // What stands for cells that were dropped is no cell itself.
+    let odd = "{ \"a\":[ {\"roskevad\":null} ], \"b\":[1, 2]}";
+    let wanted = "{ \"a\":[ {\"roskevad\":null} ], \"b\":[1, 3]}";
+    assert!(rt;
+        gets(
+            rt.alloc(),
+            "{\"a\":[{\"roskevad\":null}],\"b\":[1,3]}",
+            odd,
+            wanted
+        )
+    );
 }
 
 // Tiled's layout where the source is no JSON; and no name stands twice in what is given.

@@ -1,8 +1,9 @@
 -- What is answered for a text that is to be laid out.
-use Rattle.std.specs.Prelude.{◌≡◌, ◌≤◌, IsUtf8, ℕ, List, Option, Some, None, Result, Ok, Err, Vec}
+use Rattle.std.specs.Prelude.{◌≡◌, ◌≤◌, IsUtf8, ℕ, List, Option, Some, None, option_map, Result, Ok, Err, Vec}
 use Rattle.std.specs.Global.{Global}
-use Rattle.serde_json.specs.Data.{Data, depth}
-use Rattle.serde_json.specs.Read.{read, max_depth}
+use Rattle.json.specs.Token.{Token}
+use Rattle.serde_json.specs.Data.{Data, depth, null, boolean, number, string}
+use Rattle.serde_json.specs.Read.{read, max_depth, number_of}
 use Rattle.serde_json.specs.View.{view}
 use Rattle.serde_json.specs.declared.value.Value.{Value}
 use Rattle.json_trees.specs.Texts.{IsTreeOf}
@@ -35,6 +36,24 @@ abbrev pub Reads : List ℕ → Result Value LayoutFault → Type 0
 Reads bytes (Ok value) = IsTreeOf bytes (view value) × (depth (view value) ≤ max_depth)
 Reads bytes (Err fault) = IsFaultOf bytes fault
 
-abbrev pub IsTreeOrNone : List ℕ → Option Value → Type 0
-IsTreeOrNone bytes (Some value) = IsTreeOf bytes (view value)
-IsTreeOrNone bytes None = HasNoTree bytes
+-- the value has the tree of the text, and nests no deeper than a text may
+abbrev pub IsTreeIn : List ℕ → Value → Type 0
+IsTreeIn text value = (read text ≡ Some (view value)) × (depth (view value) ≤ max_depth)
+
+-- what is read of bytes
+abbrev pub ReadsTree : List ℕ → Option Value → Type 0
+ReadsTree bytes (Some value) = IsTreeOf bytes (view value) × (depth (view value) ≤ max_depth)
+ReadsTree bytes None = HasNoTree bytes
+
+-- the tree that a token is, if it is all of one
+abbrev pub leaf_of : Token → Option Data
+leaf_of Token.begin_object = None
+leaf_of Token.end_object = None
+leaf_of Token.begin_array = None
+leaf_of Token.end_array = None
+leaf_of (Token.key s) = None
+leaf_of (Token.string s) = Some (string s)
+leaf_of (Token.number s) = option_map number (number_of s)
+leaf_of (Token.boolean b) = Some (boolean b)
+leaf_of Token.null = Some null
+leaf_of Token.bad = None

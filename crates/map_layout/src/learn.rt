@@ -1,7 +1,9 @@
 //! The style of a text, as far as its first line and its spellings tell it.
 use crate::layout::LineEnd;
-use crate::scan::Scan;
+use crate::parts::between;
+use crate::scan::Step;
 use crate::style::{Lines, Style};
+use memchr::{memchr, memchr2};
 
 // What is seen in a text.
 #[derive(Clone, Copy)]
@@ -31,16 +33,53 @@ impl Signs {
         }
     }
 
-    // Sees a byte of a text between quotes, and the one before.
-    fn see_text(&mut self, before: u8, byte: u8) {
-        if byte == b'/' && before == b'\\' {
-            self.has_escaped_slashes = true;
-        } else if byte == b'/' {
-            self.has_plain_slashes = true;
-        } else if byte == b'u' && before == b'\\' {
-            self.has_escaped_letters = true;
-        } else if byte > 127 {
-            self.has_plain_letters = true;
+    // Sees a text between quotes, with those.
+    fn see_text(&mut self, text: &[u8]) {
+        self.has_plain_letters |= has_letters(text);
+        let mut at: usize = 0;
+        while at < text.len() {
+            let rest = &text[at..];
+            let Some(len) = memchr2(b'/', b'\\', rest) else {
+                return;
+            };
+            let found = between(rest, len, rest.len());
+            let passed = if found.first() == Some(&b'/') {
+                self.has_plain_slashes = true;
+                1
+            } else {
+                self.see_escape(found)
+            };
+            at = at.saturating_add(len).saturating_add(passed.max(1));
+        }
+    }
+
+    // Sees what begins with a backslash, and gives how many bytes that escapes with it. The escapes of control characters, from 0000
+    // to 001f, tell nothing: each layout escapes these.
+    fn see_escape(&mut self, escape: &[u8]) -> usize {
+        match escape.get(1) {
+            Some(b'/') => self.has_escaped_slashes = true,
+            Some(b'u') => {
+                let is_of_control = escape.starts_with(b"\\u000") || escape.starts_with(b"\\u001");
+                self.has_escaped_letters |= !is_of_control;
+            }
+            _ => {}
+        }
+        2
+    }
+
+    // Sees an array that has but numbers and words in it.
+    fn see_array(&mut self, array: &[u8]) {
+        let mut at: usize = 0;
+        while at < array.len() {
+            let rest = &array[at..];
+            let Some(len) = memchr(b'\n', rest) else {
+                return;
+            };
+            self.has_lines = true;
+            let before = between(rest, 0, len);
+            self.has_carriage_returns |= before.last() == Some(&b'\r');
+            at = at.saturating_add(len).saturating_add(1);
+            self.has_rows |= begins_with_digit(between(array, at, array.len()));
         }
     }
 
@@ -55,21 +94,45 @@ impl Signs {
     }
 }
 
+// Whether a letter beyond ASCII stands in a text. One sum over all is faster than a look at each byte.
+fn has_letters(text: &[u8]) -> bool {
+    let mut all: u8 = 0;
+    for byte in text {
+        all |= *byte;
+    }
+    all > 127
+}
+
+// Whether a digit stands behind the spaces in front.
+fn begins_with_digit(line: &[u8]) -> bool {
+    for byte in line {
+        if *byte != b' ' {
+            return byte.is_ascii_digit();
+        }
+    }
+    false
+}
+
 fn signs_of(text: &[u8]) -> Signs {
     let mut signs = Signs::new();
-    let mut scan = Scan::new();
     let mut before: u8 = 0;
     let mut is_line_empty = false;
-    for byte in text {
-        if scan.is_in_text {
-            signs.see_text(before, *byte);
-        } else {
-            signs.see_space(before, *byte);
-            signs.has_rows |= is_line_empty && byte.is_ascii_digit();
+    let mut at: usize = 0;
+    while at < text.len() {
+        let byte = text[at];
+        let step = Step::of(&text[at..]);
+        let passed = between(text, at, at.saturating_add(step.len()));
+        match step {
+            Step::Text(_) => signs.see_text(passed),
+            Step::Array(_) => signs.see_array(passed),
+            Step::Byte => {
+                signs.see_space(before, byte);
+                signs.has_rows |= is_line_empty && byte.is_ascii_digit();
+            }
         }
-        is_line_empty = *byte == b'\n' || is_line_empty && *byte == b' ';
-        scan.pass(*byte);
-        before = *byte;
+        is_line_empty = byte == b'\n' || is_line_empty && byte == b' ';
+        before = byte;
+        at = at.saturating_add(step.len());
     }
     signs
 }

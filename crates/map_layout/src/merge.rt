@@ -1,12 +1,17 @@
 //! A tree printed with the bytes of a source wherever its values are the same.
+use crate::cells::{OtherCell, are_dropped, other_cell};
 use crate::keys::Keys;
-use crate::parts::{Member, Part, are_sorted, between, members_of, parts_of};
+use crate::parts::{
+    Member, Part, are_sorted, behind_parts, between, commas_in, members_of, next_part, parts_of,
+    whole,
+};
 use crate::print::{
     Spot, print, print_items, print_members, push_colon, push_comma, push_member_gap, row_of,
 };
+use crate::same::{is_same, is_same_item};
+use crate::scan::is_flat;
 use crate::spelling::push_text;
 use crate::style::{Lines, Style};
-use json_trees::is_same;
 use serde_json::{Map, Value};
 use std::alloc::{AllocError, Global};
 
@@ -52,6 +57,9 @@ pub fn merge(
             _ => print(alloc, out, style, spot, new),
         },
         Value::Array(items) => match old.value {
+            Value::Array(olds) if are_dropped(olds) => merge_cells(
+                alloc, out, style, spot, items, old.text,
+            ),
             Value::Array(olds) => merge_items(alloc, out, style, spot, items, olds, old.text),
             _ => print(alloc, out, style, spot, new),
         },
@@ -273,15 +281,18 @@ fn merge_items(
     old: &Vec<Value>,
     text: &[u8],
 ) -> Result<(), AllocError> {
-    let parts = parts_of(alloc, text)?;
     let has_as_many = new.len() == old.len();
+    let keys = Keys::of(alloc, old)?;
+    if has_as_many && keys.is_none() && !new.is_empty() {
+        return merge_in_place(alloc, out, style, spot, new, old, text);
+    }
+    let parts = parts_of(alloc, text)?;
     if parts.len() != old.len() || new.is_empty() || !has_as_many && spot.row > 0 {
         return print_items(alloc, out, style, spot, new);
     }
     let (Some(first), Some(last)) = (parts.first(), parts.last()) else {
         return print_items(alloc, out, style, spot, new);
     };
-    let keys = Keys::of(alloc, old)?;
     let has_places = has_as_many || keys.is_some();
     let old = OldArray {
         items: old,
@@ -301,6 +312,116 @@ fn merge_items(
         merge_item(alloc, out, style, below, item, old, place)?;
     }
     out.extend_from_slice(between(text, last.end, text.len()))
+}
+
+// As many items as in the source, each at the place that it had: the source, but for what has changed. Their places are not listed, as
+// a layer may have millions of cells.
+#[cycle(merges)]
+fn merge_in_place(
+    alloc: Global,
+    out: &mut Vec<u8>,
+    style: &Style,
+    spot: Spot,
+    new: &Vec<Value>,
+    old: &Vec<Value>,
+    text: &[u8],
+) -> Result<(), AllocError> {
+    let below = Spot {
+        is_on_line: begins_with_object(old),
+        ..spot.below()
+    };
+    let is_flat = is_flat(text);
+    let mut copied: usize = 0;
+    let mut passed: usize = 0;
+    let mut at: usize = 1;
+    for (index, item) in new.iter().enumerate() {
+        if let Some(value) = old.get(index) {
+            if !is_same_item(item, value) {
+                at = behind_parts(text, at, index.saturating_sub(passed), is_flat);
+                let (part, edge) = next_part(text, at);
+                out.extend_from_slice(between(text, copied, part.start))?;
+                let text = between(text, part.start, part.end);
+                merge(alloc, out, style, below, item, Old { value, text })?;
+                copied = part.end;
+                passed = index.saturating_add(1);
+                at = edge.saturating_add(1);
+            }
+        }
+    }
+    out.extend_from_slice(between(text, copied, text.len()))
+}
+
+// Beside cells that were dropped from the tree of the source.
+fn merge_cells(
+    alloc: Global,
+    out: &mut Vec<u8>,
+    style: &Style,
+    spot: Spot,
+    new: &Vec<Value>,
+    text: &[u8],
+) -> Result<(), AllocError> {
+    if new.len() == commas_in(text).saturating_add(1) {
+        merge_as_many_cells(alloc, out, style, spot, new, text)
+    } else if new.is_empty() || spot.row > 0 {
+        print_items(alloc, out, style, spot, new)
+    } else {
+        print_cells_like(alloc, out, style, spot, new, text)
+    }
+}
+
+// More cells than in the source, or fewer: what stood between its first two stands between all. A cell has but one spelling.
+fn print_cells_like(
+    alloc: Global,
+    out: &mut Vec<u8>,
+    style: &Style,
+    spot: Spot,
+    new: &Vec<Value>,
+    text: &[u8],
+) -> Result<(), AllocError> {
+    let (first, edge) = next_part(text, 1);
+    let (second, _) = next_part(text, edge.saturating_add(1));
+    let has_second = text.get(edge) == Some(&b',');
+    let cells = whole(between(text, 0, text.len().saturating_sub(1)));
+    out.extend_from_slice(between(text, 0, first.start))?;
+    for (index, item) in new.iter().enumerate() {
+        if index > 0 && has_second {
+            out.extend_from_slice(between(text, first.end, second.start))?;
+        } else if index > 0 {
+            push_comma(out, style)?;
+            out.extend_from_slice(between(text, 1, first.start))?;
+        }
+        print(alloc, out, style, spot.below(), item)?;
+    }
+    out.extend_from_slice(between(text, cells.end, text.len()))
+}
+
+// As many cells as in the source: its bytes, but for the cells that they do not tell.
+fn merge_as_many_cells(
+    alloc: Global,
+    out: &mut Vec<u8>,
+    style: &Style,
+    spot: Spot,
+    new: &Vec<Value>,
+    text: &[u8],
+) -> Result<(), AllocError> {
+    let mut copied: usize = 0;
+    let mut from = OtherCell { index: 0, start: 1 };
+    for _cell in 0..new.len() {
+        let Some(other) = other_cell(text, from, new) else {
+            break;
+        };
+        let (part, edge) = next_part(text, other.start);
+        out.extend_from_slice(between(text, copied, part.start))?;
+        if let Some(item) = new.get(other.index) {
+            print(alloc, out, style, spot.below(), item)?;
+        }
+        copied = part.end;
+        from = OtherCell {
+            index: other.index.saturating_add(1),
+            start: edge.saturating_add(1),
+        };
+    }
+    out.extend_from_slice(between(text, copied, text.len()))
 }
 
 // An item that stood at a place of the source, or is new.

@@ -5,17 +5,21 @@ ghost use Rattle.serde_json.specs.Data.{depth};
 ghost use Rattle.serde_json.specs.Read.{max_depth};
 ghost use Rattle.serde_json.specs.View.{view as data_of};
 ghost use Rattle.json_trees.specs.Texts.{IsTreeOf};
-ghost use Rattle.map_layout.specs.Laid.{LaysOut, Keeps, Reads, IsTreeOrNone};
+ghost use Rattle.map_layout.specs.Laid.{LaysOut, Keeps, Reads};
 
+use crate::cells::without_cells;
+use crate::dropping::discard;
 use crate::fault::LayoutFault;
 use crate::layout::{Layout, LineEnd};
 use crate::learn::style_of;
+use crate::matching::is_text_of;
 use crate::merge::{Old, merge};
 use crate::parts::{between, whole};
 use crate::print::{Spot, print};
+use crate::read::read_tree;
+use crate::same::is_same;
 use crate::scan::nests_too_deep;
 use crate::style::Style;
-use json_trees::is_same;
 use serde_json::Value;
 use std::alloc::{AllocError, Global};
 
@@ -23,17 +27,13 @@ use std::alloc::{AllocError, Global};
 fn read(alloc: Global, bytes: &[u8]) -> Result<Value, LayoutFault>
     ensures { Reads bytes.now result }
 {
-    match Value::from_slice(alloc, bytes) {
-        Ok(value) => Ok(value),
-        Err(error) => {
-            if error.is_memory() {
-                Err(LayoutFault::Memory)
-            } else if nests_too_deep(bytes) {
-                Err(LayoutFault::TooDeep)
-            } else {
-                Err(LayoutFault::NotJson)
-            }
-        }
+    match read_tree(alloc, bytes)? {
+        Some(value) => Ok(value),
+        None => if nests_too_deep(bytes) {
+            Err(LayoutFault::TooDeep)
+        } else {
+            Err(LayoutFault::NotJson)
+        },
     }
 }
 
@@ -41,13 +41,17 @@ fn read(alloc: Global, bytes: &[u8]) -> Result<Value, LayoutFault>
 fn has_tree(alloc: Global, text: &[u8], value: &Value) -> Result<bool, AllocError>
     ensures { IfOk result (λ same. IsTrue same → IsTreeOf text.now (data_of value.now)) }
 {
-    match Value::from_slice(alloc, text) {
-        Ok(again) => Ok(is_same(&again, value)),
-        Err(error) => if error.is_memory() {
-            Err(AllocError)
-        } else {
-            Ok(false)
-        },
+    if is_text_of(alloc, text, value)? {
+        return Ok(true);
+    }
+    // Its members may not stand by their names.
+    match read_tree(alloc, text)? {
+        Some(again) => {
+            let same = is_same(&again, value);
+            discard(again);
+            Ok(same)
+        }
+        None => Ok(false),
     }
 }
 
@@ -94,25 +98,12 @@ pub fn lay_out(alloc: Global, text: &[u8], layout: Layout) -> Result<Vec<u8>, La
     Ok(laid.text)
 }
 
-// The tree of a source, if it has one.
-fn source_tree(alloc: Global, source: &[u8]) -> Result<Option<Value>, AllocError>
-    ensures { IfOk result (λ tree. IsTreeOrNone source.now tree) }
-{
-    match Value::from_slice(alloc, source) {
-        Ok(value) => Ok(Some(value)),
-        Err(error) => if error.is_memory() {
-            Err(AllocError)
-        } else {
-            Ok(None)
-        },
-    }
-}
-
 // A tree printed with the bytes of a source, and with what stands around those.
 fn merged(alloc: Global, value: &Value, old: &Value, source: &[u8]) -> Result<Vec<u8>, AllocError> {
     let style = style_of(source);
     let all = whole(source);
-    let mut text = Vec::new(alloc);
+    // A text that grows leaves the memory behind that it has outgrown. Most edits add little.
+    let mut text = Vec::with_capacity(alloc, source.len().saturating_add(source.len() / 16))?;
     text.extend_from_slice(between(source, 0, all.start))?;
     let old = Old {
         value: old,
@@ -142,14 +133,16 @@ pub fn value_laid_out_like(
         return laid(alloc, value, Layout::Tiled(LineEnd::Lf));
     };
     if is_same(value, &old) {
+        discard(old);
         let kept = source.to_vec(alloc)?;
         return Ok(LaidText {
             text: kept,
             fell_back: false,
         });
     }
+    let old = without_cells(alloc, old)?;
     let merged = merged(alloc, value, &old, source)?;
-    drop(old);
+    discard(old);
     if has_tree(alloc, &merged, value)? {
         return Ok(LaidText {
             text: merged,
@@ -170,7 +163,7 @@ pub fn laid_out_like(alloc: Global, text: &[u8], source: &[u8]) -> Result<Vec<u8
     ensures kept { Keeps text.now source.now result }
 {
     let value = read(alloc, text)?;
-    let tree = source_tree(alloc, source)?;
+    let tree = read_tree(alloc, source)?;
     let laid = value_laid_out_like(alloc, &value, source, tree)?;
     Ok(laid.text)
 }

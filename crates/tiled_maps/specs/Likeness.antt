@@ -1,5 +1,5 @@
 -- What is answered for a text that is laid out as its source is.
-use Rattle.std.specs.Prelude.{◌≡◌, ◌<◌, ◌⊎◌, IsUtf8, ℕ, List, Bool, true, false, Result, Ok, Err, Option, Some, None}
+use Rattle.std.specs.Prelude.{◌≡◌, ◌<◌, ◌⊎◌, IsUtf8, ℕ, List, true, false, Result, Ok, Err, Option, Some, None}
 use Rattle.serde_json.specs.Data.{Data, depth}
 use Rattle.serde_json.specs.Read.{read, max_depth}
 use Rattle.serde_json.specs.View.{view}

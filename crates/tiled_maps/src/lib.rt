@@ -9,6 +9,7 @@ mod fractions;
 mod look;
 mod members;
 mod place;
+mod shape;
 mod sources;
 mod text;
 mod tree;

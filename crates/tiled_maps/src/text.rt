@@ -8,10 +8,11 @@ use crate::back::back;
 use crate::fault::Fault;
 use crate::fractions::{has_few_fractions, has_fraction};
 use crate::place::Place;
+use crate::shape::{has_name, is_within};
 use crate::sources::{as_in, is_map};
 use crate::tree::{MAX_DEPTH, finite, infinite, whole};
-use json_trees::{RESERVED_NAME, has_name, is_within};
-use map_layout::{LaidText, value_laid_out_like};
+use json_trees::RESERVED_NAME;
+use map_layout::{LaidText, discard, read_tree, value_laid_out_like};
 use serde_json::Value;
 use std::alloc::{AllocError, Global};
 
@@ -22,15 +23,9 @@ pub const LONGEST: usize = 67_108_864;
 fn read(alloc: Global, bytes: &[u8]) -> Result<Value, Fault>
     ensures { Reads bytes.now result }
 {
-    match Value::from_slice(alloc, bytes) {
-        Ok(value) => Ok(value),
-        Err(error) => {
-            if error.is_memory() {
-                Err(Fault::Memory)
-            } else {
-                Err(Fault::NotJson)
-            }
-        }
+    match read_tree(alloc, bytes)? {
+        Some(value) => Ok(value),
+        None => Err(Fault::NotJson),
     }
 }
 
@@ -114,17 +109,13 @@ fn put_back_tree(alloc: Global, bytes: &[u8]) -> Result<Value, Fault>
 fn source_tree(alloc: Global, source: &[u8]) -> Result<Option<Value>, AllocError>
     ensures { IfOk result (λ tree. IsSource source.now (option_map data_of tree)) }
 {
-    match Value::from_slice(alloc, source) {
-        Ok(value) => if is_map(&value) {
+    match read_tree(alloc, source)? {
+        Some(value) => if is_map(&value) {
             Ok(Some(value))
         } else {
             Ok(None)
         },
-        Err(error) => if error.is_memory() {
-            Err(AllocError)
-        } else {
-            Ok(None)
-        },
+        None => Ok(None),
     }
 }
 
@@ -146,5 +137,6 @@ pub fn put_back_like(alloc: Global, bytes: &[u8], source: &[u8]) -> Result<LaidT
         return Err(Fault::TooDeep);
     }
     let laid = value_laid_out_like(alloc, &map, source, tree)?;
+    discard(map);
     Ok(laid)
 }

@@ -10,8 +10,8 @@ use crate::aside::aside;
 use crate::fault::Fault;
 use crate::fractions::has_fraction;
 use crate::place::Place;
+use crate::shape::is_within;
 use infinite_maps::{made_finite, made_infinite};
-use json_trees::is_within;
 use serde_json::Value;
 use std::alloc::Global;
 

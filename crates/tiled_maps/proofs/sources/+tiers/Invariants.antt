@@ -1,4 +1,4 @@
-use Rattle.std.proofs.Common.{◌≡◌, ◌+◌, ◌*◌, ◌++◌, length, map, option_map}
+use Rattle.std.proofs.Common.{◌≡◌, ◌+◌, ◌*◌, length, option_map}
 use Rattle.std.specs.Vec.Iter.{into_iter_items, into_iter_len}
 use Rattle.serde_json.specs.View.{members_view}
 use Rattle.tiled_maps.specs.Sources.{layer_as}
