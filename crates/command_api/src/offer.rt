@@ -1,10 +1,16 @@
-use map_model::{CellEdit, MemberOwner, ObjectHead, Owner, Placing, Scalar, Setting};
+use map_model::{
+    CellEdit, LayerHead, MapHead, MemberOwner, ObjectHead, Owner, Placing, Scalar, Setting,
+};
 
 /// The head of an owner: what it is beside its id and its lists.
 #[derive(Drop)]
 pub enum OwnerHead<'a> {
     /// That of the object with this id.
     Object(u32, &'a ObjectHead),
+    /// That of the layer with this id.
+    Layer(u32, &'a LayerHead),
+    /// That of the map.
+    Map(&'a MapHead),
 }
 
 impl<'a> OwnerHead<'a> {
@@ -17,6 +23,8 @@ impl<'a> OwnerHead<'a> {
     {
         match self {
             OwnerHead::Object(object, _) => MemberOwner::Object(*object),
+            OwnerHead::Layer(layer, _) => MemberOwner::Layer(*layer),
+            OwnerHead::Map(_) => MemberOwner::Map,
         }
     }
 }

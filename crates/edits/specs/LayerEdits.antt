@@ -4,13 +4,14 @@ use Rattle.std.specs.Option.{ok_or}
 use Rattle.map_model.specs.declared.limits.TheConstants.{MAX_LAYERS, MAX_NEXT_ID}
 use Rattle.map_model.specs.declared.parts.Layer.{Layer}
 use Rattle.map_model.specs.declared.parts.LayerKind.{LayerKind}
+use Rattle.map_model.specs.declared.parts.MoreLayerKind.{MoreLayerKind}
 use Rattle.map_model.specs.declared.parts.MapParts.{MapParts}
 use Rattle.map_model.specs.declared.place.LayerPlace.{LayerPlace}
 use Rattle.map_model.specs.Document.{DocumentParts, with_map}
 use Rattle.map_model.specs.Groups.{all_drawn}
 use Rattle.map_model.specs.Layers.{layer_place, layer_at, last_place, sibling_count, sibling_place, with_layer_at, without_layer_at, layer_with_name}
 use Rattle.map_model.specs.Layers.{layer_with_visible, with_next_ids}
-use Rattle.map_model.specs.NewMap.{new_layer}
+use Rattle.map_model.specs.NewMap.{new_layer, new_more_layer}
 use Rattle.map_model.specs.Lookups.{layer_of, with_layer}
 use Rattle.map_model.specs.Refusing.{◌>>=◌, ◌>>◌, check}
 use Rattle.refusals.specs.declared.edit_fault.EditFault.{EditFault}
@@ -33,6 +34,12 @@ abbrev pub after_add : DocumentParts → LayerKind → List ℕ → Result Docum
 after_add d kind name = do
   check (has_room d.map) TooMany
   Ok (with_map (with_last (next_layer kind name d.map)) d)
+
+-- a layer of a further kind
+abbrev pub after_add_more : DocumentParts → MoreLayerKind → List ℕ → Result DocumentParts EditFault
+after_add_more d kind name = do
+  check (has_room d.map) TooMany
+  Ok (with_map (with_last (new_more_layer kind d.map.next_layer_id name)) d)
 
 -- ---- a layer less
 abbrev pub after_remove : DocumentParts → ℕ → Result DocumentParts EditFault

@@ -1,5 +1,5 @@
 -- The document after an edit of its objects, or the edit's refusal.
-use Rattle.std.specs.Prelude.{ℕ, ◌+◌, ℤ, pos, int_le, List, Bool, ◌&&◌, nat_lt, Option, Some, Result, Ok, length}
+use Rattle.std.specs.Prelude.{ℕ, ◌+◌, ℤ, pos, int_le, List, Bool, true, false, ◌&&◌, ◌||◌, nat_lt, if◌then◌else◌, Option, Some, Result, Ok, length}
 use Rattle.std.specs.List.{insert}
 use Rattle.std.specs.Option.{ok_or}
 use Rattle.map_model.specs.declared.limits.TheConstants.{MAX_OBJECTS, MAX_NEXT_ID, MAX_PIXELS}
@@ -47,6 +47,31 @@ after_add_object d layer x y width height name = do
   check (is_object_size width height) OutOfRange
   check (has_object_room d.map objects) TooMany
   Ok (with_map (with_last_object layer (new_object d.map.next_object_id (placing_of x y width height) name)) d)
+
+-- ---- an object more, as it is given
+-- the next id, above an id too
+abbrev pub next_above : ℕ → ℕ → ℕ
+next_above id next = if nat_lt id next then next else id + 1
+
+-- the object goes last in its layer, and the next object id is above its id
+abbrev pub with_given_object : ℕ → Object → MapParts → MapParts
+with_given_object layer o m =
+    with_next_ids m.next_layer_id (next_above o.id m.next_object_id) (with_objects layer (λ os. insert os (length os) o) m)
+
+-- an object that has an id, or gets the next object id
+abbrev pub with_own_id : MapParts → Bool → Object → Object
+with_own_id m true o = o
+with_own_id m false o = record o { id = m.next_object_id }
+
+-- there may be one more object beside these, and one more id where it has none
+abbrev pub has_given_room : MapParts → Bool → List Object → Bool
+has_given_room m has_id os = nat_lt (length os) MAX_OBJECTS && (has_id || nat_lt m.next_object_id MAX_NEXT_ID)
+
+abbrev pub after_put_object : DocumentParts → ℕ → Bool → Object → Result DocumentParts EditFault
+after_put_object d layer has_id o = do
+  objects ← objects_or_fault (layer_of d.map layer)
+  check (has_given_room d.map has_id objects) TooMany
+  Ok (with_map (with_given_object layer (with_own_id d.map has_id o)) d)
 
 -- ---- an object less
 abbrev pub after_remove_object : DocumentParts → ℕ → Result DocumentParts EditFault

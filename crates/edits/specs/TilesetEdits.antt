@@ -32,6 +32,13 @@ after_add_tileset d first_id source = do
   check (nat_lt (length d.map.tilesets) MAX_TILESETS) TooMany
   Ok (with_map (with_last_tileset (external_tileset first_id source)) d)
 
+-- ---- a tileset more, as it is given
+abbrev pub after_put_tileset : DocumentParts → Tileset → Result DocumentParts EditFault
+after_put_tileset d t = do
+  check (is_above t.first_id d.map.tilesets) FirstIdNotAbove
+  check (nat_lt (length d.map.tilesets) MAX_TILESETS) TooMany
+  Ok (with_map (with_last_tileset t) d)
+
 -- ---- a tileset less
 abbrev pub after_remove_tileset : DocumentParts → ℕ → Result DocumentParts EditFault
 after_remove_tileset d first_id = do

@@ -70,6 +70,13 @@ AreIds-read next ids low high h apart below = record {
       apart;
 }
 
+-- ids from 1 on that are below another next one
+pub Each-IsId-next : (old next : ℕ) (ids : List ℕ) → Each (IsId old) ids → list_all (λ id. nat_lt id next) ids ≡ true → Each (IsId next) ids
+Each-IsId-next old next [] h e = tt
+Each-IsId-next old next (id ∷ ids) h e =
+    let f = and_parts (nat_lt id next) (list_all (λ id. nat_lt id next) ids) e in
+    (record { low = h.0.low; high = ltb-true id next f.0 }, Each-IsId-next old next ids h.1 f.1)
+
 pub below-IsId : (next : ℕ) (ids : List ℕ) → Each (IsId next) ids → list_all (λ id. nat_lt id next) ids ≡ true
 below-IsId next [] h = refl
 below-IsId next (id ∷ ids) h = rw (lt-ltb id next h.0.high, below-IsId next ids h.1) refl

@@ -49,14 +49,21 @@ use Rattle.map_json.proofs.Apart.{Distinct-numbers, Distinct-texts, Each-flat_ma
 AreProperties-read : (tier : ℕ) (ps : List Property) → WereRead tier ps → are_named_apart ps ≡ true → AreProperties tier ps
 AreProperties-read tier ps h e = record { few = h.few; each = h.each; distinct = Distinct-texts (flat_map names_of_property ps) e }
 
+pub IsObject-read : (tier : ℕ) (o : Object) → WasReadObject tier o → are_named_apart o.properties ≡ true → IsObject tier o
+IsObject-read tier o h e = record {
+  placing = h.placing;
+  name = h.name;
+  gid = h.gid;
+  properties = AreProperties-read tier o.properties h.properties e;
+  kept = h.kept;
+}
+
 Each-IsObject : (tier : ℕ) (os : List Object) → Each (WasReadObject tier) os → list_all are_named_apart (map (λ (o : Object). o.properties) os) ≡ true
     → Each (IsObject tier) os
 Each-IsObject tier [] h e = tt
 Each-IsObject tier (o ∷ os) h e =
-    let f = and_parts (are_named_apart o.properties) (list_all are_named_apart (map (λ (p : Object). p.properties) os)) e in (
-      record { placing = h.0.placing; name = h.0.name; gid = h.0.gid; properties = AreProperties-read tier o.properties h.0.properties f.0; kept = h.0.kept },
-      Each-IsObject tier os h.1 f.1,
-    )
+    let f = and_parts (are_named_apart o.properties) (list_all are_named_apart (map (λ (p : Object). p.properties) os)) e in
+    (IsObject-read tier o h.0 f.0, Each-IsObject tier os h.1 f.1)
 
 IsBody-read : (tier size : ℕ) (b : Body) → WasReadBody tier size b → list_all are_named_apart (lists_in b) ≡ true → IsBody tier size b
 IsBody-read tier size (Objects os) h f = (h.0, Each-IsObject (object_tier tier) os h.1 f)

@@ -1,9 +1,9 @@
 -- The head of an object with an id, in a document: the map is well formed with a head that was read from its members.
-use Rattle.std.proofs.Common.{◌≡◌, ℕ, List, ◌+◌, ◌≤◌, Option, Some, None, IsSome, option_and_then, Ok, refl, sym, ap, ◌∙◌, subst, arith}
+use Rattle.std.proofs.Common.{◌≡◌, ℕ, List, ◌+◌, ◌≤◌, Option, Some, None, IsSome, option_and_then, Ok, refl, sym, ◌∙◌, subst, arith}
 use Rattle.std.specs.List.{slice_get}
 use Rattle.serde_json.specs.Data.{Members}
 use Rattle.map_model.specs.declared.heads.ObjectHead.{ObjectHead}
-use Rattle.map_model.specs.declared.limits.TheConstants.{MAX_DEPTH, MAX_GROUPS}
+use Rattle.map_model.specs.declared.limits.TheConstants.{MAX_DEPTH}
 use Rattle.map_model.specs.declared.parts.Layer.{Layer}
 use Rattle.map_model.specs.declared.parts.MapParts.{MapParts}
 use Rattle.map_model.specs.declared.parts.Object.{Object}
@@ -17,7 +17,6 @@ use Rattle.map_model.specs.Objects.{object_at, object_place, objects_of, with_ob
 use Rattle.map_model.specs.Properties.{tier_of}
 use Rattle.map_model.specs.WellFormed.{IsObject, IsWellFormed}
 use Rattle.map_model.proofs.FoundLaws.{found-get, found-update}
-use Rattle.map_model.proofs.HeadLaws.{head_with_id-laws}
 use Rattle.map_model.proofs.Keeps.{layer-Stands, tier_of-found}
 use Rattle.map_model.proofs.LensLaws.{of_object-get, some-eq}
 use Rattle.map_model.proofs.ObjectKeeps.{object_at-IsObject, with_object-keeps_there}
@@ -109,4 +108,4 @@ put-well_formed id words own new d h given are e = with_head id d own new h give
 
 pub without-well_formed : (id : ℕ) (name : List ℕ) (own new : ObjectHead) (d : DocumentParts) → IsWellFormed d.map → (head_with_id id).get d ≡ Some own
     → head_at (without name (head_members own)) ≡ Ok new → IsWellFormed (put (head_with_id id) new d).map
-without-well_formed id name own new d h given e = with_head id d own new h given (λ tier room is. head_drop_sound tier name own new is e)
+without-well_formed id name own new d h given e = with_head id d own new h given (λ tier room is. head_drop_sound tier name own new room is e)

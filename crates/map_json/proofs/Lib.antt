@@ -36,5 +36,10 @@ pub mod Outlines
 pub mod LayerLaw
 pub mod PutMembers
 pub mod Pieces
+pub mod HeadWords
 pub mod ObjectHeadLaws
 pub mod HeadedObjects
+pub mod LayerHeadLaws
+pub mod HeadedLayers
+pub mod MapHeadLaws
+pub mod GivenLaws

@@ -43,14 +43,14 @@ get_member-with_own q [] kept = refl
 get_member-with_own q (p ∷ ps) kept =
     get_put_some (bytes_eq q p.0) q p.0 p.1 (with_own ps kept) refl ∙ ap (λ d. cond (bytes_eq q p.0) (or_else p.1 d) d) (get_member-with_own q ps kept)
 
-abbrev names : List (List ℕ × Option Data) → List (List ℕ)
+abbrev pub names : List (List ℕ × Option Data) → List (List ℕ)
 names t = map (λ p. p.0) t
 
 other_at : (b c : Bool) (o : Option Data) (r d : Option Data) → b || c ≡ false → (c ≡ false → r ≡ d) → cond b (or_else o r) r ≡ d
 other_at true c o r d h later = absurd (true≢false h)
 other_at false c o r d h later = later h
 
-find_own-other : (q : List ℕ) (t : List (List ℕ × Option Data)) (d : Option Data) → list_any (bytes_eq q) (names t) ≡ false → find_own q t d ≡ d
+pub find_own-other : (q : List ℕ) (t : List (List ℕ × Option Data)) (d : Option Data) → list_any (bytes_eq q) (names t) ≡ false → find_own q t d ≡ d
 find_own-other q [] d e = refl
 find_own-other q (p ∷ ps) d e = other_at (bytes_eq q p.0) _ p.1 _ d e (find_own-other q ps d)
 

@@ -1,5 +1,5 @@
 -- What was read is well formed: tilesets, objects and layers, but for what must differ over the whole map.
-use Rattle.std.proofs.Common.{◌≡◌, IsUtf8, ℕ, suc, ◌+◌, ◌-◌, ◌≤◌, ℤ, true, ◌&&◌, Option, Some, None, Result, Ok, subst, arith}
+use Rattle.std.proofs.Common.{◌≡◌, IsUtf8, ℕ, suc, ◌+◌, ◌-◌, ◌<◌, ◌≤◌, ℤ, true, ◌&&◌, Option, Some, None, Result, Ok, subst, arith}
 use Rattle.std.proofs.lemmas.Bool.{and_parts}
 use Rattle.std.proofs.lemmas.Float.{T_from_true}
 use Rattle.std.specs.Prelude.{int_le, neg_ℤ, ◌≤ℤ◌, IfSome}
@@ -46,6 +46,7 @@ tileset_sound n room d t fine e =
 -- an object that was read, at this tier; whether its properties' names differ is told apart
 pub record WasReadObject (tier : ℕ) (o : Object) : Type 0 where
   pub low : 1 ≤ o.id
+  pub high : o.id < MAX_NEXT_ID
   pub placing : IsPlacing o.placing
   pub name : IfSome o.name IsUtf8
   pub gid : IfSome o.gid IsTileValue
@@ -106,6 +107,7 @@ object_sound tier n room d o fine e =
     let made : WasReadObject tier (record
     { id = id; placing = placing; name = name; visible = visible; gid = gid; properties = properties; kept = without_all object_names ms }) = record {
       low = range.0;
+      high = let high : id ≤ MAX_NEXT_ID - 1 = range.1 in omega arith;
       placing = placing_sound ms placing placing_is;
       name = optional_text_sound (suc (suc n)) NAME.now ms members name name_is;
       gid = optional_sound IsTileValue (whole_at 0 4294967295) gid_sound (get_member GID.now ms) gid gid_is;

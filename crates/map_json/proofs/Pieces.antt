@@ -2,7 +2,6 @@
 use Rattle.std.proofs.Common.{◌≡◌, ℕ, suc, ◌-◌, ◌<◌, ◌≤◌, ◌++◌, List, [], ◌∷◌, length, Option, Some, None, false, option_and_then, refl, arith}
 use Rattle.std.specs.List.{position, slice_get}
 use Rattle.std.proofs.lemmas.List.Quantifiers.{position-Some}
-use Rattle.serde_json.specs.Data.{object}
 use Rattle.serde_json.specs.Written.{has_float}
 use Rattle.map_model.specs.declared.parts.Layer.{Layer}
 use Rattle.map_model.specs.declared.parts.MapParts.{MapParts}
@@ -24,7 +23,6 @@ use Rattle.map_model.proofs.Keeps.{layer_of-IsLayer}
 use Rattle.map_model.proofs.Lookups.{tier_of-low}
 use Rattle.map_model.proofs.ObjectKeeps.{object_at-IsObject}
 use Rattle.map_model.proofs.PropertyKeeps.{AreProperties-of}
-use Rattle.map_json.specs.Members.{with_own}
 use Rattle.map_json.specs.PartTexts.{layer_head, map_head}
 use Rattle.map_json.specs.Trees.{common_own, object_tree, plain_own, property_tree, said_own, tileset_tree, type_word}
 use Rattle.map_values.specs.Arrays.{array_by}

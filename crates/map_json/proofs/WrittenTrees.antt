@@ -80,7 +80,7 @@ pub truth_readable : (o : Option Bool) → IfSome (option_map boolean o) IsReada
 truth_readable None = tt
 truth_readable (Some b) = tt
 
-number_below : (n most : ℕ) → n ≤ most → most < 2 ^ 64 → n < 2 ^ 64
+pub number_below : (n most : ℕ) → n ≤ most → most < 2 ^ 64 → n < 2 ^ 64
 number_below n most low few = omega arith
 
 value_number : (n : ℕ) → IsTileValue n → IsReadable (whole_tree n)

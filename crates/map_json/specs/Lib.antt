@@ -10,4 +10,7 @@ pub mod Outlines
 pub mod Details
 pub mod PartTexts
 pub mod ObjectHeads
+pub mod LayerHeads
+pub mod MapHeads
 pub mod Words
+pub mod Given

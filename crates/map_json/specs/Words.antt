@@ -1,7 +1,7 @@
 -- What a JSON text of a line says, or the fault of what it says.
-use Rattle.std.specs.Prelude.{◌≡◌, ◌≤◌, ℕ, List, nat_le, not, false, Result, Ok}
+use Rattle.std.specs.Prelude.{◌≡◌, ◌≤◌, ℕ, List, Bool, nat_le, not, true, false, ◌&&◌, Result, Ok}
 use Rattle.std.specs.Option.{ok_or}
-use Rattle.serde_json.specs.Data.{Data, Members, depth, members_depth}
+use Rattle.serde_json.specs.Data.{Data, Members, no_members, member, depth, members_depth}
 use Rattle.serde_json.specs.Find.{as_object}
 use Rattle.serde_json.specs.Read.{read}
 use Rattle.serde_json.specs.Written.{has_float, members_have_float}
@@ -39,3 +39,8 @@ pub record AreWords (ms : Members) : Type 0 where
   pub readable : AreReadableMembers ms
   pub whole : members_have_float ms ≡ false
   pub shallow : members_depth ms ≤ MAX_WORD_DEPTH
+
+-- whether each member's name passes a test
+abbrev pub all_named : (List ℕ → Bool) → Members → Bool
+all_named is_own no_members = true
+all_named is_own (member k d ms) = is_own k && all_named is_own ms

@@ -201,8 +201,8 @@ fn first_ids_are_distinct<T: Trail>(
     }
 }
 
-// Whether no name stands twice among the properties of an owner.
-fn names_are_distinct<T: Trail>(
+/// Whether no name stands twice among the properties of an owner. Else the trail stands at the second.
+pub fn names_are_distinct<T: Trail>(
     alloc: Global,
     properties: &Chain<Property>,
     trail: &mut T,
@@ -334,7 +334,7 @@ pub fn ids_are_unique<T: Trail>(
 }
 
 // The place of the first id that is not below the next one.
-fn late_place(ids: &[u32], next: u32) -> Option<usize>
+pub fn late_place(ids: &[u32], next: u32) -> Option<usize>
     ensures { is_none result ≡ list_all (λ id. nat_lt id next) ids.now }
 {
     for (at, id) in ids.iter().enumerate() {

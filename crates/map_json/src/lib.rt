@@ -27,11 +27,17 @@ mod writing;
 // The text of one thing of a map.
 mod part_text;
 
-// What a text of a line says, and the heads that such values go into.
+// What a text of a line says, the heads that such values go into, and the whole things that it says.
+mod given;
+mod layer_head;
+mod map_head;
 mod object_head;
 mod same_head;
 mod word;
 
+pub use given::{GivenObject, given_object, given_property, given_text, given_tileset};
+pub use layer_head::{is_layer_head, is_layer_member, layer_head_members, read_layer_head};
+pub use map_head::{is_map_head, is_map_member, map_head_members, read_map_head};
 pub use map_text::{saved_is_opened, write_map, write_outline, written_is_read};
 pub use map_values::{MapFault, NoTrail, Segment, Trail};
 pub use object_head::{object_head_members, read_object_head};

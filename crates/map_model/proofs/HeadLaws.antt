@@ -1,16 +1,18 @@
--- The laws of the lens of an object's head.
+-- The laws of the lenses of heads.
 use Rattle.std.proofs.Common.{◌≡◌, ℕ, Some, refl, ◌∙◌}
 use Rattle.map_model.specs.declared.heads.ObjectHead.{ObjectHead}
 use Rattle.map_model.specs.declared.parts.Object.{Object}
 use Rattle.map_model.specs.declared.place.ObjectPlace.{ObjectPlace}
-use Rattle.map_model.specs.Document.{DocumentParts}
+use Rattle.map_model.specs.Document.{DocumentParts, with_map}
 use Rattle.map_model.specs.Heads.{head, head_with_id, object_head, object_with_head}
+use Rattle.map_model.specs.Heads.{head_of_layer, head_of_map, layer_head, layer_head_with_id, layer_with_head, map_head, map_with_head}
 use Rattle.map_model.specs.Lens.{IsLawfulLens, of_object}
 use Rattle.map_model.specs.Objects.{object_place}
 use Rattle.map_model.proofs.FoundLaws.{found-keeps, found-laws}
-use Rattle.map_model.proofs.LensLaws.{of_object-laws, whole-laws}
+use Rattle.map_model.proofs.LensLaws.{of_layer-laws, of_object-laws, whole-laws}
 use Rattle.map_model.proofs.StayPut.{object_place-with_object}
 
+-- ---- objects
 head-laws : (place : ObjectPlace) → IsLawfulLens (of_object place head)
 head-laws place = of_object-laws place head (whole-laws object_head object_with_head (λ v o. refl) (λ o. refl) (λ v w o. refl))
 
@@ -24,3 +26,11 @@ head_with_id-keeps id = found-keeps (λ d. object_place d.map id) (λ place. of_
 
 pub head_with_id-laws : (id : ℕ) → IsLawfulLens (head_with_id id)
 head_with_id-laws id = found-laws (λ d. object_place d.map id) (λ place. of_object place head) (head-stays id) head-laws
+
+-- ---- layers
+pub layer_head-laws : (id : ℕ) → IsLawfulLens (layer_head_with_id id)
+layer_head-laws id = of_layer-laws id head_of_layer (λ f l. refl) (whole-laws layer_head layer_with_head (λ v l. refl) (λ l. refl) (λ v w l. refl))
+
+-- ---- maps
+pub map_head-laws : IsLawfulLens head_of_map
+map_head-laws = whole-laws (λ d. map_head d.map) (λ h. with_map (map_with_head h)) (λ v d. refl) (λ d. refl) (λ v w d. refl)

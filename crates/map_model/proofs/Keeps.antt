@@ -358,9 +358,9 @@ remove-keeps m place there h = by_siblings (siblings_of m place.parent) refl the
     by_siblings (Some ls) e q = removed-keeps m place.parent ls e h place.at
 
 -- ---- the next ids
-pub Each-IsId-suc : (next : ℕ) (ids : List ℕ) → Each (IsId next) ids → Each (IsId (next + 1)) ids
-Each-IsId-suc next [] h = tt
-Each-IsId-suc next (id ∷ ids) h = (record { low = h.0.low; high = omega (arith, h.0.high) }, Each-IsId-suc next ids h.1)
+pub Each-IsId-raised : (next raised : ℕ) (ids : List ℕ) → next ≤ raised → Each (IsId next) ids → Each (IsId raised) ids
+Each-IsId-raised next raised [] l h = tt
+Each-IsId-raised next raised (id ∷ ids) l h = (record { low = h.0.low; high = omega (arith, h.0.high, l) }, Each-IsId-raised next raised ids l h.1)
 
 pub Each-apart : (next : ℕ) (ids : List ℕ) → Each (IsId next) ids → Each (λ id. next ≢ id) ids
 Each-apart next [] h = tt
@@ -377,7 +377,7 @@ raised-keeps m l h = record {
     layer_ids = record {
       next_low = omega arith;
       next_high = omega arith;
-      each = Each-IsId-suc m.next_layer_id (flat_map ids_of (all_drawn m.layers)) h.layers.layer_ids.each;
+      each = Each-IsId-raised m.next_layer_id (m.next_layer_id + 1) (flat_map ids_of (all_drawn m.layers)) (omega arith) h.layers.layer_ids.each;
       distinct = h.layers.layer_ids.distinct;
     };
     object_ids = h.layers.object_ids;

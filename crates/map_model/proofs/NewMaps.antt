@@ -11,17 +11,19 @@ use Rattle.serde_json.specs.Find.{get_member}
 use Rattle.map_model.specs.declared.limits.TheConstants.{MAX_FIRST_ID, MAX_GROUPS}
 use Rattle.map_model.specs.declared.parts.Layer.{Layer}
 use Rattle.map_model.specs.declared.parts.Encoding.TheVariants.{Array}
-use Rattle.map_model.specs.declared.parts.Body.TheVariants.{Tiles, Objects}
+use Rattle.map_model.specs.declared.parts.Body.TheVariants.{Tiles, Objects, Other, Group}
 use Rattle.map_model.specs.declared.parts.LayerKind.{LayerKind}
 use Rattle.map_model.specs.declared.parts.LayerKind.TheVariants as kinds
+use Rattle.map_model.specs.declared.parts.MoreLayerKind.{MoreLayerKind}
+use Rattle.map_model.specs.declared.parts.MoreLayerKind.TheVariants as more_kinds
 use Rattle.map_model.specs.declared.parts.Placing.{Placing}
 use Rattle.map_model.specs.Keeping.{deepest_tier, layer_tier, object_tier, map_tier}
 use Rattle.map_model.specs.Format.{map_names, layer_names, object_names, tileset_names}
 use Rattle.map_model.specs.Groups.{all_drawn, bare, inside, tree}
 use Rattle.map_model.specs.Lists.{Each}
 use Rattle.map_model.specs.Readable.{AreReadableMembers}
-use Rattle.map_model.specs.NewMap.{empty_layer, external_tileset, new_layer, new_map, tile_layer_members, object_layer_members, map_members, new_object}
-use Rattle.map_model.specs.NewMap.{object_members}
+use Rattle.map_model.specs.NewMap.{empty_layer, external_tileset, image_layer_members, new_layer, new_more_layer, new_map}
+use Rattle.map_model.specs.NewMap.{tile_layer_members, object_layer_members, map_members, new_object, object_members}
 use Rattle.map_model.specs.WellFormed.{IsTileset, IsTileValue, IsLayer, IsSize, IsTileSize, IsWellFormed, AreProperties, IsPlacing, IsObject}
 use Rattle.map_model.proofs.GroupBodies.{IsLayer-with}
 use Rattle.map_model.proofs.Keeps.{tree-alone}
@@ -63,6 +65,11 @@ unfolding is_utf8 chars encode
 object_layer_readable =
     (utf8-test (codes "draworder") refl, (refl, (refl, (refl, tt))), utf8-test (codes "topdown") refl, tile_layer_readable)
 
+image_layer_readable : AreReadableMembers image_layer_members
+unfolding is_utf8 chars encode
+image_layer_readable =
+    (utf8-test (codes "image") refl, (refl, (refl, (refl, tt))), utf8-test [] refl, tile_layer_readable)
+
 object_readable : AreReadableMembers object_members
 unfolding is_utf8 chars encode
 object_readable =
@@ -100,6 +107,31 @@ new_layer-IsLayer kinds.Object id name size utf8 = record {
     readable = object_layer_readable;
   };
   body = (omega arith, tt);
+}
+
+-- so is a new layer of a further kind
+pub new_more_layer-IsLayer : (kind : MoreLayerKind) (id : ℕ) (name : List ℕ) (size : ℕ) → IsUtf8 name → IsLayer layer_tier size (new_more_layer kind id name)
+new_more_layer-IsLayer more_kinds.Group id name size utf8 = record {
+  name = utf8;
+  properties = no_properties layer_tier;
+  kept = record {
+    unread = unread-test tile_layer_members (layer_names (Group [])) refl;
+    whole = refl;
+    shallow = omega arith;
+    readable = tile_layer_readable;
+  };
+  body = omega arith;
+}
+new_more_layer-IsLayer more_kinds.Image id name size utf8 = record {
+  name = utf8;
+  properties = no_properties layer_tier;
+  kept = record {
+    unread = unread-test image_layer_members (layer_names Other) refl;
+    whole = refl;
+    shallow = omega arith;
+    readable = image_layer_readable;
+  };
+  body = tt;
 }
 
 pub external_tileset-IsTileset : (first_id : ℕ) (source : List ℕ) → IsUtf8 source → 1 ≤ first_id → first_id ≤ MAX_FIRST_ID

@@ -1,5 +1,5 @@
 -- Changes of the objects of a layer that keep a map well formed.
-use Rattle.std.proofs.Common.{◌≡◌, ℕ, zero, suc, ◌+◌, ◌*◌, ◌<◌, ◌≤◌, List, [], ◌∷◌, ◌++◌, append_assoc, length, Option, Some, None, IsSome, IsSomeAnd}
+use Rattle.std.proofs.Common.{◌≡◌, ◌≢◌, ℕ, zero, suc, ◌+◌, ◌*◌, ◌<◌, ◌≤◌, List, [], ◌∷◌, ◌++◌, append_assoc, length, Option, Some, None, IsSome, IsSomeAnd}
 use Rattle.std.proofs.Common.{option_map, option_and_then, refl, sym, ap, ◌∙◌, subst, arith}
 use Rattle.std.specs.List.{slice_get, slice_set, insert, remove, flat_map}
 use Rattle.map_model.specs.declared.limits.TheConstants.{MAX_GROUPS, MAX_OBJECTS, MAX_NEXT_ID}
@@ -22,9 +22,9 @@ use Rattle.map_model.specs.Properties.{tier_of}
 use Rattle.map_model.specs.WellFormed.{IsId, AreIds, IsPlacing, IsObject, IsBody, IsLayer, IsWellFormed, ids_of_object, object_ids_in, object_ids}
 use Rattle.map_model.proofs.BodyLaws.{IsLayer-contents, group_in-contents, object_ids-contents, body_with_objects-along, objects_in-contents}
 use Rattle.map_model.proofs.Changes.{Each-insert, Each-remove, length-insert, length-remove_le, slice_get-within, Each-at}
-use Rattle.map_model.proofs.Keeps.{KeepsLayers, changed-keeps, layer_of-IsLayer, object_ids-IsReplaced, with_layer-keeps, Each-IsId-suc, Each-apart}
+use Rattle.map_model.proofs.Keeps.{KeepsLayers, changed-keeps, layer_of-IsLayer, object_ids-IsReplaced, with_layer-keeps, Each-IsId-raised}
 use Rattle.map_model.proofs.TreeChanges.{change_among-along}
-use Rattle.map_model.proofs.Listings.{IsReplaced, insert-IsReplaced, remove-IsReplaced, flat-IsReplaced, AreNewIds, AreNewIds-none, AreIds-replaced}
+use Rattle.map_model.proofs.Listings.{IsReplaced, insert-IsReplaced, remove-IsReplaced, flat-IsReplaced, AreNewIds-none, AreIds-replaced}
 
 -- ---- the object at a place
 -- a change of an object that keeps its id and keeps it one of a layer's objects
@@ -243,9 +243,10 @@ without_object_at-keeps place m there h = by_objects (objects_of_layer m place.l
         with_objects-keeps place.layer (λ ps. remove ps place.at) os m e (omega (arith, old.0)) (Each-remove _ os place.at old.1)
         (AreIds-replaced r.1.1 h.layers.object_ids (AreNewIds-none m.next_object_id (r.0 ++ r.1.0))) h
 
--- the next object id one higher
-raised_object-keeps : (m : MapParts) → m.next_object_id < MAX_NEXT_ID → IsWellFormed m → IsWellFormed (with_next_ids m.next_layer_id (m.next_object_id + 1) m)
-raised_object-keeps m l h = record {
+-- the next object id raised
+raised_object-keeps : (m : MapParts) (raised : ℕ) → m.next_object_id ≤ raised → raised ≤ MAX_NEXT_ID → IsWellFormed m
+    → IsWellFormed (with_next_ids m.next_layer_id raised m)
+raised_object-keeps m raised above below h = record {
   size = h.size;
   tile_size = h.tile_size;
   layers = record {
@@ -253,9 +254,9 @@ raised_object-keeps m l h = record {
     each = h.layers.each;
     layer_ids = h.layers.layer_ids;
     object_ids = record {
-      next_low = omega arith;
-      next_high = omega arith;
-      each = Each-IsId-suc m.next_object_id (object_ids m.layers) h.layers.object_ids.each;
+      next_low = omega (arith, above, h.layers.object_ids.next_low);
+      next_high = below;
+      each = Each-IsId-raised m.next_object_id raised (object_ids m.layers) above h.layers.object_ids.each;
       distinct = h.layers.object_ids.distinct;
     };
   };
@@ -264,26 +265,21 @@ raised_object-keeps m l h = record {
   kept = h.kept;
 }
 
--- the next id is new beside those below it
-next_id-AreNewIds : (next id : ℕ) (ids : List ℕ) → id ≡ next → 1 ≤ next → Each (IsId next) ids → AreNewIds (next + 1) (id ∷ []) ids
-next_id-AreNewIds next id ids is low h =
-    rw is (record { each = (record { low = low; high = omega arith }, tt); distinct = (tt, tt); apart = (Each-apart next ids h, tt) })
-
--- an object with the next id, put in at a place of the objects that g gives for those of the layer
-pub numbered_object-keeps : (m : MapParts) (layer : ℕ) (g : List Object → List Object) (os : List Object) (k : ℕ) (o : Object)
+-- an object with a new id, put in at a place of the objects that g gives for those of the layer
+pub put_object-keeps : (m : MapParts) (layer raised : ℕ) (g : List Object → List Object) (os : List Object) (k : ℕ) (o : Object)
     → objects_of_layer m layer ≡ Some os → g os ≡ insert os k o
-    → length os < MAX_OBJECTS → m.next_object_id < MAX_NEXT_ID → IsObject (object_tier (tier_of m layer)) o → o.id ≡ m.next_object_id → IsWellFormed m
-    → IsWellFormed (with_next_ids m.next_layer_id (m.next_object_id + 1) (with_objects layer g m))
-numbered_object-keeps m layer g os k o e is few below object id h =
-    let raised_is = raised_object-keeps m below h in
+    → length os < MAX_OBJECTS → m.next_object_id ≤ raised → raised ≤ MAX_NEXT_ID → IsObject (object_tier (tier_of m layer)) o
+    → IsId raised o.id → Each (λ id. o.id ≢ id) (object_ids m.layers) → IsWellFormed m
+    → IsWellFormed (with_next_ids m.next_layer_id raised (with_objects layer g m))
+put_object-keeps m layer raised g os k o e is few above below object id apart h =
+    let raised_is = raised_object-keeps m raised above below h in
     let old = objects_of_layer-IsBody m layer os e h in
     let put : HasReplaced [] (o.id ∷ []) (flat_map ids_of_object os) (flat_map ids_of_object (g os)) =
     rw is (_, (_, flat-IsReplaced ids_of_object (insert-IsReplaced os k o))) in
     let r = HasReplaced-objects layer g os m e put in
-    with_objects-keeps layer g os (with_next_ids m.next_layer_id (m.next_object_id + 1) m) e (let more = length-insert os k o in rw is (omega (arith, few)))
+    with_objects-keeps layer g os (with_next_ids m.next_layer_id raised m) e (let more = length-insert os k o in rw is (omega (arith, few)))
     (rw is (Each-insert _ os k o object old.1))
-    (AreIds-replaced r.1.1 raised_is.layers.object_ids
-    (next_id-AreNewIds m.next_object_id o.id (r.0 ++ r.1.0) id h.layers.object_ids.next_low (rw (← r.1.1.was) h.layers.object_ids.each))) raised_is
+    (AreIds-replaced r.1.1 raised_is.layers.object_ids (record { each = (id, tt); distinct = (tt, tt); apart = (rw (← r.1.1.was) apart, tt) })) raised_is
 
 -- two changes that agree on the objects of the layer
 pub with_objects-along : (m : MapParts) (layer : ℕ) (f g : List Object → List Object) (os : List Object) → objects_of_layer m layer ≡ Some os → f os ≡ g os

@@ -1,6 +1,6 @@
 -- The place of the object with an id.
-use Rattle.std.proofs.Common.{◌≡◌, ◌≢◌, ℕ, zero, suc, ◌+◌, List, [], ◌∷◌, ◌++◌, length, Bool, false, find, nat_eq, Bor, Option, IfSome, Some, None, option_map}
-use Rattle.std.proofs.Common.{option_and_then, refl, sym, ap, ◌∙◌, subst, arith}
+use Rattle.std.proofs.Common.{◌≡◌, ◌≢◌, ℕ, zero, suc, ◌+◌, List, [], ◌∷◌, ◌++◌, length, Bool, true, false, cond, find, nat_eq, Bor, Option}
+use Rattle.std.proofs.Common.{IfSome, Some, None, option_map, option_and_then, refl, sym, ap, ◌∙◌, subst, arith}
 use Rattle.std.specs.List.{flat_map, position, position_from, slice_get}
 use Rattle.std.proofs.lemmas.Bool.Decides.{nat_tests}
 use Rattle.std.proofs.lemmas.List.Quantifiers.{position-Some}
@@ -20,13 +20,13 @@ use Rattle.map_model.specs.Groups.{all_drawn, bare, tree}
 use Rattle.map_model.specs.Keeping.{layer_tier}
 use Rattle.map_model.specs.Lookups.{layer_of}
 use Rattle.map_model.specs.Properties.{is_drawn_with}
-use Rattle.map_model.specs.WellFormed.{IsWellFormed, ids_of_object, object_ids_in, object_ids_of}
+use Rattle.map_model.specs.WellFormed.{IsWellFormed, ids_of_object, object_ids_in, object_ids, object_ids_of}
 use Rattle.map_model.proofs.GroupBodies.{objects_in-with}
 use Rattle.map_model.proofs.Keeps.{layer-Stands}
 use Rattle.map_model.proofs.LensLaws.{some-eq}
 use Rattle.map_model.proofs.Trees.{none_among, tree-is}
 use Rattle.map_model.proofs.Changes.{find-at_position, slice_get-Some}
-use Rattle.map_model.proofs.Listings.{Each-prefix, Each-rest, Distinct-prefix, Distinct-rest, Apart-pieces}
+use Rattle.map_model.proofs.Listings.{Each-append, Each-prefix, Each-rest, Distinct-prefix, Distinct-rest, Apart-pieces}
 use Rattle.map_model.proofs.Places.{Each-id_at, position-only}
 
 -- ---- the layer that is drawn at a place
@@ -101,6 +101,44 @@ first_some-only (j ∷ ls) (suc k) l os at o e f g h =
     (λ n a. Each-object_at (λ i. n ≢ i) ls k l os at o e f g a) apart in
     ap (λ p. or_else p (first_some (place_in_layer o.id) ls)) (place_in_layer-none o.id j others)
     ∙ first_some-only ls k l os at o e f g (Distinct-rest (object_ids_of j) (flat_map object_ids_of ls) h)
+
+-- an id that no object has
+position_from-absent : (id i : ℕ) (os : List Object) → position_from (has_object_id id) i os ≡ None → Each (λ n. id ≢ n) (flat_map ids_of_object os)
+position_from-absent id i [] e = tt
+position_from-absent id i (o ∷ os) e = by_test (nat_eq o.id id) refl e (position_from-absent id (i + 1) os)
+  where
+    by_test : (b : Bool) → nat_eq o.id id ≡ b → cond b (Some i) (position_from (has_object_id id) (i + 1) os) ≡ None
+        → (position_from (has_object_id id) (i + 1) os ≡ None → Each (λ n. id ≢ n) (flat_map ids_of_object os))
+        → (id ≢ o.id) × Each (λ n. id ≢ n) (flat_map ids_of_object os)
+    by_test true q r rest = cc
+    by_test false q r rest = (λ same. grind (arith, nat_tests, same, q), rest r)
+
+place_in_layer-absent : (id : ℕ) (l : ℕ × Layer) → place_in_layer id l ≡ None → Each (λ n. id ≢ n) (object_ids_of l)
+place_in_layer-absent id l e = by_body l.1.body e
+  where
+    by_place : (o : Option ℕ) → option_map (place_of_layer l.1) o ≡ None → o ≡ None
+    by_place None q = refl
+    by_place (Some at) q = cc
+
+    by_body : (b : Body) → option_map (place_of_layer l.1) (option_and_then (position (has_object_id id)) (objects_in b)) ≡ None
+        → Each (λ n. id ≢ n) (object_ids_in b)
+    by_body (Objects os) q =
+        position_from-absent id 0 os (sym (position_from-zero (has_object_id id) os) ∙ by_place (position (has_object_id id) os) q)
+    by_body b q = tt
+
+first_some-absent : (id : ℕ) (ls : List (ℕ × Layer)) → first_some (place_in_layer id) ls ≡ None → Each (λ n. id ≢ n) (flat_map object_ids_of ls)
+first_some-absent id [] e = tt
+first_some-absent id (l ∷ ls) e = by_first (place_in_layer id l) refl e (first_some-absent id ls)
+  where
+    by_first : (o : Option ObjectPlace) → place_in_layer id l ≡ o → or_else o (first_some (place_in_layer id) ls) ≡ None
+        → (first_some (place_in_layer id) ls ≡ None → Each (λ n. id ≢ n) (flat_map object_ids_of ls))
+        → Each (λ n. id ≢ n) (flat_map object_ids_of (l ∷ ls))
+    by_first None q r rest =
+        Each-append (λ n. id ≢ n) (object_ids_of l) (flat_map object_ids_of ls) (place_in_layer-absent id l q) (rest r)
+    by_first (Some place) q r rest = cc
+
+pub no_object-apart : (m : MapParts) (id : ℕ) → object_place m id ≡ None → Each (λ n. id ≢ n) (object_ids m.layers)
+no_object-apart m id e = first_some-absent id (all_drawn m.layers) e
 
 -- the layer with an id is drawn
 drawn-found : (m : MapParts) (l : Layer) → layer_of m l.id ≡ Some l → (j : ℕ) × ((tier : ℕ) × (slice_get (all_drawn m.layers) j ≡ Some (tier, bare l)))

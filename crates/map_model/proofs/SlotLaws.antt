@@ -52,26 +52,26 @@ module _ {X : Type 0} (xs : List X) (x : X) where
       ap (λ k. insert (remove xs (length xs - 1)) k x) place ∙ insert-remove xs (length xs - 1) x there
 
 pub next_slot_in-laws : {X : Type 0} (p : Lens DocumentParts (List X)) (ids : Lens DocumentParts ℕ) → IsLawfulLens p → IsLawfulLens ids → AreApart p ids
-    → (id : ℕ)
-    → IsLawfulSlot (next_slot_in p ids id)
-next_slot_in-laws {X = X} p ids laws id-laws apart id = record {
+    → (next raised : ℕ)
+    → IsLawfulSlot (next_slot_in p ids next raised)
+next_slot_in-laws {X = X} p ids laws id-laws apart next raised = record {
   there = λ d h. let s = some_list (p.get d) h.1 in rw s.1.0 (last_there s.0 s.1.1);
   filled = λ x d h. let s = some (p.get d) h.1 in (
-    id-laws.get-update (λ n. n + 1) id (p.update (more x) d) (apart.get-right (more x) d ∙ h.0),
-    rw (apart.get-left (λ n. n + 1) (p.update (more x) d), laws.get-update (more x) s.0 d s.1) (let l = length-insert s.0 (length s.0) x in omega arith),
+    id-laws.get-update (λ n. raised) next (p.update (more x) d) (apart.get-right (more x) d ∙ h.0),
+    rw (apart.get-left (λ n. raised) (p.update (more x) d), laws.get-update (more x) s.0 d s.1) (let l = length-insert s.0 (length s.0) x in omega arith),
   );
   without-with = λ x d h. let s = some (p.get d) h.1 in
-      ap (ids.update (λ n. id)) (apart.swapped less (λ n. n + 1) (p.update (more x) d) ∙ ap (ids.update (λ n. n + 1)) (
+      ap (ids.update (λ n. next)) (apart.swapped less (λ n. raised) (p.update (more x) d) ∙ ap (ids.update (λ n. raised)) (
       laws.update-update less (more x) d ∙ laws.update-same (λ xs. less (more x xs)) s.0 d s.1 (remove-last s.0 x)))
-      ∙ id-laws.update-update (λ n. id) (λ n. n + 1) d ∙ id-laws.update-same (λ n. id) id d h.0 refl;
+      ∙ id-laws.update-update (λ n. next) (λ n. raised) d ∙ id-laws.update-same (λ n. next) next d h.0 refl;
   vacated = λ x d h e. let s = some_list (p.get d) h.1 in (
-    id-laws.get-update (λ n. id) (id + 1) (p.update less d) (apart.get-right less d ∙ h.0),
-    rw (apart.get-left (λ n. id) (p.update less d), laws.get-update less s.0 d s.1.0) refl,
+    id-laws.get-update (λ n. next) raised (p.update less d) (apart.get-right less d ∙ h.0),
+    rw (apart.get-left (λ n. next) (p.update less d), laws.get-update less s.0 d s.1.0) refl,
   );
   with-without = λ x d h e. let s = found x (p.get d) e in
-      ap (ids.update (λ n. n + 1)) (apart.swapped (more x) (λ n. id) (p.update less d) ∙ ap (ids.update (λ n. id)) (
+      ap (ids.update (λ n. raised)) (apart.swapped (more x) (λ n. next) (p.update less d) ∙ ap (ids.update (λ n. next)) (
       laws.update-update (more x) less d ∙ laws.update-same (λ xs. more x (less xs)) s.0 d s.1.0 (insert-last s.0 x s.1.1)))
-      ∙ id-laws.update-update (λ n. n + 1) (λ n. id) d ∙ id-laws.update-same (λ n. id + 1) (id + 1) d h.0 refl;
+      ∙ id-laws.update-update (λ n. raised) (λ n. next) d ∙ id-laws.update-same (λ n. raised) raised d h.0 refl;
 }
   where
     more : X → List X → List X
@@ -98,7 +98,7 @@ pub layer_slot-laws : (place : LayerPlace) → IsLawfulSlot (layer_slot place)
 layer_slot-laws place = slot_in-laws (siblings place.parent) (siblings-laws place.parent) place.at
 
 pub next_layer_slot-laws : (id : ℕ) → IsLawfulSlot (next_layer_slot id)
-next_layer_slot-laws = next_slot_in-laws layers next_layer_id layers-laws next_layer_id-laws layers-next_layer_id
+next_layer_slot-laws id = next_slot_in-laws layers next_layer_id layers-laws next_layer_id-laws layers-next_layer_id id (id + 1)
 
 -- ---- the place of a tileset
 pub tileset_slot-laws : (at : ℕ) → IsLawfulSlot (tileset_slot at)
@@ -108,6 +108,6 @@ tileset_slot-laws = slot_in-laws tilesets tilesets-laws
 pub object_slot-laws : (place : ObjectPlace) → IsLawfulSlot (object_slot place)
 object_slot-laws place = slot_in-laws (layer_objects place.layer) (layer_objects-laws place.layer) place.at
 
-pub next_object_slot-laws : (layer id : ℕ) → IsLawfulSlot (next_object_slot layer id)
+pub next_object_slot-laws : (layer next raised : ℕ) → IsLawfulSlot (next_object_slot layer next raised)
 next_object_slot-laws layer = next_slot_in-laws (layer_objects layer) next_object_id (layer_objects-laws layer) next_object_id-laws
     (layer_objects-next_object_id layer)

@@ -1,11 +1,17 @@
--- What an object is beside its id and its properties: its head, and objects with another one.
+-- The heads of owners: what an object, a layer or a map is beside its id, its size and its lists; and owners with another head.
 use Rattle.std.specs.Prelude.{ℕ}
+use Rattle.map_model.specs.declared.heads.LayerHead.{LayerHead}
+use Rattle.map_model.specs.declared.heads.MapHead.{MapHead}
 use Rattle.map_model.specs.declared.heads.ObjectHead.{ObjectHead}
+use Rattle.map_model.specs.declared.parts.Layer.{Layer}
+use Rattle.map_model.specs.declared.parts.MapParts.{MapParts}
 use Rattle.map_model.specs.declared.parts.Object.{Object}
 use Rattle.map_model.specs.declared.place.ObjectPlace.{ObjectPlace}
-use Rattle.map_model.specs.Document.{DocumentParts}
-use Rattle.map_model.specs.Lens.{Lens, found, of_object, whole}
+use Rattle.map_model.specs.Document.{DocumentParts, with_map}
+use Rattle.map_model.specs.Lens.{Lens, found, of_layer, of_object, whole}
 use Rattle.map_model.specs.Objects.{object_place}
+
+-- ---- objects
 
 abbrev pub object_head : Object → ObjectHead
 object_head o = record { placing = o.placing; name = o.name; visible = o.visible; gid = o.gid; kept = o.kept }
@@ -20,3 +26,41 @@ head = whole object_head object_with_head
 -- the head of the object with the id
 abbrev pub head_with_id : ℕ → Lens DocumentParts ObjectHead
 head_with_id id = found (λ d. object_place d.map id) (λ place. of_object place head)
+
+-- ---- layers
+abbrev pub layer_head : Layer → LayerHead
+layer_head l = record { name = l.name; visible = l.visible; kept = l.kept }
+
+abbrev pub layer_with_head : LayerHead → Layer → Layer
+layer_with_head h l = record l { name = h.name; visible = h.visible; kept = h.kept }
+
+-- the lens of a layer's head
+abbrev pub head_of_layer : Lens Layer LayerHead
+head_of_layer = whole layer_head layer_with_head
+
+-- the head of the layer with the id
+abbrev pub layer_head_with_id : ℕ → Lens DocumentParts LayerHead
+layer_head_with_id id = of_layer id head_of_layer
+
+-- ---- maps
+abbrev pub map_head : MapParts → MapHead
+map_head m = record {
+  tile_width = m.tile_width;
+  tile_height = m.tile_height;
+  next_layer_id = m.next_layer_id;
+  next_object_id = m.next_object_id;
+  kept = m.kept;
+}
+
+abbrev pub map_with_head : MapHead → MapParts → MapParts
+map_with_head h m = record m {
+  tile_width = h.tile_width;
+  tile_height = h.tile_height;
+  next_layer_id = h.next_layer_id;
+  next_object_id = h.next_object_id;
+  kept = h.kept;
+}
+
+-- the lens of the map's head
+abbrev pub head_of_map : Lens DocumentParts MapHead
+head_of_map = whole (λ d. map_head d.map) (λ h. with_map (map_with_head h))

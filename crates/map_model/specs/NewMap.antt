@@ -2,9 +2,11 @@
 use Rattle.std.specs.Prelude.{ℕ, ◌*◌, List, [], ◌∷◌, true, Some, None, replicate, codes}
 use Rattle.serde_json.specs.Data.{number, unsigned, string, Members, no_members, member}
 use Rattle.map_model.specs.declared.parts.Encoding.TheVariants.{Array}
-use Rattle.map_model.specs.declared.parts.Body.TheVariants.{Tiles, Objects}
+use Rattle.map_model.specs.declared.parts.Body.TheVariants.{Tiles, Objects, Other, Group}
 use Rattle.map_model.specs.declared.parts.LayerKind.{LayerKind}
 use Rattle.map_model.specs.declared.parts.LayerKind.TheVariants as kinds
+use Rattle.map_model.specs.declared.parts.MoreLayerKind.{MoreLayerKind}
+use Rattle.map_model.specs.declared.parts.MoreLayerKind.TheVariants as more_kinds
 use Rattle.map_model.specs.declared.parts.Layer.{Layer}
 use Rattle.map_model.specs.declared.parts.MapParts.{MapParts}
 use Rattle.map_model.specs.declared.parts.Tileset.{Tileset}
@@ -19,6 +21,10 @@ tile_layer_members = member (codes "opacity") (number (unsigned 1))
 -- the members that a new object layer keeps
 abbrev pub object_layer_members : Members
 object_layer_members = member (codes "draworder") (string (codes "topdown")) tile_layer_members
+
+-- the members that a new image layer keeps
+abbrev pub image_layer_members : Members
+image_layer_members = member (codes "image") (string []) tile_layer_members
 
 -- the members that a new map keeps
 abbrev pub map_members : Members
@@ -50,6 +56,19 @@ empty_object_layer id name = record {
 abbrev pub new_layer : LayerKind → ℕ → List ℕ → ℕ → Layer
 new_layer kinds.Tile id name size = empty_layer id name size
 new_layer kinds.Object id name size = empty_object_layer id name
+
+-- a visible group in which no layer stands
+abbrev pub empty_group : ℕ → List ℕ → Layer
+empty_group id name = record { id = id; name = name; visible = true; properties = []; kept = tile_layer_members; body = Group [] }
+
+-- a visible image layer that shows no image
+abbrev pub empty_image_layer : ℕ → List ℕ → Layer
+empty_image_layer id name = record { id = id; name = name; visible = true; properties = []; kept = image_layer_members; body = Other }
+
+-- a new layer of a further kind
+abbrev pub new_more_layer : MoreLayerKind → ℕ → List ℕ → Layer
+new_more_layer more_kinds.Group id name = empty_group id name
+new_more_layer more_kinds.Image id name = empty_image_layer id name
 
 -- a tileset whose tiles stand in a file of their own
 abbrev pub external_tileset : ℕ → List ℕ → Tileset

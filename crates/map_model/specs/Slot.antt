@@ -35,14 +35,14 @@ slot_in p k = record {
   is_filled = λ d. IsSome (option_and_then (λ xs. slice_get xs k) (p.get d));
 }
 
--- the place behind a list, for a thing with the next id, which is one higher once it is there
-abbrev pub next_slot_in : {X : Type 0} → Lens DocumentParts (List X) → Lens DocumentParts ℕ → ℕ → Slot X
-next_slot_in p ids id = record {
+-- the place behind a list, for a thing with an id: the next id is `next` while it is away, and `raised` once it is there
+abbrev pub next_slot_in : {X : Type 0} → Lens DocumentParts (List X) → Lens DocumentParts ℕ → ℕ → ℕ → Slot X
+next_slot_in p ids next raised = record {
   item = λ d. option_and_then (λ xs. slice_get xs (length xs - 1)) (p.get d);
-  with_item = λ x d. ids.update (λ n. n + 1) (p.update (λ xs. insert xs (length xs) x) d);
-  without_item = λ d. ids.update (λ n. id) (p.update (λ xs. remove xs (length xs - 1)) d);
-  is_vacant = λ d. (ids.get d ≡ Some id) × IsSome (p.get d);
-  is_filled = λ d. (ids.get d ≡ Some (id + 1)) × IsSomeAnd (p.get d) (λ xs. 0 < length xs);
+  with_item = λ x d. ids.update (λ n. raised) (p.update (λ xs. insert xs (length xs) x) d);
+  without_item = λ d. ids.update (λ n. next) (p.update (λ xs. remove xs (length xs - 1)) d);
+  is_vacant = λ d. (ids.get d ≡ Some next) × IsSome (p.get d);
+  is_filled = λ d. (ids.get d ≡ Some raised) × IsSomeAnd (p.get d) (λ xs. 0 < length xs);
 }
 
 -- ---- slots of layers
@@ -50,9 +50,9 @@ next_slot_in p ids id = record {
 abbrev pub layer_slot : LayerPlace → Slot Layer
 layer_slot place = slot_in (siblings place.parent) place.at
 
--- the place behind the last layer that stands in no group
+-- the place behind the last layer that stands in no group, of a layer with the next id
 abbrev pub next_layer_slot : ℕ → Slot Layer
-next_layer_slot id = next_slot_in layers next_layer_id id
+next_layer_slot id = next_slot_in layers next_layer_id id (id + 1)
 
 -- ---- the place of a tileset
 abbrev pub tileset_slot : ℕ → Slot Tileset
@@ -63,6 +63,6 @@ tileset_slot at = slot_in tilesets at
 abbrev pub object_slot : ObjectPlace → Slot Object
 object_slot place = slot_in (layer_objects place.layer) place.at
 
--- the place behind the last object of a layer
-abbrev pub next_object_slot : ℕ → ℕ → Slot Object
-next_object_slot layer id = next_slot_in (layer_objects layer) next_object_id id
+-- the place behind the last object of a layer, of an object that raises the next object id so
+abbrev pub next_object_slot : ℕ → ℕ → ℕ → Slot Object
+next_object_slot layer next raised = next_slot_in (layer_objects layer) next_object_id next raised

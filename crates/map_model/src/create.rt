@@ -2,10 +2,10 @@
 ghost use Rattle.std.specs.Prelude.{◌≡◌, ◌∷◌, [], codes, IfOk, IsSome, Some};
 ghost use Rattle.serde_json.specs.Find.{as_object};
 ghost use Rattle.serde_json.specs.View.{view as data_of};
-ghost use Rattle.map_model.specs.NewMap.{new_layer, empty_layer, empty_object_layer, new_object, tile_layer_members, object_layer_members, object_members, map_members};
+ghost use Rattle.map_model.specs.NewMap.{new_layer, new_more_layer, empty_layer, empty_object_layer, empty_group, empty_image_layer, new_object, tile_layer_members, object_layer_members, image_layer_members, object_members, map_members};
 
 use crate::contents::{Cells, Kept, MapText};
-use crate::parts::{Body, Encoding, Layer, LayerKind, Object, Placing};
+use crate::parts::{Body, Encoding, Layer, LayerKind, MoreLayerKind, Object, Placing};
 use link_chain::{Chain, Loose};
 use link_tree::LinkTree;
 use serde_json::{Value, json};
@@ -40,6 +40,14 @@ fn kept_by_object_layer(alloc: Global) -> Result<Kept, AllocError>
     ensures { IfOk result (λ kept. kept ≡ object_layer_members) }
 {
     let object = json!(in alloc; {"draworder": "topdown", "opacity": 1u32, "x": 0u32, "y": 0u32})?;
+    Ok(kept_of(object))
+}
+
+// What a new image layer keeps.
+fn kept_by_image_layer(alloc: Global) -> Result<Kept, AllocError>
+    ensures { IfOk result (λ kept. kept ≡ image_layer_members) }
+{
+    let object = json!(in alloc; {"image": "", "opacity": 1u32, "x": 0u32, "y": 0u32})?;
     Ok(kept_of(object))
 }
 
@@ -80,6 +88,34 @@ fn object_layer(alloc: Global, id: u32, name: MapText) -> Result<Layer, AllocErr
     })
 }
 
+// A group in which no layer stands.
+fn group_layer(alloc: Global, id: u32, name: MapText) -> Result<Layer, AllocError>
+    ensures { IfOk result (λ layer. layer ≡ empty_group id name) }
+{
+    Ok(Layer {
+        id,
+        name,
+        visible: true,
+        properties: Chain::new(alloc),
+        kept: kept_by_tile_layer(alloc)?,
+        body: Body::Group(Chain::new(alloc)),
+    })
+}
+
+// An image layer that shows no image.
+fn image_layer(alloc: Global, id: u32, name: MapText) -> Result<Layer, AllocError>
+    ensures { IfOk result (λ layer. layer ≡ empty_image_layer id name) }
+{
+    Ok(Layer {
+        id,
+        name,
+        visible: true,
+        properties: Chain::new(alloc),
+        kept: kept_by_image_layer(alloc)?,
+        body: Body::Other,
+    })
+}
+
 impl Layer {
     /// A visible layer with no properties and nothing on it, for a map of so many cells.
     pub fn new(
@@ -94,6 +130,21 @@ impl Layer {
         match kind {
             LayerKind::Tile => tile_layer(alloc, id, name, size),
             LayerKind::Object => object_layer(alloc, id, name),
+        }
+    }
+
+    /// A visible layer of a further kind with no properties, and with no layers in it or no image.
+    pub fn new_more(
+        alloc: Global,
+        kind: MoreLayerKind,
+        id: u32,
+        name: MapText,
+    ) -> Result<Layer, AllocError>
+        ensures { IfOk result (λ layer. layer ≡ new_more_layer kind id name) }
+    {
+        match kind {
+            MoreLayerKind::Group => group_layer(alloc, id, name),
+            MoreLayerKind::Image => image_layer(alloc, id, name),
         }
     }
 }

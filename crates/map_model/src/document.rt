@@ -8,6 +8,7 @@ ghost use Rattle.map_model.specs.Lookups.{HasTiles, IsWithin, layer_of, with_cel
 ghost use Rattle.map_model.specs.WellFormed.{IsWellFormed};
 
 mod canvas;
+mod heads;
 mod objects;
 mod properties;
 mod tilesets;

@@ -6,6 +6,7 @@ ghost use Rattle.map_model.specs.Bodies.{IsTiles};
 ghost use Rattle.map_model.specs.Alike.{AreAlike};
 ghost use Rattle.map_model.specs.CellEdits.{AreInRowOrder, HaveRange, IsBelow, put_values, with_value};
 ghost use Rattle.map_model.specs.Groups.{body_with_layers, change_among, group_in, layer_among};
+ghost use Rattle.map_model.specs.Heads.{layer_head, layer_with_head};
 ghost use Rattle.map_model.specs.Layers.{IsPlaceIn, layer_at, layer_name, layer_visible, layer_with_name, layer_with_visible, siblings_of, with_layer_at, without_layer_at};
 ghost use Rattle.map_model.specs.Lists.{Distinct, Each};
 ghost use Rattle.map_model.specs.Lookups.{tiles_of_layer, layer_with_tiles};
@@ -14,6 +15,7 @@ ghost use Rattle.map_model.specs.WellFormed.{layer_ids};
 use crate::contents::MapText;
 use crate::edit::{CellEdit, Side};
 use crate::groups::change_layer;
+use crate::heads::LayerHead;
 use crate::parts::{Body, Layer, MapParts};
 use crate::place::LayerPlace;
 use link_chain::{Chain, Loose};
@@ -83,6 +85,16 @@ pub fn show_in(layers: &mut Chain<Layer>, id: u32, visible: bool) -> bool
     change_layer(layers, id, |layer| {
         mem::replace(&mut layer.visible, visible)
     })
+}
+
+/// Gives the layer with an id another head, and hands the old one back.
+pub fn head_layer_in(layers: &mut Chain<Layer>, id: u32, head: LayerHead) -> LayerHead
+    requires distinct { Distinct (layer_ids layers.old) }
+    requires there { IsSome (layer_among id MAX_GROUPS layers.old) }
+    ensures given { option_map layer_head (layer_among id MAX_GROUPS layers.old) ≡ Some result }
+    ensures layers { layers.new ≡ change_among id MAX_GROUPS (layer_with_head head) layers.old }
+{
+    change_layer(layers, id, |layer| layer.replace_head(head))
 }
 
 /// Puts a layer in at a place.

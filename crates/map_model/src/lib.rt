@@ -32,11 +32,12 @@ pub use canvas::{Canvas, LayerCells};
 pub use contents::{Cells, JsonValue, Kept, MapText};
 pub use document::Document;
 pub use edit::{CellEdit, Side};
-pub use heads::ObjectHead;
+pub use heads::{LayerHead, MapHead, ObjectHead};
 pub use map::Map;
 pub use owner::{MemberOwner, Owner};
 pub use parts::{
-    Body, Encoding, Layer, LayerKind, MapParts, Object, Placing, PropValue, Property, Tileset,
+    Body, Encoding, Layer, LayerKind, MapParts, MoreLayerKind, Object, Placing, PropValue,
+    Property, Tileset,
 };
 pub use place::{LayerPlace, ObjectPlace, OwnerPlace};
 pub use selection::SelectionMode;

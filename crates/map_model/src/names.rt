@@ -41,6 +41,13 @@ pub const DATA: &str = "data";
 
 pub const OBJECTS: &str = "objects";
 
+// Of a layer of an infinite map; none is read.
+pub const CHUNKS: &str = "chunks";
+
+pub const START_X: &str = "startx";
+
+pub const START_Y: &str = "starty";
+
 // Of an object.
 pub const X: &str = "x";
 

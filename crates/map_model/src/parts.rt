@@ -73,6 +73,13 @@ pub enum LayerKind {
     Object,
 }
 
+/// A further kind of layer that can be added to a map.
+#[derive(Clone, Copy, PartialEq, Eq, Debug)]
+pub enum MoreLayerKind {
+    Group,
+    Image,
+}
+
 /// A layer.
 #[cycle(layers)]
 #[derive(Drop)]

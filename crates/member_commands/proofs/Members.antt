@@ -10,7 +10,7 @@ use Rattle.map_model.specs.Lens.{put}
 use Rattle.map_model.specs.WellFormed.{IsWellFormed}
 use Rattle.map_model.proofs.LensLaws.{some-eq}
 use Rattle.json_members.specs.Members.{put_all, without}
-use Rattle.map_json.specs.Words.{AreWords, word_at, words_at}
+use Rattle.map_json.specs.Words.{AreWords, all_named, word_at, words_at}
 use Rattle.refusals.specs.declared.more_fault.MoreFault.{MoreFault}
 use Rattle.refusals.specs.declared.more_fault.MoreFault.TheVariants as faults
 use Rattle.refusals.specs.declared.edit_fault.EditFault.{EditFault}
@@ -23,7 +23,7 @@ use Rattle.command_api.proofs.Swaps.{held_made, held_swapped}
 use Rattle.member_commands.specs.declared.set_head.MemberEdit.{MemberEdit}
 use Rattle.member_commands.specs.declared.set_head.MemberEdit.TheVariants.{Set, Put, Remove}
 use Rattle.member_commands.specs.Changes.{member_names}
-use Rattle.member_commands.specs.Edits.{IsMoreRefusalOf, after_head, after_members, after_put_members, after_remove_member, after_set_member, all_named}
+use Rattle.member_commands.specs.Edits.{IsMoreRefusalOf, after_head, after_members, after_put_members, after_remove_member, after_set_member}
 use Rattle.member_commands.specs.Heads.{HeadParts, AreHeadParts}
 
 pub member-WhenEqual : (e : MemberEdit) (owner : MemberOwner) (follows : Bool) → (member_names e owner follows).vanishing ≡ WhenEqual
@@ -42,13 +42,13 @@ some_is o x e = rw e refl
 module _ {H : Type 0} (p : HeadParts H) (laws : AreHeadParts p) (id : ℕ) (d : DocumentParts) (well_formed : IsWellFormed d.map) where
   -- a head that was read with words put in fits, and so does one that was read without a member
   pub put_fits : (words before : Members) → IsSomeAnd ((p.lens id).get d) (λ own. before ≡ p.members own) → AreWords words
-      → (h : H) → p.read d (put_all words before) ≡ Ok h → FitsBack (p.lens id) h d
-  put_fits words before there are h e =
+      → all_named p.is_own words ≡ true → (h : H) → p.read d (put_all words before) ≡ Ok h → FitsBack (p.lens id) h d
+  put_fits words before there are named h e =
       let own = some_and ((p.lens id).get d) (λ o. before ≡ p.members o) there in
       record {
         well_formed = well_formed;
         there = some_is ((p.lens id).get d) own.0 own.1;
-        back = laws.put_in id words own.0 h d well_formed own.1 are (ap (λ ms. p.read d (put_all words ms)) (sym own.2) ∙ e);
+        back = laws.put_in id words own.0 h d well_formed own.1 are named (ap (λ ms. p.read d (put_all words ms)) (sym own.2) ∙ e);
       }
 
   pub drop_fits : (name : List ℕ) (before : Members) → IsSomeAnd ((p.lens id).get d) (λ own. before ≡ p.members own)

@@ -1,13 +1,13 @@
 -- The document after own members of an owner were set, or one was taken out, or why they were not.
-use Rattle.std.specs.Prelude.{◌≡◌, ℕ, List, Bool, true, false, ◌&&◌, if◌then◌else◌, Result, Ok, Err, IfErr, is_some}
+use Rattle.std.specs.Prelude.{◌≡◌, ℕ, List, Bool, true, false, if◌then◌else◌, Result, Ok, Err, IfErr, is_some}
 use Rattle.std.specs.Option.{ok_or}
-use Rattle.serde_json.specs.Data.{Data, Members, no_members, member}
+use Rattle.serde_json.specs.Data.{Data, Members}
 use Rattle.serde_json.specs.Data as trees
 use Rattle.serde_json.specs.Find.{get_member}
 use Rattle.map_model.specs.Document.{DocumentParts}
 use Rattle.map_model.specs.Lens.{put}
 use Rattle.json_members.specs.Members.{put_all, without}
-use Rattle.map_json.specs.Words.{word_at, words_at}
+use Rattle.map_json.specs.Words.{all_named, word_at, words_at}
 use Rattle.map_values.specs.declared.fault.MapFault.{MapFault}
 use Rattle.map_values.specs.declared.fault.MapFault.TheVariants as map_faults
 use Rattle.refusals.specs.declared.edit_fault.EditFault.TheVariants as edit_faults
@@ -33,11 +33,6 @@ said (Err fault) = Err (faults.Map fault)
 abbrev pub more_fault : MapFault → MoreFault
 more_fault map_faults.Memory = faults.Edit edit_faults.NoMemory
 more_fault (map_faults.Refused fault) = faults.Map fault
-
--- whether each member's name is one of these
-abbrev pub all_named : (List ℕ → Bool) → Members → Bool
-all_named is_own no_members = true
-all_named is_own (member k d ms) = is_own k && all_named is_own ms
 
 -- the head of the owner with the id
 abbrev pub own_head : {H : Type 0} → HeadParts H → DocumentParts → ℕ → Result H MoreFault

@@ -1,12 +1,12 @@
 -- The heads of one kind of owner: which part of a document they are, and what their members say.
-use Rattle.std.specs.Prelude.{◌≡◌, ◌≢◌, ◌↔◌, ℕ, List, Bool, Some, Result, Ok}
+use Rattle.std.specs.Prelude.{◌≡◌, ◌≢◌, ◌↔◌, ℕ, List, Bool, true, Some, Result, Ok}
 use Rattle.serde_json.specs.Data.{Members}
 use Rattle.map_model.specs.declared.owner.MemberOwner.{MemberOwner}
 use Rattle.map_model.specs.Document.{DocumentParts}
 use Rattle.map_model.specs.Lens.{Lens, IsLawfulLens, put}
 use Rattle.map_model.specs.WellFormed.{IsWellFormed}
 use Rattle.json_members.specs.Members.{put_all, without}
-use Rattle.map_json.specs.Words.{AreWords}
+use Rattle.map_json.specs.Words.{AreWords, all_named}
 use Rattle.refusals.specs.declared.edit_fault.EditFault.{EditFault}
 use Rattle.refusals.specs.declared.edit_fault.EditFault.TheVariants.{NoMemory}
 use Rattle.refusals.specs.declared.map_refusal.MapRefusal.{MapRefusal}
@@ -24,7 +24,7 @@ pub record HeadParts (H : Type 0) : Type 0 where
   pub members : H → Members
   pub read : DocumentParts → Members → Result H MapRefusal
 
--- a head that was read from an owner's members, with some put in that a line can say, or without one of them, makes a well-formed
+-- a head that was read from an owner's members, with own ones put in that a line can say, or without one of them, makes a well-formed
 -- map of a well-formed one; and what an offer shows is the owner, and its head put back
 pub record AreHeadParts {H : Type 0} (p : HeadParts H) : Type 0 where
   pub absence : p.absence ≢ NoMemory
@@ -34,6 +34,6 @@ pub record AreHeadParts {H : Type 0} (p : HeadParts H) : Type 0 where
   pub undone : (id : ℕ) (h : H) (d : DocumentParts) → head_undone (p.shown id h) d ≡ put (p.lens id) h d
   pub fits : (id : ℕ) (h : H) (d : DocumentParts) → FitsHead (p.shown id h) d ↔ FitsBack (p.lens id) h d
   pub put_in : (id : ℕ) (words : Members) (own new : H) (d : DocumentParts) → IsWellFormed d.map → (p.lens id).get d ≡ Some own → AreWords words
-      → p.read d (put_all words (p.members own)) ≡ Ok new → IsWellFormed (put (p.lens id) new d).map
+      → all_named p.is_own words ≡ true → p.read d (put_all words (p.members own)) ≡ Ok new → IsWellFormed (put (p.lens id) new d).map
   pub taken_out : (id : ℕ) (name : List ℕ) (own new : H) (d : DocumentParts) → IsWellFormed d.map → (p.lens id).get d ≡ Some own
       → p.read d (without name (p.members own)) ≡ Ok new → IsWellFormed (put (p.lens id) new d).map

@@ -3,3 +3,5 @@ pub mod Edits
 pub mod Names
 pub mod Changes
 pub mod Objects
+pub mod Layers
+pub mod Maps

@@ -37,6 +37,6 @@ object_heads-laws = record {
   only = head_owner-Object;
   undone = λ id h d. refl;
   fits = λ id h d. (λ f. f, λ f. f);
-  put_in = put-well_formed;
+  put_in = λ id words own new d h given are named e. put-well_formed id words own new d h given are e;
   taken_out = without-well_formed;
 }

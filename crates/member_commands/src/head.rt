@@ -1,14 +1,15 @@
 // The heads of owners: what a command of own members needs of each kind.
 use command_api::OwnerHead;
 use map_model::{Document, MemberOwner};
-use map_values::JsonObject;
-use refusals::{EditFault, MapRefusal};
+use map_values::{JsonObject, MapFault};
+use refusals::EditFault;
 use std::alloc::{AllocError, Global};
 
 /// The head of one kind of owner: what an owner is beside its id and its lists.
 pub trait Head: Drop {
     ghost use Rattle.std.specs.Prelude.{◌≡◌, ◌↔◌, Some, IfOk, IsTrue, IsSome, IsSomeAnd};
     ghost use Rattle.map_model.specs.Lens.{put};
+    ghost use Rattle.map_values.specs.Presence.{Gives};
     ghost use Rattle.map_model.specs.WellFormed.{IsWellFormed};
     ghost use Rattle.command_api.specs.Heads.{shown_head};
     ghost use Rattle.command_api.specs.Swap.{FitsBack};
@@ -39,9 +40,9 @@ pub trait Head: Drop {
         requires { IsSome ((parts.lens id).get document.now) }
         ensures { IfOk result (λ members. IsSomeAnd ((parts.lens id).get document.now) (λ head. members ≡ parts.members head)) };
 
-    /// The head that members say, or why a file may not say it.
-    fn read(document: &Document, members: JsonObject) -> Result<Self, MapRefusal>
-        ensures { result ≡ parts.read document.now members };
+    /// The head that members say, or why a file may not say it of this document.
+    fn read(alloc: Global, document: &Document, members: JsonObject) -> Result<Self, MapFault>
+        ensures { Gives result (parts.read document.now members) };
 
     /// Whether the owner with an id has this head.
     fn is_of(&self, document: &Document, id: u32) -> bool

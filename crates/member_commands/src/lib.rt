@@ -3,9 +3,12 @@
 
 mod command;
 mod head;
+mod layer;
 mod making;
+mod map;
 mod object;
 mod set_head;
 
 pub use head::Head;
+pub use making::more_fault;
 pub use set_head::{MemberEdit, SetHead};

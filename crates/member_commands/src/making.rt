@@ -3,7 +3,8 @@ ghost use Rattle.std.specs.Prelude.{◌≡◌, Ok, Err, IfOk, IfErr};
 ghost use Rattle.command_api.specs.Making.{Makes};
 ghost use Rattle.command_api.specs.Swap.{FitsBack};
 ghost use Rattle.member_commands.specs.Changes.{member_names, set_head_change};
-ghost use Rattle.member_commands.specs.Edits.{IsMoreRefusalOf, after_head, after_members, after_put_members, after_remove_member, after_set_member, all_named, is_early, is_early_named, more_fault};
+ghost use Rattle.member_commands.specs.Edits.{IsMoreRefusalOf, after_head, after_members, after_put_members, after_remove_member, after_set_member, is_early, is_early_named, more_fault};
+ghost use Rattle.map_json.specs.Words.{all_named};
 ghost use Rattle.member_commands.specs.Names.{put_members_names, remove_member_names, set_member_names};
 
 use crate::head::Head;
@@ -14,8 +15,8 @@ use map_values::JsonObject;
 use refusals::{EditFault, MoreFault};
 use std::alloc::Global;
 
-// Why a text of a line says nothing.
-fn more_fault(fault: MapFault) -> MoreFault
+/// Why a text of a line says nothing.
+pub fn more_fault(fault: MapFault) -> MoreFault
     ensures { result ≡ more_fault fault }
 {
     match fault {
@@ -55,6 +56,7 @@ impl<H: Head> SetHead<H> {
 
     // The command that gives an owner the head that members say, not made yet.
     fn saying(
+        alloc: Global,
         document: &Document,
         id: u32,
         edit: MemberEdit,
@@ -63,11 +65,11 @@ impl<H: Head> SetHead<H> {
     ) -> Result<SetHead<H>, MoreFault>
         requires { (head : H) → H.parts.read document.now members ≡ Ok head → FitsBack (H.parts.lens id) head document.now }
         ensures command { IfOk result (λ c. Makes (member_names edit (H.parts.owner id) follows) document.now (after_members H.parts document.now id members) (set_head_change H.parts c)) }
-        ensures refusal { IfErr result (λ fault. after_members H.parts document.now id members ≡ Err fault) }
+        ensures refusal { IfErr result (IsMoreRefusalOf is_early_named (after_members H.parts document.now id members)) }
     {
-        match H::read(document, members) {
+        match H::read(alloc, document, members) {
             Ok(head) => Ok(SetHead::holding(document, id, edit, follows, head)),
-            Err(refusal) => Err(MoreFault::Map(refusal)),
+            Err(fault) => Err(more_fault(fault)),
         }
     }
 
@@ -107,7 +109,7 @@ impl<H: Head> SetHead<H> {
             return Err(MoreFault::Edit(EditFault::NoMemory));
         };
         let edit = MemberEdit::Set(MapText::new(name));
-        SetHead::saying(document, id, edit, follows, members)
+        SetHead::saying(alloc, document, id, edit, follows, members)
     }
 
     /// The command that gives each own member of the owner with an id that a JSON text names the value that it says, all at once,
@@ -141,7 +143,7 @@ impl<H: Head> SetHead<H> {
         if members.put_all(alloc, words).is_err() {
             return Err(MoreFault::Edit(EditFault::NoMemory));
         }
-        SetHead::saying(document, id, MemberEdit::Put, follows, members)
+        SetHead::saying(alloc, document, id, MemberEdit::Put, follows, members)
     }
 
     /// The command that takes the own member of the owner with an id that has this name out, not made yet. It holds all that its
@@ -171,6 +173,6 @@ impl<H: Head> SetHead<H> {
             return Err(MoreFault::NoSuchMember);
         }
         members.remove(name);
-        SetHead::saying(document, id, MemberEdit::Remove, false, members)
+        SetHead::saying(alloc, document, id, MemberEdit::Remove, false, members)
     }
 }

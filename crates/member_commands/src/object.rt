@@ -7,8 +7,8 @@ use command_api::OwnerHead;
 use json_trees::RESERVED_NAME;
 use map_json::{is_object_head, object_head_members, read_object_head};
 use map_model::{Document, MemberOwner, ObjectHead, names};
-use map_values::JsonObject;
-use refusals::{EditFault, MapRefusal};
+use map_values::{JsonObject, MapFault};
+use refusals::EditFault;
 use std::alloc::{AllocError, Global};
 
 // Whether the lines of own members change the member of an object that has this name.
@@ -48,8 +48,12 @@ impl Head for ObjectHead {
         object_head_members(alloc, object)
     }
 
-    fn read(_document: &Document, members: JsonObject) -> Result<ObjectHead, MapRefusal> {
-        read_object_head(members)
+    fn read(
+        _alloc: Global,
+        _document: &Document,
+        members: JsonObject,
+    ) -> Result<ObjectHead, MapFault> {
+        Ok(read_object_head(members)?)
     }
 
     fn is_of(&self, document: &Document, id: u32) -> bool {

@@ -22,7 +22,7 @@ use Rattle.object_commands.specs.Names.{add_object_names, remove_object_names, m
 
 -- ---- objects that are put in and taken out
 abbrev pub add_object_exchange : AddObject → Exchange
-add_object_exchange c = link add_object_names (next_object_slot c.layer c.id) c.object
+add_object_exchange c = link add_object_names (next_object_slot c.layer c.next c.raised) c.object
 
 abbrev pub add_object_change : AddObject → Change
 add_object_change c = change_of (add_object_exchange c)

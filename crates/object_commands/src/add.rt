@@ -1,9 +1,13 @@
-ghost use Rattle.std.specs.Prelude.{◌≡◌, Some, None, Ok, Err, IfOk, IfErr, MatchResult, if◌then◌else◌, refl};
+ghost use Rattle.std.specs.Prelude.{◌≡◌, ◌<◌, IsTrue, Some, None, Ok, Err, IfOk, IfErr, MatchResult, if◌then◌else◌, refl};
+ghost use Rattle.map_model.specs.declared.limits.TheConstants.{MAX_NEXT_ID};
+ghost use Rattle.map_model.specs.Keeping.{object_tier};
 ghost use Rattle.map_model.specs.NewMap.{new_object};
 ghost use Rattle.map_model.specs.Lookups.{layer_of};
-ghost use Rattle.map_model.specs.WellFormed.{IsPixels};
+ghost use Rattle.map_model.specs.Objects.{object_place};
+ghost use Rattle.map_model.specs.Properties.{tier_of};
+ghost use Rattle.map_model.specs.WellFormed.{IsId, IsObject, IsPixels};
 ghost use Rattle.command_api.specs.Making.{IsRefusalOf, Makes};
-ghost use Rattle.edits.specs.ObjectEdits.{after_add_object, is_object_size, objects_or_fault, placing_of};
+ghost use Rattle.edits.specs.ObjectEdits.{after_add_object, after_put_object, has_given_room, is_object_size, next_above, objects_or_fault, placing_of};
 ghost use Rattle.object_commands.specs.Changes.{add_object_change, add_object_exchange};
 ghost use Rattle.object_commands.specs.Names.{add_object_names};
 
@@ -20,6 +24,9 @@ use std::alloc::{AllocError, Global};
 pub struct AddObject {
     layer: u32,
     id: u32,
+    // The next object id while the object is not in the map, and while it is.
+    next: u32,
+    raised: u32,
     object: Option<Loose<Object>>,
 }
 
@@ -58,6 +65,46 @@ impl AddObject {
             Ok(object) => Ok(AddObject {
                 layer,
                 id,
+                next: id,
+                raised: id + 1,
+                object: Some(object),
+            }),
+            Err(_) => Err(EditFault::NoMemory),
+        }
+    }
+
+    /// The command that adds an object as it is given to an object layer, not made yet. Where it has no id, it takes the next
+    /// object id. The document stays as it is.
+    ///
+    /// Refused, in this order: where there is no layer with the id; where it is not an object layer; where the layer has
+    /// 4,096 objects, or the object has no id and the next object id is 2,147,483,647; and then where there is no memory.
+    pub fn put(
+        alloc: Global,
+        document: &Document,
+        layer: u32,
+        object: Object,
+        has_id: bool,
+    ) -> Result<AddObject, EditFault>
+        requires object { IsObject (object_tier (tier_of document.now.map layer)) object }
+        requires id { IsTrue has_id → IsId MAX_NEXT_ID object.id }
+        requires free { IsTrue has_id → object_place document.now.map object.id ≡ None }
+        ensures command { IfOk result (λ c. Makes add_object_names document.now (after_put_object document.now layer has_id object) (add_object_change c)) }
+        ensures refusal { IfErr result (IsRefusalOf (after_put_object document.now layer has_id object)) }
+    {
+        let map = document.map();
+        let objects = objects_of_layer(map, layer)?;
+        let next = map.parts().next_object_id;
+        if !has_given_room(map, objects, has_id) {
+            return Err(EditFault::TooMany);
+        }
+        let object = with_own_id(object, has_id, next);
+        let id = object.id;
+        match Loose::new(alloc, object) {
+            Ok(object) => Ok(AddObject {
+                layer,
+                id,
+                next,
+                raised: next_above(id, next),
                 object: Some(object),
             }),
             Err(_) => Err(EditFault::NoMemory),
@@ -65,8 +112,36 @@ impl AddObject {
     }
 }
 
-// The objects of the layer with an id.
-fn objects_of_layer(map: &Map, layer: u32) -> Result<&LinkTree<Object>, EditFault>
+// Whether there may be one more object beside these, and one more id where it has none.
+fn has_given_room(map: &Map, objects: &LinkTree<Object>, has_id: bool) -> bool
+    ensures { result ≡ has_given_room map.now has_id objects.now }
+{
+    objects.len() < MAX_OBJECTS && (has_id || map.parts().next_object_id < MAX_NEXT_ID)
+}
+
+// An object that has an id, or gets the next one.
+fn with_own_id(object: Object, has_id: bool, next: u32) -> Object
+    ensures { result ≡ if has_id then object else record object { id = next } }
+{
+    if has_id {
+        object
+    } else {
+        Object { id: next, ..object }
+    }
+}
+
+// The next id, above an id too.
+fn next_above(id: u32, next: u32) -> u32
+    requires { id < MAX_NEXT_ID }
+    ensures { result ≡ next_above id next }
+{
+    if id < next { next } else { id + 1 }
+}
+
+/// The objects of the layer with an id.
+///
+/// Refused where there is no such layer, and then where it is not an object layer.
+pub fn objects_of_layer(map: &Map, layer: u32) -> Result<&LinkTree<Object>, EditFault>
     ensures { MatchResult result (λ objects. objects_or_fault (layer_of map.now layer) ≡ Ok objects.now) (λ fault. objects_or_fault (layer_of map.now layer) ≡ Err fault) }
 {
     let Some(layer) = map.layer(layer) else {
@@ -133,13 +208,13 @@ impl Exchange for AddObject {
         };
         match self.object.take() {
             Some(object) => {
-                document.set_next_ids(next_layer, self.id + 1);
+                document.set_next_ids(next_layer, self.raised);
                 document.insert_object(place, object);
             }
             None => {
                 let last = place.sibling(place.at - 1);
                 self.object = Some(document.take_object(last));
-                document.set_next_ids(next_layer, self.id);
+                document.set_next_ids(next_layer, self.next);
             }
         }
     }

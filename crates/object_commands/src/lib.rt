@@ -7,6 +7,6 @@ mod place;
 mod remove;
 mod size;
 
-pub use add::AddObject;
+pub use add::{AddObject, objects_of_layer};
 pub use place::PlaceObject;
 pub use remove::RemoveObject;

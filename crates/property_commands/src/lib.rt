@@ -7,6 +7,7 @@ mod remove;
 mod set;
 mod tilesets;
 
+pub use owners::place_of;
 pub use remove::RemoveProperty;
 pub use set::{PropertySet, SetProperty};
 pub use tilesets::{AddTileset, RemoveTileset};

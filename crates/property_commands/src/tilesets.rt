@@ -1,7 +1,8 @@
 ghost use Rattle.std.specs.Prelude.{◌≡◌, Some, Err, IfOk, IfErr, refl};
 ghost use Rattle.map_model.specs.NewMap.{external_tileset};
+ghost use Rattle.map_model.specs.WellFormed.{IsTileset};
 ghost use Rattle.command_api.specs.Making.{IsRefusalOf, Makes};
-ghost use Rattle.edits.specs.TilesetEdits.{after_add_tileset, after_remove_tileset, is_above};
+ghost use Rattle.edits.specs.TilesetEdits.{after_add_tileset, after_put_tileset, after_remove_tileset, is_above};
 ghost use Rattle.property_commands.specs.TilesetChanges.{add_tileset_change, add_tileset_exchange, remove_tileset_change, remove_tileset_exchange};
 ghost use Rattle.property_commands.specs.Names.{add_tileset_names, remove_tileset_names};
 
@@ -49,6 +50,38 @@ impl AddTileset {
             return Err(EditFault::TooMany);
         }
         match loose_tileset(alloc, first_id, source) {
+            Ok(tileset) => Ok(AddTileset {
+                at,
+                tileset: Some(tileset),
+                first_id,
+            }),
+            Err(_) => Err(EditFault::NoMemory),
+        }
+    }
+
+    /// The command that adds a tileset as it is given, not made yet. The document stays as it is.
+    ///
+    /// Refused where its first id is not above all others, then where there are 256 tilesets, and then where there is no memory.
+    pub fn put(
+        alloc: Global,
+        document: &Document,
+        tileset: Tileset,
+    ) -> Result<AddTileset, EditFault>
+        requires { IsTileset tileset }
+        ensures command { IfOk result (λ c. Makes add_tileset_names document.now (after_put_tileset document.now tileset) (add_tileset_change c)) }
+        ensures refusal { IfErr result (IsRefusalOf (after_put_tileset document.now tileset)) }
+        ensures first { IfOk result (λ c. c.first_id ≡ tileset.first_id) }
+    {
+        let tilesets = &document.map().parts().tilesets;
+        let first_id = tileset.first_id;
+        if !is_above_all(tilesets, first_id) {
+            return Err(EditFault::FirstIdNotAbove);
+        }
+        let at = tilesets.len();
+        if at >= MAX_TILESETS {
+            return Err(EditFault::TooMany);
+        }
+        match Loose::new(alloc, tileset) {
             Ok(tileset) => Ok(AddTileset {
                 at,
                 tileset: Some(tileset),

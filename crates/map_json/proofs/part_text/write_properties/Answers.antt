@@ -1,4 +1,4 @@
-use Rattle.std.proofs.Common.{◌≡◌, Some, sym, ap, ◌∙◌}
+use Rattle.std.proofs.Common.{Some, sym, ap, ◌∙◌}
 use Rattle.serde_json.specs.Written.{compact_text}
 use Rattle.map_json.proofs.Pieces.{properties_of-whole}
 use Rattle.map_json.proofs.part_text.write_properties.Goals as goal

@@ -1,6 +1,6 @@
 use Rattle.std.proofs.Common.{◌≡◌}
 use Rattle.serde_json.specs.View.{members_view}
-use Rattle.member_commands.specs.Edits.{all_named}
+use Rattle.map_json.specs.Words.{all_named}
 use Rattle.member_commands.proofs.making.are_own.Given as goal
 
 abbrev pub invariant-loop-name : goal.invariant-loop-name

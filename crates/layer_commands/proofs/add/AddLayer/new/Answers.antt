@@ -8,6 +8,6 @@ returns-in-Ok-clause-command c =
     let same : c.parts-parts.result.now ≡ d.map = c.parts-parts.ensures.value ∙ c.map-map.ensures in
     rw same (
     add_made d c.args.kind c.args.name.now c.in-Ok.layer c.utf8.name (rw same at c.in-Ok.ensures)
-    (rw (c.layer_count.ensures.count, c.map-map.ensures) at c.if-layer_count-ge-MAX_LAYERS.false)
-    (rw same at c.if-parts-ge-MAX_NEXT_ID.false) (rw c.map-map.ensures at c.parts-parts.ensures.well_formed)
+    (rw (c.has_room.ensures, c.map-map.ensures) at c.if-not-has_room.false)
+    (rw c.map-map.ensures at c.parts-parts.ensures.well_formed)
     )

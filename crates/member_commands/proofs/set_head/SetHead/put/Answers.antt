@@ -13,4 +13,4 @@ saying-requires g c = λ head e.
     let p = g.H.Head.parts in
     let is = ok_then c.put_all.result _ c.put_all.ensures c.if-is_err.ensures.value in
     put_fits p g.met.H.Head.laws c.args.id c.args.document.now c.is_there.ensures.well_formed c.in-Ok.words c.in-Ok-members.members c.in-Ok-members.ensures
-    c.in-Ok.ensures.words head (ap (p.read c.args.document.now) (sym is) ∙ e)
+    c.in-Ok.ensures.words (sym c.are_own.ensures ∙ c.if-not-are_own.false) head (ap (p.read c.args.document.now) (sym is) ∙ e)

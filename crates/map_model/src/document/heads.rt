@@ -1,0 +1,34 @@
+// Changes of heads. Those of objects stand with the changes of objects.
+ghost use Rattle.std.specs.Prelude.{◌≡◌, Some, IsSome};
+ghost use Rattle.std.specs.Option.{option_map};
+ghost use Rattle.map_model.specs.Document.{with_map, IsDocument};
+ghost use Rattle.map_model.specs.Heads.{layer_head, layer_with_head, map_head, map_with_head};
+ghost use Rattle.map_model.specs.Lookups.{layer_of, with_layer};
+ghost use Rattle.map_model.specs.WellFormed.{IsWellFormed};
+
+use crate::document::Document;
+use crate::heads::{LayerHead, MapHead};
+use crate::layers::head_layer_in;
+
+impl Document {
+    /// Gives the layer with an id another head, and hands the old one back. The map is well formed with it.
+    pub fn set_layer_head(&mut self, layer: u32, head: LayerHead) -> LayerHead
+        requires there { IsSome (layer_of self.old.map layer) }
+        requires well_formed { IsWellFormed (with_layer layer (layer_with_head head) self.old.map) }
+        ensures given { option_map layer_head (layer_of self.old.map layer) ≡ Some result }
+        ensures document { self.new ≡ with_map (with_layer layer (layer_with_head head)) self.old }
+        ensures well_formed { IsDocument self.new }
+    {
+        head_layer_in(&mut self.map.parts.layers, layer, head)
+    }
+
+    /// Gives the map another head, and hands the old one back. The map is well formed with it.
+    pub fn set_map_head(&mut self, head: MapHead) -> MapHead
+        requires { IsWellFormed (map_with_head head self.old.map) }
+        ensures given { result ≡ map_head self.old.map }
+        ensures document { self.new ≡ with_map (map_with_head head) self.old }
+        ensures well_formed { IsDocument self.new }
+    {
+        self.map.parts.replace_head(head)
+    }
+}

@@ -1,0 +1,35 @@
+-- The heads of layers.
+use Rattle.std.specs.Prelude.{refl}
+use Rattle.map_model.specs.declared.heads.LayerHead.{LayerHead}
+use Rattle.map_model.specs.declared.owner.MemberOwner.TheVariants as owners
+use Rattle.map_model.specs.Heads.{layer_head_with_id}
+use Rattle.map_json.specs.LayerHeads.{is_layer_member, layer_head_at, layer_head_members}
+use Rattle.refusals.specs.declared.edit_fault.EditFault.TheVariants.{NoSuchLayer}
+use Rattle.command_api.specs.Heads.{LayersHead}
+use Rattle.command_api.proofs.ShownHeads.{head_owner-Layer}
+use Rattle.map_json.proofs.HeadedLayers.{layer_put-well_formed, layer_without-well_formed}
+use Rattle.map_model.proofs.HeadLaws.{layer_head-laws}
+use Rattle.member_commands.specs.Heads.{AreHeadParts, HeadParts}
+
+abbrev pub layer_heads : HeadParts LayerHead
+layer_heads = record {
+  owner = owners.Layer;
+  lens = layer_head_with_id;
+  shown = LayersHead;
+  absence = NoSuchLayer;
+  is_own = is_layer_member;
+  members = layer_head_members;
+  read = λ d. layer_head_at;
+}
+
+pub layer_heads-laws : AreHeadParts layer_heads
+layer_heads-laws = record {
+  absence = λ e. cc;
+  lawful = layer_head-laws;
+  owned = λ id h. refl;
+  only = head_owner-Layer;
+  undone = λ id h d. refl;
+  fits = λ id h d. (λ f. f, λ f. f);
+  put_in = layer_put-well_formed;
+  taken_out = layer_without-well_formed;
+}
