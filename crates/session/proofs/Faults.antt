@@ -53,7 +53,7 @@ line_back : (ws : List (List ℕ)) → IsOk (read line_form ws) → AllByRecursi
 line_back [] o c = absurd cc
 line_back (w ∷ ws) o c = (words-spaced w ws c, length-spaced w ws)
 
-within : (n m : ℕ) → m ≤ MAX_LINE + 1 → (n ≤ m) ⊎ (n ≤ MAX_LINE + 1) → n ≤ MAX_LINE + 1
+pub within : (n m : ℕ) → m ≤ MAX_LINE + 1 → (n ≤ m) ⊎ (n ≤ MAX_LINE + 1) → n ≤ MAX_LINE + 1
 within n m h (inl less) = omega (arith, h, less)
 within n m h (inr less) = less
 

@@ -33,7 +33,7 @@ word_from {A} (Some value) ws x e =
     let same : ◌≡◌ {A = A × List (List ℕ)} (value, ws) x = cc in
     (ap (λ (y : A × List (List ℕ)). Some y.0) same, ap (λ (y : A × List (List ℕ)). y.1) same)
 
-reads_word : {A : Type 0} (value_of : List ℕ → Option A) → IsReader (word_at value_of) 1 (λ _. 0)
+pub reads_word : {A : Type 0} (value_of : List ℕ → Option A) → IsReader (word_at value_of) 1 (λ _. 0)
 unfolding word_at
 reads_word {A} value_of = record { splits = splits; again = again; refuses = refuses; few = λ _. omega arith }
   where

@@ -14,22 +14,22 @@ use Rattle.session.specs.Faults.{text_words, cut_by, field_size, line_words, IsF
 use Rattle.session.proofs.Bars.{joined-cut_at_bars}
 use Rattle.session.proofs.FieldWords.{reads_field}
 
-abbrev is_none : List (List ℕ) → Bool
+abbrev pub is_none : List (List ℕ) → Bool
 is_none [] = true
 is_none (w ∷ ws) = false
 
 -- words that make the same text, and are none where the others are
-record SameText (us ws : List (List ℕ)) : Type 0 where
-  text : spaced us ≡ spaced ws
-  none : is_none us ≡ is_none ws
+pub record SameText (us ws : List (List ℕ)) : Type 0 where
+  pub text : spaced us ≡ spaced ws
+  pub none : is_none us ≡ is_none ws
 
-same_behind : (w : List ℕ) (us ws : List (List ℕ)) → SameText us ws → SameText (w ∷ us) (w ∷ ws)
+pub same_behind : (w : List ℕ) (us ws : List (List ℕ)) → SameText us ws → SameText (w ∷ us) (w ∷ ws)
 same_behind w [] [] s = record { text = refl; none = refl }
 same_behind w [] (v ∷ vs) s = let never : true ≡ false = s.none in absurd cc
 same_behind w (u ∷ us) [] s = let never : false ≡ true = s.none in absurd cc
 same_behind w (u ∷ us) (v ∷ vs) s = record { text = ap (λ text. w ++ (32 ∷ text)) s.text; none = refl }
 
-behind_all : (front us ws : List (List ℕ)) → SameText us ws → SameText (front ++ us) (front ++ ws)
+pub behind_all : (front us ws : List (List ℕ)) → SameText us ws → SameText (front ++ us) (front ++ ws)
 behind_all [] us ws s = s
 behind_all (w ∷ front) us ws s = same_behind w (front ++ us) (front ++ ws) (behind_all front us ws s)
 
@@ -66,7 +66,7 @@ joined (Fails fault) ws = record { text = refl; none = refl }
 pub words_are_the_line : WordsAreTheLine
 words_are_the_line bytes = (joined line_form (words bytes)).text ∙ join_with_byte-slice_split 32 bytes
 
-shortened : (n m : ℕ) (us ws : List (List ℕ)) → n ≤ m → take m us ≡ take m ws → take n us ≡ take n ws
+pub shortened : (n m : ℕ) (us ws : List (List ℕ)) → n ≤ m → take m us ≡ take m ws → take n us ≡ take n ws
 shortened n m us ws h e = sym (take-take n m us h) ∙ ap (take n) e ∙ take-take n m ws h
 
 -- the words up to the first place would be those of a line

@@ -24,3 +24,8 @@ pub mod Joined
 pub mod MoreOwners
 pub mod MoreCutting
 pub mod MoreForms
+pub mod MorePlaces
+pub mod MoreOthers
+pub mod MoreFaults
+pub mod AnyFaults
+pub mod Apart

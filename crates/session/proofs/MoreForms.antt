@@ -1,24 +1,24 @@
--- A form of the lines of own members reads what is spelled by it, and what it reads is spelled so.
-use Rattle.std.proofs.Common.{◌≡◌, ℕ, ◌≤◌, cond, true, false, leb, ltb, eqb, not, Bool, ◌&&◌, List, [], ◌∷◌, ◌++◌, length}
+-- A form of the lines for all edits reads what is spelled by it, and what it reads is spelled so.
+use Rattle.std.proofs.Common.{◌≡◌, ℕ, ◌≤◌, cond, true, false, ltb, eqb, not, Bool, ◌&&◌, List, [], ◌∷◌, ◌++◌, length}
 use Rattle.std.proofs.Common.{Ok, Err, Result, Option, Some, None, refl, sym, ap, ◌∙◌, subst, arith, rules}
 use Rattle.std.specs.Prelude.{IfOk, option_and_then}
 use Rattle.std.specs.List.{AllByRecursion, flat_map, list_all}
-use Rattle.std.specs.Str.{bytes_eq, is_utf8}
+use Rattle.std.specs.Str.{IsUtf8, bytes_eq, is_utf8}
 use Rattle.std.proofs.lemmas.List.{append-nil}
 use Rattle.std.proofs.lemmas.List.Splits.{join_with_byte-slice_split}
-use Rattle.std.proofs.lemmas.Bool.{and_parts, cond_both, eqb-true, le-leb, lt-ltb, ltb-false, ne_eqb, not-false}
+use Rattle.std.proofs.lemmas.Bool.{and_parts, cond_both, lt-ltb, ltb-false, ne_eqb, not-false}
 use Rattle.std.proofs.lemmas.Slice.Eq.{bytes_eq-Decides}
 use Rattle.std.proofs.lemmas.Str.{IsUtf8-from_is_utf8}
-use Rattle.map_model.specs.declared.owner.MemberOwner.{MemberOwner}
+use Rattle.map_model.specs.declared.parts.MoreLayerKind.TheVariants.{Group, Image}
 use Rattle.session.specs.declared.limits.TheConstants.{MAX_LINE}
 use Rattle.session.specs.declared.more_line.MoreLine.{MoreLine}
-use Rattle.session.specs.declared.more_line.MoreLine.TheVariants.{SetMember, PutMembers, RemoveMember}
+use Rattle.session.specs.declared.more_line.MoreLine.TheVariants.{SetMember, PutMembers, RemoveMember, AddLayer, PutObject, TakeProperty, PutTileset}
 use Rattle.refusals.specs.declared.line_fault.LineFault.{LineFault}
 use Rattle.refusals.specs.declared.line_fault.LineFault.TheVariants.{BadWord}
-use Rattle.session.specs.Grammar.{FieldKind, FieldValue, Gives, Key, ends_at, field_at, word_at, word_is, ◌>>=◌}
-use Rattle.session.specs.MoreGrammar.{MoreKind, Common, OwnerOfMembers, MoreValue, MoreForm, Ends, Json, Field, Word, Fails}
+use Rattle.session.specs.Grammar.{FieldKind, FieldValue, Gives, Number, Key, OwnerName, ends_at, field_at, last_text_at, word_at, ◌>>=◌}
+use Rattle.session.specs.MoreGrammar.{MoreKind, Common, OwnerOfMembers, MoreValue, MoreForm, Ends, Text, Json, Field, Word, Fails}
 use Rattle.session.specs.MoreGrammar.{last_json_at, member_owner_of, more_field_at, more_form, more_line_of, read_more}
-use Rattle.session.specs.MoreSpelling.{MoreToken, Fixed, Given, Rest, IsJsonText, IsMoreField, IsMoreToken, CanBeSpelledMore}
+use Rattle.session.specs.MoreSpelling.{MoreToken, Fixed, Given, RestText, RestJson, IsJsonText, IsMoreField, IsMoreToken, CanBeSpelledMore}
 use Rattle.session.specs.MoreSpelling.{member_owner_word, more_field_words, more_spelling, more_token_words, more_tokens}
 use Rattle.session.specs.MoreSpelling.{MoreLongIsNotRead, MoreReadIsSpelled, MoreSpelledIsRead}
 use Rattle.session.specs.Spelling.{spaced}
@@ -26,24 +26,24 @@ use Rattle.session.specs.Words.{words}
 use Rattle.session.proofs.Coordinates.{and_then_from}
 use Rattle.session.proofs.MoreCutting.{json_of_words, more_checked}
 use Rattle.session.proofs.MoreOwners.{member_owner_from, member_owner_of-word, plain_member_owner}
-use Rattle.session.proofs.ReadFields.{ReadField, end_is_read, field_is_read, if_bind, if_then, if_word}
+use Rattle.session.proofs.ReadFields.{ReadField, ReadText, end_is_read, field_is_read, if_bind, if_then, if_word, text_is_read}
 use Rattle.session.proofs.SpacedWords.{Clean, clean, clean_words, plain_literal, utf8-spaced, words-spaced}
-use Rattle.session.proofs.SpelledFields.{clean_field, field_at-words, word_at-word}
+use Rattle.session.proofs.SpelledFields.{clean_field, field_at-words, last_text_at-words, word_at-word}
 
 -- ---- a field
-more_field_at-words : (kind : MoreKind) (value : MoreValue kind) (ws : List (List ℕ)) → IsMoreField kind value
+pub more_field_at-words : (kind : MoreKind) (value : MoreValue kind) (ws : List (List ℕ)) → IsMoreField kind value
     → more_field_at kind (more_field_words kind value ++ ws) ≡ Ok (value, ws)
 more_field_at-words (Common kind) value ws h = field_at-words kind value ws h
 more_field_at-words OwnerOfMembers owner ws h = word_at-word member_owner_of (member_owner_word owner) owner ws (member_owner_of-word owner h)
 
-clean_more_field : (kind : MoreKind) (value : MoreValue kind) → IsMoreField kind value → AllByRecursion Clean (more_field_words kind value)
+pub clean_more_field : (kind : MoreKind) (value : MoreValue kind) → IsMoreField kind value → AllByRecursion Clean (more_field_words kind value)
 clean_more_field (Common kind) value h = clean_field kind value h
 clean_more_field OwnerOfMembers owner h = (clean _ (plain_member_owner owner h), tt)
 
 -- a field with this value was read, and these words are left
-record ReadMore (kind : MoreKind) (ws : List (List ℕ)) (x : MoreValue kind × List (List ℕ)) : Type 0 where
-  fits : IsMoreField kind x.0
-  words : ws ≡ more_field_words kind x.0 ++ x.1
+pub record ReadMore (kind : MoreKind) (ws : List (List ℕ)) (x : MoreValue kind × List (List ℕ)) : Type 0 where
+  pub fits : IsMoreField kind x.0
+  pub words : ws ≡ more_field_words kind x.0 ++ x.1
 
 owner_is_read : (ws : List (List ℕ)) → IfOk (word_at member_owner_of ws) (ReadMore OwnerOfMembers ws)
 unfolding word_at
@@ -52,7 +52,7 @@ owner_is_read (w ∷ ws) =
     if_word (member_owner_of w) (λ x. Ok (x, ws)) (ReadMore OwnerOfMembers (w ∷ ws))
     (λ x e. let at = member_owner_from w x e in record { fits = at.1; words = ap (λ v. v ∷ ws) (sym at.0) })
 
-more_field_is_read : (kind : MoreKind) (ws : List (List ℕ)) → AllByRecursion Clean ws → IfOk (more_field_at kind ws) (ReadMore kind ws)
+pub more_field_is_read : (kind : MoreKind) (ws : List (List ℕ)) → AllByRecursion Clean ws → IfOk (more_field_at kind ws) (ReadMore kind ws)
 more_field_is_read (Common kind) ws h =
     if_then (field_at kind ws) (ReadField kind ws) (ReadMore (Common kind) ws) (field_is_read kind ws h) (λ x t. record { fits = t.fits; words = t.words })
 more_field_is_read OwnerOfMembers ws h = owner_is_read ws
@@ -83,7 +83,9 @@ json_is_read (w ∷ ws) h =
 
 -- ---- what is spelled is read
 abbrev same_field : (kind other : FieldKind) → FieldValue other → Option (FieldValue kind)
+same_field Number Number number = Some number
 same_field Key Key name = Some name
+same_field OwnerName OwnerName owner = Some owner
 same_field kind other value = None
 
 abbrev same_value : (kind other : MoreKind) → MoreValue other → Option (MoreValue kind)
@@ -99,14 +101,17 @@ value_of kind token = None
 -- the line that tokens are by a form
 abbrev follow : MoreForm → List MoreToken → Option MoreLine
 follow (Ends line) [] = Some line
-follow (Json line) (Rest json ∷ []) = Some (line json)
+follow (Text line) (RestText text ∷ []) = Some (line text)
+follow (Json line) (RestJson json ∷ []) = Some (line json)
 follow (Field kind form) (token ∷ ts) = option_and_then (λ value. follow (form value) ts) (value_of kind token)
 follow (Word word form other) (Fixed w ∷ ts) = cond (bytes_eq w word) (follow form ts) (follow other (Fixed w ∷ ts))
 follow form ts = None
 
 given_field : (kind other : FieldKind) (value : FieldValue other) (v : FieldValue kind) → same_field kind other value ≡ Some v
     → Given (Common other) value ≡ Given (Common kind) v
+given_field Number Number value v e = ap (Given (Common Number)) cc
 given_field Key Key value v e = ap (Given (Common Key)) cc
+given_field OwnerName OwnerName value v e = ap (Given (Common OwnerName)) cc
 given_field kind other value v e = absurd cc
 
 given : (kind : MoreKind) (token : MoreToken) (value : MoreValue kind) → value_of kind token ≡ Some value → token ≡ Given kind value
@@ -115,14 +120,17 @@ given (Common kind) (Given OwnerOfMembers owner) v e = absurd cc
 given OwnerOfMembers (Given (Common other) value) v e = absurd cc
 given OwnerOfMembers (Given OwnerOfMembers owner) v e = ap (Given OwnerOfMembers) cc
 given kind (Fixed word) v e = absurd cc
-given kind (Rest json) v e = absurd cc
+given kind (RestText text) v e = absurd cc
+given kind (RestJson json) v e = absurd cc
 
 -- the words of tokens that a form follows are read by it
 followed_is_read : (form : MoreForm) (ts : List MoreToken) (line : MoreLine) → follow form ts ≡ Some line → AllByRecursion IsMoreToken ts
     → read_more form (flat_map more_token_words ts) ≡ Ok line
 unfolding ends_at
 followed_is_read (Ends l) [] line e h = ap Ok cc
-followed_is_read (Json l) (Rest json ∷ []) line e h =
+followed_is_read (Text l) (RestText text ∷ []) line e h =
+    ap (λ r. r >>= λ t. Ok (l t)) (ap last_text_at (append-nil _) ∙ last_text_at-words text h.0) ∙ ap Ok cc
+followed_is_read (Json l) (RestJson json ∷ []) line e h =
     ap (λ r. r >>= λ t. Ok (l t)) (ap last_json_at (append-nil _) ∙ last_json_at-words json h.0) ∙ ap Ok cc
 followed_is_read (Field kind form) (token ∷ ts) line e h =
     let inner = and_then_from (λ value. follow (form value) ts) (value_of kind token) line e in
@@ -143,7 +151,8 @@ followed_is_read form ts line e h = absurd cc
 -- the lines of a form have the tokens that lead to them, behind those before them
 abbrev Agrees : MoreForm → (List MoreToken → List MoreToken) → Type 0
 Agrees (Ends line) prefix = more_tokens line ≡ prefix []
-Agrees (Json line) prefix = (json : List ℕ) → more_tokens (line json) ≡ prefix (Rest json ∷ [])
+Agrees (Text line) prefix = (text : List ℕ) → more_tokens (line text) ≡ prefix (RestText text ∷ [])
+Agrees (Json line) prefix = (json : List ℕ) → more_tokens (line json) ≡ prefix (RestJson json ∷ [])
 Agrees (Field kind form) prefix = (value : MoreValue kind) → Agrees (form value) (λ ts. prefix (Given kind value ∷ ts))
 Agrees (Word word form other) prefix = Agrees form (λ ts. prefix (Fixed word ∷ ts)) × Agrees other prefix
 Agrees (Fails fault) prefix = Unit {0}
@@ -163,8 +172,10 @@ read_is_spelled : (form : MoreForm) (prefix : List MoreToken → List MoreToken)
     → IfOk (read_more form ws) (Spells prefix ws)
 read_is_spelled (Ends line) prefix ws a h = if_bind (ends_at ws) _ (λ _. ws ≡ []) (Spells prefix ws) (end_is_read ws)
     (λ end e. record { ts = []; are = a; words = e; fit = tt })
+read_is_spelled (Text line) prefix ws a h = if_bind (last_text_at ws) _ (ReadText ws) (Spells prefix ws) (text_is_read ws h)
+    (λ t s. record { ts = RestText t ∷ []; are = a t; words = s.words ∙ sym (append-nil _); fit = (s.fits, tt) })
 read_is_spelled (Json line) prefix ws a h = if_bind (last_json_at ws) _ (ReadJson ws) (Spells prefix ws) (json_is_read ws h)
-    (λ t s. record { ts = Rest t ∷ []; are = a t; words = s.words ∙ sym (append-nil _); fit = (s.fits, tt) })
+    (λ t s. record { ts = RestJson t ∷ []; are = a t; words = s.words ∙ sym (append-nil _); fit = (s.fits, tt) })
 read_is_spelled (Field kind form) prefix ws a h =
     if_bind (more_field_at kind ws) _ (ReadMore kind ws) (Spells prefix ws) (more_field_is_read kind ws h) (λ x t.
     if_then (read_more (form x.0) x.1) (Spells (λ ts. prefix (Given kind x.0 ∷ ts)) x.1) (Spells prefix ws)
@@ -209,7 +220,8 @@ clean_tokens [] e h = tt
 clean_tokens (Fixed word ∷ ts) e h = let both = and_parts _ _ e in (clean word (plain_literal word both.0), clean_tokens ts both.1 h.1)
 clean_tokens (Given kind value ∷ ts) e h =
     clean_append _ (flat_map more_token_words ts) (clean_more_field kind value h.0) (clean_tokens ts e h.1)
-clean_tokens (Rest json ∷ ts) e h = clean_append _ (flat_map more_token_words ts) (clean_words json h.0.utf8) (clean_tokens ts e h.1)
+clean_tokens (RestText text ∷ ts) e h = clean_append _ (flat_map more_token_words ts) (clean_words text h.0.utf8) (clean_tokens ts e h.1)
+clean_tokens (RestJson json ∷ ts) e h = clean_append _ (flat_map more_token_words ts) (clean_words json h.0.utf8) (clean_tokens ts e h.1)
 
 -- what is found of each line by computing
 record LineFacts (line : MoreLine) : Type 0 where
@@ -225,17 +237,29 @@ facts (SetMember owner name json false) = record { follows = refl; plain = refl;
 facts (PutMembers owner json true) = record { follows = refl; plain = refl; first = _; more = _; words = refl }
 facts (PutMembers owner json false) = record { follows = refl; plain = refl; first = _; more = _; words = refl }
 facts (RemoveMember owner name) = record { follows = refl; plain = refl; first = _; more = _; words = refl }
+facts (AddLayer Group name) = record { follows = refl; plain = refl; first = _; more = _; words = refl }
+facts (AddLayer Image name) = record { follows = refl; plain = refl; first = _; more = _; words = refl }
+facts (PutObject layer json) = record { follows = refl; plain = refl; first = _; more = _; words = refl }
+facts (TakeProperty owner json) = record { follows = refl; plain = refl; first = _; more = _; words = refl }
+facts (PutTileset json) = record { follows = refl; plain = refl; first = _; more = _; words = refl }
+
+-- a spelling is UTF-8, and its words are those of the tokens
+pub more_words : (line : MoreLine) → CanBeSpelledMore line
+    → IsUtf8 (more_spelling line) × (words (more_spelling line) ≡ flat_map more_token_words (more_tokens line))
+more_words line h =
+    let r = facts line in
+    let ws = flat_map more_token_words (more_tokens line) in
+    let all = clean_tokens (more_tokens line) r.plain h.tokens in (
+      utf8-spaced ws all,
+      ap (λ vs. words (spaced vs)) r.words ∙ words-spaced r.first r.more (subst (AllByRecursion Clean) r.words all) ∙ sym r.words,
+    )
 
 pub more_spelled_is_read : MoreSpelledIsRead
 more_spelled_is_read line h =
-    let r = facts line in
-    let ws = flat_map more_token_words (more_tokens line) in
-    let all = clean_tokens (more_tokens line) r.plain h.tokens in
-    let back : words (more_spelling line) ≡ ws = ap (λ vs. words (spaced vs)) r.words ∙ words-spaced r.first r.more (subst (AllByRecursion Clean) r.words all)
-    ∙ sym r.words in
-    more_checked (more_spelling line) h.short (utf8-spaced ws all)
-    ∙ ap (read_more more_form) back
-    ∙ followed_is_read more_form (more_tokens line) line r.follows h.tokens
+    let back = more_words line h in
+    more_checked (more_spelling line) h.short back.0
+    ∙ ap (read_more more_form) back.1
+    ∙ followed_is_read more_form (more_tokens line) line (facts line).follows h.tokens
 
 settled : (bytes : List ℕ) (r : Result MoreLine LineFault) → length bytes ≤ MAX_LINE → IfOk r (Spells (λ ts. ts) (words bytes))
     → IfOk r (λ line. (bytes ≡ more_spelling line) × CanBeSpelledMore line)

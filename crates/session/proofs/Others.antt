@@ -38,11 +38,11 @@ use Rattle.session.proofs.Lengths.{field_room, total, total-append, total-words,
 use Rattle.session.proofs.FieldWords.{side_passed, field_passed, reads_field}
 use Rattle.session.proofs.Places.{passed, IsBranch, HasBranches, begins, behind_front}
 
-literal : (word : List ℕ) → list_all (λ b. ltb 32 b && ltb b 128) word ≡ true → Clean word
+pub literal : (word : List ℕ) → list_all (λ b. ltb 32 b && ltb b 128) word ≡ true → Clean word
 literal word h = clean word (plain_literal word h)
 
 -- a value of each field
-abbrev sample : (kind : FieldKind) → FieldValue kind
+abbrev pub sample : (kind : FieldKind) → FieldValue kind
 sample Number = 0
 sample Coordinate = pos 0
 sample Block = (1, 0 ∷ [])
@@ -56,7 +56,7 @@ sample Key = codes "x"
 sample Color = codes "#000000"
 sample OwnerName = owners.Map
 
-sample_fits : (kind : FieldKind) → IsField kind (sample kind)
+pub sample_fits : (kind : FieldKind) → IsField kind (sample kind)
 sample_fits Number = lit< tt
 sample_fits Coordinate = record { low = omega (arith, ints); high = omega (arith, ints) }
 sample_fits Block = record {
@@ -144,20 +144,20 @@ sample_room Block form k h =
     omega (arith, one, none, leb-true 50000 k h.0)
 sample_room kind form k h = omega (arith, field_within kind (sample kind) (sample_fits kind) (omega arith), leb-true (field_room kind + 1) k h.0)
 
-clean_append : (us ws : List (List ℕ)) → AllByRecursion Clean us → AllByRecursion Clean ws → AllByRecursion Clean (us ++ ws)
+pub clean_append : (us ws : List (List ℕ)) → AllByRecursion Clean us → AllByRecursion Clean ws → AllByRecursion Clean (us ++ ws)
 clean_append [] ws h k = k
 clean_append (u ∷ us) ws h k = (h.0, clean_append us ws h.1 k)
 
-clean_take : (n : ℕ) (ws : List (List ℕ)) → AllByRecursion Clean ws → AllByRecursion Clean (take n ws)
+pub clean_take : (n : ℕ) (ws : List (List ℕ)) → AllByRecursion Clean ws → AllByRecursion Clean (take n ws)
 clean_take zero ws h = tt
 clean_take (suc n) [] h = tt
 clean_take (suc n) (w ∷ ws) h = (h.0, clean_take n ws h.1)
 
-clean_behind : (us ws : List (List ℕ)) → AllByRecursion Clean (us ++ ws) → AllByRecursion Clean ws
+pub clean_behind : (us ws : List (List ℕ)) → AllByRecursion Clean (us ++ ws) → AllByRecursion Clean ws
 clean_behind [] ws h = h
 clean_behind (u ∷ us) ws h = clean_behind us ws h.1
 
-same_word : (word : List ℕ) → bytes_eq word word ≡ true
+pub same_word : (word : List ℕ) → bytes_eq word word ≡ true
 same_word word = (bytes_eq-Decides word word).1 refl
 
 example : (form : LineForm) (k : ℕ) → HasRoom k form → IsOpen form → GoesOn form → Example form k
@@ -284,7 +284,7 @@ front_room kind form k r ws x e c =
     inr (omega (arith, ap total front, field_within kind x.0 read.fits (omega arith), leb-true (field_room kind + 1) k r.0))
 
 -- a length with the same words in front
-short_behind : (front a b k j : ℕ) → (j ≡ 0) ⊎ (front + j ≤ k) → (a ≤ b) ⊎ (a ≤ j) → (front + a ≤ front + b) ⊎ (front + a ≤ k)
+pub short_behind : (front a b k j : ℕ) → (j ≡ 0) ⊎ (front + j ≤ k) → (a ≤ b) ⊎ (a ≤ j) → (front + a ≤ front + b) ⊎ (front + a ≤ k)
 short_behind front a b k j r (inl same) = inl (omega arith)
 short_behind front a b k j (inl none) (inr less) = inl (omega arith)
 short_behind front a b k j (inr room) (inr less) = inr (omega arith)

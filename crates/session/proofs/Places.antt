@@ -25,7 +25,7 @@ passed (Word word form other) (w ∷ ws) = cond (bytes_eq w word) (suc (passed f
 passed form ws = 0
 
 -- so many places behind one
-abbrev nexts : ℕ → ℕ → ℕ
+abbrev pub nexts : ℕ → ℕ → ℕ
 nexts zero place = place
 nexts (suc n) place = nexts n (next place)
 
@@ -39,11 +39,11 @@ nexts_small (suc n) place h =
     let moved : n + (place + 1) ≡ suc n + place = omega arith in
     ap (nexts n) one ∙ more ∙ moved
 
-behind : (kind : FieldKind) (n place : ℕ) → nexts n (behind_field kind place) ≡ nexts (field_size kind + n) place
+pub behind : (kind : FieldKind) (n place : ℕ) → nexts n (behind_field kind place) ≡ nexts (field_size kind + n) place
 behind Block n place = let same : suc (suc n) ≡ 2 + n = omega arith in ap (λ m. nexts m place) same
 behind kind n place = let same : suc n ≡ 1 + n = omega arith in ap (λ m. nexts m place) same
 
-refused : (kind : FieldKind) (place : ℕ) (ws : List (List ℕ)) → field_fault kind place ws ≡ nexts (field_passed kind ws) place
+pub refused : (kind : FieldKind) (place : ℕ) (ws : List (List ℕ)) → field_fault kind place ws ≡ nexts (field_passed kind ws) place
 refused Block place ws =
     elim (word_at number_of ws) as (λ r. either (λ (width : ℕ × List (List ℕ)). cond (is_side width.0) (next place) place) place r
     ≡ nexts (either (λ (width : ℕ × List (List ℕ)). cond (is_side width.0) 1 0) 0 r) place) [
@@ -71,7 +71,7 @@ fault_passed (Word word form other) place (w ∷ ws) =
     [ true ↦ fault_passed form (next place) ws | false ↦ fault_passed other place (w ∷ ws) ]
 fault_passed (Fails fault) place ws = refl
 
-size_within : (kind : FieldKind) → field_size kind ≤ 2
+pub size_within : (kind : FieldKind) → field_size kind ≤ 2
 size_within Block = omega arith
 size_within kind = omega arith
 
@@ -121,7 +121,7 @@ begins (Word word form other) b g w ws = cond_both (bytes_eq w word) (w ∷ cut_
     (λ _. record { rest = cut_by form ws; is = refl }) (λ _. begins other g.1 g.2 w ws)
 begins (Fails fault) b g w ws = record { rest = ws; is = refl }
 
-not_both : {A : Type 0} (r : Result A LineFault) → IsErr r → IsOk r → ⊥
+pub not_both : {A : Type 0} (r : Result A LineFault) → IsErr r → IsOk r → ⊥
 not_both (Ok x) e o = absurd cc
 not_both (Err f) e o = absurd cc
 
@@ -140,7 +140,7 @@ parts (x ∷ xs) (u ∷ us) ys vs l e =
 pub behind_front : (k n : ℕ) (xs ys : List (List ℕ)) → length xs ≡ k → take (k + n) (xs ++ ys) ≡ xs ++ take n ys
 behind_front k n xs ys l = ap (λ m. take (m + n) (xs ++ ys)) (sym l) ∙ take-append-add xs ys n
 
-fronts : (k n : ℕ) (xs us ys vs : List (List ℕ)) → length xs ≡ k → length us ≡ k → take (suc (k + n)) (xs ++ ys) ≡ take (suc (k + n)) (us ++ vs)
+pub fronts : (k n : ℕ) (xs us ys vs : List (List ℕ)) → length xs ≡ k → length us ≡ k → take (suc (k + n)) (xs ++ ys) ≡ take (suc (k + n)) (us ++ vs)
     → (xs ≡ us) × (take (suc n) ys ≡ take (suc n) vs)
 fronts k n xs us ys vs l m e =
     let moved : suc (k + n) ≡ k + suc n = omega arith in
@@ -152,7 +152,7 @@ NoneFurther form = (ws others : List (List ℕ)) → IsErr (read form ws) → Is
     → take (suc (passed form ws)) (cut_by form others) ≡ take (suc (passed form ws)) (cut_by form ws) → ⊥
 
 -- the same first words of a field are the same field
-same_field : (kind : FieldKind) (ws others : List (List ℕ)) (x y : FieldValue kind × List (List ℕ)) → field_at kind ws ≡ Ok x → field_at kind others ≡ Ok y
+pub same_field : (kind : FieldKind) (ws others : List (List ℕ)) (x y : FieldValue kind × List (List ℕ)) → field_at kind ws ≡ Ok x → field_at kind others ≡ Ok y
     → take (field_size kind) others ≡ take (field_size kind) ws → x.0 ≡ y.0
 same_field kind ws others x y e f same =
     let reader = reads_field kind in

@@ -8,3 +8,5 @@ pub mod Left
 pub mod Faults
 pub mod MoreGrammar
 pub mod MoreSpelling
+pub mod MoreLeft
+pub mod MoreFaults

@@ -1,5 +1,5 @@
--- Which texts are which lines of own members.
-use Rattle.std.specs.Prelude.{ℕ, Bool, true, false, not, ◌==◌, nat_lt, List, [], ◌∷◌, length, Option, None, Some, option_and_then, Result, Ok, Err, codes}
+-- Which texts are which lines for all edits.
+use Rattle.std.specs.Prelude.{ℕ, Bool, true, false, not, ◌==◌, nat_lt, List, [], ◌∷◌, length, Option, None, Some, Result, Ok, Err, codes}
 use Rattle.std.specs.Prelude.{if◌then◌else◌}
 use Rattle.std.specs.List.{join_with_byte, slice_split}
 use Rattle.std.specs.Str.{bytes_eq, is_utf8}
@@ -7,12 +7,13 @@ use Rattle.map_model.specs.declared.owner.MemberOwner.{MemberOwner}
 use Rattle.map_model.specs.declared.owner.MemberOwner.TheVariants as members
 use Rattle.map_model.specs.declared.owner.Owner.{Owner}
 use Rattle.map_model.specs.declared.owner.Owner.TheVariants as owners
+use Rattle.map_model.specs.declared.parts.MoreLayerKind.TheVariants.{Group, Image}
 use Rattle.session.specs.declared.limits.TheConstants.{MAX_LINE}
 use Rattle.session.specs.declared.more_line.MoreLine.{MoreLine}
-use Rattle.session.specs.declared.more_line.MoreLine.TheVariants.{SetMember, PutMembers, RemoveMember}
+use Rattle.session.specs.declared.more_line.MoreLine.TheVariants.{SetMember, PutMembers, RemoveMember, AddLayer, PutObject, TakeProperty, PutTileset}
 use Rattle.refusals.specs.declared.line_fault.LineFault.{LineFault}
 use Rattle.refusals.specs.declared.line_fault.LineFault.TheVariants.{TooLong, NotUtf8, UnknownCommand, BadWord}
-use Rattle.session.specs.Grammar.{◌>>=◌, FieldKind, FieldValue, Key, ends_at, field_at, word_at}
+use Rattle.session.specs.Grammar.{◌>>=◌, FieldKind, FieldValue, Number, Key, OwnerName, ends_at, field_at, last_text_at, word_at}
 use Rattle.session.specs.Words.{number_of, owner_of, words}
 
 -- ---- owners of members
@@ -64,10 +65,11 @@ last_json_at [] = Err BadWord
 last_json_at (w ∷ ws) = if length (join_with_byte 32 (w ∷ ws)) == 0 then Err BadWord else Ok (join_with_byte 32 (w ∷ ws))
 
 -- ---- forms
--- what may follow some words: no further word, a JSON text that all further words make, a field and what its value leads to, that
--- word and what it leads to or else the other form, or nothing
+-- what may follow some words: no further word, a text or a JSON text that all further words make, a field and what its value leads
+-- to, that word and what it leads to or else the other form, or nothing
 pub data MoreForm : Type 0 where
   Ends : MoreLine → MoreForm
+  Text : (List ℕ → MoreLine) → MoreForm
   Json : (List ℕ → MoreLine) → MoreForm
   Field : (kind : MoreKind) → (MoreValue kind → MoreForm) → MoreForm
   Word : List ℕ → MoreForm → MoreForm → MoreForm
@@ -76,6 +78,7 @@ pub data MoreForm : Type 0 where
 -- the line that words are by a form, or its fault
 abbrev pub read_more : MoreForm → List (List ℕ) → Result MoreLine LineFault
 read_more (Ends line) ws = ends_at ws >>= λ end. Ok line
+read_more (Text line) ws = last_text_at ws >>= λ text. Ok (line text)
 read_more (Json line) ws = last_json_at ws >>= λ json. Ok (line json)
 read_more (Field kind form) ws = more_field_at kind ws >>= λ value. read_more (form value.0) value.1
 read_more (Word word form other) [] = Err BadWord
@@ -107,11 +110,50 @@ member_lines =
     ∷ (codes "remove", remove_member_form)
     ∷ []
 
+-- the further kinds of layers, each with the layer's name
+abbrev pub more_layer_kinds : List (List ℕ × MoreForm)
+more_layer_kinds = (codes "group", Text (AddLayer Group)) ∷ (codes "image", Text (AddLayer Image)) ∷ []
+
+-- what else is done with a layer
+abbrev pub more_layer_lines : List (List ℕ × MoreForm)
+more_layer_lines = (codes "add", choose_more more_layer_kinds BadWord) ∷ []
+
+abbrev pub put_object_form : MoreForm
+put_object_form = Field (Common Number) λ layer. Json (PutObject layer)
+
+-- what else is done with an object
+abbrev pub more_object_lines : List (List ℕ × MoreForm)
+more_object_lines = (codes "put", put_object_form) ∷ []
+
+abbrev pub take_property_form : MoreForm
+take_property_form = Field (Common OwnerName) λ owner. Json (TakeProperty owner)
+
+-- what else is done with a property
+abbrev pub more_property_lines : List (List ℕ × MoreForm)
+more_property_lines = (codes "take", take_property_form) ∷ []
+
+abbrev pub put_tileset_form : MoreForm
+put_tileset_form = Json PutTileset
+
+-- what else is done with a tileset
+abbrev pub more_tileset_lines : List (List ℕ × MoreForm)
+more_tileset_lines = (codes "put", put_tileset_form) ∷ []
+
+-- the commands of all these lines
+abbrev pub more_commands : List (List ℕ × MoreForm)
+more_commands =
+    (codes "member", choose_more member_lines BadWord)
+    ∷ (codes "layer", choose_more more_layer_lines BadWord)
+    ∷ (codes "object", choose_more more_object_lines BadWord)
+    ∷ (codes "prop", choose_more more_property_lines BadWord)
+    ∷ (codes "tileset", choose_more more_tileset_lines BadWord)
+    ∷ []
+
 -- the form of all these lines
 abbrev pub more_form : MoreForm
-more_form = choose_more ((codes "member", choose_more member_lines BadWord) ∷ []) UnknownCommand
+more_form = choose_more more_commands UnknownCommand
 
--- the line of own members that a text is, or its fault
+-- the line for all edits that a text is, or its fault
 unfoldable pub more_line_of : List ℕ → Result MoreLine LineFault
 more_line_of bytes =
     if nat_lt MAX_LINE (length bytes) then Err TooLong

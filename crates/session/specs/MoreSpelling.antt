@@ -1,18 +1,20 @@
--- How a line of own members is spelled, and that this spelling is read.
-use Rattle.std.specs.Prelude.{◌≡◌, ℕ, ◌<◌, ◌≤◌, Bool, List, [], ◌∷◌, length, Ok, Err, codes}
+-- How a line for all edits is spelled, and that this spelling is read.
+use Rattle.std.specs.Prelude.{◌≡◌, ℕ, ◌<◌, ◌≤◌, List, [], ◌∷◌, length, Ok, Err, IsErr, codes}
 use Rattle.std.specs.Fmt.{decimal}
 use Rattle.std.specs.List.{flat_map, AllByRecursion}
 use Rattle.std.specs.Str.{IsUtf8}
 use Rattle.map_model.specs.declared.owner.MemberOwner.{MemberOwner}
 use Rattle.map_model.specs.declared.owner.MemberOwner.TheVariants as members
 use Rattle.map_model.specs.declared.owner.Owner.TheVariants as owners
+use Rattle.map_model.specs.declared.parts.MoreLayerKind.{MoreLayerKind}
+use Rattle.map_model.specs.declared.parts.MoreLayerKind.TheVariants.{Group, Image}
 use Rattle.session.specs.declared.limits.TheConstants.{MAX_LINE}
 use Rattle.session.specs.declared.more_line.MoreLine.{MoreLine}
-use Rattle.session.specs.declared.more_line.MoreLine.TheVariants.{SetMember, PutMembers, RemoveMember}
+use Rattle.session.specs.declared.more_line.MoreLine.TheVariants.{SetMember, PutMembers, RemoveMember, AddLayer, PutObject, TakeProperty, PutTileset}
 use Rattle.refusals.specs.declared.line_fault.LineFault.TheVariants.{TooLong}
-use Rattle.session.specs.Grammar.{Key}
+use Rattle.session.specs.Grammar.{Number, Key, OwnerName, line_of}
 use Rattle.session.specs.MoreGrammar.{MoreKind, Common, OwnerOfMembers, MoreValue, more_line_of}
-use Rattle.session.specs.Spelling.{IsField, IsNumber, IsOwner, colons, field_words, leading, owner_word, spaced}
+use Rattle.session.specs.Spelling.{IsField, IsNumber, IsOwner, IsText, colons, field_words, leading, owner_word, spaced}
 use Rattle.session.specs.Words.{words}
 
 -- the word of an owner of members
@@ -29,20 +31,30 @@ IsMemberOwner (members.Layer id) = IsOwner (owners.Layer id)
 IsMemberOwner (members.Object id) = IsOwner (owners.Object id)
 IsMemberOwner (members.Tileset id) = IsNumber id
 
--- a token of a spelled line: a word that is written out, a field with its value, or a JSON text that goes to the end
+-- the word of a further kind of layer
+abbrev pub more_layer_kind_word : MoreLayerKind → List ℕ
+more_layer_kind_word Group = codes "group"
+more_layer_kind_word Image = codes "image"
+
+-- a token of a spelled line: a word that is written out, a field with its value, or a text or a JSON text that goes to the end
 pub data MoreToken : Type 0 where
   Fixed : List ℕ → MoreToken
   Given : (kind : MoreKind) → MoreValue kind → MoreToken
-  Rest : List ℕ → MoreToken
+  RestText : List ℕ → MoreToken
+  RestJson : List ℕ → MoreToken
 
 -- the tokens of each line
 abbrev pub more_tokens : MoreLine → List MoreToken
 more_tokens (SetMember owner name json follows) =
-    Fixed (codes "member") ∷ Fixed (leading (codes "set") follows) ∷ Given OwnerOfMembers owner ∷ Given (Common Key) name ∷ Rest json ∷ []
+    Fixed (codes "member") ∷ Fixed (leading (codes "set") follows) ∷ Given OwnerOfMembers owner ∷ Given (Common Key) name ∷ RestJson json ∷ []
 more_tokens (PutMembers owner json follows) =
-    Fixed (codes "member") ∷ Fixed (leading (codes "put") follows) ∷ Given OwnerOfMembers owner ∷ Rest json ∷ []
+    Fixed (codes "member") ∷ Fixed (leading (codes "put") follows) ∷ Given OwnerOfMembers owner ∷ RestJson json ∷ []
 more_tokens (RemoveMember owner name) =
     Fixed (codes "member") ∷ Fixed (codes "remove") ∷ Given OwnerOfMembers owner ∷ Given (Common Key) name ∷ []
+more_tokens (AddLayer kind name) = Fixed (codes "layer") ∷ Fixed (codes "add") ∷ Fixed (more_layer_kind_word kind) ∷ RestText name ∷ []
+more_tokens (PutObject layer json) = Fixed (codes "object") ∷ Fixed (codes "put") ∷ Given (Common Number) layer ∷ RestJson json ∷ []
+more_tokens (TakeProperty owner json) = Fixed (codes "prop") ∷ Fixed (codes "take") ∷ Given (Common OwnerName) owner ∷ RestJson json ∷ []
+more_tokens (PutTileset json) = Fixed (codes "tileset") ∷ Fixed (codes "put") ∷ RestJson json ∷ []
 
 -- the words of a field
 abbrev pub more_field_words : (kind : MoreKind) → MoreValue kind → List (List ℕ)
@@ -53,7 +65,8 @@ more_field_words OwnerOfMembers owner = member_owner_word owner ∷ []
 abbrev pub more_token_words : MoreToken → List (List ℕ)
 more_token_words (Fixed word) = word ∷ []
 more_token_words (Given kind value) = more_field_words kind value
-more_token_words (Rest json) = words json
+more_token_words (RestText text) = words text
+more_token_words (RestJson json) = words json
 
 -- the spelling of a line
 abbrev pub more_spelling : MoreLine → List ℕ
@@ -73,7 +86,8 @@ pub record IsJsonText (json : List ℕ) : Type 0 where
 abbrev pub IsMoreToken : MoreToken → Type 0
 IsMoreToken (Fixed word) = Unit {0}
 IsMoreToken (Given kind value) = IsMoreField kind value
-IsMoreToken (Rest json) = IsJsonText json
+IsMoreToken (RestText text) = IsText text
+IsMoreToken (RestJson json) = IsJsonText json
 
 -- the lines that have a spelling: their tokens have one, and it is not too long
 pub record CanBeSpelledMore (line : MoreLine) : Type 0 where
@@ -92,3 +106,7 @@ MoreReadIsSpelled =
 -- what is too long is never read
 abbrev pub MoreLongIsNotRead : Type 0
 MoreLongIsNotRead = (bytes : List ℕ) → MAX_LINE < length bytes → more_line_of bytes ≡ Err TooLong
+
+-- what is read as a line for all edits is no other line
+abbrev pub MoreIsNotALine : Type 0
+MoreIsNotALine = (bytes : List ℕ) (line : MoreLine) → more_line_of bytes ≡ Ok line → IsErr (line_of bytes)

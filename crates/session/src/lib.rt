@@ -6,9 +6,11 @@ mod gids;
 mod layer_lines;
 pub mod limits;
 mod line;
+mod member_lines;
 mod more_line;
 mod more_lines;
 mod more_spelling;
+mod more_word_faults;
 mod object_lines;
 mod parse;
 mod property_lines;
@@ -25,8 +27,11 @@ mod words;
 pub use gids::{Gids, Values};
 pub use line::Line;
 pub use more_line::MoreLine;
-pub use more_lines::parse_more_line;
-pub use more_spelling::{more_long_is_not_read, more_read_is_spelled, more_spelled_is_read};
+pub use more_lines::{parse_more_line, parse_more_line_along};
+pub use more_spelling::{
+    more_is_not_a_line, more_long_is_not_read, more_read_is_spelled, more_spelled_is_read,
+};
+pub use more_word_faults::{any_word_fault, one_word_is_at_any_fault};
 pub use parse::{parse_line, parse_line_along};
 pub use refusals::{LineFault, Refusal};
 pub use reply::{LocalTile, Reply};

@@ -1,7 +1,7 @@
 use crate::text::Text;
-use map_model::MemberOwner;
+use map_model::{MemberOwner, MoreLayerKind, Owner};
 
-/// What a line asks of own members. Its texts are borrowed from the line.
+/// What a line for all edits asks for. Its texts are borrowed from the line.
 #[derive(Drop)]
 pub enum MoreLine<'a> {
     /// The own member of this name gets the value that a JSON text says. Where it follows, it merges with the step before it, if
@@ -23,5 +23,24 @@ pub enum MoreLine<'a> {
     RemoveMember {
         owner: MemberOwner,
         name: Text<'a>,
+    },
+    /// A new layer of that kind and with that name.
+    AddLayer {
+        kind: MoreLayerKind,
+        name: Text<'a>,
+    },
+    /// The object that a JSON text says goes into the layer.
+    PutObject {
+        layer: u32,
+        json: Text<'a>,
+    },
+    /// The property whose name a JSON text says is taken out.
+    TakeProperty {
+        owner: Owner,
+        json: Text<'a>,
+    },
+    /// The tileset that a JSON text says goes into the map.
+    PutTileset {
+        json: Text<'a>,
     },
 }

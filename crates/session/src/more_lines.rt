@@ -1,114 +1,105 @@
-// The lines of own members.
-ghost use Rattle.std.specs.Prelude.{◌≡◌, ◌∷◌, IfOk};
+// The lines for all edits.
+ghost use Rattle.std.specs.Prelude.{◌≡◌, ◌∷◌, IfErr, IfOk, true};
 ghost use Rattle.refusals.specs.declared.line_fault.LineFault.TheVariants.{BadWord, UnknownCommand};
-ghost use Rattle.session.specs.Grammar.{Gives, word_at};
-ghost use Rattle.session.specs.MoreGrammar.{choose_more, member_lines, member_owner_of, more_form, more_line_of, owner_of_members, put_members_form, read_more, remove_member_form, set_member_form, tileset_of};
+ghost use Rattle.session.specs.Grammar.{Gives};
+ghost use Rattle.session.specs.Left.{next};
+ghost use Rattle.session.specs.MoreGrammar.{choose_more, more_form, more_layer_kinds, more_layer_lines, more_line_of, more_object_lines, more_property_lines, more_tileset_lines, put_object_form, put_tileset_form, read_more, take_property_form};
+ghost use Rattle.session.specs.MoreFaults.{IsMoreFaultAt};
+ghost use Rattle.session.specs.MoreLeft.{more_fault_at};
 ghost use Rattle.session.specs.MoreSpelling.{CanBeSpelledMore, more_spelling};
+ghost use Rattle.session.specs.WordFaults.{is_at_more_word};
 
 use crate::fields::{Fields, known};
 use crate::limits::MAX_LINE;
+use crate::member_lines::member;
 use crate::more_line::MoreLine;
 use crate::parse::text_of;
-use crate::property_lines::{key, owner};
+use crate::property_lines::owner;
 use crate::trail::{Expected, NoTrail, Trail};
-use crate::words::{cut, number_before};
-use map_model::{MemberOwner, Owner};
+use crate::words::cut;
+use map_model::MoreLayerKind;
 use refusals::LineFault;
 
-// What has properties has own members.
-fn owner_of_members(owner: Owner) -> MemberOwner
-    ensures { result ≡ owner_of_members owner }
+fn add_layer<'a, T: Trail + Copy>(fields: &mut Fields<'a, T>) -> Result<MoreLine<'a>, LineFault>
+    ensures value { Gives (λ x. x) result (read_more (choose_more more_layer_kinds BadWord) fields.old.words) }
+    ensures place { IfErr result (λ _. fields.new.place ≡ more_fault_at (choose_more more_layer_kinds BadWord) (next fields.old.place) fields.old.words) }
 {
-    match owner {
-        Owner::Map => MemberOwner::Map,
-        Owner::Layer(layer) => MemberOwner::Layer(layer),
-        Owner::Object(object) => MemberOwner::Object(object),
-    }
-}
-
-// The first id of the tileset that a word is.
-fn tileset(word: &str) -> Option<u32>
-    ensures { result ≡ tileset_of word.now }
-{
-    let (kind, id) = cut(word, b':');
-    let Some(id) = id else {
-        return None;
+    let kind = match fields.word(Expected::AnyKind)? {
+        "group" => MoreLayerKind::Group,
+        "image" => MoreLayerKind::Image,
+        _ => return Err(LineFault::BadWord),
     };
-    match number_before(id, b':') {
-        Some((id, None)) => { if kind == "tileset" { Some(id) } else { None } }
-        Some((_, Some(_))) => None,
-        None => None,
+    let name = fields.text()?;
+    Ok(MoreLine::AddLayer { kind, name })
+}
+
+// The line of layers that the words behind `layer` are.
+fn layer<'a, T: Trail + Copy>(fields: &mut Fields<'a, T>) -> Result<MoreLine<'a>, LineFault>
+    ensures value { Gives (λ x. x) result (read_more (choose_more more_layer_lines BadWord) fields.old.words) }
+    ensures place { IfErr result (λ _. fields.new.place ≡ more_fault_at (choose_more more_layer_lines BadWord) (next fields.old.place) fields.old.words) }
+{
+    match fields.word(Expected::Action)? {
+        "add" => add_layer(fields),
+        _ => Err(LineFault::BadWord),
     }
 }
 
-// The owner of members that a word is.
-fn member_owner(word: &str) -> Option<MemberOwner>
-    ensures { result ≡ member_owner_of word.now }
+fn put_object<'a, T: Trail + Copy>(fields: &mut Fields<'a, T>) -> Result<MoreLine<'a>, LineFault>
+    ensures value { Gives (λ x. x) result (read_more put_object_form fields.old.words) }
+    ensures place { IfErr result (λ _. fields.new.place ≡ more_fault_at put_object_form (next fields.old.place) fields.old.words) }
 {
-    match owner(word) {
-        Some(owner) => Some(owner_of_members(owner)),
-        None => match tileset(word) {
-            Some(first_id) => Some(MemberOwner::Tileset(first_id)),
-            None => None,
-        },
+    let layer = fields.number()?;
+    let json = fields.json()?;
+    Ok(MoreLine::PutObject { layer, json })
+}
+
+// The line of objects that the words behind `object` are.
+fn object<'a, T: Trail + Copy>(fields: &mut Fields<'a, T>) -> Result<MoreLine<'a>, LineFault>
+    ensures value { Gives (λ x. x) result (read_more (choose_more more_object_lines BadWord) fields.old.words) }
+    ensures place { IfErr result (λ _. fields.new.place ≡ more_fault_at (choose_more more_object_lines BadWord) (next fields.old.place) fields.old.words) }
+{
+    match fields.word(Expected::Action)? {
+        "put" => put_object(fields),
+        _ => Err(LineFault::BadWord),
     }
 }
 
 #[tactic(auto, unfolding(crate::specs::Grammar::word_at))]
-fn set_member<'a, T: Trail + Copy>(
-    follows: bool,
-    fields: &mut Fields<'a, T>,
-) -> Result<MoreLine<'a>, LineFault>
-    ensures { Gives (λ x. x) result (read_more (set_member_form follows) fields.old.words) }
+fn take_property<'a, T: Trail + Copy>(fields: &mut Fields<'a, T>) -> Result<MoreLine<'a>, LineFault>
+    ensures value { Gives (λ x. x) result (read_more take_property_form fields.old.words) }
+    ensures place { IfErr result (λ _. fields.new.place ≡ more_fault_at take_property_form (next fields.old.place) fields.old.words) }
 {
-    let owner = known(member_owner(fields.word(Expected::Owner)?))?;
-    let name = known(key(fields.word(Expected::Key)?))?;
+    let owner = known(owner(fields.word(Expected::Owner)?))?;
     let json = fields.json()?;
-    Ok(MoreLine::SetMember {
-        owner,
-        name,
-        json,
-        follows,
-    })
+    Ok(MoreLine::TakeProperty { owner, json })
 }
 
-#[tactic(auto, unfolding(crate::specs::Grammar::word_at))]
-fn put_members<'a, T: Trail + Copy>(
-    follows: bool,
-    fields: &mut Fields<'a, T>,
-) -> Result<MoreLine<'a>, LineFault>
-    ensures { Gives (λ x. x) result (read_more (put_members_form follows) fields.old.words) }
+// The line of properties that the words behind `prop` are.
+fn property<'a, T: Trail + Copy>(fields: &mut Fields<'a, T>) -> Result<MoreLine<'a>, LineFault>
+    ensures value { Gives (λ x. x) result (read_more (choose_more more_property_lines BadWord) fields.old.words) }
+    ensures place { IfErr result (λ _. fields.new.place ≡ more_fault_at (choose_more more_property_lines BadWord) (next fields.old.place) fields.old.words) }
 {
-    let owner = known(member_owner(fields.word(Expected::Owner)?))?;
+    match fields.word(Expected::Action)? {
+        "take" => take_property(fields),
+        _ => Err(LineFault::BadWord),
+    }
+}
+
+fn put_tileset<'a, T: Trail + Copy>(fields: &mut Fields<'a, T>) -> Result<MoreLine<'a>, LineFault>
+    ensures value { Gives (λ x. x) result (read_more put_tileset_form fields.old.words) }
+    ensures place { IfErr result (λ _. fields.new.place ≡ more_fault_at put_tileset_form (next fields.old.place) fields.old.words) }
+{
     let json = fields.json()?;
-    Ok(MoreLine::PutMembers {
-        owner,
-        json,
-        follows,
-    })
+    Ok(MoreLine::PutTileset { json })
 }
 
-#[tactic(auto, unfolding(crate::specs::Grammar::word_at))]
-fn remove_member<'a, T: Trail + Copy>(fields: &mut Fields<'a, T>) -> Result<MoreLine<'a>, LineFault>
-    ensures { Gives (λ x. x) result (read_more remove_member_form fields.old.words) }
+// The line of tilesets that the words behind `tileset` are.
+fn tileset<'a, T: Trail + Copy>(fields: &mut Fields<'a, T>) -> Result<MoreLine<'a>, LineFault>
+    ensures value { Gives (λ x. x) result (read_more (choose_more more_tileset_lines BadWord) fields.old.words) }
+    ensures place { IfErr result (λ _. fields.new.place ≡ more_fault_at (choose_more more_tileset_lines BadWord) (next fields.old.place) fields.old.words) }
 {
-    let owner = known(member_owner(fields.word(Expected::Owner)?))?;
-    let name = known(key(fields.word(Expected::Key)?))?;
-    fields.end()?;
-    Ok(MoreLine::RemoveMember { owner, name })
-}
-
-// The line of own members that the words behind `member` are.
-fn member<'a, T: Trail + Copy>(fields: &mut Fields<'a, T>) -> Result<MoreLine<'a>, LineFault>
-    ensures { Gives (λ x. x) result (read_more (choose_more member_lines BadWord) fields.old.words) }
-{
-    let action = fields.word(Expected::Action)?;
-    match action {
-        "set" => set_member(false, fields),
-        "set+" => set_member(true, fields),
-        "put" => put_members(false, fields),
-        "put+" => put_members(true, fields),
-        "remove" => remove_member(fields),
+    match fields.word(Expected::Action)? {
+        "put" => put_tileset(fields),
         _ => Err(LineFault::BadWord),
     }
 }
@@ -117,19 +108,28 @@ fn more<'a, T: Trail + Copy>(
     name: &str,
     fields: &mut Fields<'a, T>,
 ) -> Result<MoreLine<'a>, LineFault>
-    ensures { Gives (λ x. x) result (read_more more_form (name.now ∷ fields.old.words)) }
+    ensures value { Gives (λ x. x) result (read_more more_form (name.now ∷ fields.old.words)) }
+    ensures place { IfErr result (λ _. fields.new.place ≡ more_fault_at more_form fields.old.place (name.now ∷ fields.old.words)) }
 {
     match name {
         "member" => member(fields),
+        "layer" => layer(fields),
+        "object" => object(fields),
+        "prop" => property(fields),
+        "tileset" => tileset(fields),
         _ => Err(LineFault::UnknownCommand),
     }
 }
 
-/// The line of own members that the bytes are, without a newline. None of them is a line that `parse_line` reads.
+// The line for all edits that the bytes are. The trail of the fields is told of each word that is wanted, from the first on.
 #[tactic(auto, unfolding(crate::specs::MoreGrammar::more_line_of))]
-pub fn parse_more_line(bytes: &[u8]) -> Result<MoreLine<'_>, LineFault>
+fn read_more_line<'a, T: Trail + Copy>(
+    bytes: &'a [u8],
+    fields: &mut Fields<'a, T>,
+) -> Result<MoreLine<'a>, LineFault>
     ensures value { Gives (λ x. x) result (more_line_of bytes.now) }
     ensures spelled { IfOk result (λ line. (bytes.now ≡ more_spelling line) × CanBeSpelledMore line) }
+    ensures fault { fields.old.place ≡ 0 → is_at_more_word (more_line_of bytes.now) ≡ true → IsMoreFaultAt fields.new.place bytes.now }
 {
     if bytes.len() > MAX_LINE {
         return Err(LineFault::TooLong);
@@ -138,7 +138,32 @@ pub fn parse_more_line(bytes: &[u8]) -> Result<MoreLine<'_>, LineFault>
         return Err(LineFault::NotUtf8);
     };
     let (name, rest) = cut(text, b' ');
-    let mut fields = Fields::new(NoTrail);
     fields.begin(rest);
-    more(name, &mut fields)
+    more(name, fields)
+}
+
+/// The line for all edits that the bytes are, without a newline. None of them is a line that `parse_line` reads.
+pub fn parse_more_line(bytes: &[u8]) -> Result<MoreLine<'_>, LineFault>
+    ensures value { Gives (λ x. x) result (more_line_of bytes.now) }
+    ensures spelled { IfOk result (λ line. (bytes.now ≡ more_spelling line) × CanBeSpelledMore line) }
+{
+    read_more_line(bytes, &mut Fields::new(NoTrail))
+}
+
+/// What `parse_more_line` answers. The trail is told of each word that is wanted, from the first on.
+///
+/// After `UnknownCommand` and `BadWord` the word that was wanted last is the one at fault. It may be missing, or be one too many.
+/// Of a line that is too long or not UTF-8 nothing is told.
+pub fn parse_more_line_along<'a, T: Trail + Copy>(
+    bytes: &'a [u8],
+    trail: &mut T,
+) -> Result<MoreLine<'a>, LineFault>
+    ensures value { Gives (λ x. x) result (more_line_of bytes.now) }
+    ensures spelled { IfOk result (λ line. (bytes.now ≡ more_spelling line) × CanBeSpelledMore line) }
+    ensures fault { T.place trail.old ≡ 0 → is_at_more_word (more_line_of bytes.now) ≡ true → IsMoreFaultAt (T.place trail.new) bytes.now }
+{
+    let mut fields = Fields::new(*trail);
+    let line = read_more_line(bytes, &mut fields);
+    *trail = fields.trail();
+    line
 }

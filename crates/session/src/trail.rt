@@ -10,7 +10,7 @@ use std::fmt::{Display, Formatter, Write};
 pub enum Expected {
     /// The first word of a line, which says what is done.
     Command,
-    /// The second word, behind `select`, `layer`, `object`, `prop` or `tileset`, which says what is done with it.
+    /// The second word, behind `select`, `layer`, `object`, `prop`, `tileset` or `member`, which says what is done with it.
     Action,
     /// A number: `0`, or digits without a zero in front, below 2^32.
     Number,
@@ -26,10 +26,14 @@ pub enum Expected {
     Choice,
     /// `tile` or `object`.
     Kind,
+    /// `tile`, `object`, `group` or `image`.
+    AnyKind,
     /// `yes` or `no`.
     YesNo,
     /// `map`, or `layer:` or `object:` and a number.
     Owner,
+    /// `map`, or `layer:`, `object:` or `tileset:` and a number.
+    MemberOwner,
     /// A property's name: from 1 to `MAX_KEY` bytes, none of them a space or a control.
     Key,
     /// The type of a property.
@@ -69,8 +73,10 @@ impl Display for Expected {
             ),
             Expected::Choice => f.pad("a document's name, or -"),
             Expected::Kind => f.pad("tile or object"),
+            Expected::AnyKind => f.pad("tile, object, group or image"),
             Expected::YesNo => f.pad("yes or no"),
             Expected::Owner => f.pad("map, or layer: or object: and an id"),
+            Expected::MemberOwner => f.pad("map, or layer: or object: or tileset: and an id"),
             Expected::Key => write!(
                 f,
                 "a name of 1 to {MAX_KEY} bytes, with no space and no control character"

@@ -74,8 +74,8 @@ fn length_to(text: &str, cut: &str) -> usize {
     }
 }
 
-// The fault at the word that was wanted last.
-fn at_word(line: &str, last: LastWanted) -> WordFault
+/// The fault at the word that was wanted last.
+pub fn at_word(line: &str, last: LastWanted) -> WordFault
     ensures { result.place ≡ last.place }
 {
     let LastWanted { place, expected } = last;
@@ -90,7 +90,7 @@ fn at_word(line: &str, last: LastWanted) -> WordFault
     };
     let length = match expected {
         Expected::Text if place == 2 => length_to(left, " || "),
-        Expected::Text => left.len(),
+        Expected::Text | Expected::Json => left.len(),
         _ => length_to(left, " "),
     };
     WordFault {

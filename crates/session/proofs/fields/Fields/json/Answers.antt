@@ -1,4 +1,4 @@
-use Rattle.std.proofs.Common.{Ok, Err, cond, length, eqb, sym, ap, ◌∙◌}
+use Rattle.std.proofs.Common.{Ok, Err, cond, length, sym, ap, ◌∙◌}
 use Rattle.std.proofs.lemmas.Bool.{eq-eqb, ne_eqb}
 use Rattle.refusals.specs.declared.line_fault.LineFault.TheVariants.{BadWord}
 use Rattle.session.specs.Left.{Left}

@@ -1,6 +1,6 @@
 use Rattle.std.proofs.Common.{sym}
 use Rattle.session.proofs.MoreOwners.{tileset_more}
-use Rattle.session.proofs.more_lines.tileset.Goals as goal
+use Rattle.session.proofs.member_lines.tileset.Goals as goal
 
 pub returns-in-Some-default-Some : goal.returns-in-Some-default-Some
 returns-in-Some-default-Some c =
