@@ -8,7 +8,7 @@ use Rattle.object_commands.proofs.Placements.{place_object-WhenEqual}
 use Rattle.paint_commands.proofs.Merges.{paint-WhenEqual}
 use Rattle.property_commands.proofs.Settings.{set-names}
 use Rattle.document_lines.specs.declared.planned.Edit.{Edit}
-use Rattle.document_lines.specs.declared.planned.Edit.TheVariants.{Paint, PlaceObject, SetProperty, SetObjectHead}
+use Rattle.document_lines.specs.declared.planned.Edit.TheVariants.{Paint, PlaceObject, SetProperty, SetObjectHead, SetLayerHead, SetMapHead}
 use Rattle.document_lines.specs.Planning.{edit_change}
 
 pub edit-bound : (e : Edit) → is_free (edit_change e).names.vanishing ≡ false
@@ -16,6 +16,8 @@ edit-bound (Paint c) = ap is_free (paint-WhenEqual c.kind c.layer c.follows)
 edit-bound (PlaceObject c) = ap is_free (place_object-WhenEqual c.kind c.object c.follows)
 edit-bound (SetProperty c) = ap (λ (n : Names). is_free n.vanishing) (set-names c.set.value)
 edit-bound (SetObjectHead c) = ap is_free (member-WhenEqual c.value.edit (owners.Object c.value.id) c.value.follows)
+edit-bound (SetLayerHead c) = ap is_free (member-WhenEqual c.value.edit (owners.Layer c.value.id) c.value.follows)
+edit-bound (SetMapHead c) = ap is_free (member-WhenEqual c.value.edit owners.Map c.value.follows)
 edit-bound other = refl
 
 -- nor is a command that does what an edit does

@@ -1,6 +1,8 @@
 -- What is told of an edit covers its change: one lemma for each kind of edit.
 use Rattle.std.proofs.Common.{◌≡◌, ◌⊎◌, inl, inr, ℕ, ◌+◌, ◌-◌, ◌*◌, List, length, true≢false, Option, Some, None, refl, ap, ◌∙◌}
 use Rattle.std.specs.List.{insert, remove}
+use Rattle.map_model.specs.declared.heads.LayerHead.{LayerHead}
+use Rattle.map_model.specs.declared.heads.MapHead.{MapHead}
 use Rattle.map_model.specs.declared.heads.ObjectHead.{ObjectHead}
 use Rattle.map_model.specs.declared.owner.Owner.{Owner}
 use Rattle.map_model.specs.declared.parts.Body.{Body}
@@ -14,7 +16,7 @@ use Rattle.map_model.specs.Bodies.{body_with_objects, tile_at}
 use Rattle.map_model.specs.Document.{DocumentParts, with_map}
 use Rattle.map_model.specs.Given.{given_setting}
 use Rattle.map_model.specs.Groups.{inside}
-use Rattle.map_model.specs.Heads.{head, head_with_id}
+use Rattle.map_model.specs.Heads.{head, head_of_layer, head_of_map, head_with_id, layer_head_with_id}
 use Rattle.map_model.specs.Lens.{Lens, found, layer_objects, name, next_object_id, of_layer, of_object, placing, placing_with_id, siblings, tilesets}
 use Rattle.map_model.specs.Lens.{update_found, visible}
 use Rattle.map_model.specs.Lists.{change_at, or_empty}
@@ -38,6 +40,8 @@ use Rattle.layer_commands.specs.Changes.{add_change, add_exchange, move_change, 
 use Rattle.layer_commands.specs.Changes.{resize_change, resize_exchange, show_change, show_exchange}
 use Rattle.member_commands.specs.declared.set_head.SetHead.{SetHead}
 use Rattle.member_commands.specs.Changes.{set_head_change, set_head_exchange}
+use Rattle.member_commands.specs.Layers.{layer_heads}
+use Rattle.member_commands.specs.Maps.{map_heads}
 use Rattle.member_commands.specs.Objects.{object_heads}
 use Rattle.object_commands.specs.declared.add.AddObject.{AddObject}
 use Rattle.object_commands.specs.declared.place.PlaceObject.{PlaceObject}
@@ -115,6 +119,12 @@ name-keeps id f = layer-keeps id (name.update f) (λ l. refl) (λ l. refl) (λ n
 visible-keeps : (id : ℕ) → KeepsCellsAt (of_layer id visible)
 visible-keeps id f = layer-keeps id (visible.update f) (λ l. refl) (λ l. refl) (λ number l. refl)
 
+layer_head-keeps : (id : ℕ) → KeepsCellsAt (layer_head_with_id id)
+layer_head-keeps id f = layer-keeps id (head_of_layer.update f) (λ l. refl) (λ l. refl) (λ number l. refl)
+
+map_head-keeps : KeepsCellsAt head_of_map
+map_head-keeps f = record { selection = λ d. refl; layers = λ d. record { width = refl; height = refl; ids = refl }; cells = λ d id x y. refl }
+
 tile_at-objects : (g : List Object → List Object) (number : ℕ) (b : Body) → tile_at (body_with_objects g b) number ≡ tile_at b number
 tile_at-objects g number (Objects os) = refl
 tile_at-objects g number b = refl
@@ -182,12 +192,12 @@ linked-keeps s (Some (Some x)) puts takes = puts x
 slot-keeps : {X : Type 0} (p : Lens DocumentParts (List X)) (at : ℕ) (held : Option (Option X)) → KeepsCellsAt p → KeepsCells (linked (slot_in p at) held)
 slot-keeps p at held keeps = linked-keeps (slot_in p at) held (λ x. keeps (λ xs. insert xs at x)) (keeps (λ xs. remove xs at))
 
-next_slot-keeps : {X : Type 0} (p : Lens DocumentParts (List X)) (id : ℕ) (held : Option (Option X)) → KeepsCellsAt p
-    → KeepsCells (linked (next_slot_in p next_object_id id) held)
-next_slot-keeps p id held keeps =
-    linked-keeps (next_slot_in p next_object_id id) held
-    (λ x. twice-keeps _ _ (next_object_id-keeps (λ n. n + 1)) (keeps (λ xs. insert xs (length xs) x)))
-    (twice-keeps _ _ (next_object_id-keeps (λ n. id)) (keeps (λ xs. remove xs (length xs - 1))))
+next_slot-keeps : {X : Type 0} (p : Lens DocumentParts (List X)) (next raised : ℕ) (held : Option (Option X)) → KeepsCellsAt p
+    → KeepsCells (linked (next_slot_in p next_object_id next raised) held)
+next_slot-keeps p next raised held keeps =
+    linked-keeps (next_slot_in p next_object_id next raised) held
+    (λ x. twice-keeps _ _ (next_object_id-keeps (λ n. raised)) (keeps (λ xs. insert xs (length xs) x)))
+    (twice-keeps _ _ (next_object_id-keeps (λ n. next)) (keeps (λ xs. remove xs (length xs - 1))))
 
 -- ---- edits of the outline
 rename-covers : (c : RenameLayer) → Covers outline_differs (rename_change c)
@@ -197,7 +207,7 @@ show-covers : (c : ShowLayer) → Covers outline_differs (show_change c)
 show-covers c = outline-covers (show_exchange c) (visible-keeps c.layer (λ own. c.visible))
 
 add_object-covers : (c : AddObject) → Covers outline_differs (add_object_change c)
-add_object-covers c = outline-covers (add_object_exchange c) (next_slot-keeps (layer_objects c.layer) c.id c.object (layer_objects-keeps c.layer))
+add_object-covers c = outline-covers (add_object_exchange c) (next_slot-keeps (layer_objects c.layer) c.next c.raised c.object (layer_objects-keeps c.layer))
 
 remove_object-covers : (c : RemoveObject) → Covers outline_differs (remove_object_change c)
 remove_object-covers c = outline-covers (remove_object_exchange c)
@@ -208,6 +218,12 @@ place_object-covers c = outline-covers (place_object_exchange c) (placing-keeps 
 
 set_object_head-covers : (c : SetHead ObjectHead) → Covers outline_differs (set_head_change object_heads c)
 set_object_head-covers c = outline-covers (set_head_exchange object_heads c) (held-keeps (head_with_id c.id) c.head (object_head-keeps c.id))
+
+set_layer_head-covers : (c : SetHead LayerHead) → Covers outline_differs (set_head_change layer_heads c)
+set_layer_head-covers c = outline-covers (set_head_exchange layer_heads c) (held-keeps (layer_head_with_id c.id) c.head (layer_head-keeps c.id))
+
+set_map_head-covers : (c : SetHead MapHead) → Covers outline_differs (set_head_change map_heads c)
+set_map_head-covers c = outline-covers (set_head_exchange map_heads c) (held-keeps head_of_map c.head map_head-keeps)
 
 set-keeps : (names : Names) (owner : Owner) (property : List ℕ) (place : OwnerPlace) (at : ℕ) (after : Setting) (kind : SetKind)
     → KeepsCells (set_kind_exchange names owner property place at after kind).exchanged
@@ -286,7 +302,7 @@ IsOf {C = C} kind e = (command : C) × (e ≡ kind command)
 pub outline_edit-covers : (e : Edit)
     → IsOf edits.RenameLayer e ⊎ (IsOf edits.ShowLayer e ⊎ (IsOf edits.AddObject e ⊎ (IsOf edits.RemoveObject e ⊎ (IsOf edits.PlaceObject e
     ⊎ (IsOf edits.SetProperty e ⊎ (IsOf edits.RemoveProperty e ⊎ (IsOf edits.AddTileset e
-    ⊎ (IsOf edits.RemoveTileset e ⊎ IsOf edits.SetObjectHead e))))))))
+    ⊎ (IsOf edits.RemoveTileset e ⊎ (IsOf edits.SetObjectHead e ⊎ (IsOf edits.SetLayerHead e ⊎ IsOf edits.SetMapHead e))))))))))
     → Covers outline_differs (edit_change e)
 outline_edit-covers e (inl h) = rw h.1 (rename-covers h.0)
 outline_edit-covers e (inr (inl h)) = rw h.1 (show-covers h.0)
@@ -297,7 +313,9 @@ outline_edit-covers e (inr (inr (inr (inr (inr (inl h)))))) = rw h.1 (set_proper
 outline_edit-covers e (inr (inr (inr (inr (inr (inr (inl h))))))) = rw h.1 (remove_property-covers h.0)
 outline_edit-covers e (inr (inr (inr (inr (inr (inr (inr (inl h)))))))) = rw h.1 (add_tileset-covers h.0)
 outline_edit-covers e (inr (inr (inr (inr (inr (inr (inr (inr (inl h))))))))) = rw h.1 (remove_tileset-covers h.0)
-outline_edit-covers e (inr (inr (inr (inr (inr (inr (inr (inr (inr h))))))))) = rw h.1 (set_object_head-covers h.0.value)
+outline_edit-covers e (inr (inr (inr (inr (inr (inr (inr (inr (inr (inl h)))))))))) = rw h.1 (set_object_head-covers h.0.value)
+outline_edit-covers e (inr (inr (inr (inr (inr (inr (inr (inr (inr (inr (inl h))))))))))) = rw h.1 (set_layer_head-covers h.0.value)
+outline_edit-covers e (inr (inr (inr (inr (inr (inr (inr (inr (inr (inr (inr h))))))))))) = rw h.1 (set_map_head-covers h.0.value)
 
 pub layer_edit-covers : (e : Edit) → IsOf edits.AddLayer e ⊎ (IsOf edits.RemoveLayer e ⊎ IsOf edits.MoveLayer e) → Covers layers_differ (edit_change e)
 layer_edit-covers e (inl h) = rw h.1 (add_layer-covers h.0)

@@ -1,3 +1,4 @@
+pub mod SameChanges
 pub mod Edits
 pub mod MoreEdits
 pub mod SteadyPlans

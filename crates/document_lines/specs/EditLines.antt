@@ -4,6 +4,8 @@ use Rattle.session.specs.declared.line.Line.{Line}
 use Rattle.session.specs.declared.line.Line.TheVariants.{Stamp, Erase, Fill, Select, SelectNone, AddLayer, RemoveLayer, RenameLayer, ShowLayer, MoveLayer}
 use Rattle.session.specs.declared.line.Line.TheVariants.{Resize, AddObject, MoveObject, ResizeObject, RemoveObject, SetProperty, RemoveProperty, AddTileset}
 use Rattle.session.specs.declared.line.Line.TheVariants.{RemoveTileset}
+use Rattle.session.specs.declared.more_line.MoreLine.{MoreLine}
+use Rattle.session.specs.declared.more_line.MoreLine.TheVariants.{SetMember, PutMembers, RemoveMember}
 
 -- a stamp, which is planned before all others
 abbrev pub IsStamp : Line → Type 0
@@ -43,3 +45,10 @@ IsOfProperties (RemoveProperty owner name) = ⊤
 IsOfProperties (AddTileset first_id source) = ⊤
 IsOfProperties (RemoveTileset first_id) = ⊤
 IsOfProperties line = ⊥
+
+-- one of own members
+abbrev pub IsOfMembers : MoreLine → Type 0
+IsOfMembers (SetMember owner name json follows) = ⊤
+IsOfMembers (PutMembers owner json follows) = ⊤
+IsOfMembers (RemoveMember owner name) = ⊤
+IsOfMembers line = ⊥

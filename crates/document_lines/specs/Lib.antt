@@ -3,6 +3,7 @@ pub mod Answers
 pub mod Acts
 pub mod Rules
 pub mod EditLines
+pub mod GivenEdits
 pub mod Planning
 pub mod Turns
 pub mod Kinds

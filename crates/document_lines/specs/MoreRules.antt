@@ -1,10 +1,16 @@
--- What each line of own members may do, and what the bytes of any line may do where those lines are read too.
+-- What each line for all edits may do, and what the bytes of any line may do where those lines are read too.
 use Rattle.std.specs.Prelude.{List, ℕ, Result, Ok, Err}
 use Rattle.map_model.specs.declared.owner.MemberOwner.TheVariants as owners
 use Rattle.map_model.specs.Document.{DocumentParts}
 use Rattle.command_api.specs.Names.{Names}
+use Rattle.edits.specs.LayerEdits.{after_add_more}
+use Rattle.layer_commands.specs.Names.{add_names}
+use Rattle.object_commands.specs.Names.{add_object_names}
+use Rattle.property_commands.specs.Names.{add_tileset_names, remove_property_names}
 use Rattle.member_commands.specs.Edits.{after_put_members, after_remove_member, after_set_member}
 use Rattle.member_commands.specs.Names.{put_members_names, remove_member_names, set_member_names}
+use Rattle.member_commands.specs.Layers.{layer_heads}
+use Rattle.member_commands.specs.Maps.{map_heads}
 use Rattle.member_commands.specs.Objects.{object_heads}
 use Rattle.undo_stack.specs.History.{Step, current, step_named}
 use Rattle.refusals.specs.declared.line_fault.LineFault.{LineFault}
@@ -16,10 +22,11 @@ use Rattle.refusals.specs.declared.refusal.Refusal.TheVariants as refusals
 use Rattle.refusals.specs.Layers.{refusal_of_more}
 use Rattle.session.specs.declared.line.Line.{Line}
 use Rattle.session.specs.declared.more_line.MoreLine.{MoreLine}
-use Rattle.session.specs.declared.more_line.MoreLine.TheVariants.{SetMember, PutMembers, RemoveMember}
+use Rattle.session.specs.declared.more_line.MoreLine.TheVariants.{SetMember, PutMembers, RemoveMember, AddLayer, PutObject, TakeProperty, PutTileset}
 use Rattle.session.specs.Grammar.{line_of}
 use Rattle.session.specs.MoreGrammar.{more_line_of}
 use Rattle.document_lines.specs.Acts.{Act, Alone, OrNoMemory, Pushes, Refuses, WithActive}
+use Rattle.document_lines.specs.GivenEdits.{after_object_text, after_take_property, after_tileset_text, made}
 use Rattle.document_lines.specs.Machine.{Workspace, active_of}
 use Rattle.document_lines.specs.Rules.{MachineStep, MachineStepIn}
 use Rattle.document_lines.specs.declared.dialect.Dialect.{Dialect}
@@ -30,12 +37,26 @@ abbrev pub more_names_of : MoreLine → Names
 more_names_of (SetMember owner name json follows) = set_member_names owner name follows
 more_names_of (PutMembers owner json follows) = put_members_names owner follows
 more_names_of (RemoveMember owner name) = remove_member_names
+more_names_of (AddLayer kind name) = add_names
+more_names_of (PutObject layer json) = add_object_names
+more_names_of (TakeProperty owner json) = remove_property_names
+more_names_of (PutTileset json) = add_tileset_names
 
--- the document after it, or its refusal; members of no owner but an object have an edit yet
+-- the document after it, or its refusal; members of tilesets have no edit yet
 abbrev pub after_more : MoreLine → DocumentParts → Result DocumentParts MoreFault
 after_more (SetMember (owners.Object id) name json follows) d = after_set_member object_heads d id name json
 after_more (PutMembers (owners.Object id) json follows) d = after_put_members object_heads d id json
 after_more (RemoveMember (owners.Object id) name) d = after_remove_member object_heads d id name
+after_more (SetMember (owners.Layer id) name json follows) d = after_set_member layer_heads d id name json
+after_more (PutMembers (owners.Layer id) json follows) d = after_put_members layer_heads d id json
+after_more (RemoveMember (owners.Layer id) name) d = after_remove_member layer_heads d id name
+after_more (SetMember owners.Map name json follows) d = after_set_member map_heads d 0 name json
+after_more (PutMembers owners.Map json follows) d = after_put_members map_heads d 0 json
+after_more (RemoveMember owners.Map name) d = after_remove_member map_heads d 0 name
+after_more (AddLayer kind name) d = made (after_add_more d kind name)
+after_more (PutObject layer json) d = after_object_text d layer json
+after_more (TakeProperty owner json) d = after_take_property d owner json
+after_more (PutTileset json) d = after_tileset_text d json
 after_more line d = Err MemberOfOtherLines
 
 -- the step of an edit with these names, or the edit's refusal
@@ -47,14 +68,14 @@ more_answer_of names (Err fault) = Err (refusal_of_more fault)
 abbrev pub answer_of_more : MoreLine → DocumentParts → Result Step Refusal
 answer_of_more line d = more_answer_of (more_names_of line) (after_more line d)
 
--- what a line of own members may do; its edit may want memory
+-- what a line for all edits may do; its edit may want memory
 abbrev pub MoreStep : MoreLine → Act Workspace
 MoreStep line old reply new =
     Alone (WithActive (OrNoMemory (λ h. Pushes (answer_of_more line (current h)) h)) (active_of old.machine)) old.stored new.stored old.machine reply
     new.machine
 
 -- ---- any line
--- one that is no line of the others has their fault where it begins with no word of own members either
+-- one that is no line of the others has their fault where it begins with no word of these lines either
 abbrev pub MoreStepOf : Result MoreLine LineFault → LineFault → Act Workspace
 MoreStepOf (Ok line) fault = MoreStep line
 MoreStepOf (Err UnknownCommand) fault = Refuses (refusals.Line fault)
@@ -64,7 +85,7 @@ abbrev pub AnyStepOf : Result Line LineFault → List ℕ → Act Workspace
 AnyStepOf (Ok line) bytes = MachineStep line
 AnyStepOf (Err fault) bytes = MoreStepOf (more_line_of bytes) fault
 
--- what the bytes of a line may do, where lines of own members are read too
+-- what the bytes of a line may do, where the lines for all edits are read too
 abbrev pub AnyStepIn : List ℕ → Act Workspace
 AnyStepIn bytes = AnyStepOf (line_of bytes) bytes
 

@@ -1,13 +1,13 @@
 -- What planning a line says of one document.
 use Rattle.std.specs.Prelude.{◌≡◌, Some, Result, Ok, Err, ◌⊎◌, ⊤}
 use Rattle.map_model.specs.Document.{DocumentParts}
-use Rattle.map_model.specs.declared.heads.ObjectHead.{ObjectHead}
 use Rattle.refusals.specs.declared.edit_fault.EditFault.{EditFault}
-use Rattle.command_api.specs.Law.{Change}
+use Rattle.command_api.specs.Law.{Change, IsSame}
 use Rattle.command_api.specs.Offers.{Shown, Nothing}
 use Rattle.layer_commands.specs.Changes.{add_change, remove_change, rename_change, show_change, move_change, resize_change}
-use Rattle.member_commands.specs.declared.set_head.SetHead.{SetHead}
 use Rattle.member_commands.specs.Changes.{set_head_change, set_head_shown}
+use Rattle.member_commands.specs.Layers.{layer_heads}
+use Rattle.member_commands.specs.Maps.{map_heads}
 use Rattle.member_commands.specs.Objects.{object_heads}
 use Rattle.object_commands.specs.Changes.{add_object_change, remove_object_change, place_object_change, place_object_shown}
 use Rattle.property_commands.specs.PropertyChanges.{set_property_change, set_property_shown, remove_property_change}
@@ -26,7 +26,7 @@ use Rattle.session.specs.declared.reply.Reply.TheVariants as replies
 use Rattle.document_lines.specs.declared.planned.Edit.{Edit}
 use Rattle.document_lines.specs.declared.planned.Edit.TheVariants.{Paint, AddLayer, RemoveLayer, RenameLayer, ShowLayer, MoveLayer, Select, ResizeMap}
 use Rattle.document_lines.specs.declared.planned.Edit.TheVariants.{AddObject, RemoveObject, PlaceObject, SetProperty, RemoveProperty, AddTileset, RemoveTileset}
-use Rattle.document_lines.specs.declared.planned.Edit.TheVariants.{SetObjectHead}
+use Rattle.document_lines.specs.declared.planned.Edit.TheVariants.{SetObjectHead, SetLayerHead, SetMapHead}
 use Rattle.document_lines.specs.declared.planned.Planned.{Planned}
 use Rattle.document_lines.specs.declared.planned.Planned.TheVariants as planned
 use Rattle.document_lines.specs.Acts.{Act, answer_of}
@@ -52,6 +52,8 @@ edit_change (RemoveProperty command) = remove_property_change command
 edit_change (AddTileset command) = add_tileset_change command
 edit_change (RemoveTileset command) = remove_tileset_change command
 edit_change (SetObjectHead command) = set_head_change object_heads command.value
+edit_change (SetLayerHead command) = set_head_change layer_heads command.value
+edit_change (SetMapHead command) = set_head_change map_heads command.value
 
 -- what a planned edit shows to the step before it
 abbrev pub edit_shown : Edit → Shown
@@ -59,6 +61,8 @@ edit_shown (Paint command) = paint_shown command
 edit_shown (PlaceObject command) = place_object_shown command
 edit_shown (SetProperty command) = set_property_shown command
 edit_shown (SetObjectHead command) = set_head_shown object_heads command.value
+edit_shown (SetLayerHead command) = set_head_shown layer_heads command.value
+edit_shown (SetMapHead command) = set_head_shown map_heads command.value
 edit_shown edit = Nothing
 
 -- a refusal has left all as it was
@@ -75,11 +79,20 @@ abbrev pub plan_of : Result Edit EditFault → Planned
 plan_of (Ok edit) = planned.Push edit
 plan_of (Err fault) = refused (refusal_of_edit fault)
 
--- the plan of a command of own members, or of its refusal: it is the edit's, or there is no memory for the edit
-abbrev pub PlansHead : Result (SetHead ObjectHead) MoreFault → Planned → Type 0
-PlansHead (Ok command) (planned.Push (SetObjectHead edit)) = edit.value ≡ command
-PlansHead (Ok command) plan = plan ≡ refused refusals.NoMemory
-PlansHead (Err fault) plan = plan ≡ refused (refusal_of_more fault)
+-- and of one that a text of the line may refuse, too
+abbrev pub more_plan_of : Result Edit MoreFault → Planned
+more_plan_of (Ok edit) = planned.Push edit
+more_plan_of (Err fault) = refused (refusal_of_more fault)
+
+-- the plan of a command that does c: an edit that does the same, or there is no memory for it
+abbrev pub PlansCommand : Change → Planned → Type 0
+PlansCommand c (planned.Push edit) = IsSame c (edit_change edit)
+PlansCommand c plan = plan ≡ refused refusals.NoMemory
+
+-- the plan of a command that was made, or of its refusal
+abbrev pub PlansMade : {C : Type 0} → (C → Change) → Result C MoreFault → Planned → Type 0
+PlansMade change (Ok command) plan = PlansCommand (change command) plan
+PlansMade change (Err fault) plan = plan ≡ refused (refusal_of_more fault)
 
 -- the plan of an edit: its command, whose step is the answer, or its refusal, or out of memory
 abbrev pub PlansEdit : Result histories.Step Refusal → DocumentParts → Planned → Type 0
@@ -111,6 +124,6 @@ PlansOn (OnActive act) h plan n = IsDone act h plan n
 PlansOn (Edits names edit) h plan n = PlansEdit (answer_of names (edit (current h))) (current h) plan × (n ≡ h)
 PlansOn rule h plan n = ⊥
 
--- what a plan says of a line of own members: its edit, with nothing changed yet, or its refusal
+-- what a plan says of a line for all edits: its edit, with nothing changed yet, or its refusal
 abbrev pub PlansMore : MoreLine → History → Planned → History → Type 0
 PlansMore line h plan n = PlansEdit (answer_of_more line (current h)) (current h) plan × (n ≡ h)

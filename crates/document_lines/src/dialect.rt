@@ -3,6 +3,6 @@
 pub enum Dialect {
     /// Those that `parse_line` reads.
     Plain,
-    /// Those of own members too, which `parse_more_line` reads.
+    /// Those for all edits too, which `parse_more_line` reads.
     AllEdits,
 }

@@ -235,7 +235,9 @@ impl Edit {
             | Edit::RemoveProperty(_)
             | Edit::AddTileset(_)
             | Edit::RemoveTileset(_)
-            | Edit::SetObjectHead(_) => Differences::of_outline(),
+            | Edit::SetObjectHead(_)
+            | Edit::SetLayerHead(_)
+            | Edit::SetMapHead(_) => Differences::of_outline(),
         }
     }
 }

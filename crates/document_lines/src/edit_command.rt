@@ -27,6 +27,8 @@ macro_rules! with_command {
             Edit::AddTileset($command) => $call,
             Edit::RemoveTileset($command) => $call,
             Edit::SetObjectHead($command) => $call,
+            Edit::SetLayerHead($command) => $call,
+            Edit::SetMapHead($command) => $call,
         }
     };
 }

@@ -1,5 +1,5 @@
 use layer_commands::{AddLayer, MoveLayer, RemoveLayer, RenameLayer, ResizeMap, ShowLayer};
-use map_model::ObjectHead;
+use map_model::{LayerHead, MapHead, ObjectHead};
 use member_commands::SetHead;
 use object_commands::{AddObject, PlaceObject, RemoveObject};
 use paint_commands::{PaintCommand, SelectCommand};
@@ -25,6 +25,8 @@ pub enum Edit {
     AddTileset(AddTileset),
     RemoveTileset(RemoveTileset),
     SetObjectHead(Box<SetHead<ObjectHead>>),
+    SetLayerHead(Box<SetHead<LayerHead>>),
+    SetMapHead(Box<SetHead<MapHead>>),
 }
 
 /// What is to be done for a line.

@@ -7,9 +7,11 @@ ghost use Rattle.document_lines.specs.Rules.{rule_of};
 ghost use Rattle.document_lines.specs.Turns.{turning_rule_of};
 ghost use Rattle.document_lines.specs.Kinds.{DocumentKinds};
 ghost use Rattle.document_lines.specs.EditLines.{IsOfCells, IsOfLayers, IsOfObjects, IsOfProperties, IsStamp};
-ghost use Rattle.document_lines.specs.Planning.{IsOfActive, IsOfHistory, PlansOn, plan_of, refused};
+ghost use Rattle.document_lines.specs.Planning.{IsOfActive, IsOfHistory, PlansMore, PlansOn, plan_of, refused};
 
 mod edit_plans;
+mod edited_head;
+mod given_plans;
 mod member_plans;
 
 use crate::planned::{Edit, Planned};
@@ -19,14 +21,17 @@ use crate::planning::edit_plans::{
     plan_remove_tileset, plan_rename_layer, plan_resize, plan_resize_object, plan_select,
     plan_set_property, plan_show_layer, plan_stamp,
 };
+use crate::planning::given_plans::{
+    plan_add_more_layer, plan_put_object, plan_put_tileset, plan_take_property,
+};
+use crate::planning::member_plans::on_members;
 use crate::steps::{plan_answered, plan_begin, plan_limit, plan_show, plan_step_text, state_of};
 use crate::tile;
 use command_api::Command;
 use edits::{Area, Selecting};
 use map_model::Owner;
-pub use member_plans::on_members;
 use refusals::{EditFault, Refusal};
-use session::{Line, Reply};
+use session::{Line, MoreLine, Reply};
 use std::alloc::Global;
 use undo_stack::Stack;
 
@@ -362,5 +367,30 @@ pub fn on_document<C: Command>(alloc: Global, stack: &mut Stack<C>, line: &Line<
         | Line::AddTileset { .. }
         | Line::RemoveTileset { .. } => on_properties(alloc, stack, line),
         _ => unreachable!(),
+    }
+}
+
+/// Plans a line for all edits about a document, the active one: its edit is left to be committed.
+pub fn on_more_line<C: Command>(alloc: Global, stack: &mut Stack<C>, line: &MoreLine<'_>) -> Planned
+    requires { Holds C.change stack.old }
+    ensures sound { Holds C.change stack.new }
+    ensures plans { PlansMore line.now (history C.change stack.old) result (history C.change stack.new) }
+    ensures kept { nestings stack.new ≡ nestings stack.old }
+{
+    match line {
+        MoreLine::SetMember { .. } | MoreLine::PutMembers { .. } | MoreLine::RemoveMember { .. } =>
+            on_members(alloc, stack, line),
+        MoreLine::AddLayer { kind, name } => {
+            plan_add_more_layer(alloc, stack.document(), *kind, name)
+        }
+        MoreLine::PutObject { layer, json } => {
+            stack.seek_layer(*layer);
+            plan_put_object(alloc, stack.document(), *layer, json)
+        }
+        MoreLine::TakeProperty { owner, json } => {
+            seek_owner(stack, *owner);
+            plan_take_property(alloc, stack.document(), *owner, json)
+        }
+        MoreLine::PutTileset { json } => plan_put_tileset(alloc, stack.document(), json),
     }
 }

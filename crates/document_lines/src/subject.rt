@@ -58,6 +58,8 @@ impl Edit {
             Edit::AddTileset(command) => Subject::Tileset(command.first_id()),
             Edit::RemoveTileset(command) => Subject::Tileset(command.first_id()),
             Edit::SetObjectHead(command) => Subject::of_members(command.owner()),
+            Edit::SetLayerHead(command) => Subject::of_members(command.owner()),
+            Edit::SetMapHead(command) => Subject::of_members(command.owner()),
         }
     }
 }

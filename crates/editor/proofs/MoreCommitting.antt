@@ -1,4 +1,4 @@
--- The step of a line of own members, which was planned as an edit.
+-- The step of a line for all edits, which was planned as an edit.
 use Rattle.std.proofs.Common.{◌≡◌, List, Bool, Option, Some, None, Result, refl, sym, subst, inl, inr}
 use Rattle.map_model.specs.Document.{DocumentParts}
 use Rattle.map_store.specs.Files.{StoreParts}

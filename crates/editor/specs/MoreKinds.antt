@@ -1,4 +1,4 @@
--- Of each step of all open documents whether it is a macro, and what a line makes of that where lines of own members are read too.
+-- Of each step of all open documents whether it is a macro, and what a line makes of that where the lines for all edits are read too.
 use Rattle.std.specs.Prelude.{◌≡◌, ℕ, List, Option, Some, None, Result, Ok, Err}
 use Rattle.undo_stack.specs.History.{current}
 use Rattle.session.specs.declared.line.Line.{Line}
@@ -14,7 +14,7 @@ use Rattle.document_lines.specs.Machine.{Machine, active_of}
 use Rattle.document_lines.specs.MoreRules.{answer_of_more}
 use Rattle.editor.specs.Kinds.{ActiveKinds, Kinds, StepKinds, StepKindsIn, UnlessRefused}
 
--- a line of own members with this reply
+-- a line for all edits with this reply
 abbrev pub MoreStepKinds : MoreLine → Machine → Option Reply → Machine → List Kinds → List Kinds → Type 0
 MoreStepKinds line m None n old new = new ≡ old
 MoreStepKinds line m (Some reply) n old new =

@@ -1,4 +1,4 @@
--- What planning a line of own members says.
+-- What planning a line for all edits says.
 use Rattle.std.specs.Prelude.{◌≡◌, Option, None, Some}
 use Rattle.undo_stack.specs.History.{History, current}
 use Rattle.refusals.specs.declared.refusal.Refusal.TheVariants.{NoActiveDocument}

@@ -24,7 +24,7 @@ mod files;
 
 use crate::tell::{NoTell, Tell};
 use command_api::Command;
-use document_lines::{Planned, answered, on_document, on_members, refused, state_of};
+use document_lines::{Planned, answered, on_document, on_more_line, refused, state_of};
 use map_store::MapStore;
 use refusals::Refusal;
 use session::{Line, MoreLine, Reply};
@@ -128,7 +128,7 @@ impl<C: Command> Editor<C> {
         }
     }
 
-    /// Plans the edit that a line of own members asks for, which is left to be put into a box and committed. The editor is as it was.
+    /// Plans the edit that a line for all edits asks for, which is left to be put into a box and committed. The editor is as it was.
     pub fn plan_more(&mut self, alloc: Global, line: &MoreLine<'_>) -> Planned
         requires { IsHeld C.change self.old }
         ensures held { IsHeld C.change self.new }
@@ -139,7 +139,7 @@ impl<C: Command> Editor<C> {
         ensures plans { PlansMoreIn line.now (active_of (machine_of C.change self.old)) result }
     {
         match self.group.active_mut() {
-            Some(stack) => on_members(alloc, stack, line),
+            Some(stack) => on_more_line(alloc, stack, line),
             None => refused(Refusal::NoActiveDocument),
         }
     }

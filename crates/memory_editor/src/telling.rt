@@ -19,7 +19,7 @@ use editor::Edit;
 use edits::Area;
 use map_model::Map;
 use refusals::{LineFault, Refusal};
-use session::{Reply, parse_more_line, word_fault};
+use session::{Reply, any_word_fault, word_fault};
 use undo_stack::Stack;
 
 // The end of so many columns from one on, in a map that has so many.
@@ -58,24 +58,14 @@ fn cells_within(map: &Map, cells: Cells) -> Cells {
     }
 }
 
-// Whether a line that is refused begins as those of own members do, where these are read.
-fn is_of_members(dialect: Dialect, line: &[u8]) -> bool {
-    match dialect {
-        Dialect::Plain => false,
-        Dialect::AllEdits => match parse_more_line(line) {
-            Err(LineFault::UnknownCommand) => false,
-            _ => true,
-        },
-    }
-}
-
-// Which word of a line is bad, counted from 1. Of a line of own members it is not known.
+// Which word of a line is bad, counted from 1.
 #[cold]
 fn bad_word(dialect: Dialect, line: &[u8]) -> Option<u32> {
-    if is_of_members(dialect, line) {
-        return None;
-    }
-    match word_fault(line) {
+    let fault = match dialect {
+        Dialect::Plain => word_fault(line),
+        Dialect::AllEdits => any_word_fault(line),
+    };
+    match fault {
         Some(fault) => Some(fault.place),
         None => None,
     }

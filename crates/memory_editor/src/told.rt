@@ -51,8 +51,7 @@ pub struct Told {
     pub depth: usize,
     pub is_clean: bool,
     pub refusal: Option<Refusal>,
-    /// Which word of the last line is bad, counted from 1, where the refusal is that one is. A text counts as one word. It is not known
-    /// of a line of own members.
+    /// Which word of the last line is bad, counted from 1, where the refusal is that one is. A text counts as one word.
     pub word: Option<u32>,
 }
 

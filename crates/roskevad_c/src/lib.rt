@@ -1,8 +1,8 @@
 //! The editor for C: an editor in memory, behind a type that C can hold.
 //!
-//! Each call but the last six, and `roskevad_word_fault`, takes an editor, which C keeps and never looks into. A call that gives bytes copies them to the
-//! front of a buffer where the buffer has room for all of them, and else leaves the buffer as it was; it answers how many
-//! there are. What stands in place of a length or a number is one of the constants at the end of the numbers.
+//! Each call but the last six, and the two that tell the word at fault, takes an editor, which C keeps and never looks into. A call
+//! that gives bytes copies them to the front of a buffer where the buffer has room for all of them, and else leaves the buffer as it
+//! was; it answers how many there are. What stands in place of a length or a number is one of the constants at the end of the numbers.
 #![tactic(auto)]
 
 mod answers;
@@ -78,7 +78,7 @@ pub extern "C" fn roskevad_open(alloc: Global, editor: &mut CEditor, limit: usiz
     open(alloc, editor, limit, Dialect::Plain)
 }
 
-/// As `roskevad_open`. The editor reads the plain lines where `edits` is 0, and those of own members, too, where it is 1. For another
+/// As `roskevad_open`. The editor reads the plain lines where `edits` is 0, and those for all edits, too, where it is 1. For another
 /// number it answers `TOO_GREAT`, and all is as it was.
 #[unsafe(no_mangle)]
 pub extern "C" fn roskevad_open_for(

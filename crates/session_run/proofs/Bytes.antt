@@ -54,7 +54,7 @@ module _ {C : Type 0} (change : C → Change) (dialect : Dialect) (bytes : List 
     read_kinds dialect bytes line old.machine (Some (Refused NoMemory)) old.machine os os read refl,
   )
 
--- ---- a line of own members
+-- ---- a line for all edits
 module _ {C : Type 0} (change : C → Change) (bytes : List ℕ) (fault : LineFault) (line : MoreLine) (unread : line_of bytes ≡ Err fault)
     (read : more_line_of bytes ≡ Ok line) where
   pub more_plan : (old new : Machine) (stored : StoreParts) (plan : Planned) → new ≡ old → PlansMoreIn line (active_of old) plan

@@ -32,7 +32,7 @@ pub read_kinds : (dialect : Dialect) (bytes : List ℕ) (line : Line) (m : Machi
 read_kinds Plain bytes line m reply n os ns read kinds = rw read kinds
 read_kinds AllEdits bytes line m reply n os ns read kinds = rw read kinds
 
--- ---- a line of own members
+-- ---- a line for all edits
 pub more_step : (bytes : List ℕ) (fault : LineFault) (line : MoreLine) (old : Workspace) (reply : Option Reply) (new : Workspace)
     → line_of bytes ≡ Err fault → more_line_of bytes ≡ Ok line → MoreStep line old reply new → AnyStepIn bytes old reply new
 more_step bytes fault line old reply new unread read step = rw unread (rw read step)

@@ -3,7 +3,6 @@ pub mod Progress
 pub mod Dialects
 pub mod Endings
 pub mod Ends
-pub mod Planned
 pub mod Bytes
 pub mod Tame
 pub mod Once

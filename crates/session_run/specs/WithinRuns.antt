@@ -49,7 +49,7 @@ PutsSame change edit (Some command) = IsSame (edit_change edit) (change command)
 abbrev pub StepFound : (List ℕ → Act Workspace) → Found → List ℕ → Act Workspace
 StepFound StepIn found line old reply new = OfFound found line (λ bytes. StepIn bytes old reply new)
 
--- the fault of a line that has these as one of the other lines and as one of own members: the first, where it begins with no word of own members
+-- the fault of a line that has these as a plain one and as one for all edits: the first, where it begins with no word of the latter
 abbrev pub fault_of_both : LineFault → LineFault → LineFault
 fault_of_both first UnknownCommand = first
 fault_of_both first more = more

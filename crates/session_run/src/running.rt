@@ -76,8 +76,8 @@ fn boxed<K: Command>(alloc: Global, command: K) -> Option<Box<K>>
     Box::new(alloc, command).ok()
 }
 
-// The fault of a line that is neither one of the other lines nor one of own members: the first, where the line begins with no
-// word of own members.
+// The fault of a line that is neither a plain one nor one for all edits: the first, where the line begins with no word of the
+// latter.
 fn fault_of_both(first: LineFault, more: LineFault) -> LineFault
     ensures { result ≡ fault_of_both first more }
 {
@@ -355,6 +355,8 @@ pub fn run_lines<R: Read, W: Write, S: MapStore>(
             Edit::AddTileset(command) => Some(boxed(alloc, command)?),
             Edit::RemoveTileset(command) => Some(boxed(alloc, command)?),
             Edit::SetObjectHead(command) => Some(command),
+            Edit::SetLayerHead(command) => Some(command),
+            Edit::SetMapHead(command) => Some(command),
         }
     };
     let stopped = match step_all(
@@ -433,7 +435,7 @@ pub fn run<R: Read, W: Write, S: MapStore>(
     }
 }
 
-/// As `run`, and reads the lines of own members too.
+/// As `run`, and reads the lines for all edits too.
 pub fn run_all_edits<R: Read, W: Write, S: MapStore>(
     alloc: Global,
     reader: &mut R,

@@ -240,7 +240,7 @@ pub fn run_strict<R: Read, W: Write, S: MapStore>(
     }
 }
 
-/// As `run_strict`, and reads the lines of own members too.
+/// As `run_strict`, and reads the lines for all edits too.
 pub fn run_strict_all_edits<R: Read, W: Write, S: MapStore>(
     alloc: Global,
     reader: &mut R,

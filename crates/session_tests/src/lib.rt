@@ -3,6 +3,8 @@
 #![tactic(auto)]
 
 #[cfg(test)]
+mod any_words;
+#[cfg(test)]
 mod in_memory;
 #[cfg(test)]
 mod runs;

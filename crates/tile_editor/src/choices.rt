@@ -11,6 +11,6 @@ pub struct Options<'a> {
     pub is_strict: bool,
     /// Whether infinite maps and maps with fractions are opened, too.
     pub opens_all_maps: bool,
-    /// Whether the lines of own members are read, too.
+    /// Whether the lines for all edits are read, too.
     pub does_all_edits: bool,
 }

@@ -71,12 +71,17 @@ Session lines:
   text PLACE
   tile LAYER X Y
 
-Lines of own members, with --all-edits:
+Further lines, with --all-edits:
   member set OWNER KEY JSON
   member set+ OWNER KEY JSON
   member put OWNER JSON
   member put+ OWNER JSON
   member remove OWNER KEY
+  layer add group NAME
+  layer add image NAME
+  object put LAYER JSON
+  prop take OWNER JSON
+  tileset put JSON
 
 Exit status:
   0  the input has ended, or help or the version was asked for
@@ -94,8 +99,8 @@ pub fn shown_forms() -> &'static str {
     }
 }
 
-/// The forms of lines of own members, in the same way.
-pub fn shown_forms_of_members() -> &'static str {
+/// The forms of the lines that are read for all edits alone, in the same way.
+pub fn shown_forms_for_all_edits() -> &'static str {
     match AFTER_HELP.split_once("\n\n") {
         Some((_, rest)) => match rest.split_once("\n\n") {
             Some((forms, _)) => forms,
@@ -157,7 +162,7 @@ fn all_maps_arg<'a>(alloc: Global) -> Arg<'a>
         )
 }
 
-// The option that reads the lines of own members.
+// The option that reads the lines for all edits.
 fn all_edits_arg<'a>(alloc: Global) -> Arg<'a>
     ensures rule { rule_of result ≡ all_edits_option }
     ensures plain { IsPlainArg result }
@@ -166,7 +171,7 @@ fn all_edits_arg<'a>(alloc: Global) -> Arg<'a>
     Arg::new(alloc, "all_edits")
         .long("all-edits")
         .action(ArgAction::SetTrue)
-        .help("Reads the lines of own members, too: those of `member` below")
+        .help("Reads the further lines below, too")
 }
 
 // The command with its options.

@@ -53,7 +53,7 @@ pub struct ErrorLines<'a, R> {
 }
 
 impl<'a, R: Eprint> ErrorLines<'a, R> {
-    /// With memory for what it says of a line's form, and whether lines of own members are read.
+    /// With memory for what it says of a line's form, and whether the lines for all edits are read.
     pub fn new(rt: &'a R, alloc: Global, does_all_edits: bool) -> ErrorLines<'a, R> {
         ErrorLines {
             rt,

@@ -1,30 +1,31 @@
 // The edits of own members that lines ask for.
 ghost use Rattle.std.specs.Prelude.{◌≡◌};
 ghost use Rattle.undo_stack.specs.Stacks.{history, nestings, Holds};
+ghost use Rattle.document_lines.specs.EditLines.{IsOfMembers};
 ghost use Rattle.document_lines.specs.MoreRules.{more_answer_of};
-ghost use Rattle.document_lines.specs.Planning.{PlansEdit, PlansHead, PlansMore};
+ghost use Rattle.document_lines.specs.Planning.{PlansEdit, PlansMade, PlansMore};
+ghost use Rattle.member_commands.specs.Changes.{set_head_change};
 ghost use Rattle.member_commands.specs.Edits.{after_put_members, after_remove_member, after_set_member};
 ghost use Rattle.member_commands.specs.Names.{put_members_names, remove_member_names, set_member_names};
-ghost use Rattle.member_commands.specs.Objects.{object_heads};
-ghost use Rattle.map_model.specs.declared.owner.MemberOwner.TheVariants as owners;
 
-use crate::planned::{Edit, Planned};
+use crate::planned::Planned;
+use crate::planning::edited_head::EditedHead;
 use crate::planning::refused;
 use command_api::Command;
-use map_model::{Document, MemberOwner, ObjectHead};
+use map_model::{Document, LayerHead, MapHead, MemberOwner, ObjectHead};
 use member_commands::SetHead;
 use refusals::{MoreFault, Refusal};
 use session::{MoreLine, Text};
 use std::alloc::Global;
 use undo_stack::Stack;
 
-// The plan of a command: its edit, or its refusal. The command stands in a box, since it is larger than those of other edits.
-fn planned(alloc: Global, command: Result<SetHead<ObjectHead>, MoreFault>) -> Planned
-    ensures { PlansHead command result }
+// The plan of a command: its edit, or its refusal.
+fn planned<H: EditedHead>(alloc: Global, command: Result<SetHead<H>, MoreFault>) -> Planned
+    ensures { PlansMade (set_head_change H.parts) command result }
 {
     match command {
         Ok(command) => match Box::new(alloc, command) {
-            Ok(command) => Planned::Push(Edit::SetObjectHead(command)),
+            Ok(command) => Planned::Push(H::into_edit(command)),
             Err(_) => refused(Refusal::NoMemory),
         },
         Err(fault) => refused(Refusal::from(fault)),
@@ -32,52 +33,51 @@ fn planned(alloc: Global, command: Result<SetHead<ObjectHead>, MoreFault>) -> Pl
 }
 
 #[inline(never)]
-fn plan_set(
+fn plan_set<H: EditedHead>(
     alloc: Global,
     document: &Document,
-    object: u32,
+    id: u32,
     name: &Text<'_>,
     json: &Text<'_>,
     follows: bool,
 ) -> Planned
-    ensures { PlansEdit (more_answer_of (set_member_names (owners.Object object) name.now follows) (after_set_member object_heads document.now object name.now json.now)) document.now result }
+    ensures { PlansEdit (more_answer_of (set_member_names (H.parts.owner id) name.now follows) (after_set_member H.parts document.now id name.now json.now)) document.now result }
 {
-    let command = SetHead::set(
-        alloc,
-        document,
-        object,
-        name.as_str(),
-        json.as_str(),
-        follows,
-    );
+    let command = SetHead::<H>::set(alloc, document, id, name.as_str(), json.as_str(), follows);
     planned(alloc, command)
 }
 
 #[inline(never)]
-fn plan_put(
+fn plan_put<H: EditedHead>(
     alloc: Global,
     document: &Document,
-    object: u32,
+    id: u32,
     json: &Text<'_>,
     follows: bool,
 ) -> Planned
-    ensures { PlansEdit (more_answer_of (put_members_names (owners.Object object) follows) (after_put_members object_heads document.now object json.now)) document.now result }
+    ensures { PlansEdit (more_answer_of (put_members_names (H.parts.owner id) follows) (after_put_members H.parts document.now id json.now)) document.now result }
 {
-    let command = SetHead::put(alloc, document, object, json.as_str(), follows);
+    let command = SetHead::<H>::put(alloc, document, id, json.as_str(), follows);
     planned(alloc, command)
 }
 
 #[inline(never)]
-fn plan_remove(alloc: Global, document: &Document, object: u32, name: &Text<'_>) -> Planned
-    ensures { PlansEdit (more_answer_of remove_member_names (after_remove_member object_heads document.now object name.now)) document.now result }
+fn plan_remove<H: EditedHead>(
+    alloc: Global,
+    document: &Document,
+    id: u32,
+    name: &Text<'_>,
+) -> Planned
+    ensures { PlansEdit (more_answer_of remove_member_names (after_remove_member H.parts document.now id name.now)) document.now result }
 {
-    let command = SetHead::remove(alloc, document, object, name.as_str());
+    let command = SetHead::<H>::remove(alloc, document, id, name.as_str());
     planned(alloc, command)
 }
 
 /// Plans a line of own members about a document, the active one: its edit is left to be committed.
 pub fn on_members<C: Command>(alloc: Global, stack: &mut Stack<C>, line: &MoreLine<'_>) -> Planned
-    requires { Holds C.change stack.old }
+    requires sound { Holds C.change stack.old }
+    requires about { IsOfMembers line.now }
     ensures sound { Holds C.change stack.new }
     ensures plans { PlansMore line.now (history C.change stack.old) result (history C.change stack.new) }
     ensures kept { nestings stack.new ≡ nestings stack.old }
@@ -90,7 +90,7 @@ pub fn on_members<C: Command>(alloc: Global, stack: &mut Stack<C>, line: &MoreLi
             follows,
         } => {
             stack.seek_object(*object);
-            plan_set(alloc, stack.document(), *object, name, json, *follows)
+            plan_set::<ObjectHead>(alloc, stack.document(), *object, name, json, *follows)
         }
         MoreLine::PutMembers {
             owner: MemberOwner::Object(object),
@@ -98,16 +98,46 @@ pub fn on_members<C: Command>(alloc: Global, stack: &mut Stack<C>, line: &MoreLi
             follows,
         } => {
             stack.seek_object(*object);
-            plan_put(alloc, stack.document(), *object, json, *follows)
+            plan_put::<ObjectHead>(alloc, stack.document(), *object, json, *follows)
         }
         MoreLine::RemoveMember {
             owner: MemberOwner::Object(object),
             name,
         } => {
             stack.seek_object(*object);
-            plan_remove(alloc, stack.document(), *object, name)
+            plan_remove::<ObjectHead>(alloc, stack.document(), *object, name)
         }
-        // Own members of maps, layers and tilesets have no edits yet.
+        MoreLine::SetMember {
+            owner: MemberOwner::Layer(layer),
+            name,
+            json,
+            follows,
+        } => plan_set::<LayerHead>(alloc, stack.document(), *layer, name, json, *follows),
+        MoreLine::PutMembers {
+            owner: MemberOwner::Layer(layer),
+            json,
+            follows,
+        } => plan_put::<LayerHead>(alloc, stack.document(), *layer, json, *follows),
+        MoreLine::RemoveMember {
+            owner: MemberOwner::Layer(layer),
+            name,
+        } => plan_remove::<LayerHead>(alloc, stack.document(), *layer, name),
+        MoreLine::SetMember {
+            owner: MemberOwner::Map,
+            name,
+            json,
+            follows,
+        } => plan_set::<MapHead>(alloc, stack.document(), 0, name, json, *follows),
+        MoreLine::PutMembers {
+            owner: MemberOwner::Map,
+            json,
+            follows,
+        } => plan_put::<MapHead>(alloc, stack.document(), 0, json, *follows),
+        MoreLine::RemoveMember {
+            owner: MemberOwner::Map,
+            name,
+        } => plan_remove::<MapHead>(alloc, stack.document(), 0, name),
+        // Own members of tilesets have no edits yet.
         _ => refused(Refusal::MemberOfOtherLines),
     }
 }

@@ -2,7 +2,7 @@
 use super::random_lines::Random;
 use super::snapshot::{Change, Snapshot};
 use super::{Found, begin, is_quiet_if_refused, is_true, one_more};
-use document_lines::Cells;
+use document_lines::{Cells, Dialect};
 use memory_editor::{Became, MemoryEditor, Told};
 use std::alloc::{AllocError, Global};
 use std::test::Fail;
@@ -138,7 +138,11 @@ fn run_blocks(
     editor: &mut MemoryEditor,
     tally: &mut Tally,
 ) -> Found {
-    let mut twin = MemoryEditor::new(alloc, usize::from(editor_limit(most)));
+    let mut twin = MemoryEditor::for_dialect(
+        alloc,
+        usize::from(editor_limit(most)),
+        Dialect::AllEdits,
+    );
     begin(editor);
     begin(&mut twin);
     let mut replies = vec![in alloc; 0u8; 65_536]?;
@@ -167,7 +171,11 @@ fn editor_limit(most: u32) -> u16 {
 }
 
 fn run_session(alloc: Global, seed: u64, most: u32, tally: &mut Tally) -> Found {
-    let mut editor = MemoryEditor::new(alloc, usize::from(editor_limit(most)));
+    let mut editor = MemoryEditor::for_dialect(
+        alloc,
+        usize::from(editor_limit(most)),
+        Dialect::AllEdits,
+    );
     let mut random = Random::new(seed);
     run_blocks(alloc, &mut random, most, &mut editor, tally)
 }

@@ -208,6 +208,44 @@ impl Random {
         Ok(Spoken::other(text))
     }
 
+    // A line of own members.
+    fn member(&mut self, alloc: Global) -> Result<Spoken, AllocError> {
+        let (layer, value) = (self.layer(), self.below(3));
+        let plus = self.one_of(&["", "+", "+"]);
+        let text = match self.below(7) {
+            0 => format!(in alloc; "member set{plus} object:1 rotation {value}")?,
+            1 => format!(in alloc; "member put{plus} object:1 {{\"x\":{value},\"name\":\"n\"}}")?,
+            2 => format!(in alloc; "member remove object:1 rotation")?,
+            3 => format!(in alloc; "member set{plus} layer:{layer} opacity {value}")?,
+            4 => format!(in alloc; "member remove layer:{layer} opacity")?,
+            5 => format!(in alloc; "member set{plus} map tilewidth 1{value}")?,
+            _ => format!(in alloc; "member set{plus} map class \"c{value}\"")?,
+        };
+        Ok(Spoken::other(text))
+    }
+
+    // A line that adds a whole thing, or takes a property out.
+    fn put(&mut self, alloc: Global) -> Result<Spoken, AllocError> {
+        let value = self.below(9);
+        let text = match self.below(6) {
+            0 => format!(in alloc; "layer add group g{value}")?,
+            1 => format!(in alloc; "layer add image i{value}")?,
+            2 => format!(in alloc; "object put 3 {{\"x\":{value},\"ellipse\":true}}")?,
+            3 => format!(in alloc; "object put 3 {{\"id\":{value}}}")?,
+            4 => format!(in alloc; "prop take object:1 \"k\"")?,
+            _ => format!(in alloc; "tileset put {{\"firstgid\":9{value}}}")?,
+        };
+        Ok(Spoken::other(text))
+    }
+
+    fn for_all_edits(&mut self, alloc: Global) -> Result<Spoken, AllocError> {
+        if self.below(3) == 0 {
+            self.put(alloc)
+        } else {
+            self.member(alloc)
+        }
+    }
+
     // A line about the documents, the clean index or a macro, or one that asks.
     fn plain(&mut self, alloc: Global, texts: &[&str]) -> Result<Spoken, AllocError> {
         let text = self.one_of(texts);
@@ -236,6 +274,7 @@ impl Random {
             95 => self.plain(alloc, &DOCUMENTS),
             96 => self.plain(alloc, &["", "# quiet", "stamp", "nothing", "tile 1 0 0"]),
             97 => self.plain(alloc, &["use m", "status", "list", "undotext", "text 0"]),
+            98 => self.for_all_edits(alloc),
             _ => self.plain(alloc, &["use m"]),
         }
     }

@@ -30,3 +30,9 @@ returns-in-RemoveTileset-clause-unchanged c = rw c.in-RemoveTileset.is c.merge-i
 
 pub returns-in-SetObjectHead-clause-unchanged : goal.returns-in-SetObjectHead-clause-unchanged
 returns-in-SetObjectHead-clause-unchanged c = rw (c.in-SetObjectHead.is, sym c.deref_mut.ensures.value) c.merge-in-SetObjectHead.ensures.unchanged
+
+pub returns-in-SetLayerHead-clause-unchanged : goal.returns-in-SetLayerHead-clause-unchanged
+returns-in-SetLayerHead-clause-unchanged c = rw (c.in-SetLayerHead.is, sym c.deref_mut-in-SetLayerHead.ensures.value) c.merge-in-SetLayerHead.ensures.unchanged
+
+pub returns-in-SetMapHead-clause-unchanged : goal.returns-in-SetMapHead-clause-unchanged
+returns-in-SetMapHead-clause-unchanged c = rw (c.in-SetMapHead.is, sym c.deref_mut-in-SetMapHead.ensures.value) c.merge-in-SetMapHead.ensures.unchanged

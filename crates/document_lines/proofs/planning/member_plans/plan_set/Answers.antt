@@ -1,12 +1,13 @@
-use Rattle.map_model.specs.declared.owner.MemberOwner.TheVariants as owners
-use Rattle.member_commands.specs.Edits.{is_early_named}
+use Rattle.member_commands.specs.Changes.{set_head_change}
+use Rattle.member_commands.specs.Edits.{after_set_member, is_early_named}
 use Rattle.member_commands.specs.Names.{set_member_names}
-use Rattle.document_lines.proofs.MoreEdits.{head-PlansEdit}
+use Rattle.document_lines.proofs.MoreEdits.{made-PlansEdit}
 use Rattle.document_lines.proofs.planning.member_plans.plan_set.Goals as goal
 
 pub returns : goal.returns
-returns c =
+returns g c =
+    let p = g.H.Head.parts in
     let command = rw (c.as_str.ensures, c.as_str-2.ensures) at c.set-command.ensures.command in
     let refusal = rw (c.as_str.ensures, c.as_str-2.ensures) at c.set-command.ensures.refusal in
-    head-PlansEdit (set_member_names (owners.Object c.args.object) c.args.name.now c.args.follows) c.args.document.now is_early_named _ c.set-command.result
-    c.planned.result command refusal c.planned.ensures
+    made-PlansEdit (set_head_change p) (set_member_names (p.owner c.args.id) c.args.name.now c.args.follows) c.args.document.now is_early_named
+    (after_set_member p c.args.document.now c.args.id c.args.name.now c.args.json.now) c.set-command.result c.planned.result command refusal c.planned.ensures

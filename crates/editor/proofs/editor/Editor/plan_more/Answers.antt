@@ -15,44 +15,44 @@ use Rattle.editor.proofs.editor.Editor.plan_more.Goals as goal
 
 pub returns-in-Some-clause-held : goal.returns-in-Some-clause-held
 returns-in-Some-clause-held g c =
-    let stack = c.on_members.new.stack in
-    left-IsHeld g.C.Command.change c.args.self.now _ stack refl (c.active_mut.follows.holds stack c.on_members.ensures.sound) c.requires
+    let stack = c.on_more_line.new.stack in
+    left-IsHeld g.C.Command.change c.args.self.now _ stack refl (c.active_mut.follows.holds stack c.on_more_line.ensures.sound) c.requires
 
 pub returns-in-Some-clause-sound : goal.returns-in-Some-clause-sound
 returns-in-Some-clause-sound g c = λ sound.
     let change = g.C.Command.change in
-    let stack = c.on_members.new.stack in
+    let stack = c.on_more_line.new.stack in
     let steady = active-IsSteady change c.args.self.now (history change c.in-Some.stack.now) sound c.in-Some.ensures.active in
-    left-IsSound change c.args.self.now _ stack refl (c.active_mut.follows.holds stack c.on_members.ensures.sound)
-    (subst (λ (n : History). IsSteady n) (sym c.on_members.ensures.plans.1) steady) sound
+    left-IsSound change c.args.self.now _ stack refl (c.active_mut.follows.holds stack c.on_more_line.ensures.sound)
+    (subst (λ (n : History). IsSteady n) (sym c.on_more_line.ensures.plans.1) steady) sound
 
 pub returns-in-Some-clause-machine : goal.returns-in-Some-clause-machine
 returns-in-Some-clause-machine g c =
     let change = g.C.Command.change in
-    let stack = c.on_members.new.stack in
-    left-machine change c.args.self.now _ stack refl (c.active_mut.follows.holds stack c.on_members.ensures.sound)
+    let stack = c.on_more_line.new.stack in
+    left-machine change c.args.self.now _ stack refl (c.active_mut.follows.holds stack c.on_more_line.ensures.sound)
     ∙ with_active-unchanged (history change c.in-Some.stack.now) (history change stack)
-    (machine_of change c.args.self.now) c.in-Some.ensures.whole (sym c.in-Some.ensures.active) c.on_members.ensures.plans.1
+    (machine_of change c.args.self.now) c.in-Some.ensures.whole (sym c.in-Some.ensures.active) c.on_more_line.ensures.plans.1
 
 pub returns-in-Some-clause-kinds : goal.returns-in-Some-clause-kinds
 returns-in-Some-clause-kinds g c =
-    let stack = c.on_members.new.stack in
-    kept_kinds g.C.Command.change c.args.self.now _ c.in-Some.stack.now stack refl (c.active_mut.follows.holds stack c.on_members.ensures.sound)
-    c.in-Some.ensures.whole c.in-Some.ensures.active c.in-Some.ensures.stack (ap macros_of c.on_members.ensures.kept)
+    let stack = c.on_more_line.new.stack in
+    kept_kinds g.C.Command.change c.args.self.now _ c.in-Some.stack.now stack refl (c.active_mut.follows.holds stack c.on_more_line.ensures.sound)
+    c.in-Some.ensures.whole c.in-Some.ensures.active c.in-Some.ensures.stack (ap macros_of c.on_more_line.ensures.kept)
 
 pub returns-in-Some-clause-fits : goal.returns-in-Some-clause-fits
 returns-in-Some-clause-fits g c =
     let change = g.C.Command.change in
-    let stack = c.on_members.new.stack in
-    let P : Machine → Type 0 = λ m. FitsPlan m c.on_members.result in
-    let kept = left-machine change c.args.self.now _ stack refl (c.active_mut.follows.holds stack c.on_members.ensures.sound)
+    let stack = c.on_more_line.new.stack in
+    let P : Machine → Type 0 = λ m. FitsPlan m c.on_more_line.result in
+    let kept = left-machine change c.args.self.now _ stack refl (c.active_mut.follows.holds stack c.on_more_line.ensures.sound)
     ∙ with_active-unchanged (history change c.in-Some.stack.now) (history change stack)
-    (machine_of change c.args.self.now) c.in-Some.ensures.whole (sym c.in-Some.ensures.active) c.on_members.ensures.plans.1 in
+    (machine_of change c.args.self.now) c.in-Some.ensures.whole (sym c.in-Some.ensures.active) c.on_more_line.ensures.plans.1 in
     subst P (sym kept)
-    (more-FitsPlan c.args.line.now (history change c.in-Some.stack.now) (machine_of change c.args.self.now) c.on_members.result
-    (sym c.in-Some.ensures.active) c.on_members.ensures.plans.0)
+    (more-FitsPlan c.args.line.now (history change c.in-Some.stack.now) (machine_of change c.args.self.now) c.on_more_line.result
+    (sym c.in-Some.ensures.active) c.on_more_line.ensures.plans.0)
 
 pub returns-in-Some-clause-plans : goal.returns-in-Some-clause-plans
 returns-in-Some-clause-plans g c =
-    let P : Option History → Type 0 = λ active. PlansMoreIn c.args.line.now active c.on_members.result in
-    subst P c.in-Some.ensures.active c.on_members.ensures.plans.0
+    let P : Option History → Type 0 = λ active. PlansMoreIn c.args.line.now active c.on_more_line.result in
+    subst P c.in-Some.ensures.active c.on_more_line.ensures.plans.0

@@ -3,12 +3,12 @@ use Rattle.command_api.specs.Law.{Change}
 use denote.Param.Object.{read_made}
 use Rattle.session_run.specs.contracts.running.fn.run_lines.put.{dyn-1-ghosts}
 use Rattle.session_run.proofs.running.fn.run_lines.put.Hides.{has-1-2, has-1-3, has-1-4, has-1-5, has-1-6, has-1-9, has-1-10, has-1-11, has-1-13, has-1-14}
-use Rattle.session_run.proofs.running.fn.run_lines.put.Hides.{has-1-15, has-1-16}
+use Rattle.session_run.proofs.running.fn.run_lines.put.Hides.{has-1-15, has-1-16, has-1-17, has-1-18}
 use Rattle.layer_commands.specs.Changes.{add_change, remove_change, rename_change, show_change, move_change}
 use Rattle.object_commands.specs.Changes.{add_object_change, remove_object_change, place_object_change}
 use Rattle.property_commands.specs.PropertyChanges.{remove_property_change}
 use Rattle.property_commands.specs.TilesetChanges.{add_tileset_change, remove_tileset_change}
-use Rattle.session_run.proofs.Planned.{same-IsSame}
+use Rattle.document_lines.proofs.SameChanges.{same-IsSame}
 use Rattle.session_run.proofs.running.fn.run_lines.put.Goals as goal
 
 pub returns-in_ok-boxed-in-AddLayer : goal.returns-in_ok-boxed-in-AddLayer
@@ -94,3 +94,17 @@ returns-in-SetObjectHead g c =
     let read = read_made (dyn-1-ghosts g.dyn-1).0 _ (has.at tt) (has.same tt) Change
     (λ j x. j.1.change x) _ _ _ c.into_dyn_box-in-SetObjectHead.ensures.1 in
     rw c.in-SetObjectHead.is (same-IsSame _ _ read)
+
+pub returns-in-SetLayerHead : goal.returns-in-SetLayerHead
+returns-in-SetLayerHead g c =
+    let has = has-1-17 g.dyn-1.0 g.dyn-1-has in
+    let read = read_made (dyn-1-ghosts g.dyn-1).0 _ (has.at tt) (has.same tt) Change
+    (λ j x. j.1.change x) _ _ _ c.into_dyn_box-in-SetLayerHead.ensures.1 in
+    rw c.in-SetLayerHead.is (same-IsSame _ _ read)
+
+pub returns-in-SetMapHead : goal.returns-in-SetMapHead
+returns-in-SetMapHead g c =
+    let has = has-1-18 g.dyn-1.0 g.dyn-1-has in
+    let read = read_made (dyn-1-ghosts g.dyn-1).0 _ (has.at tt) (has.same tt) Change
+    (λ j x. j.1.change x) _ _ _ c.into_dyn_box-in-SetMapHead.ensures.1 in
+    rw c.in-SetMapHead.is (same-IsSame _ _ read)

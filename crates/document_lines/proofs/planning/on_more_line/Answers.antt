@@ -1,0 +1,13 @@
+use Rattle.std.proofs.Common.{sym, ap, ◌∙◌}
+use Rattle.undo_stack.specs.History.{current}
+use Rattle.document_lines.proofs.planning.on_more_line.Goals as goal
+
+pub returns-in-PutObject-clause-plans : goal.returns-in-PutObject-clause-plans
+returns-in-PutObject-clause-plans g c =
+    let is = c.document-in-PutObject.ensures ∙ ap current c.seek_layer.ensures.same in
+    rw (c.in-PutObject.is, sym is) (c.plan_put_object.ensures, c.seek_layer.ensures.same)
+
+pub returns-in-TakeProperty-clause-plans : goal.returns-in-TakeProperty-clause-plans
+returns-in-TakeProperty-clause-plans g c =
+    let is = c.document-in-TakeProperty.ensures ∙ ap current c.seek_owner.ensures.same in
+    rw (c.in-TakeProperty.is, sym is) (c.plan_take_property.ensures, c.seek_owner.ensures.same)
