@@ -79,7 +79,7 @@ extern "C" {
 
 /* Which lines an editor reads. */
 #define ROSKEVAD_PLAIN_LINES ROSKEVAD_CAST(size_t, 0) /* those that each editor reads */
-#define ROSKEVAD_ALL_EDITS ROSKEVAD_CAST(size_t, 1)   /* those of own members, too: `member set` and the like */
+#define ROSKEVAD_ALL_EDITS ROSKEVAD_CAST(size_t, 1)   /* the lines for all edits, too: `member set`, `object put` and the like */
 
 /* What an editor is kept in. Its fields are the library's. */
 typedef struct roskevad_editor {
@@ -183,7 +183,7 @@ typedef struct roskevad_told {
     int32_t y;
     uint32_t width;
     uint32_t height;
-    uint32_t word;     /* where the refusal is 4: which word of the last line is at fault, from 1; 0: none, or not known */
+    uint32_t word;     /* where the refusal is 4: which word of the last line is at fault, from 1; else 0 */
 } roskevad_told;
 
 /* A step of the active document. */
@@ -253,6 +253,7 @@ size_t roskevad_put_back_like(const uint8_t *bytes, size_t length, const uint8_t
 size_t roskevad_lay_out(const uint8_t *bytes, size_t length, size_t layout, uint8_t *text, size_t room);
 size_t roskevad_map_fault(const uint8_t *bytes, size_t length, uint8_t *text, size_t room);
 size_t roskevad_word_fault(const uint8_t *line, size_t line_length, roskevad_faulty_word *word, uint8_t *text, size_t room);
+size_t roskevad_word_fault_for(size_t edits, const uint8_t *line, size_t line_length, roskevad_faulty_word *word, uint8_t *text, size_t room);
 size_t roskevad_version(uint8_t *version, size_t room);
 
 /* ---- what to call */
@@ -301,7 +302,7 @@ static inline size_t roskevad_editor_open(roskevad_editor *editor, size_t limit)
     return roskevad_open(editor, limit);
 }
 
-/* The same, for `edits` ROSKEVAD_PLAIN_LINES. For ROSKEVAD_ALL_EDITS the editor reads the lines of own members, too. For another number
+/* The same, for `edits` ROSKEVAD_PLAIN_LINES. For ROSKEVAD_ALL_EDITS the editor reads the lines for all edits, too. For another number
  * ROSKEVAD_TOO_GREAT, and all is as it was. */
 static inline size_t roskevad_editor_open_for(roskevad_editor *editor, size_t limit, size_t edits)
 {
@@ -610,11 +611,18 @@ static inline size_t roskevad_editor_map_fault(const void *bytes, size_t length,
 }
 
 /* The word at which a line is refused as 3 or 4, and what is wrong with it in words: `word 1 is not a command`. The text's size, fewer
- * than 256; ROSKEVAD_NONE where the line is read, or refused as 1 or 2. No line is done. It knows the plain lines alone: it tells of
- * each line of own members that `member` is not a command. */
+ * than 256; ROSKEVAD_NONE where the line is read, or refused as 1 or 2. No line is done. It knows the plain lines alone. */
 static inline size_t roskevad_editor_word_fault(const char *line, size_t length, roskevad_faulty_word *word, char *text, size_t room)
 {
     return roskevad_word_fault(roskevad_bytes_at(line), length, word, roskevad_room_at(text), room);
+}
+
+/* The same, for `edits` ROSKEVAD_PLAIN_LINES. For ROSKEVAD_ALL_EDITS it knows the lines for all edits, too. For another number
+ * ROSKEVAD_TOO_GREAT, and nothing is given out. */
+static inline size_t roskevad_editor_word_fault_for(size_t edits, const char *line, size_t length, roskevad_faulty_word *word, char *text,
+                                                    size_t room)
+{
+    return roskevad_word_fault_for(edits, roskevad_bytes_at(line), length, word, roskevad_room_at(text), room);
 }
 
 /* The version of the library. Its size. */

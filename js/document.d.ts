@@ -16,14 +16,16 @@ export type Work<Given> = ((document: Document) => Given) & (Given extends Promi
 export type SelectionMode = "replace" | "add" | "subtract" | "intersect";
 /** How the text of a map is laid out: as Tiled does, with rows of cells on lines of their own, or without lines and spaces. */
 export type Layout = "tiled" | "rows" | "compact";
-/** The kinds of layers, and those that are added. */
+/** The kinds of layers, and those that are added, which are all. */
 export type LayerKind = "tile" | "object" | "group" | "image";
-export type AddedLayerKind = "tile" | "object";
+export type AddedLayerKind = LayerKind;
 /** The types of properties, and those that are set. */
 export type PropertyType = SetPropertyType | "float" | "class";
 export type SetPropertyType = "string" | "int" | "bool" | "color" | "file" | "object";
-/** The members of a map, a layer or an object, as its file has them. */
+/** The members of a map, a layer, an object or a tileset, as its file has them. */
 export type Members = Record<string, unknown>;
+/** Corners of a polygon or of a line of an object, from its place: pairs of numbers, or as a file has them. */
+export type Corners = Iterable<Iterable<number> | { readonly x: number; readonly y: number }>;
 /** The value of a property. */
 export type PropertyValue = string | number | boolean | Members;
 
@@ -175,6 +177,28 @@ export class Document {
   /** How the cells lie: orthogonal, isometric, staggered or hexagonal. */
   readonly orientation: string;
   /**
+   * The class of the map, as Tiled calls it: the member `class` of the file; set, it gives the map
+   * another one. Throws TypeError.
+   */
+  className: string;
+  /**
+   * The colour behind the layers, as the file has it, or null; set to null, it is taken away.
+   * Throws TypeError.
+   */
+  background: string | null;
+  /** The own members of the map, without its layers and tilesets: a copy. */
+  readonly members: Members;
+  /**
+   * Gives the map an own member, or adds one: any that Tiled writes for it, but its size in cells,
+   * its properties, its layers and tilesets, and what is of the file itself, as `version`. Throws
+   * TypeError, RangeError, Refused (41, 61, 63, 68).
+   */
+  setMember(key: string, value: unknown, options?: { merge?: boolean }): void;
+  /** Gives the map some own members at once, as one step. Throws TypeError, Refused (41, 63). */
+  setMembers(members: Record<string, unknown>, options?: { merge?: boolean }): void;
+  /** Takes an own member out, and says whether there was one. Throws Refused (41, 62). */
+  removeMember(key: string): boolean;
+  /**
    * The column and the row at which its corner lies in the infinite map that it was; else `[0,
    * 0]`.
    */
@@ -307,8 +331,9 @@ export class Layers {
   /** Each layer in drawing order, a group before those in it. */
   walk(): IterableIterator<Layer>;
   /**
-   * Adds a layer, `tile` or `object`, in no group, over the others, and gives it. Throws
-   * TypeError, RangeError, Refused (40).
+   * Adds a layer, `tile`, `object`, `group` or `image`, in no group, over the others, and gives
+   * it. An image layer has no image yet: its member `image` is empty. Throws TypeError,
+   * RangeError, Refused (40).
    */
   add(kind: AddedLayerKind, name: string): Layer;
   /** What JSON has of them: the list. */
@@ -333,6 +358,23 @@ export class Layer {
   name: string;
   /** Whether it is shown; set, it shows or hides the layer. */
   visible: boolean;
+  /**
+   * Its class, as Tiled calls it: the member `class` of the file. Set, it gives it another one.
+   * Throws TypeError.
+   */
+  className: string;
+  /** How opaque it is, from 0 to 1; set, it makes it so. Throws TypeError, Refused (61). */
+  opacity: number;
+  /**
+   * The colour that it is tinted with, as the file has it, or null; set to null, it is taken away.
+   * Throws TypeError.
+   */
+  tint: string | null;
+  /**
+   * Whether Tiled keeps it from being edited, which no call here does; set, it locks or unlocks
+   * the layer.
+   */
+  locked: boolean;
   /** The group that it stands in; null where it stands in none. */
   readonly parent: Layer | null;
   /** The layers in it, where it is a group. */
@@ -343,6 +385,15 @@ export class Layer {
   readonly properties: Properties;
   /** All that the map says of it, without cells: a copy. */
   readonly members: Members;
+  /**
+   * Gives it an own member, or adds one: any that Tiled writes for it, but its id, its type, its
+   * properties, its size and what is in it. Throws TypeError, RangeError, Refused (41, 61, 63).
+   */
+  setMember(key: string, value: unknown, options?: { merge?: boolean }): void;
+  /** Gives it some own members at once, as one step. Throws TypeError, Refused (41, 63). */
+  setMembers(members: Record<string, unknown>, options?: { merge?: boolean }): void;
+  /** Takes an own member out, and says whether there was one. Throws Refused (41). */
+  removeMember(key: string): boolean;
   /**
    * The values of a rectangle, row by row; without a size, up to the map's edge. Throws TypeError,
    * RangeError, Refused (31, 32).
@@ -395,10 +446,30 @@ export class Objects {
   /** How many there are. */
   readonly size: number;
   /**
-   * Adds a rectangle to an object layer, last, in whole pixels, and gives it. Throws TypeError,
-   * RangeError, Refused (31, 39).
+   * Adds an object to an object layer, last, in pixels, and gives it: a rectangle, or what one of
+   * `point` to `tile` says. Its name may be empty. Corners are counted from its place. Throws
+   * TypeError, RangeError, Refused (31, 39, 61, 68).
    */
-  add(name: string, x: number, y: number, width?: number, height?: number): MapObject;
+  add(
+    name: string, x: number, y: number, width?: number, height?: number, options?: {
+      point?: boolean;
+      ellipse?: boolean;
+      polygon?: Corners | null;
+      polyline?: Corners | null;
+      text?: string | Members | null;
+      tile?: Tile | number | null;
+      className?: string;
+      rotation?: number;
+      visible?: boolean;
+      properties?: Record<string, string | number | boolean | MapObject> | null;
+    },
+  ): MapObject;
+  /**
+   * Adds an object to an object layer, last, as a file has it, and gives it. It may say its id, as
+   * one that was removed; nothing is added to what it says. Throws TypeError, RangeError, Refused
+   * (31, 61, 63, 67, 68).
+   */
+  put(members: Record<string, unknown>): MapObject;
   /** What JSON has of them: the list. */
   toJSON(): MapObject[];
   [Symbol.iterator](): IterableIterator<MapObject>;
@@ -455,7 +526,7 @@ export class MapObject {
   readonly members: Members;
   /**
    * Gives it an own member, or adds one: any that Tiled writes for it, but its id and its
-   * properties. Throws TypeError, RangeError, Refused (41, 61, 63).
+   * properties. Throws TypeError, RangeError, Refused (41, 61, 63, 68).
    */
   setMember(key: string, value: unknown, options?: { merge?: boolean }): void;
   /** Gives it some own members at once, as one step. Throws TypeError, Refused (41, 63). */
@@ -497,7 +568,7 @@ export class Properties {
   set(
     key: string, value: string | number | boolean | MapObject, options?: { type?: SetPropertyType | null; merge?: boolean },
   ): void;
-  /** Removes one. */
+  /** Removes one, whatever characters its name has. */
   delete(key: string): boolean;
   /**
    * What JSON has of them: an object of names and values, as `Object.fromEntries(properties)`.
@@ -530,6 +601,23 @@ export class Tilesets {
    * Throws TypeError, RangeError, Refused (37, 38).
    */
   add(firstId: number, source: string, options?: { renumbers?: boolean }): Tileset;
+  /**
+   * Adds one as a file has it, and gives it: with `firstgid`, and `source` or all that it is. Its
+   * first id is as that of `add`. Throws TypeError, RangeError, Refused (37, 38, 61, 62, 63).
+   */
+  put(members: Record<string, unknown>, options?: { renumbers?: boolean }): Tileset;
+  /**
+   * Adds one that the map has in itself, and gives it: the tiles of an image, row by row, as many
+   * as Tiled cuts from it. The image is named by its path from the map's folder, and not read;
+   * sides, margin and spacing are in pixels. Throws TypeError, RangeError, Refused (37, 38).
+   */
+  addFromImage(
+    firstId: number, name: string, image: string, imageWidth: number, imageHeight: number, tileWidth: number, tileHeight: number, options?: {
+      margin?: number;
+      spacing?: number;
+      renumbers?: boolean;
+    },
+  ): Tileset;
   /** What JSON has of them: the list. */
   toJSON(): Tileset[];
   [Symbol.iterator](): IterableIterator<Tileset>;

@@ -1,9 +1,11 @@
 // SPDX-License-Identifier: MIT OR Apache-2.0
 // A document of an editor, in the words of its caller.
 import { Closed, Refused, refusedCall } from "./faults.js";
+import * as json from "./json_values.js";
 import { layoutOf } from "./layouts.js";
 import { MAX_COORDINATE, MAX_OPEN_MACROS } from "./limits.js";
 import { savedMap } from "./map_files.js";
+import { Owner, WithOwnMembers, refuseSettings, setMember, setOrRemove } from "./own_members.js";
 import { Properties } from "./properties.js";
 import { BASE, doubtful, partsOf, rowsOf } from "./rows.js";
 import { Selection } from "./selection.js";
@@ -29,7 +31,7 @@ const ROW_NUMBERS = 6;
  * Closed. A call that a line does throws Refused, with that line; words that no line can say throw
  * RangeError or TypeError, and nothing is done.
  */
-export class Document {
+export class Document extends WithOwnMembers {
   #editor;
   #name;
   #isClosed = false;
@@ -49,6 +51,7 @@ export class Document {
 
   // Editors make it: `new`, `open` and `documents` give it.
   constructor(editor, name) {
+    super();
     this.#editor = editor;
     this.#name = name;
     // So that a name that it has not is never set silently.
@@ -261,6 +264,32 @@ export class Document {
 
   get orientation() {
     return this._read("map_head").orientation ?? "orthogonal";
+  }
+
+  get className() {
+    return this._read("map_head").class ?? "";
+  }
+
+  set className(name) {
+    setMember(this, "class", json.text(name, "the class of a map"));
+  }
+
+  get background() {
+    return this._read("map_head").backgroundcolor ?? null;
+  }
+
+  // A text, or null.
+  set background(colour) {
+    setOrRemove(this, "backgroundcolor", colour === null ? null : json.text(colour, "the background of a map"));
+  }
+
+  get _owner() {
+    return new Owner(this, "map", null, () => this._read("map_head"));
+  }
+
+  get members() {
+    const owner = this._owner;
+    return owner.own(owner.now());
   }
 
   get origin() {
@@ -709,6 +738,12 @@ export class Document {
     return `<${this}>`;
   }
 }
+
+refuseSettings(Document, "a document", {
+  width: "resize(width, height) does", height: "resize(width, height) does", tileWidth: 'setMember("tilewidth", value) does',
+  tileHeight: 'setMember("tileheight", value) does', orientation: 'setMember("orientation", value) does',
+  members: "setMembers(members) does",
+});
 
 /**
  * What work gives, behind `end`; where it throws, behind `undo`, and what that throws hides no fault of the work. Work

@@ -19,19 +19,20 @@ export const FORMS = new Map([
   ["select", ["select replace|add|subtract|intersect X Y WIDTH HEIGHT", "select none"]],
   ["layer", [
     "layer add tile|object NAME", "layer remove LAYER", "layer rename LAYER NAME",
-    "layer show LAYER yes|no", "layer move LAYER PLACE",
+    "layer show LAYER yes|no", "layer move LAYER PLACE", "layer add group|image NAME",
   ]],
   ["resize", ["resize WIDTH HEIGHT X Y"]],
   ["object", [
     "object add LAYER X Y WIDTH HEIGHT NAME", "object move OBJECT X Y", "object move+ OBJECT X Y",
-    "object resize OBJECT WIDTH HEIGHT", "object remove OBJECT",
+    "object resize OBJECT WIDTH HEIGHT", "object remove OBJECT", "object put LAYER JSON",
   ]],
   ["prop", [
     "prop set OWNER KEY string|file TEXT", "prop set OWNER KEY int NUMBER",
     "prop set OWNER KEY bool true|false", "prop set OWNER KEY color COLOUR",
     "prop set OWNER KEY object OBJECT", "prop set+ OWNER KEY TYPE VALUE", "prop remove OWNER KEY",
+    "prop take OWNER JSON",
   ]],
-  ["tileset", ["tileset add FIRST SOURCE", "tileset remove FIRST"]],
+  ["tileset", ["tileset add FIRST SOURCE", "tileset remove FIRST", "tileset put JSON"]],
   ["undo", ["undo"]],
   ["redo", ["redo"]],
   ["goto", ["goto INDEX"]],
@@ -61,9 +62,4 @@ export function formsOf(line) {
   }
   const letter = word.charAt(0).toLowerCase();
   return [...FORMS].flatMap(([name, forms]) => (name.charAt(0) === letter ? forms : []));
-}
-
-/** Whether a line is one of own members: the library does not tell at which word it is refused. */
-export function isOfMembers(line) {
-  return line.split(" ")[0] === "member";
 }

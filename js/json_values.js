@@ -42,6 +42,14 @@ export function said(value, what, depth = 0) {
   throw new TypeError(`${what} is null, a boolean, a finite number, a string, or an array or a plain object of such: ${shown}`);
 }
 
+/** The members of a thing as JSON in one line. Throws as `said` does, and TypeError where they are none. */
+export function membersSaid(members, what) {
+  if (!isPlain(members)) {
+    throw new TypeError(`${what} are a plain object: ${quoted(typeof members)}`);
+  }
+  return said(members, what);
+}
+
 /** A text, also an empty one. Throws TypeError where it is none. */
 export function text(value, what) {
   if (typeof value !== "string") {

@@ -1,7 +1,6 @@
 // SPDX-License-Identifier: MIT OR Apache-2.0
 // The module of the proved library: how it is loaded, and how it is called.
 import { BadModule, Broken, NoMemory } from "./faults.js";
-import { isOfMembers } from "./forms.js";
 import { MAX_FILE_BYTES } from "./limits.js";
 import { TOLD_BYTES } from "./told.js";
 
@@ -301,18 +300,14 @@ export class Module {
 
   /**
    * The word at which a line is refused: which it is, from 1, the word itself, null where the line ends in front of it, and what is wrong
-   * with it, as `word 1 is not a command`. Null where the line is read, or refused as a whole, and for a line of own members. Throws
-   * NoMemory.
+   * with it, as `word 1 is not a command`. Null where the line is read, or refused as a whole. Throws NoMemory.
    */
   wordFault(line) {
-    if (isOfMembers(line)) {
-      return null;
-    }
     const given = encoder.encode(line);
     return this.holding(FAULTY_WORD_BYTES + given.length, (to) => {
       const from = to + FAULTY_WORD_BYTES;
       this.bytes().set(given, from);
-      const text = this.copyText((at, room) => this.calls.word_fault(from, given.length, to, at, room));
+      const text = this.copyText((at, room) => this.calls.word_fault_for(ALL_EDITS, from, given.length, to, at, room));
       if (text === null) {
         return null;
       }

@@ -1,49 +1,134 @@
 // SPDX-License-Identifier: MIT OR Apache-2.0
-// The own members of an object: all that stands for it in the map's file, but its id and its properties. Each line of them is
-// said here.
-import { isPlain, said } from "./json_values.js";
+// The own members of an object, a layer or the map: what stands for it in the map's file, but for what other lines change.
+// Each line of them is said here.
+import { isPlain, membersSaid, said } from "./json_values.js";
 import * as words from "./words.js";
 
 const NAME = "the name of a member";
+// The names that are none of own members, by what has them.
+const OTHERS = {
+  object: ["id", "properties", "roskevad"],
+  layer: [
+    "id", "type", "properties", "data", "chunks", "startx", "starty", "objects", "layers", "width", "height", "encoding",
+    "compression", "roskevad",
+  ],
+  map: [
+    "width", "height", "infinite", "chunks", "data", "objects", "layers", "tilesets", "properties", "type", "version",
+    "roskevad",
+  ],
+};
+// What stands there again where it is taken out.
+const DEFAULTS = new Map([["layer", new Map([["name", ""], ["visible", true]])]]);
 
-/** Gives an object an own member. */
-export function setMember(thing, key, value, merge = false) {
+/** What has own members, an object, a layer or the map: how lines and the library name it, and how it is read. */
+export class Owner {
+  #kind;
+  #call;
+
+  // `now` gives what the map says of it, and throws Refused where it was removed.
+  constructor(document, kind, id, now) {
+    this.document = document;
+    this.name = id === null ? kind : `${kind}:${id}`;
+    this.now = now;
+    this.#kind = kind;
+    this.#call = id === null ? ["map_head"] : [kind, id];
+  }
+
+  /** The names that are none of its own members. */
+  get others() {
+    return OTHERS[this.#kind];
+  }
+
+  /** What stands there again where it is taken out. */
+  get defaults() {
+    return DEFAULTS.get(this.#kind) ?? new Map();
+  }
+
+  /** What the editor holds of it, by names, with which a line compares new values; nothing where it was removed. */
+  get held() {
+    return new Map(Object.entries(this.document.editor._parsed(...this.#call) ?? {}));
+  }
+
+  /** Its own members, of what is told of it. */
+  own(members) {
+    return Object.fromEntries(Object.entries(members).filter(([name]) => !this.others.includes(name)));
+  }
+}
+
+/** The calls of what has own members, whose `_owner` says which. */
+export class WithOwnMembers {
+  setMember(key, value, { merge = false } = {}) {
+    setMember(this, key, value, merge);
+  }
+
+  setMembers(members, { merge = false } = {}) {
+    putMembers(this, members, merge);
+  }
+
+  removeMember(key) {
+    return removeMember(this, key);
+  }
+}
+
+/** Sets an own member, or adds one. */
+export function setMember({ _owner: owner }, key, value, merge = false) {
   const name = words.key(key, NAME);
   const text = said(value, `the member ${words.quoted(name)}`);
-  say(thing, `set${merge ? "+" : ""} object:${thing.id} ${name} ${text}`, () => ({ [name]: JSON.parse(text) }));
+  say(owner, `set${merge ? "+" : ""} ${owner.name} ${name} ${text}`, (held) => differ(held, [[name, JSON.parse(text)]]));
 }
 
-/** Gives an object some own members at once. */
-export function putMembers(thing, members, merge = false) {
-  if (!isPlain(members)) {
-    throw new TypeError(`members are a plain object: ${words.quoted(typeof members)}`);
-  }
-  const text = said(members, "the members of an object");
-  say(thing, `put${merge ? "+" : ""} object:${thing.id} ${text}`, () => JSON.parse(text));
+// Sets some own members at once.
+function putMembers({ _owner: owner }, members, merge = false) {
+  const text = membersSaid(members, `the members of ${owner.name}`);
+  say(owner, `put${merge ? "+" : ""} ${owner.name} ${text}`, (held) => differ(held, Object.entries(JSON.parse(text))));
 }
 
-/** Takes an own member out of an object, where there is one; whether there was. */
-export function removeMember(thing, key) {
-  const isThere = Object.keys(thing._now).includes(key);
+// Takes an own member out, where there is one; whether there was. A name that is none of own members is said, too: it is
+// refused.
+function removeMember({ _owner: owner }, key) {
+  const { defaults } = owner;
+  const isThere = Object.keys(owner.now()).includes(key) || owner.others.includes(key);
   if (isThere) {
-    thing.document._edit(`member remove object:${thing.id} ${words.key(key, NAME)}`);
+    const changes = (held) => !defaults.has(key) || held.get(key) !== defaults.get(key);
+    say(owner, `remove ${owner.name} ${words.key(key, NAME)}`, changes);
   }
   return isThere;
 }
 
-// Says a line with new values. Where they are those that are there, macros wait on for their first edit.
-function say(thing, rest, news) {
-  const { document } = thing;
-  const changes = () => {
-    const now = document.editor._parsed("object", thing.id) ?? {};
-    return Object.entries(news()).some(([name, value]) => sorted(value) !== sorted(now[name]));
-  };
+/** Sets an own member, or takes it out where the value is null. */
+export function setOrRemove(thing, key, value) {
+  if (value === null) {
+    removeMember(thing, key);
+  } else {
+    setMember(thing, key, value);
+  }
+}
+
+// Says a line. Where it changes nothing of what the editor holds, macros wait on for their first edit.
+function say(owner, rest, changes) {
+  const { document } = owner;
   document._enter();
-  document._beginningIf(changes, () => document._edit(`member ${rest}`));
+  document._beginningIf(() => changes(owner.held), () => document._edit(`member ${rest}`));
+}
+
+// Whether new values, with their names, are others than those that are there.
+function differ(held, news) {
+  return news.some(([name, value]) => sorted(value) !== sorted(held.get(name)));
 }
 
 // A value as a text that is the same for the same value.
 function sorted(value) {
   const inOrder = (each) => Object.fromEntries(Object.entries(each).sort(([one], [other]) => (one < other ? -1 : 1)));
   return JSON.stringify(value, (_, each) => (isPlain(each) ? inOrder(each) : each));
+}
+
+/** Has settings of values throw that are set by a call, or by another name: which, for whoever sets them as a value. */
+export function refuseSettings(kind, what, calls) {
+  for (const [name, why] of Object.entries(calls)) {
+    const set = () => {
+      throw new TypeError(`${name} of ${what} is not set as a value: ${why}`);
+    };
+    const { get } = Object.getOwnPropertyDescriptor(kind.prototype, name);
+    Object.defineProperty(kind.prototype, name, { get, set });
+  }
 }

@@ -1,6 +1,7 @@
 // SPDX-License-Identifier: MIT OR Apache-2.0
 // The properties of a map, a layer or an object.
 import { NotFound, OtherType } from "./faults.js";
+import { said } from "./json_values.js";
 import { OWNERS } from "./module.js";
 import { WithOwnNames } from "./own_names.js";
 import * as words from "./words.js";
@@ -85,10 +86,10 @@ export class Properties extends WithOwnNames {
   /** Sets a property: of this type, or else of the type that is there, or else of the value's own. */
   set(key, value, { type = null, merge = false } = {}) {
     const name = words.key(key);
-    const said = type === null
+    const setting = type === null
       ? this._settingFor(name, value)
       : words.setting(name, value, words.oneOf(type, words.TYPES, "the type of a property"));
-    this.#document._edit(`prop set${merge ? "+" : ""} ${this.#owner} ${name} ${said}`);
+    this.#document._edit(`prop set${merge ? "+" : ""} ${this.#owner} ${name} ${setting}`);
   }
 
   // The type and the value that a line has where no type is named. Throws OtherType where the property has a type that
@@ -113,12 +114,14 @@ export class Properties extends WithOwnNames {
     }
   }
 
-  /** Removes the property of a name, and says whether there was one. */
+  /** Removes the property of a name, whatever characters that has, and says whether there was one. */
   delete(key) {
     if (!this.has(key)) {
       return false;
     }
-    this.#document._edit(`prop remove ${this.#owner} ${words.key(key)}`);
+    const isKey = words.isKey(key);
+    const name = isKey ? key : said(key, "the name of a property");
+    this.#document._edit(`prop ${isKey ? "remove" : "take"} ${this.#owner} ${name}`);
     return true;
   }
 

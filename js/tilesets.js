@@ -2,6 +2,7 @@
 // The tilesets of a document, and the tiles of its cells.
 import { DIAGONALLY, HORIZONTALLY, TURNED, VERTICALLY } from "./blocks.js";
 import { BadTileset, NotFound, refusedCall } from "./faults.js";
+import * as json from "./json_values.js";
 import { BASE } from "./rows.js";
 import * as words from "./words.js";
 
@@ -22,6 +23,7 @@ export function absent(kind, key, ids) {
 
 // The most tiles that are listed.
 const MOST_TILES = 1_048_576;
+const FIRST_ID = "the first id of a tileset";
 
 // The JSON objects of an array; none of what is no array.
 function objectsOf(value) {
@@ -83,15 +85,18 @@ export class Tileset {
    * where it has too many, or does not say how many.
    */
   get tiles() {
-    const { source, tilecount = 0, tiles } = this._members;
+    const { source, tilecount = 0, tiles, image } = this._members;
     if (source !== undefined) {
       return null;
     }
     if (!Number.isInteger(tilecount) || tilecount < 0 || tilecount > MOST_TILES) {
       throw new BadTileset(`a tileset has 0 to ${MOST_TILES} tiles, and this one says: ${words.quoted(tilecount)}`);
     }
-    const said = new Map(objectsOf(tiles).map((tile) => [tile.id, tile]));
-    return Array.from({ length: tilecount }, (_, id) => tileOfSet(id, said.get(id)));
+    const said = new Map(objectsOf(tiles).filter(({ id }) => Number.isInteger(id)).map((tile) => [tile.id, tile]));
+    // A collection of images has the tiles that it lists, whose ids may have gaps.
+    const isCollection = image === undefined && [...said.values()].some((tile) => tile.image !== undefined);
+    const ids = isCollection ? [...said.keys()].sort((one, other) => one - other) : [...Array(tilecount).keys()];
+    return ids.map((id) => tileOfSet(id, said.get(id)));
   }
 
   /** The value of a cell with its tile of this id, which Tiled shows as the tile's ID. */
@@ -141,6 +146,28 @@ export function tileOf(document, value) {
     localId: first === null ? null : base - first,
     ...Object.fromEntries(flips),
   });
+}
+
+// A tileset as JSON. Throws TypeError, RangeError.
+const textOf = (members) => json.membersSaid(members, "the members of a tileset");
+const putLine = (text) => `tileset put ${text}`;
+
+// What a file has of the tiles that Tiled cuts from an image: with a margin at its left and its top, and a spacing between
+// tiles. Throws TypeError; RangeError where no tile fits.
+function gridOf(image, tile, margin, spacing) {
+  const sides = image.map((side) => words.number(side, "a side of an image"));
+  const steps = tile.map((side) => words.number(side, "a side of a tile"));
+  const [edge, gap] = [words.number(margin, "the margin of a tileset"), words.number(spacing, "the spacing of a tileset")];
+  const counts = sides.map((side, at) => (steps[at] > 0 ? Math.floor((side - edge + gap) / (steps[at] + gap)) : 0));
+  if (Math.min(...counts) < 1) {
+    const [what, whole] = [steps, sides].map((each) => each.join(" by "));
+    throw new RangeError(`no tile of ${what} pixels fits into an image of ${whole}, with a margin of ${edge}`);
+  }
+  const [columns, rows] = counts;
+  return {
+    imagewidth: sides[0], imageheight: sides[1], tilewidth: steps[0], tileheight: steps[1], margin: edge, spacing: gap,
+    columns, tilecount: columns * rows,
+  };
 }
 
 /** The tilesets of a document, in order, by first id, or by source or name. */
@@ -207,12 +234,38 @@ export class Tilesets {
 
   /** Adds a tileset by the path of its file from the folder of the map, last, and gives it. */
   add(firstId, source, { renumbers = false } = {}) {
-    const first = words.number(firstId, "the first id of a tileset");
+    const first = words.number(firstId, FIRST_ID);
     const line = `tileset add ${first} ${words.text(source, "the source of a tileset")}`;
-    const value = renumbers ? null : this._valueAbove(first);
+    return this._added(first, line, `tilesets.add(${first}, ${JSON.stringify(source)})`, renumbers);
+  }
+
+  /** Adds a tileset as a file has it, last, and gives it: with `firstgid`, and `source` or all that it is. */
+  put(members, { renumbers = false } = {}) {
+    const text = textOf(members);
+    const { firstgid: first } = JSON.parse(text);
+    return this._added(first, putLine(text), `tilesets.put({ firstgid: ${first}, .. })`, renumbers);
+  }
+
+  /**
+   * Adds a tileset that the map has in itself, last, and gives it: the tiles of an image, row by row, as many as Tiled cuts
+   * from it. The image is named by its path from the folder of the map, and not read.
+   */
+  addFromImage(
+    firstId, name, image, imageWidth, imageHeight, tileWidth, tileHeight,
+    { margin = 0, spacing = 0, renumbers = false } = {},
+  ) {
+    const first = words.number(firstId, FIRST_ID);
+    const grid = gridOf([imageWidth, imageHeight], [tileWidth, tileHeight], margin, spacing);
+    const named = { name: json.text(name, "the name of a tileset"), image: json.text(image, "the image of a tileset") };
+    const line = putLine(textOf({ firstgid: first, ...named, ...grid }));
+    return this._added(first, line, `tilesets.addFromImage(${first}, ${JSON.stringify(name)}, ..)`, renumbers);
+  }
+
+  // Says a line that adds a tileset, and gives that.
+  _added(first, line, call, renumbers) {
+    const value = renumbers || !words.isId(first) ? null : this._valueAbove(first);
     if (value !== null) {
       const why = `a tile with the value ${value} is in use, and would be one of it: { renumbers: true } adds it all the same`;
-      const call = `tilesets.add(${first}, ${JSON.stringify(source)})`;
       throw refusedCall(37, call, { why });
     }
     this.#document._edit(line);

@@ -4,22 +4,24 @@ import { replaced, tileValue } from "./blocks.js";
 import { refusedCall } from "./faults.js";
 import * as json from "./json_values.js";
 import { KINDS } from "./module.js";
-import { putMembers, removeMember, setMember } from "./own_members.js";
+import { given, lineOf, looksOf, placeOf, putLine, textOf } from "./new_objects.js";
+import { Owner, WithOwnMembers, refuseSettings, setMember, setOrRemove } from "./own_members.js";
 import { Properties } from "./properties.js";
 import { BASE } from "./rows.js";
 import { absent, tileOf } from "./tilesets.js";
 import * as words from "./words.js";
 
-// The kinds of layers, by the words of Tiled's files, and those that a line adds.
+// The kinds of layers, by the words of Tiled's files; and all of them, each of which a line adds.
 const TYPES = { tilelayer: "tile", objectgroup: "object", group: "group", imagelayer: "image" };
-const ADDED = ["tile", "object"];
+const ALL_KINDS = Object.values(KINDS);
 const INSPECT = Symbol.for("nodejs.util.inspect.custom");
 
 // What a document has under an id: it is looked up at each call.
-class View {
+class View extends WithOwnMembers {
   #document;
 
   constructor(document, id) {
+    super();
     this.#document = document;
     this.id = id;
     // So that a name that it has not is never set silently.
@@ -31,9 +33,22 @@ class View {
     return this.#document;
   }
 
+  // What the map says of it, of a layer without what is in it.
+  get _now() {
+    const members = this.document._read(this._subject, this.id);
+    if (members === null) {
+      throw this._missing();
+    }
+    return members;
+  }
+
+  get _owner() {
+    return new Owner(this.document, this._subject, this.id, () => this._now);
+  }
+
   /** All that the map says of it, without cells: a copy. */
   get members() {
-    return this._now;
+    return this._whole;
   }
 
   /** What JSON has of it: its members. */
@@ -60,12 +75,12 @@ export class MapObject extends View {
     return this.id;
   }
 
-  get _now() {
-    const members = this.document._read("object", this.id);
-    if (members === null) {
-      throw this._missing();
-    }
-    return members;
+  get _subject() {
+    return "object";
+  }
+
+  get _whole() {
+    return this._now;
   }
 
   _missing() {
@@ -144,27 +159,11 @@ export class MapObject extends View {
   // A tile, the value of a cell, or null.
   set tile(tile) {
     const value = tile === null ? 0 : words.number(tile?.value ?? tile, "the tile of an object");
-    if (value === 0) {
-      removeMember(this, "gid");
-    } else {
-      setMember(this, "gid", value);
-    }
+    setOrRemove(this, "gid", value === 0 ? null : value);
   }
 
   get properties() {
     return new Properties(this.document, "object", this);
-  }
-
-  setMember(key, value, { merge = false } = {}) {
-    setMember(this, key, value, merge);
-  }
-
-  setMembers(members, { merge = false } = {}) {
-    putMembers(this, members, merge);
-  }
-
-  removeMember(key) {
-    return removeMember(this, key);
   }
 
   move(x, y, { merge = false } = {}) {
@@ -187,18 +186,11 @@ export class MapObject extends View {
   }
 }
 
-// What is set of an object by a call, or by another name: which, for whoever sets it as a value.
-const NOT_SET = {
+refuseSettings(View, "an object or a layer", { members: "setMembers(members) does" });
+refuseSettings(MapObject, "an object", {
   type: "className does", isPoint: 'setMember("point", true) does', x: "move(x, y) does", y: "move(x, y) does",
   width: "resize(width, height) does", height: "resize(width, height) does",
-};
-for (const [name, why] of Object.entries(NOT_SET)) {
-  const set = () => {
-    throw new TypeError(`${name} of an object is not set as a value: ${why}`);
-  };
-  const { get } = Object.getOwnPropertyDescriptor(MapObject.prototype, name);
-  Object.defineProperty(MapObject.prototype, name, { get, set });
-}
+});
 
 /** The first of these layers or objects that has a name: each is looked at. Null where there is none. */
 function firstNamed(document, subject, ids, name) {
@@ -265,15 +257,29 @@ export class Objects {
     return this._found(key) !== null;
   }
 
-  add(name, x, y, width = 0, height = 0) {
+  add(name, x, y, width = 0, height = 0, {
+    point = false, ellipse = false, polygon = null, polyline = null, text = null, tile = null, className = "", rotation = 0,
+    visible = true, properties = null,
+  } = {}) {
+    const layer = this._ownLayer;
+    const place = placeOf(x, y, width, height);
+    const looks = looksOf({ point, ellipse, polygon, polyline, text, tile });
+    const line = lineOf(layer, name, place, { ...given({ className, rotation, visible, properties }), ...looks });
+    return new MapObject(this.#document, this.#document._add("object", line));
+  }
+
+  put(members) {
+    const [layer, text] = [this._ownLayer, textOf(members)];
+    const last = this.#document._add("object", putLine(layer, text));
+    return new MapObject(this.#document, JSON.parse(text).id ?? last);
+  }
+
+  // The layer that an object is added to. Throws RangeError for the objects of a whole document.
+  get _ownLayer() {
     if (this.#layer === null) {
       throw new RangeError("an object is added to a layer: document.layers.get(..).objects.add(..)");
     }
-    const where = `${words.coordinate(x, "x")} ${words.coordinate(y, "y")}`;
-    const size = `${words.number(width, "a width")} ${words.number(height, "a height")}`;
-    const said = words.text(name, "the name of an object");
-    const id = this.#document._add("object", `object add ${this.#layer} ${where} ${size} ${said}`);
-    return new MapObject(this.#document, id);
+    return this.#layer;
   }
 
   /** What JSON has of them: the list of all. */
@@ -309,20 +315,15 @@ function boundsOf(cells, wide, holds) {
  * call throws Refused, 30.
  */
 export class Layer extends View {
-  // What the map says of it, without what is in it.
-  get _now() {
-    const members = this.document._read("layer", this.id);
-    if (members === null) {
-      throw this._missing();
-    }
-    return members;
+  get _subject() {
+    return "layer";
   }
 
   _missing() {
     return refusedCall(30, `Layer ${this.id}`);
   }
 
-  get members() {
+  get _whole() {
     const [members, document] = [this._now, this.document];
     if (members.type === "tilelayer") {
       const { width, height } = document._sizes;
@@ -331,7 +332,7 @@ export class Layer extends View {
     } else if (members.type === "objectgroup") {
       members.objects = document._ids("object_ids", this.id).map((id) => document._read("object", id));
     } else if (members.type === "group") {
-      members.layers = this.layers._below.map(({ id }) => new Layer(document, id).members);
+      members.layers = this.layers._below.map(({ id }) => new Layer(document, id)._whole);
     }
     return members;
   }
@@ -354,6 +355,39 @@ export class Layer extends View {
 
   set visible(visible) {
     this.document._edit(`layer show ${this.id} ${visible ? "yes" : "no"}`);
+  }
+
+  get className() {
+    return this._now.class ?? "";
+  }
+
+  set className(name) {
+    setMember(this, "class", json.text(name, "the class of a layer"));
+  }
+
+  get opacity() {
+    return this._now.opacity ?? 1;
+  }
+
+  set opacity(opacity) {
+    setMember(this, "opacity", json.number(opacity, "the opacity of a layer"));
+  }
+
+  get tint() {
+    return this._now.tintcolor ?? null;
+  }
+
+  // A text, or null.
+  set tint(tint) {
+    setOrRemove(this, "tintcolor", tint === null ? null : json.text(tint, "the tint of a layer"));
+  }
+
+  get locked() {
+    return this._now.locked ?? false;
+  }
+
+  set locked(locked) {
+    setOrRemove(this, "locked", locked ? true : null);
   }
 
   get parent() {
@@ -529,7 +563,7 @@ export class Layers {
       const id = this._found(name);
       return id === null ? null : new Layer(this.#document, id);
     }
-    const said = words.oneOf(kind, Object.values(KINDS), "the kind of a layer");
+    const said = words.oneOf(kind, ALL_KINDS, "the kind of a layer");
     const first = this.#document._find("layer", name);
     const ids = this._walked.filter((row) => KINDS[row.kind] === said).map((row) => row.id);
     const id = first === null || ids.includes(first) ? first : firstNamed(this.#document, "layer", ids, name);
@@ -540,7 +574,7 @@ export class Layers {
     if (this.#group !== null) {
       throw new RangeError("a layer is not added to a group, but over all others: document.layers.add(..)");
     }
-    const said = words.oneOf(kind, ADDED, "the kind of a layer that is added");
+    const said = words.oneOf(kind, ALL_KINDS, "the kind of a layer that is added");
     const id = this.#document._add("layer", `layer add ${said} ${words.text(name, "the name of a layer")}`);
     return new Layer(this.#document, id);
   }

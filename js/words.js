@@ -77,6 +77,28 @@ export function key(word, what = "the name of a property") {
   return said;
 }
 
+/** Whether a line can have a text as its rest. */
+export function isText(word) {
+  return takes(text, word);
+}
+
+/** Whether a line can have a text as one of its words. */
+export function isKey(word) {
+  return takes(key, word);
+}
+
+function takes(check, word) {
+  try {
+    check(word, "");
+  } catch (fault) {
+    if (fault instanceof RangeError) {
+      return false;
+    }
+    throw fault;
+  }
+  return true;
+}
+
 /**
  * Both texts of a macro, as the line `begin` has them. Throws as `text` does, and RangeError where they
  * would be divided at another place.

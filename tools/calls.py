@@ -35,7 +35,7 @@ GIVEN = {
     'became': ('str', '"nothing" | "added" | "added and dropped" | "merged" | "gone" | "turned"'),
     'end of a watch': ('Watch', '() => void'),
     'Layer?': ('Layer or None', 'Layer | null'), 'MapObject?': ('MapObject or None', 'MapObject | null'),
-    'own members': ('ObjectMembers', 'Members'),
+    'own members': ('OwnMembers', 'Members'),
     'Tileset?': ('Tileset or None', 'Tileset | null'), 'tiles': ('list of TilesetTile or None', 'TilesetTile[] | null'),
 }
 #: The types of arguments in TypeScript, by their names.
@@ -58,14 +58,15 @@ COSTS = {
         'map': 'new open close open_map save_map open_file save_file map outline object_id',
     },
     'Document': {
-        'answer': 'stamp erase fill selection select select_none steps steps_since undo redo goto clear stroke',
+        'answer': 'members stamp erase fill selection select select_none steps steps_since undo redo goto clear stroke',
         'map': 'resize map outline save save_bytes close discard to_json',
     },
     'Layers': {'answer': 'find size walk to_json'},
     'Layer': {'answer; once map': 'members to_json', 'answer': 'parent cells rows write remove', 'map': 'replace'},
-    'Objects': {'1; by a name map': 'get has', 'answer': 'size to_json'},
+    'Objects': {'1; by a name map': 'get has', 'answer': 'size put to_json', '1; with a shape answer': 'add'},
+    'OwnMembers': {'1; of a layer answer': 'set put update delete'},
     'Properties': {'answer': 'size keys to_json'},
-    'Tilesets': {'map': 'add', 'answer': 'to_json'},
+    'Tilesets': {'map': 'add put add_from_image', 'answer': 'to_json'},
     'Tileset': {'map': 'remove', 'answer': 'members tiles'},
     'Selection': {'answer': 'runs size'},
 }
@@ -113,15 +114,45 @@ def value(name: str, gives: str, does: str, **more: object) -> Call:
     return Call(name, None, does, gives=gives, **more)  # type: ignore[arg-type]
 
 
-def own_value(name: str, gives: str, does: str, wrong: Sequence[str] = (), *refused: str, **more: object) -> Call:
-    """A value of an object that is read, and set as an own member: with values that have another type or are out of range, and one that is
-    refused."""
+#: How an object that is added looks, each with what is usual.
+LOOKS = {
+    'point': 'False', 'ellipse': 'False', 'polygon': 'None', 'polyline': 'None', 'text': 'None', 'tile': 'None', 'class_name': "''", 'rotation': '0',
+    'visible': 'True', 'properties': 'None',
+}
+#: What has own members, as Python and JavaScript find it: an object, a layer, the map.
+AN_OBJECT = 'document.objects[1]', 'document.objects.get(1)'
+A_LAYER = 'document.layers[1]', 'document.layers.get(1)'
+THE_MAP = 'document', 'document'
+
+
+def own_value(owner: Tuple[str, str], name: str, gives: str, does: str, wrong: Sequence[str] = (), *refused: str, **more: object) -> Call:
+    """A value that is read, and set as an own member: with values that have another type or are out of range, and one that is refused."""
     trials = {**dict(zip(('type', 'value'), wrong)), **dict([refused] if refused else [])}
     camel = name.title().replace('_', '')
     spelled = camel[0].lower() + camel[1:]
-    raises = {word: (f'setattr(document.objects[1], "{name}", {value})', f'Reflect.set(document.objects.get(1), "{spelled}", {value})')
-              for word, value in trials.items()}
+    python, javascript = owner
+    raises = {word: (f'setattr({python}, "{name}", {value})', f'Reflect.set({javascript}, "{spelled}", {value})') for word, value in trials.items()}
     return value(name, gives, does, line='member set OWNER KEY JSON', is_set=True, raises=raises, **more)
+
+
+def member_calls(owner: Tuple[str, str], whom: str, but: str, refused: Dict[str, Tuple[str, str]], *needed: str) -> List[Call]:
+    """The calls of own members that JavaScript alone has: of whom, what are none, a name and a value for each refusal, and names that must
+    stay."""
+    thing = owner[1]
+    other, wrong = refused['41'][0], refused['63']
+    settings = {f'refused {code}': ('', f'{thing}.setMember("{name}", {value})') for code, (name, value) in refused.items()}
+    removals = {'refused 41': other, **{'refused 62': name for name in needed}}
+    return [
+        Call('set_member', 'key, value; merge=False', f'Gives {whom} an own member, or adds one: any that Tiled writes for it, but {but}.',
+             'member set OWNER KEY JSON', '',
+             {'type': ('', f'{thing}.setMember("a", undefined)'), 'value': ('', f'{thing}.setMember("a b", 1)'), **settings},
+             only='javascript', types={'key': 'string', 'value': 'unknown'}),
+        Call('set_members', 'members; merge=False', f'Gives {whom} some own members at once, as one step.', 'member put OWNER JSON', '',
+             {'type': ('', f'{thing}.setMembers(5)'), 'refused 41': ('', f'{thing}.setMembers({{ a: 1, {other}: 7 }})'),
+              'refused 63': ('', f'{thing}.setMembers({{ {wrong[0]}: {wrong[1]} }})')}, only='javascript'),
+        Call('remove_member', 'key', 'Takes an own member out, and says whether there was one.', 'member remove OWNER KEY', 'bool',
+             {word: ('', f'{thing}.removeMember("{name}")') for word, name in removals.items()}, only='javascript', types={'key': 'string'}),
+    ]
 
 
 def to_json(kind: str, gives: str, does: str) -> Call:
@@ -165,6 +196,12 @@ DOCUMENT = Kind('Document', 'A map, its selection and its steps. A call makes th
     value('tile_width', 'int', 'The width of a cell in pixels.'),
     value('tile_height', 'int', 'The height of a cell in pixels.'),
     value('orientation', 'str', 'How the cells lie: orthogonal, isometric, staggered or hexagonal.'),
+    own_value(THE_MAP, 'class_name', 'str', 'The class of the map, as Tiled calls it: the member `class` of the file; set, it gives the map another one.',
+              ['5']),
+    own_value(THE_MAP, 'background', 'str?', 'The colour behind the layers, as the file has it, or {None}; set to {None}, it is taken away.', ['5']),
+    value('members', 'own members', 'The own members of the map, without its layers and tilesets: a copy{can_be_set}.'),
+    *member_calls(THE_MAP, 'the map', 'its size in cells, its properties, its layers and tilesets, and what is of the file itself, as `version`',
+                  {'41': ('width', '7'), '61': ('parallaxoriginx', '0.5'), '63': ('tilewidth', '"wide"'), '68': ('nextlayerid', '1')}, 'tilewidth'),
     value('origin', 'place', 'The column and the row at which its corner lies in the infinite map that it was; else {cell_0}.'),
     value('layers', 'Layers', 'The layers.'),
     value('objects', 'Objects', 'The objects of all layers.'),
@@ -257,9 +294,10 @@ LAYERS = Kind('Layers', 'The layers in no group, or those in a group, as they ar
          raises={'value': 'document.layers.find("Walls", "wall")'}),
     value('size', 'int', 'How many there are, a group as one.', written=('len(layers)', 'layers.size')),
     Call('walk', '', 'Each layer in drawing order, a group before those in it.', gives='each Layer'),
-    Call('add', 'kind, name', 'Adds a layer, `tile` or `object`, in no group, over the others, and gives it.', 'layer add tile|object NAME', 'Layer',
+    Call('add', 'kind, name', 'Adds a layer, `tile`, `object`, `group` or `image`, in no group, over the others, and gives it. An image layer has no '
+         'image yet: its member `image` is empty.', 'layer add tile|object|group|image NAME', 'Layer',
          {'type': 'document.layers.add("tile", 5)', 'value': 'document.layers.add("wall", "a")',
-          'refused 40': 'many("layer add tile a", 253) and document.layers.add("tile", "a")'}, types={'kind': 'AddedLayerKind'}),
+          'refused 40': 'many("layer add tile a", 253) and document.layers.add("group", "a")'}, types={'kind': 'AddedLayerKind'}),
     to_json('layers', 'Layers[]', 'What JSON has of them: the list.'),
 ])
 
@@ -272,11 +310,17 @@ LAYER = Kind('Layer', 'A layer, by its id. Where it was removed, a call raises {
           raises={'type': ('setattr(document.layers[1], "name", 5)', 'Reflect.set(document.layers.get(1), "name", 5)'),
                   'value': ('setattr(document.layers[1], "name", "")', 'Reflect.set(document.layers.get(1), "name", "")')}),
     value('visible', 'bool', 'Whether it is shown; set, it shows or hides the layer.', line='layer show LAYER yes|no', is_set=True),
+    own_value(A_LAYER, 'class_name', 'str', 'Its class, as Tiled calls it: the member `class` of the file. Set, it gives it another one.', ['5']),
+    own_value(A_LAYER, 'opacity', 'float', 'How opaque it is, from 0 to 1; set, it makes it so.', ['"half"'], 'refused 61', '0.5'),
+    own_value(A_LAYER, 'tint', 'str?', 'The colour that it is tinted with, as the file has it, or {None}; set to {None}, it is taken away.', ['5']),
+    own_value(A_LAYER, 'locked', 'bool', 'Whether Tiled keeps it from being edited, which no call here does; set, it locks or unlocks the layer.'),
     value('parent', 'Layer?', 'The group that it stands in; {None} where it stands in none.'),
     value('layers', 'Layers', 'The layers in it, where it is a group.'),
     value('objects', 'Objects', 'The objects in it, where it is an object layer.'),
     value('properties', 'Properties', 'Its properties.'),
-    value('members', 'members', 'All that the map says of it, without cells: a copy.'),
+    value('members', 'own members', 'All that the map says of it, without cells: a copy{own_members}.'),
+    *member_calls(A_LAYER, 'it', 'its id, its type, its properties, its size and what is in it',
+                  {'41': ('id', '7'), '61': ('opacity', '0.5'), '63': ('visible', '1')}),
     Call('cells', 'x=0, y=0, width=None, height=None', 'The values of a rectangle, row by row; without a size, up to the map\'s edge.',
          gives='cells', raises={'type': 'document.layers{1}.cells(0.5)',
                                 'value': 'document.layers{1}.cells(1000000001, 0, 1, 1)',
@@ -313,10 +357,21 @@ OBJECTS = Kind('Objects', 'The objects of a layer, or of all layers, as they are
     Call('has', 'key', 'Whether there is one with an id, or of a name.', gives='bool', written=('key in objects', 'objects.has(key)'),
          types={'key': 'ObjectLike'}),
     value('size', 'int', 'How many there are.', written=('len(objects)', 'objects.size')),
-    Call('add', 'name, x, y, width=0, height=0', 'Adds a rectangle to an object layer, last, in whole pixels, and gives it.',
-         'object add LAYER X Y WIDTH HEIGHT NAME', 'MapObject',
+    Call('add', f'name, x, y, width=0, height=0; {", ".join(f"{name}={usual}" for name, usual in LOOKS.items())}',
+         'Adds an object to an object layer, last, in pixels, and gives it: a rectangle, or what one of `point` to `tile` says. Its name may be '
+         'empty. Corners are counted from its place.', 'object add LAYER X Y WIDTH HEIGHT NAME', 'MapObject',
          {'type': 'document.layers{2}.objects.add(5, 0, 0)', 'value': 'document.objects.add("a", 0, 0)',
-          'refused 31': 'document.layers{1}.objects.add("a", 0, 0)', 'refused 39': 'document.layers{2}.objects.add("a", 0, 0, 4294967295, 0)'}),
+          'refused 31': 'document.layers{1}.objects.add("a", 0, 0)', 'refused 39': 'document.layers{2}.objects.add("a", 0, 0, 4294967295, 0)',
+          'refused 61': 'document.layers{2}.objects.add("a", 0.5, 0)',
+          'refused 68': ('document.layers[2].objects.add("", 0, 0, 4294967295, 0)', 'document.layers.get(2).objects.add("", 0, 0, 4294967295, 0)')},
+         types={'name': 'string', 'point': 'boolean', 'ellipse': 'boolean', 'polygon': 'Corners | null', 'polyline': 'Corners | null',
+                'text': 'string | Members | null', 'tile': 'Tile | number | null', 'class_name': 'string', 'visible': 'boolean',
+                'properties': 'Record<string, string | number | boolean | MapObject> | null'}),
+    Call('put', 'members', 'Adds an object to an object layer, last, as a file has it, and gives it. It may say its id, as one that was removed; '
+         'nothing is added to what it says.', 'object put LAYER JSON', 'MapObject',
+         {'type': 'document.layers{2}.objects.put(5)', 'value': 'document.objects.put({})', 'refused 31': 'document.layers{1}.objects.put({})',
+          'refused 61': 'document.layers{2}.objects.put({"x": 0.5})', 'refused 63': 'document.layers{2}.objects.put({"x": "left"})',
+          'refused 67': 'document.layers{2}.objects.put({"id": 1})', 'refused 68': 'document.layers{2}.objects.put({"x": 1000000001})'}),
     to_json('objects', 'Objects[]', 'What JSON has of them: the list.'),
 ])
 
@@ -325,31 +380,21 @@ OBJECT = Kind('MapObject', 'An object, by its id. Where it was removed, a call r
     Call('value_of', '', 'The same.', gives='int', written=('int(object)', 'object.valueOf()')),
     value('document', 'Document', 'The document that it belongs to.'),
     value('layer', 'Layer', 'The layer that it is in.'),
-    own_value('name', 'str', 'Its name; set, it renames the object.', ['5']),
-    own_value('class_name', 'str', 'Its class, as Tiled calls it: the member `type` of the file. Set, it gives it another one.', ['5']),
+    own_value(AN_OBJECT, 'name', 'str', 'Its name; set, it renames the object.', ['5']),
+    own_value(AN_OBJECT, 'class_name', 'str', 'Its class, as Tiled calls it: the member `type` of the file. Set, it gives it another one.', ['5']),
     value('type', 'str', 'The same, by its name in the file; `class_name` sets it.'),
     value('is_point', 'bool', 'Whether it is a point of Tiled; the member `point` makes it one.'),
     value('x', 'float', 'Its column in pixels.'),
     value('y', 'float', 'Its row in pixels.'),
     value('width', 'float', 'Its width in pixels; 0 of a point, and of a rectangle of no size.'),
     value('height', 'float', 'Its height in pixels; 0 of a point, and of a rectangle of no size.'),
-    own_value('rotation', 'float', 'How far it is turned, in degrees clockwise; set, it turns the object.', ['"north"'], 'refused 61', '22.5'),
-    own_value('visible', 'bool', 'Whether it is shown; set, it shows or hides the object.'),
-    own_value('tile', 'Tile?', 'Its tile, where it is one; set to a `Tile`, or to the value of a cell, it gives the object that tile, and {None} '
+    own_value(AN_OBJECT, 'rotation', 'float', 'How far it is turned, in degrees clockwise; set, it turns the object.', ['"north"'], 'refused 61', '22.5'),
+    own_value(AN_OBJECT, 'visible', 'bool', 'Whether it is shown; set, it shows or hides the object.'),
+    own_value(AN_OBJECT, 'tile', 'Tile?', 'Its tile, where it is one; set to a `Tile`, or to the value of a cell, it gives the object that tile, and {None} '
               'takes its tile away.', ['"a"', '-1'], types={'tile': 'Tile | number | null'}),
     value('properties', 'Properties', 'Its properties.'),
     value('members', 'own members', 'All that the map says of it: a copy{own_members}.'),
-    Call('set_member', 'key, value; merge=False', 'Gives it an own member, or adds one: any that Tiled writes for it, but its id and its properties.',
-         'member set OWNER KEY JSON', '',
-         {'type': ('', 'document.objects.get(1).setMember("a", undefined)'), 'value': ('', 'document.objects.get(1).setMember("a b", 1)'),
-          'refused 41': ('', 'document.objects.get(1).setMember("id", 7)'), 'refused 61': ('', 'document.objects.get(1).setMember("rotation", 22.5)'),
-          'refused 63': ('', 'document.objects.get(1).setMember("x", "left")')},
-         only='javascript', types={'key': 'string', 'value': 'unknown'}),
-    Call('set_members', 'members; merge=False', 'Gives it some own members at once, as one step.', 'member put OWNER JSON', '',
-         {'type': ('', 'document.objects.get(1).setMembers(5)'), 'refused 41': ('', 'document.objects.get(1).setMembers({ x: 1, id: 7 })'),
-          'refused 63': ('', 'document.objects.get(1).setMembers({ x: "left" })')}, only='javascript'),
-    Call('remove_member', 'key', 'Takes an own member out, and says whether there was one.', 'member remove OWNER KEY', 'bool',
-         {'refused 41': ('', 'document.objects.get(1).removeMember("id")')}, only='javascript', types={'key': 'string'}),
+    *member_calls(AN_OBJECT, 'it', 'its id and its properties', {'41': ('id', '7'), '61': ('rotation', '22.5'), '63': ('x', '"left"'), '68': ('x', '1e12')}),
     Call('move', 'x, y; merge=False', 'Moves it to a place, in whole pixels.', 'object move OBJECT X Y', '',
          {'type': 'document.objects{1}.move(0.5, 0)', 'value': 'document.objects{1}.move(1000000001, 0)'}),
     Call('resize', 'width, height', 'Gives it a size, in whole pixels.', 'object resize OBJECT WIDTH HEIGHT', '',
@@ -359,24 +404,25 @@ OBJECT = Kind('MapObject', 'An object, by its id. Where it was removed, a call r
     to_json('object', 'members', 'What JSON has of it: `object.members`.'),
 ])
 
-OBJECT_MEMBERS = Kind('ObjectMembers', 'All that the map says of an object, when it was asked for: a dict. What is set in it or taken out of it '
-                      'is an edit of the object. Its own members are those that Tiled writes for it, but its id and its properties.', [
+OWN_MEMBERS = Kind('OwnMembers', 'All that the map says of an object or a layer, or the own members of the map, when it was asked for: a dict. '
+                   'What is set in it or taken out of it is an edit.', [
     Call('get', 'key', 'The member of a name.', gives='Any', raises={'key': ('document.objects[1].members["point"]', '')},
          written=('members[key]', ''), only='python'),
-    Call('set', 'key, value; merge=False', 'Gives the object an own member, or adds one.', 'member set OWNER KEY JSON', '',
-         {'type': ('document.objects[1].members.set("a", {1})', ''), 'value': ('document.objects[1].members.set("a b", 1)', ''),
-          'refused 41': ('document.objects[1].members.set("id", 7)', ''), 'refused 61': ('document.objects[1].members.set("rotation", 22.5)', ''),
-          'refused 63': ('document.objects[1].members.set("x", "left")', '')},
+    Call('set', 'key, value; merge=False', 'Sets an own member, or adds one.', 'member set OWNER KEY JSON', '',
+         {'type': ('document.objects[1].members.set("a", {1})', ''), 'value': ('document.layers[1].members.set("a b", 1)', ''),
+          'refused 41': ('document.layers[2].members.set("objects", [])', ''), 'refused 61': ('document.objects[1].members.set("rotation", 22.5)', ''),
+          'refused 63': ('document.objects[1].members.set("x", "left")', ''), 'refused 68': ('document.members.set("nextlayerid", 1)', '')},
          written=('members[key] = value, members.set(key, value, merge=False)', ''), only='python'),
-    Call('put', 'members; merge=False', 'Gives it some own members at once, as one step.', 'member put OWNER JSON', '',
-         {'type': ('document.objects[1].members.put({1: 2})', ''), 'value': ('document.objects[1].members.put({"a": float("inf")})', ''),
+    Call('put', 'members; merge=False', 'Sets some own members at once, as one step.', 'member put OWNER JSON', '',
+         {'type': ('document.objects[1].members.put({1: 2})', ''), 'value': ('document.members.put({"a": float("inf")})', ''),
           'refused 41': ('document.objects[1].members.put({"x": 1, "id": 7})', ''),
-          'refused 63': ('document.objects[1].members.put({"x": "left"})', '')}, only='python'),
+          'refused 63': ('document.layers[1].members.put({"visible": 1})', '')}, only='python'),
     Call('update', 'others, more', 'The same, as a dict takes what is new.', 'member put OWNER JSON', '',
          {'type': ('document.objects[1].members.update(a=print)', ''), 'refused 63': ('document.objects[1].members.update(x="left")', '')},
          written=('members.update(members, **more)', ''), only='python'),
     Call('delete', 'key', 'Takes an own member out.', 'member remove OWNER KEY', '',
-         {'key': ('document.objects[1].members.pop("point")', ''), 'refused 41': ('document.objects[1].members.pop("id")', '')},
+         {'key': ('document.objects[1].members.pop("point")', ''), 'refused 41': ('document.objects[1].members.pop("id")', ''),
+          'refused 62': ('document.members.pop("tilewidth")', '')},
          written=('del members[key]', ''), only='python'),
 ], only='python')
 
@@ -397,7 +443,7 @@ PROPERTIES = Kind('Properties', 'The properties of a map, a layer or an object, 
           'refused 40': 'many("prop set map a# int 1", 254) and document.properties.set("a", 1)'},
          written=('properties[key] = value, properties.set(key, value, type=None, merge=False)', 'properties.set(key, value, { type, merge })'),
          types={'key': 'string', 'value': 'string | number | boolean | MapObject'}),
-    Call('delete', 'key', 'Removes one.', 'prop remove OWNER KEY', 'deleted', {'key': ('document.properties.pop("a")', '')},
+    Call('delete', 'key', 'Removes one, whatever characters its name has.', 'prop remove OWNER KEY', 'deleted', {'key': ('document.properties.pop("a")', '')},
          written=('del properties[key]', 'properties.delete(key)'), types={'key': 'string'}),
     to_json('properties', 'values', 'What JSON has of them: an object of names and values, as `Object.fromEntries(properties)`.'),
 ])
@@ -419,6 +465,20 @@ TILESETS = Kind('Tilesets', 'The tilesets, as they are at each call. A loop goes
          {'type': 'document.tilesets.add("a", "a.tsj")', 'value': 'document.tilesets.add(33, "")',
           'refused 37': 'after("stamp 1 1 0 1 9") and document.tilesets.add(9, "a.tsj")',
           'refused 38': 'document.tilesets.add(1, "a.tsj")'}),
+    Call('put', 'members; renumbers=False', 'Adds one as a file has it, and gives it: with `firstgid`, and `source` or all that it is. Its first id is as '
+         'that of `add`.', 'tileset put JSON', 'Tileset',
+         {'type': 'document.tilesets.put(5)', 'value': ('document.tilesets.put({"firstgid": 33, "a": float("inf")})', 'document.tilesets.put({ a: "\\ud800" })'),
+          'refused 37': 'after("stamp 1 1 0 1 9") and document.tilesets.put({"firstgid": 9})',
+          'refused 38': 'document.tilesets.put({"firstgid": 1})', 'refused 61': 'document.tilesets.put({"firstgid": 33, "opacity": 0.5})',
+          'refused 62': 'document.tilesets.put({})', 'refused 63': 'document.tilesets.put({"firstgid": "a"})'}),
+    Call('add_from_image', 'first_id, name, image, image_width, image_height, tile_width, tile_height; margin=0, spacing=0, renumbers=False',
+         'Adds one that the map has in itself, and gives it: the tiles of an image, row by row, as many as Tiled cuts from it. The image is named by its '
+         'path from the map\'s folder, and not read; sides, margin and spacing are in pixels.', 'tileset put JSON', 'Tileset',
+         {'type': 'document.tilesets.add_from_image(33, 5, "a.png", 64, 64, 16, 16)',
+          'value': 'document.tilesets.add_from_image(33, "a", "a.png", 8, 64, 16, 16)',
+          'refused 37': 'after("stamp 1 1 0 1 9") and document.tilesets.add_from_image(9, "a", "a.png", 64, 64, 16, 16)',
+          'refused 38': 'document.tilesets.add_from_image(1, "a", "a.png", 64, 64, 16, 16)'},
+         types={'image': 'string'}),
     to_json('tilesets', 'Tilesets[]', 'What JSON has of them: the list.'),
 ])
 
@@ -447,7 +507,7 @@ WATCH = Kind('Watch', 'A callback that is told of changes, until its end, or the
 ], only='python')
 
 #: The classes of documents and of what they have, in the order of the pages.
-KINDS = [EDITOR, DOCUMENT, LAYERS, LAYER, OBJECTS, OBJECT, OBJECT_MEMBERS, PROPERTIES, TILESETS, TILESET, SELECTION, WATCH]
+KINDS = [EDITOR, DOCUMENT, LAYERS, LAYER, OBJECTS, OBJECT, OWN_MEMBERS, PROPERTIES, TILESETS, TILESET, SELECTION, WATCH]
 
 #: What is imported beside the classes.
 FUNCTIONS = [

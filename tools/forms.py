@@ -10,8 +10,8 @@ TOP = Path(__file__).resolve().parent.parent
 TABLE = TOP / 'crates' / 'session' / 'forms.txt'
 #: The parts of the table that have forms, in their order.
 PARTS = ('files', 'edits', 'history')
-#: That of the lines of own members, which an editor for all edits reads, too.
-MEMBERS = 'members'
+#: That of the lines for all edits, which an editor for all edits reads, too.
+ALL_EDITS = 'all edits'
 #: The limits that the languages share: the crate's file, and the names of its constants.
 LIMITS_OF = {
     'session/src/limits.rt': ('MAX_LINE', 'MAX_DOCUMENT_NAME', 'MAX_FILE_NAME', 'MAX_TEXT', 'MAX_KEY', 'MAX_COORDINATE'),
@@ -122,7 +122,7 @@ def typed(form):
 def forms_by_command():
     """The forms of the packages by their first words, without a `+`."""
     found = {}
-    for part in (*PARTS, MEMBERS):
+    for part in (*PARTS, ALL_EDITS):
         for form in forms(part):
             fronts = [form.shown()] + ([form.form.replace('[+]', '+')] if '[+]' in form.form else [])
             found.setdefault(form.shown().split(' ')[0], []).extend(each for front in fronts for each in typed(front))

@@ -10,11 +10,11 @@ from .document import Document, Status, Step
 from .editor import Editor
 from .faults import BadTileset, Closed, Error, InCallback, NotFound, OtherType, Refused
 from .views import Layer, Layers, MapObject, Objects
-from .kinds import AddedLayerKind, LayerKind, Layout, PropertyType, Rows, SelectionMode, SetPropertyType
+from .kinds import AddedLayerKind, Corners, LayerKind, Layout, PropertyType, Rows, SelectionMode, SetPropertyType
 from .library import VERSION as __version__
 from .map_faults import MapPlace
 from .names import document_name
-from .own_members import ObjectMembers
+from .own_members import OwnMembers
 from .properties import Properties
 from .reports import report
 from .rows import flipped_horizontally, flipped_vertically, turned_right
@@ -25,8 +25,9 @@ from .watches import Watch
 from .word_faults import WordAtFault
 
 __all__ = [
-    'AddedLayerKind', 'BadTileset', 'CellArea', 'Closed', 'Document', 'Editor', 'Error', 'InCallback', 'Layer', 'LayerKind', 'Layers',
-    'Layout', 'MapObject', 'MapPlace', 'NotFound', 'ObjectMembers', 'Objects', 'OtherType', 'Properties', 'PropertyType', 'Refused', 'Rows', 'Run',
-    'Selection', 'SelectionMode', 'SetPropertyType', 'Status', 'Step', 'StepRow', 'Subject', 'Tile', 'Tileset', 'TilesetTile', 'Tilesets',
-    'Told', 'Watch', 'WordAtFault', '__version__', 'document_name', 'flipped_horizontally', 'flipped_vertically', 'report', 'turned_right',
+    'AddedLayerKind', 'BadTileset', 'CellArea', 'Closed', 'Corners', 'Document', 'Editor', 'Error', 'InCallback', 'Layer', 'LayerKind', 'Layers',
+    'Layout', 'MapObject', 'MapPlace', 'NotFound', 'Objects', 'OtherType', 'OwnMembers', 'Properties', 'PropertyType',
+    'Refused', 'Rows', 'Run', 'Selection', 'SelectionMode', 'SetPropertyType', 'Status', 'Step', 'StepRow', 'Subject', 'Tile', 'Tileset',
+    'TilesetTile', 'Tilesets', 'Told', 'Watch', 'WordAtFault', '__version__', 'document_name', 'flipped_horizontally', 'flipped_vertically',
+    'report', 'turned_right',
 ]

@@ -4,13 +4,14 @@ import contextlib
 import json
 import os
 from types import TracebackType
-from typing import TYPE_CHECKING, Any, Callable, ContextManager, Iterator, NamedTuple, Optional, TypeVar, Union
+from typing import TYPE_CHECKING, Any, Callable, ContextManager, Iterator, NamedTuple, Optional, TypeVar, Union, cast
 
-from . import logs, words
+from . import json_values, logs, words
 from .faults import Closed, Refused, refused_call
 from .kinds import Layout, Rows, SelectionMode
 from .library import LAYER_ROW, LayerRow, MapSizes, SelectionRun
 from .limits import MAX_COORDINATE, MAX_OPEN_MACROS
+from .own_members import OTHERS, Owner, OwnMembers, set_member, set_or_remove
 from .properties import Properties
 from .rows import BASE, Part, doubtful, parts_of, rows_of
 from .selection import Run, Selection
@@ -267,6 +268,40 @@ class Document:
         """How the cells lie, in the words of Tiled's files: orthogonal, isometric, staggered or hexagonal. A map that leaves it out is
         orthogonal."""
         return self._do(lambda: str(self._read('map_head').get('orientation', 'orthogonal')))
+
+    @property
+    def class_name(self) -> str:
+        """The class of the map, as Tiled calls it: the member `class` of the file. Set, it gives the map another one. Raises TypeError,
+        ValueError."""
+        return self._do(lambda: str(self._own_now().get('class', '')))
+
+    @class_name.setter
+    def class_name(self, name: str) -> None:
+        set_member(self._owner, 'class', json_values.text(name, 'the class of a map'))
+
+    @property
+    def background(self) -> Optional[str]:
+        """The colour behind the layers, the member `backgroundcolor` of the file; None where there is none. Set, it gives the map another one,
+        and None takes it away. Raises TypeError, ValueError."""
+        return self._do(lambda: cast(Optional[str], self._own_now().get('backgroundcolor')))
+
+    @background.setter
+    def background(self, colour: Optional[str]) -> None:
+        set_or_remove(self._owner, 'backgroundcolor', colour if colour is None else json_values.text(colour, 'the background of a map'))
+
+    @property
+    def members(self) -> OwnMembers:
+        """The own members of the map: all that its file has of it, but its size, its lists and what tells of the file. A copy, whose members
+        can be set and taken out."""
+        return OwnMembers(self._owner)
+
+    @property
+    def _owner(self) -> Owner:
+        return Owner(self, 'map', None, self._own_now, self._own_now)
+
+    def _own_now(self) -> Members:
+        """The own members of the map, in a turn."""
+        return {name: value for name, value in self._read('map_head').items() if name not in OTHERS['map']}
 
     @property
     def origin(self) -> tuple[int, int]:

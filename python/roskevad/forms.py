@@ -19,17 +19,19 @@ FORMS: dict[str, tuple[str, ...]] = {
     'select': ('select replace|add|subtract|intersect X Y WIDTH HEIGHT', 'select none'),
     'layer': (
         'layer add tile|object NAME', 'layer remove LAYER', 'layer rename LAYER NAME', 'layer show LAYER yes|no', 'layer move LAYER PLACE',
+        'layer add group|image NAME',
     ),
     'resize': ('resize WIDTH HEIGHT X Y',),
     'object': (
         'object add LAYER X Y WIDTH HEIGHT NAME', 'object move OBJECT X Y', 'object move+ OBJECT X Y', 'object resize OBJECT WIDTH HEIGHT',
-        'object remove OBJECT',
+        'object remove OBJECT', 'object put LAYER JSON',
     ),
     'prop': (
         'prop set OWNER KEY string|file TEXT', 'prop set OWNER KEY int NUMBER', 'prop set OWNER KEY bool true|false',
         'prop set OWNER KEY color COLOUR', 'prop set OWNER KEY object OBJECT', 'prop set+ OWNER KEY TYPE VALUE', 'prop remove OWNER KEY',
+        'prop take OWNER JSON',
     ),
-    'tileset': ('tileset add FIRST SOURCE', 'tileset remove FIRST'),
+    'tileset': ('tileset add FIRST SOURCE', 'tileset remove FIRST', 'tileset put JSON'),
     'undo': ('undo',),
     'redo': ('redo',),
     'goto': ('goto INDEX',),
@@ -55,8 +57,3 @@ def forms_of(line: str) -> tuple[str, ...]:
     if word in FORMS:
         return FORMS[word]
     return tuple(form for name, forms in FORMS.items() if word and name[0] == word[0].lower() for form in forms)
-
-
-def is_of_members(line: str) -> bool:
-    """Whether a line is one of own members: the library does not tell at which word it is refused."""
-    return line.split(' ')[0] == 'member'

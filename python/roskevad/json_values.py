@@ -3,7 +3,7 @@
 import json
 import math
 import operator
-from typing import Any, Union
+from typing import Any, Mapping, Union
 
 from . import words
 
@@ -15,6 +15,13 @@ def said(value: object, what: str) -> str:
         return json.dumps(_plain(value, what), ensure_ascii=False, separators=(',', ':'), allow_nan=False)
     except RecursionError:
         raise ValueError(f'{what} nests too deep, or has itself in it') from None
+
+
+def members_said(members: Mapping[str, Any], what: str) -> str:
+    """The members of a thing as JSON in one line. Raises as `said` does, and TypeError where they are none."""
+    if not isinstance(members, Mapping):
+        raise TypeError(f'{what} are a dict: {type(members).__name__}')
+    return said(dict(members), what)
 
 
 def _plain(value: Any, what: str) -> Any:

@@ -1,10 +1,10 @@
 # SPDX-License-Identifier: MIT OR Apache-2.0
 """The words that calls take and give, and rows of values, as types."""
-from typing import Iterable, Literal, Protocol, Union
+from typing import Iterable, Literal, Mapping, Protocol, Union
 
-#: The kinds of layers, and those that are added.
+#: The kinds of layers, and those that are added, which are all.
 LayerKind = Literal['tile', 'object', 'group', 'image']
-AddedLayerKind = Literal['tile', 'object']
+AddedLayerKind = LayerKind
 #: How a rectangle and the selection become the new one.
 SelectionMode = Literal['replace', 'add', 'subtract', 'intersect']
 #: How the text of a map is laid out.
@@ -22,3 +22,5 @@ class _Listed(Protocol):
 
 #: Rows of values: nested sequences, or an array with two dimensions.
 Rows = Union[Iterable[Iterable[int]], _Listed]
+#: Corners of a polygon or of a line of an object, from its place: pairs of numbers, or as a file has them.
+Corners = Iterable[Union[Iterable[float], Mapping[str, float]]]

@@ -146,6 +146,7 @@ _PARAMETERS = {
     'lay_out': [_BYTES, _SIZE, _SIZE, _ROOM, _SIZE],
     'map_fault': [_BYTES, _SIZE, _ROOM, _SIZE],
     'word_fault': [_BYTES, _SIZE, ctypes.POINTER(FaultyWord), _ROOM, _SIZE],
+    'word_fault_for': [_SIZE, _BYTES, _SIZE, ctypes.POINTER(FaultyWord), _ROOM, _SIZE],
     'version': [_ROOM, _SIZE],
 }
 

@@ -1,30 +1,64 @@
 # SPDX-License-Identifier: MIT OR Apache-2.0
-"""The own members of an object: all that stands for it in the map's file, but its id and its properties."""
+"""The own members of an object, a layer or the map: what stands for it in the map's file, but for what other lines change."""
 import json
-from typing import TYPE_CHECKING, Any, Callable, Mapping, NoReturn
+from typing import TYPE_CHECKING, Any, Callable, Mapping, NoReturn, Optional
 
 from . import json_values, words
 from .faults import NotFound
 from .tiled_maps import Members
 
 if TYPE_CHECKING:
-    from .views import MapObject
+    from .document import Document
 
 _NAME = 'the name of a member'
+#: The names that are none of own members, by what has them.
+OTHERS = {
+    'object': frozenset(('id', 'properties', 'roskevad')),
+    'layer': frozenset((
+        'id', 'type', 'properties', 'data', 'chunks', 'startx', 'starty', 'objects', 'layers', 'width', 'height', 'encoding', 'compression',
+        'roskevad',
+    )),
+    'map': frozenset((
+        'width', 'height', 'infinite', 'chunks', 'data', 'objects', 'layers', 'tilesets', 'properties', 'type', 'version', 'roskevad',
+    )),
+}
+# What stands there again where it is taken out.
+_DEFAULTS: dict[str, Members] = {'layer': {'name': '', 'visible': True}}
 
 
-class ObjectMembers(dict[str, Any]):
-    """All members of an object, as they were when they were asked for: a dict. What is set in it or taken out of it is an edit of the
-    object, and then it has what the object has. A list or a dict in it is a copy: set it anew to change it."""
+class Owner:
+    """What has own members, an object, a layer or the map: how lines and the library name it, and how it is read."""
 
-    __slots__ = '_object',
+    __slots__ = 'document', 'name', 'now', 'whole', 'others', 'defaults', '_call'
 
-    def __init__(self, thing: 'MapObject', members: Members):
-        super().__init__(members)
-        self._object = thing
+    def __init__(self, document: 'Document', kind: str, id: Optional[int], now: Callable[[], Members], whole: Callable[[], Members]):
+        """`now` gives, in a turn, what the map says of it, and `whole` all that its members have. Both raise Refused where it was removed."""
+        self.document = document
+        self.name = kind if id is None else f'{kind}:{id}'
+        self.now = now
+        self.whole = whole
+        self.others = OTHERS[kind]
+        self.defaults = _DEFAULTS.get(kind, {})
+        self._call: tuple[Any, ...] = ('map_head',) if id is None else (kind, id)
+
+    def held(self) -> Members:
+        """What the editor holds of it, with which a line compares new values, in a turn; nothing where it was removed."""
+        members: Members = json.loads(self.document._editor._copy_bytes(*self._call) or b'{}')
+        return members
+
+
+class OwnMembers(dict[str, Any]):
+    """All members of an object or a layer, or the own ones of the map, as they were when they were asked for: a dict. What is set in it
+    or taken out of it is an edit, and then it has what is there. A list or a dict in it is a copy: set it anew to change it."""
+
+    __slots__ = '_owner',
+
+    def __init__(self, owner: Owner):
+        super().__init__(owner.document._do(owner.whole))
+        self._owner = owner
 
     def __missing__(self, key: object) -> NoReturn:
-        raise NotFound(f'object:{self._object.id} has no member {key!r}')
+        raise NotFound(f'{self._owner.name} has no member {key!r}')
 
     def __getitem__(self, key: str) -> Any:
         """The member of a name. Raises NotFound where there is none."""
@@ -35,23 +69,23 @@ class ObjectMembers(dict[str, Any]):
         self.set(key, value)
 
     def __delitem__(self, key: str) -> None:
-        """Takes an own member out. Raises NotFound where there is none, ValueError where no line can say its name; Refused: 41 for the id
-        and the properties."""
-        if not remove_member(self._object, key):
+        """Takes an own member out. Raises NotFound where there is none, ValueError where no line can say its name; Refused: 41 for a name
+        that is none of own members, 62 for one that the map must have."""
+        if not remove_member(self._owner, key):
             self.__missing__(key)
         self._read()
 
     def set(self, key: str, value: Any, merge: bool = False) -> None:
-        """Gives the object an own member, or adds one; with `merge` as one step with a setting of the same member before it. Raises
-        TypeError for what JSON has not; ValueError, also for a name with a space; Refused: 41 for the id and the properties, 61 for a
-        fraction, 63 for a value of another kind."""
-        set_member(self._object, key, value, merge)
+        """Sets an own member, or adds one; with `merge` as one step with a setting of the same member before it. Raises TypeError for what
+        JSON has not; ValueError, also for a name with a space; Refused: 41 for a name that is none of own members, 61 for a fraction, 63
+        for a value of another kind, 68 for one that is over a limit."""
+        set_member(self._owner, key, value, merge)
         self._read()
 
     def put(self, members: Mapping[str, Any], merge: bool = False) -> None:
-        """Gives it some own members at once, as one step; with `merge` as one with such a step of the object before it. Raises
-        TypeError, ValueError; Refused: then none is set."""
-        put_members(self._object, members, merge)
+        """Sets some own members at once, as one step; with `merge` as one with such a step of the same before it. Raises TypeError,
+        ValueError; Refused: then none is set."""
+        put_members(self._owner, members, merge)
         self._read()
 
     def update(self, *others: Any, **more: Any) -> None:
@@ -75,7 +109,7 @@ class ObjectMembers(dict[str, Any]):
         return self[key]
 
     def _refuse(self, *_: object) -> NoReturn:
-        raise TypeError('members of an object are set by update(..), and taken out by their names')
+        raise TypeError('members are set by update(..), and taken out by their names')
 
     clear = popitem = __ior__ = _refuse  # type: ignore[assignment]
 
@@ -93,7 +127,7 @@ class ObjectMembers(dict[str, Any]):
         return dict, (dict(self),)
 
     def _read(self) -> None:
-        members = self._object._document._do(self._object._whole)
+        members = self._owner.document._do(self._owner.whole)
         super().clear()
         super().update(members)
 
@@ -101,46 +135,55 @@ class ObjectMembers(dict[str, Any]):
 # ---- the lines of own members, each once
 
 
-def set_member(thing: 'MapObject', key: str, value: Any, merge: bool = False) -> None:
-    """Says the line that gives an object an own member."""
+def set_member(owner: Owner, key: str, value: Any, merge: bool = False) -> None:
+    """Says the line that sets an own member."""
     name = words.key(key, _NAME)
     said = json_values.said(value, f'the member {name!r}')
-    _say(thing, f'set{"+" if merge else ""} object:{thing.id} {name} {said}', lambda: {name: json.loads(said)})
+    rest = f'set{"+" if merge else ""} {owner.name} {name} {said}'
+    owner.document._do(lambda: _say(owner, rest, lambda held: _differ(held, {name: json.loads(said)})))
 
 
-def put_members(thing: 'MapObject', members: Mapping[str, Any], merge: bool = False) -> None:
-    """Says the line that gives an object some own members at once."""
-    if not isinstance(members, Mapping):
-        raise TypeError(f'members are a dict: {type(members).__name__}')
-    said = json_values.said(dict(members), 'the members of an object')
-    _say(thing, f'put{"+" if merge else ""} object:{thing.id} {said}', lambda: json.loads(said))
+def put_members(owner: Owner, members: Mapping[str, Any], merge: bool = False) -> None:
+    """Says the line that sets some own members at once."""
+    said = json_values.members_said(members, f'the members of {owner.name}')
+    rest = f'put{"+" if merge else ""} {owner.name} {said}'
+    owner.document._do(lambda: _say(owner, rest, lambda held: _differ(held, json.loads(said))))
 
 
-def remove_member(thing: 'MapObject', key: str) -> bool:
-    """Says the line that takes an own member out of an object, where there is one; whether there was."""
+def remove_member(owner: Owner, key: str) -> bool:
+    """Says the line that takes an own member out, where there is one; whether there was. A name that is none of own members is said, too:
+    it is refused."""
+
+    def changes(held: Members) -> bool:
+        return key not in owner.defaults or held.get(key) != owner.defaults[key]
 
     def work() -> bool:
-        is_there = key in thing._now()
+        is_there = key in owner.now() or key in owner.others
         if is_there:
-            thing._document._say_edit(f'member remove object:{thing.id} {words.key(key, _NAME)}')
+            _say(owner, f'remove {owner.name} {words.key(key, _NAME)}', changes)
         return is_there
 
-    return thing._document._do(work)
+    return owner.document._do(work)
 
 
-def _say(thing: 'MapObject', rest: str, news: Callable[[], Any]) -> None:
-    """Says a line with new values. Where they are those that are there, macros wait on for their first edit."""
-    document = thing._document
+def set_or_remove(owner: Owner, key: str, value: Any) -> None:
+    """Sets an own member, or takes it out where the value is None."""
+    if value is None:
+        remove_member(owner, key)
+    else:
+        set_member(owner, key, value)
 
-    def changes() -> bool:
-        now = json.loads(document._editor._copy_bytes('object', thing.id) or b'{}')
-        return any(name not in now or _sorted(now[name]) != _sorted(value) for name, value in news().items())
 
-    def work() -> None:
-        with document._beginning_if(changes):
-            document._say_edit(f'member {rest}')
+def _say(owner: Owner, rest: str, changes: Callable[[Members], bool]) -> None:
+    """Says a line, in a turn. Where it changes nothing of what the editor holds, macros wait on for their first edit."""
+    document = owner.document
+    with document._beginning_if(lambda: changes(owner.held())):
+        document._say_edit(f'member {rest}')
 
-    document._do(work)
+
+def _differ(held: Members, news: Members) -> bool:
+    """Whether new values are others than those that are there."""
+    return any(name not in held or _sorted(held[name]) != _sorted(value) for name, value in news.items())
 
 
 def _sorted(value: Any) -> str:

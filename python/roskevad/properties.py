@@ -2,7 +2,7 @@
 """The properties of a map, a layer or an object."""
 from typing import TYPE_CHECKING, Any, Iterator, MutableMapping, Optional, Union, cast
 
-from . import words
+from . import json_values, words
 from .faults import NotFound, OtherType
 from .kinds import PropertyType, SetPropertyType
 from .library import OWNERS
@@ -65,9 +65,11 @@ class Properties(MutableMapping[str, Any]):
         self.set(key, value)
 
     def __delitem__(self, key: str) -> None:
-        """Removes the property of a name. Raises NotFound where there is none, ValueError where no line can say its name."""
+        """Removes the property of a name, whatever characters that has. Raises NotFound where there is none."""
         self._there(key)
-        self._document._edit(f'prop remove {self._owner} {words.key(key)}')
+        is_key = words.is_key(key)
+        name = key if is_key else json_values.said(key, 'the name of a property')
+        self._document._edit(f'prop {"remove" if is_key else "take"} {self._owner} {name}')
 
     def __iter__(self) -> Iterator[str]:
         return iter([each['name'] for each in self._document._do(self._now)])

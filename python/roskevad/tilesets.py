@@ -1,9 +1,9 @@
 # SPDX-License-Identifier: MIT OR Apache-2.0
 """The tilesets of a document, and the tiles of its cells."""
 import json
-from typing import TYPE_CHECKING, Iterator, NamedTuple, Optional, TypeVar, Union, cast
+from typing import TYPE_CHECKING, Any, Iterator, Mapping, NamedTuple, Optional, TypeVar, Union, cast
 
-from . import words
+from . import json_values, words
 from .faults import BadTileset, NotFound, refused_call
 from .rows import BASE, DIAGONALLY, HORIZONTALLY, TURNED, VERTICALLY
 from .tiled_maps import Members
@@ -20,6 +20,7 @@ _Default = TypeVar('_Default')
 TILESET_ENDS = ('.tsj', '.json')
 #: The most tiles that are listed.
 MOST_TILES = 1_048_576
+_FIRST_ID = 'the first id of a tileset'
 
 
 def absent(kind: str, key: object, ids: list[int]) -> NotFound:
@@ -141,13 +142,15 @@ def tileset_file(path: 'Path') -> Optional[Members]:
 
 
 def tiles_of(members: Members) -> list[TilesetTile]:
-    """The tiles of a tileset, by its members; those of which it says nothing, too. Raises BadTileset where it has too many, or does not say
-    how many. What else is of another kind than Tiled's is left out."""
+    """The tiles of a tileset, by its members; those of which it says nothing, too. A collection of images has those that it lists, whose ids
+    may have gaps. Raises BadTileset where it has too many, or does not say how many. What else is of another kind than Tiled's is left
+    out."""
     count = members.get('tilecount', 0)
     if not isinstance(count, int) or not 0 <= count <= MOST_TILES:
         raise BadTileset(f'a tileset has 0 to {MOST_TILES} tiles, and this one says: {count!r}'[:200])
     said = {tile['id']: tile for tile in _objects(members.get('tiles')) if isinstance(tile.get('id'), int)}
-    return [_tile_of(id, said.get(id, {})) for id in range(count)]
+    is_collection = 'image' not in members and any('image' in tile for tile in said.values())
+    return [_tile_of(id, said.get(id, {})) for id in (sorted(said) if is_collection else range(count))]
 
 
 def _objects(value: object) -> list[Members]:
@@ -160,6 +163,21 @@ def _tile_of(id: int, members: Members) -> TilesetTile:
     group = members.get('objectgroup')
     shapes = _objects(group.get('objects')) if isinstance(group, dict) else []
     return TilesetTile(id, str(members.get('type') or members.get('class') or ''), properties, shapes)
+
+
+def grid_of(image: tuple[int, int], tile: tuple[int, int], margin: int, spacing: int) -> Members:
+    """What a file has of the tiles that Tiled cuts from an image: with a margin at its left and its top, and a spacing between tiles.
+    Raises TypeError; ValueError where no tile fits."""
+    sides = [words.number(side, 'a side of an image') for side in image]
+    steps = [words.number(side, 'a side of a tile') for side in tile]
+    edge, gap = words.number(margin, 'the margin of a tileset'), words.number(spacing, 'the spacing of a tileset')
+    counts = [(side - edge + gap) // (step + gap) if step > 0 else 0 for side, step in zip(sides, steps)]
+    if min(counts) < 1:
+        raise ValueError(f'no tile of {steps[0]} by {steps[1]} pixels fits into an image of {sides[0]} by {sides[1]}, with a margin of {edge}')
+    return {
+        'imagewidth': sides[0], 'imageheight': sides[1], 'tilewidth': steps[0], 'tileheight': steps[1], 'margin': edge, 'spacing': gap,
+        'columns': counts[0], 'tilecount': counts[0] * counts[1],
+    }
 
 
 class Tile(NamedTuple):
@@ -182,6 +200,15 @@ def tile_of(document: 'Document', value: int) -> Tile:
     flags = [value & bit != 0 for bit in _FLAGS]
     tileset = None if first is None else Tileset(document, first)
     return Tile(value, tileset, None if first is None else base - first, *flags)
+
+
+def _text_of(members: Mapping[str, Any]) -> str:
+    """A tileset as JSON. Raises TypeError, ValueError."""
+    return json_values.members_said(members, 'the members of a tileset')
+
+
+def _put_line(text: str) -> str:
+    return f'tileset put {text}'
 
 
 class Tilesets:
@@ -245,14 +272,38 @@ class Tilesets:
         """Adds a tileset by the path of its file from the folder of the map, last, and gives it. Its first id must be above those of
         all tiles there: the greatest first id plus the number of tiles of that tileset. Raises TypeError, ValueError; Refused: 37
         where a tile in use would be one of it, unless it `renumbers`, 38 where it is not above the other first ids."""
-        first = words.number(first_id, 'the first id of a tileset')
+        first = words.number(first_id, _FIRST_ID)
         line = f'tileset add {first} {words.text(source, "the source of a tileset")}'
+        return self._added(first, line, f'tilesets.add({first}, {source!r})', renumbers)
+
+    def put(self, members: Mapping[str, Any], renumbers: bool = False) -> Tileset:
+        """Adds a tileset as a file has it, last, and gives it: with `firstgid`, and `source` or all that it is. Raises TypeError, ValueError;
+        Refused: 37 and 38 as `add` has it, 61 for a fraction, 62 where a member is missing."""
+        text = _text_of(members)
+        first = json.loads(text).get('firstgid')
+        return self._added(first, _put_line(text), f"tilesets.put({{'firstgid': {first!r}, ..}})", renumbers)
+
+    def add_from_image(
+        self, first_id: int, name: str, image: str, image_width: int, image_height: int, tile_width: int, tile_height: int, *,
+        margin: int = 0, spacing: int = 0, renumbers: bool = False,
+    ) -> Tileset:
+        """Adds a tileset that the map has in itself, last, and gives it: the tiles of an image, row by row, as many as Tiled cuts from it.
+        The image is named by its path from the folder of the map, and not read. Raises TypeError; ValueError, also where no tile fits into
+        the image; Refused: 37 and 38 as `add` has it."""
+        first = words.number(first_id, _FIRST_ID)
+        grid = grid_of((image_width, image_height), (tile_width, tile_height), margin, spacing)
+        named = {'name': json_values.text(name, 'the name of a tileset'), 'image': json_values.text(image, 'the image of a tileset')}
+        line = _put_line(_text_of({'firstgid': first, **named, **grid}))
+        return self._added(first, line, f'tilesets.add_from_image({first}, {name!r}, ..)', renumbers)
+
+    def _added(self, first: Any, line: str, call: str, renumbers: bool) -> Tileset:
+        """Says a line that adds a tileset, and gives that."""
 
         def work() -> None:
-            value = None if renumbers else self._value_above(first)
+            value = None if renumbers or not is_id(first) else self._value_above(first)
             if value is not None:
                 why = f'a tile with the value {value} is in use, and would be one of it: renumbers=True adds it all the same'
-                raise refused_call(37, f'tilesets.add({first}, {source!r})', why)
+                raise refused_call(37, call, why)
             self._document._say_edit(line)
 
         self._document._do(work)

@@ -1,12 +1,13 @@
 # SPDX-License-Identifier: MIT OR Apache-2.0
 """The layers of a document, and their objects."""
-from typing import TYPE_CHECKING, Any, Callable, Iterator, Optional, TypeVar, Union, cast, get_args
+import json
+from typing import TYPE_CHECKING, Any, Callable, Iterator, Mapping, Optional, TypeVar, Union, cast
 
-from . import json_values, words
+from . import json_values, new_objects, words
 from .faults import Refused, refused_call
-from .kinds import AddedLayerKind, LayerKind, Rows
+from .kinds import AddedLayerKind, Corners, LayerKind, Rows
 from .library import KINDS, LayerRow
-from .own_members import ObjectMembers, remove_member, set_member
+from .own_members import Owner, OwnMembers, set_member, set_or_remove
 from .properties import Properties
 from .tiled_maps import Members
 from .rows import BASE, replaced, tile_value
@@ -19,8 +20,8 @@ _Answer = TypeVar('_Answer')
 _Default = TypeVar('_Default')
 #: The kinds of layers, by the words of Tiled's files.
 TYPES: dict[str, LayerKind] = {'tilelayer': 'tile', 'objectgroup': 'object', 'group': 'group', 'imagelayer': 'image'}
-#: The kinds of layers that a line adds.
-ADDED = get_args(AddedLayerKind)
+#: The kinds of layers, each of which a line adds.
+ALL_KINDS = tuple(KINDS.values())
 # What the members of an object are where its file leaves them out, as those of a template.
 _ABSENT = {'name': '', 'x': 0, 'y': 0}
 
@@ -60,9 +61,14 @@ class _View:
         return self._document
 
     @property
-    def members(self) -> Members:
-        """All that the map says of it, without cells: a copy. Raises Refused where it was removed."""
-        return self._document._do(self._whole)
+    def members(self) -> OwnMembers:
+        """All that the map says of it, without cells: a copy, whose own members can be set and taken out. Raises Refused where it was
+        removed."""
+        return OwnMembers(self._owner)
+
+    @property
+    def _owner(self) -> Owner:
+        return Owner(self._document, self._subject, self.id, self._now, self._whole)
 
     def _whole(self) -> Members:
         return self._now()
@@ -104,7 +110,7 @@ class MapObject(_View):
 
     @name.setter
     def name(self, name: str) -> None:
-        set_member(self, 'name', json_values.text(name, 'the name of an object'))
+        set_member(self._owner, 'name', json_values.text(name, 'the name of an object'))
 
     @property
     def class_name(self) -> str:
@@ -114,7 +120,7 @@ class MapObject(_View):
 
     @class_name.setter
     def class_name(self, name: str) -> None:
-        set_member(self, 'type', json_values.text(name, 'the class of an object'))
+        set_member(self._owner, 'type', json_values.text(name, 'the class of an object'))
 
     @property
     def type(self) -> str:
@@ -157,7 +163,7 @@ class MapObject(_View):
 
     @rotation.setter
     def rotation(self, degrees: float) -> None:
-        set_member(self, 'rotation', json_values.number(degrees, 'the rotation of an object'))
+        set_member(self._owner, 'rotation', json_values.number(degrees, 'the rotation of an object'))
 
     @property
     def visible(self) -> bool:
@@ -166,7 +172,7 @@ class MapObject(_View):
 
     @visible.setter
     def visible(self, visible: bool) -> None:
-        set_member(self, 'visible', bool(visible))
+        set_member(self._owner, 'visible', bool(visible))
 
     # A checker of types holds what is set against the type that is read, and a value is a number.
     @property
@@ -183,20 +189,12 @@ class MapObject(_View):
     @tile.setter
     def tile(self, tile: Union[Tile, int, None]) -> None:
         value = words.number(0 if tile is None else tile.value if isinstance(tile, Tile) else tile, 'the tile of an object')
-        if value:
-            set_member(self, 'gid', value)
-        else:
-            remove_member(self, 'gid')
+        set_or_remove(self._owner, 'gid', value or None)
 
     @property
     def properties(self) -> Properties:
         """Its properties, a live view."""
         return Properties(self._document, 'object', self)
-
-    @property
-    def members(self) -> ObjectMembers:
-        """All that the map says of it: a copy, whose own members can be set and taken out. Raises Refused."""
-        return ObjectMembers(self, super().members)
 
     def move(self, x: int, y: int, merge: bool = False) -> None:
         """Moves it to a place in pixels; with `merge` as one step with a move of it before. Raises TypeError, ValueError; Refused."""
@@ -270,15 +268,35 @@ class Objects:
         """Whether there is an object with an id, or of a name."""
         return self._document._do(lambda: self._found(key)) is not None
 
-    def add(self, name: str, x: int, y: int, width: int = 0, height: int = 0) -> MapObject:
-        """Adds an object to this layer, last, at a place and of a size in pixels, and gives it. Raises TypeError; ValueError, also
-        for the objects of a whole document; Refused: 31 where the layer is no object layer."""
+    def add(
+        self, name: str, x: float, y: float, width: float = 0, height: float = 0, *, point: bool = False, ellipse: bool = False,
+        polygon: Optional[Corners] = None, polyline: Optional[Corners] = None, text: Union[str, Mapping[str, Any], None] = None,
+        tile: Union[Tile, int, None] = None, class_name: str = '', rotation: float = 0, visible: bool = True,
+        properties: Optional[Mapping[str, Any]] = None,
+    ) -> MapObject:
+        """Adds an object to this layer, last, at a place and of a size in pixels, and gives it: a rectangle, or what one of `point` to `tile`
+        says. Corners are counted from its place. Raises TypeError; ValueError, also for the objects of a whole document; Refused: 31 where
+        the layer is no object layer, 61 for a fraction."""
+        layer = self._own_layer()
+        place = {'x': new_objects.pixels(x, 'x'), 'y': new_objects.pixels(y, 'y')}
+        place |= {'width': new_objects.length(width, 'a width'), 'height': new_objects.length(height, 'a height')}
+        looks = new_objects.looks_of(point, ellipse, polygon, polyline, text, tile)
+        line = new_objects.line_of(layer, name, place, {**new_objects.given(class_name, rotation, visible, properties), **looks})
+        return MapObject(self._document, self._document._add('object', line))
+
+    def put(self, members: Mapping[str, Any]) -> MapObject:
+        """Adds an object to this layer, last, as a file has it, and gives it: nothing is added to its members. It may say its id, as one that
+        was removed. Raises TypeError; ValueError, also for the objects of a whole document; Refused: 31 where the layer is no object layer,
+        61 for a fraction, 67 where its id is in the map."""
+        layer, text = self._own_layer(), new_objects.text_of(members)
+        last = self._document._add('object', new_objects.put_line(layer, text))
+        return MapObject(self._document, json.loads(text).get('id', last))
+
+    def _own_layer(self) -> int:
+        """The layer that an object is added to. Raises ValueError for the objects of a whole document."""
         if self._layer is None:
             raise ValueError('an object is added to a layer: document.layers[..].objects.add(..)')
-        where = f'{words.coordinate(x, "x")} {words.coordinate(y, "y")}'
-        size = f'{words.number(width, "a width")} {words.number(height, "a height")}'
-        line = f'object add {self._layer} {where} {size} {words.text(name, "the name of an object")}'
-        return MapObject(self._document, self._document._add('object', line))
+        return self._layer
 
     def __repr__(self) -> str:
         return f'<Objects of {"all layers" if self._layer is None else f"layer {self._layer}"} of {self._document.name!r}>'
@@ -340,6 +358,46 @@ class Layer(_View):
     @visible.setter
     def visible(self, visible: bool) -> None:
         self._document._edit(f'layer show {self.id} {"yes" if visible else "no"}')
+
+    @property
+    def class_name(self) -> str:
+        """Its class, as Tiled calls it: the member `class` of the file. Set, it gives the layer another one. Raises Refused; set, also
+        TypeError, ValueError."""
+        return self._look(lambda members: str(members.get('class', '')))
+
+    @class_name.setter
+    def class_name(self, name: str) -> None:
+        set_member(self._owner, 'class', json_values.text(name, 'the class of a layer'))
+
+    @property
+    def opacity(self) -> float:
+        """How much it covers, from 0 to 1. Set, it makes the layer so. Raises Refused; set, also TypeError, ValueError; Refused: 61 for a
+        fraction."""
+        return self._look(lambda members: cast(float, members.get('opacity', 1)))
+
+    @opacity.setter
+    def opacity(self, opacity: float) -> None:
+        set_member(self._owner, 'opacity', json_values.number(opacity, 'the opacity of a layer'))
+
+    @property
+    def tint(self) -> Optional[str]:
+        """The colour that it is tinted with, as the file has it; None where there is none. Set, it gives the layer another one, and None takes
+        it away. Raises Refused; set, also TypeError, ValueError."""
+        return self._look(lambda members: cast(Optional[str], members.get('tintcolor')))
+
+    @tint.setter
+    def tint(self, tint: Optional[str]) -> None:
+        set_or_remove(self._owner, 'tintcolor', tint if tint is None else json_values.text(tint, 'the tint of a layer'))
+
+    @property
+    def locked(self) -> bool:
+        """Whether Tiled keeps it from being edited; this editor does not. Set, it locks the layer, or unlocks it: as in Tiled's files,
+        only a locked one has the member. Raises Refused."""
+        return self._look(lambda members: bool(members.get('locked', False)))
+
+    @locked.setter
+    def locked(self, locked: bool) -> None:
+        set_or_remove(self._owner, 'locked', True if locked else None)
 
     @property
     def parent(self) -> Optional['Layer']:
@@ -511,7 +569,7 @@ class Layers:
         Raises ValueError for another kind."""
         if kind is None:
             return self.get(name)
-        said = words.one_of(kind, tuple(KINDS.values()), 'the kind of a layer')
+        said = words.one_of(kind, ALL_KINDS, 'the kind of a layer')
 
         def find() -> Optional[int]:
             first = self._document._editor._find('layer', name)
@@ -522,11 +580,11 @@ class Layers:
         return None if id is None else Layer(self._document, id)
 
     def add(self, kind: AddedLayerKind, name: str) -> Layer:
-        """Adds a layer, tile or object, in no group, last, which is drawn over the others, and gives it. Raises TypeError;
+        """Adds a layer, tile, object, group or image, in no group, last, which is drawn over the others, and gives it. Raises TypeError;
         ValueError, also for the layers of a group; Refused."""
         if self._group is not None:
             raise ValueError('a layer is not added to a group, but over all others: document.layers.add(..)')
-        said = words.one_of(kind, ADDED, 'the kind of a layer that is added')
+        said = words.one_of(kind, ALL_KINDS, 'the kind of a layer that is added')
         return Layer(self._document, self._document._add('layer', f'layer add {said} {words.text(name, "the name of a layer")}'))
 
     def __repr__(self) -> str:

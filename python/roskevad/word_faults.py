@@ -3,8 +3,7 @@
 import ctypes
 from typing import NamedTuple, Optional
 
-from .forms import is_of_members
-from .library import LIBRARY, FaultyWord
+from .library import ALL_EDITS, LIBRARY, FaultyWord
 from .rooms import Room
 
 # What is told has fewer bytes.
@@ -26,11 +25,9 @@ class WordAtFault(NamedTuple):
 
 
 def word_fault_of(line: str) -> Optional[WordAtFault]:
-    """The word at which a line is refused; `None` where it is read, or refused as a whole, and for a line of own members."""
-    if is_of_members(line):
-        return None
+    """The word at which a line is refused; `None` where it is read, or refused as a whole."""
     data, word, room = line.encode('utf-8', 'surrogateescape'), FaultyWord(), Room(_ROOM)
-    size: int = LIBRARY.roskevad_word_fault(data, len(data), ctypes.byref(word), room.at, room.size)
+    size: int = LIBRARY.roskevad_word_fault_for(ALL_EDITS, data, len(data), ctypes.byref(word), room.at, room.size)
     if size > room.size:
         return None
     found = None if word.is_missing else data[word.at:word.at + word.length].decode()

@@ -2,7 +2,7 @@
 """Checks words before they become a line: what no line can say is told with the caller's own words, and nothing is sent."""
 import operator
 import re
-from typing import Any, Optional
+from typing import Any, Callable, Optional
 
 from .layouts import LAYOUTS
 from .limits import MAX_COORDINATE, MAX_NUMBER, MAX_TEXT
@@ -56,6 +56,24 @@ def key(word: object, what: str = 'the name of a property') -> str:
     if ' ' in said:
         raise ValueError(f'{what} has a space in it, which it may not have: {_shown(said)}')
     return said
+
+
+def is_text(word: str) -> bool:
+    """Whether a line can have a text as its rest."""
+    return _takes(text, word)
+
+
+def is_key(word: str) -> bool:
+    """Whether a line can have a text as one of its words."""
+    return _takes(key, word)
+
+
+def _takes(check: Callable[[object, str], str], word: str) -> bool:
+    try:
+        check(word, '')
+    except ValueError:
+        return False
+    return True
 
 
 def looked_up(name: object) -> bytes:
