@@ -11,12 +11,17 @@ const EDITS = new Set(["stamp", "erase", "fill", "select", "layer", "resize", "o
 // The lines that go along the steps, or end a macro.
 const TURNS = new Set(["undo", "redo", "goto", "end"]);
 
+// The lines that an editor for all edits alone reads.
+const FOR_ALL_EDITS = /^(?:member|object put|prop take|tileset put|layer add (?:group|image)) /;
+
 export const wordOf = line => line.split(" ", 1)[0].replace(/\++$/, "");
 
 export const isLook = line => LOOKS.has(wordOf(line));
 export const isTurn = line => TURNS.has(wordOf(line));
 export const isEdit = line => EDITS.has(wordOf(line));
 export const isAboutDocuments = line => DOCUMENTS.has(wordOf(line));
+
+export const isForAllEdits = line => FOR_ALL_EDITS.test(line);
 
 // Whether a line follows the step before it.
 export const isFollowing = line => /^(?:\S+ )?\S+\+(?: |$)/.test(line);

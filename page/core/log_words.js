@@ -2,7 +2,7 @@
 // What a line has done, in words for those who draw: `Stamp on Ground: 12 cells`. It words the line, which has what no step has: new
 // names, sizes, modes, and how many cells it names.
 import { wordOf } from "./line_kinds.js";
-import { wayOf } from "./step_ways.js";
+import { jsonIn, wayOf } from "./step_ways.js";
 
 // How many cells a line names that it stamps or empties; 0 of any other. (It may be spelled wrong.)
 export function cellsIn(line) {
@@ -58,9 +58,9 @@ const OF_WORDS = {
   resize: ([, width, height]) => `Resize the map to ${width} × ${height}`,
   layer: (words, names) => ofLayer(words, names),
   object: (words, names) => ofObject(words, names),
-  prop: (words, names) => ofProperty(words, names),
-  member: (words, names) => ofMember(words, names),
-  tileset: words => (words[1] === "add" ? `Add tileset ${rest(words, 3)}` : `${capitalised(words[1])} tileset ${rest(words, 2)}`),
+  prop: (words, names) => ofNamed(words, names),
+  member: (words, names) => ofNamed(words, names),
+  tileset: words => ofTileset(words),
 };
 
 const OF_SELECT = {
@@ -71,6 +71,7 @@ const OF_SELECT = {
   intersect: cells => `Keep the selection within ${cells}`,
 };
 
+const REMOVALS = new Set(["remove", "take"]);
 const capitalised = word => `${word.charAt(0).toUpperCase()}${word.slice(1).replace(/\+$/, "")}`;
 
 function ofLayer(words, names) {
@@ -80,9 +81,19 @@ function ofLayer(words, names) {
   return wordOf(what) === "rename" ? `Rename layer ${names.layer(id)} to ${rest(words, 3)}` : `${capitalised(what)} layer ${names.layer(id)}`;
 }
 
+// What is added as a file has it, by its name. Of a line that is shortened that is not known.
+const added = (kind, said) => `Add ${kind} ${said ? said.source || said.name || "without a name" : ".."}`;
+
 function ofObject(words, names) {
   const [, what, id] = words;
+  if (what === "put") return added("object", jsonIn(rest(words, 3)));
   return what.startsWith("add") ? `Add object ${rest(words, 7)}` : `${capitalised(what)} ${names.object(id)}`;
+}
+
+function ofTileset(words) {
+  const [, what] = words;
+  if (what === "put") return added("tileset", jsonIn(rest(words, 2)));
+  return what === "remove" ? `Remove tileset ${rest(words, 2)}` : `Add tileset ${rest(words, 3)}`;
 }
 
 function ownerIn(owner, names) {
@@ -90,9 +101,9 @@ function ownerIn(owner, names) {
   return kind === "map" ? "the map" : names[kind]?.(id) ?? owner;
 }
 
-const ofProperty = ([, what, owner, key], names) => `${capitalised(what)} ${key} of ${ownerIn(owner, names)}`;
-
-function ofMember(words, names) {
+// Of a property, and of own members.
+function ofNamed(words, names) {
   const [, what, owner] = words;
-  return `${what === "remove" ? "Remove" : "Set"} ${wayOf(words.join(" "), null)} of ${ownerIn(owner, names)}`;
+  const way = wayOf(words.join(" "), null) ?? "..";
+  return `${REMOVALS.has(what) ? "Remove" : "Set"} ${way} of ${ownerIn(owner, names)}`;
 }

@@ -6,6 +6,8 @@ import { bothTints, partsOfColour } from "../view/tints.js";
 
 // How far a layer may be moved aside, in pixels.
 const FARTHEST = 1_000_000;
+// The members of a map that tell where its cells lie.
+const OF_PROJECTION = ["tilewidth", "tileheight", "orientation", "renderorder", "staggeraxis", "staggerindex", "hexsidelength"];
 
 const within = (number, least, most) => Math.max(least, Math.min(most, number));
 
@@ -83,14 +85,14 @@ export class MapModel {
     return layer ? { object: layer.data.objects[place], layer } : null;
   }
 
-  // The same map with other members of its own, if it has others, and of some layers. null where some member is odd, of which there is a
-  // count.
+  // The same map with other members of its own, if it has others, and of some layers. null where its cells lie elsewhere, or some member is
+  // odd, of which there is a count.
   renewed(own, layers) {
     const odd = new OddMembers();
     const made = Object.assign(Object.create(MapModel.prototype), this);
     if (own) made.data = { ...MAP.take(own, odd, "the map"), tilesets: this.data.tilesets };
     const found = layers.map(members => LAYER.take(members, odd, titleOfLayer(members)));
-    if (this.odd.count || odd.count) return null;
+    if (this.odd.count || odd.count || OF_PROJECTION.some(name => made.data[name] !== this.data[name])) return null;
     for (const data of found) {
       const layer = this.layer(data.id);
       const { objects } = layer.data;

@@ -1,7 +1,7 @@
 // SPDX-License-Identifier: MIT OR Apache-2.0
 // What a session says at its front, as comments: for which edits the program is to be started that plays it.
-import { isOfMembers } from "../../js/forms.js";
+import { isForAllEdits } from "./line_kinds.js";
 
 const ALL_EDITS = "# all edits";
 
-export const marksOf = lines => (lines.some(isOfMembers) ? [ALL_EDITS] : []);
+export const marksOf = lines => (lines.some(isForAllEdits) ? [ALL_EDITS] : []);

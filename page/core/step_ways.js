@@ -3,20 +3,30 @@
 // has them: what the hand did, the mode and the size of a selection, whether a layer is shown, and the names of properties and members.
 import { wordOf } from "./line_kinds.js";
 
+// What a JSON text says; null where it is none, as in a line that is shortened or refused.
+export function jsonIn(text) {
+  try {
+    return JSON.parse(text);
+  } catch {
+    return null;
+  }
+}
+
 const GESTURES = { rectangle: "rectangle", pattern: "pattern", cut: "cut", empty: "the selected cells", paste: "none, to paste" };
 const SIGNS = { replace: "", add: "+ ", subtract: "− ", intersect: "within " };
 
 const WAYS = {
   select: ([, how, , , width, height]) => (how === "none" ? how : `${SIGNS[how] ?? ""}${width} × ${height}`),
   layer: ([, what, , isShown]) => (wordOf(what) === "show" ? (isShown === "no" ? "hidden" : "shown") : null),
-  prop: ([, , , name]) => name,
+  prop: ([, what, , name, ...rest]) => (what === "take" ? nameIn([name, ...rest].join(" ")) : name),
   member: ([, what, , name, ...rest]) => (wordOf(what) === "put" ? namesIn([name, ...rest].join(" ")) : called(name)),
 };
 
 // What own members are called by those who draw, where files call them otherwise.
 const CALLED = { type: "class", gid: "tile" };
 const called = name => CALLED[name] ?? name;
-const namesIn = members => Object.keys(JSON.parse(members)).map(called).join(", ");
+const nameIn = text => (jsonIn(text) === "" ? "(no name)" : jsonIn(text));
+const namesIn = text => jsonIn(text) && Object.keys(jsonIn(text)).map(called).join(", ");
 
 // The way of a line by which the hand may have done something more; null where there is none.
 export function wayOf(line, gesture) {

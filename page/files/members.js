@@ -138,8 +138,8 @@ export const titleOfObject = object => `the object ${WHOLE.take(object.id) ?? "?
 
 // The layers of a group stand there as they are: who goes through them reads each of them.
 export const LAYER = record({
-  id: WHOLE, name: NAME, type: oneOf("tilelayer", "objectgroup", "imagelayer", "group"), visible: BOOL, locked: BOOL, opacity: NUMBER,
-  offsetx: NUMBER, offsety: NUMBER, tintcolor: COLOUR, parallaxx: NUMBER, parallaxy: NUMBER, mode: NAME, color: COLOUR,
+  id: WHOLE, name: NAME, type: oneOf("tilelayer", "objectgroup", "imagelayer", "group"), class: NAME, visible: BOOL, locked: BOOL,
+  opacity: NUMBER, offsetx: NUMBER, offsety: NUMBER, tintcolor: COLOUR, parallaxx: NUMBER, parallaxy: NUMBER, mode: NAME, color: COLOUR,
   draworder: oneOf("topdown", "index"), objects: listOf(OBJECT, titleOfObject), image: PATH,
   transparentcolor: COLOUR, repeatx: BOOL, repeaty: BOOL, layers: LIST, properties: PROPERTIES,
 });
@@ -150,7 +150,8 @@ export const titleOfLayer = layer => `the layer ${NAME.take(layer?.name) || "(no
 export const MAP = record({
   width: WHOLE, height: WHOLE, tilewidth: WHOLE, tileheight: WHOLE, nextlayerid: WHOLE, nextobjectid: WHOLE, layers: LIST, tilesets: LIST,
   orientation: oneOf("orthogonal", "isometric", "staggered", "hexagonal"), renderorder: oneOf("right-down", "right-up", "left-down", "left-up"),
-  staggeraxis: oneOf("x", "y"), staggerindex: oneOf("odd", "even"), hexsidelength: SIDE, backgroundcolor: COLOUR, properties: PROPERTIES,
+  staggeraxis: oneOf("x", "y"), staggerindex: oneOf("odd", "even"), hexsidelength: SIDE, backgroundcolor: COLOUR, class: NAME,
+  properties: PROPERTIES,
 });
 
 const TILE = record({ id: WHOLE, image: PATH, animation: inside(listOf(record({ tileid: WHOLE }), (each, where) => where)) });

@@ -3,11 +3,13 @@
 import { ask, button, byId, element } from "./dom.js";
 import { iconButton, showIcon } from "./icons.js";
 import { KINDS } from "../core/kinds.js";
-import { isLocked } from "../tools/barred_layers.js";
+import { isLocked, lockLine } from "../tools/barred_layers.js";
 import { LayerDrag } from "./layer_drag.js";
 import { putRows } from "./list_rows.js";
 
 const LAYER_KINDS = { tilelayer: "tiles", objectgroup: "objects", imagelayer: "image", group: "group" };
+// The kinds of layers that are added, in the order of Tiled's menu: the words for each, and the name that is proposed.
+const ADDED = { tile: ["a tile layer", "Tiles"], object: ["an object layer", "Objects"], image: ["an image layer", "Image"], group: ["a group layer", "Group"] };
 
 export class LayerPanel {
   constructor(bench) {
@@ -20,8 +22,9 @@ export class LayerPanel {
     this.list.ondblclick = event => this.rowOf(event) && !event.target.closest("button") && this.rename();
     this.drag = new LayerDrag(this);
     byId("layer-actions").append(
-      iconButton("tileLayer", "Add a tile layer", "Add a tile layer, on top of all", () => this.add("tile"), { id: "add-tile-layer" }),
-      iconButton("objectLayer", "Add an object layer", "Add an object layer, on top of all", () => this.add("object"), { id: "add-object-layer" }),
+      ...Object.entries(ADDED).map(([kind, [words]]) => (
+        iconButton(`${kind}Layer`, `Add ${words}`, `Add ${words}, on top of all`, () => this.add(kind), { id: `add-${kind}-layer` })
+      )),
       iconButton("up", "Up", "Up: draw this layer later", () => this.move(1), { id: "layer-up" }),
       iconButton("down", "Down", "Down: draw this layer earlier", () => this.move(-1), { id: "layer-down" }),
       iconButton("rename", "Rename this layer", "Rename this layer: a double click", () => this.rename(), { id: "rename-layer" }),
@@ -66,7 +69,10 @@ export class LayerPanel {
     showIcon(eye, isShown ? "seen" : "hidden");
     eye.title = isShown ? "Hide this layer" : "Show this layer";
     eye.setAttribute("aria-label", `${isShown ? "Hide" : "Show"} ${layer.data.name}`);
-    lock.hidden = !isLocked(layer);
+    showIcon(lock, isLocked(layer) ? "locked" : "unlocked");
+    lock.title = isLocked(layer) ? "Unlock this layer" : "Lock this layer, so that nothing is drawn on it";
+    lock.setAttribute("aria-label", `${isLocked(layer) ? "Unlock" : "Lock"} ${layer.data.name}`);
+    lock.classList.toggle("on", isLocked(layer));
     name.textContent = layer.data.name || "(no name)";
     name.title = layer.data.name;
     kind.textContent = LAYER_KINDS[layer.type] ?? layer.type;
@@ -80,7 +86,7 @@ export class LayerPanel {
     return element("li", { data: { layer: id } },
       button("", "", null, { className: "fold" }),
       button("", "", null, { className: "eye" }),
-      element("span", { className: "lock", textContent: "locked", title: "Locked in Tiled; no line unlocks it" }),
+      button("", "", null, { className: "lock" }),
       element("span", { className: "name" }),
       element("span", { className: "kind" }));
   }
@@ -96,6 +102,7 @@ export class LayerPanel {
     const layer = row && this.bench.map?.layer(Number(row.dataset.layer));
     if (!layer) return;
     if (event.target.className === "eye") this.bench.act([`layer show ${layer.id} ${layer.data.visible !== false ? "no" : "yes"}`]);
+    else if (event.target.classList.contains("lock")) this.bench.act([lockLine(layer, !isLocked(layer))]);
     else if (event.target.className === "fold" && layer.type === "group") this.fold(layer.id);
     else this.bench.chooseLayer(layer.id);
   }
@@ -108,7 +115,8 @@ export class LayerPanel {
   }
 
   async add(kind) {
-    const field = { name: "name", label: "Name", value: kind === "tile" ? "Tiles" : "Objects", kind: KINDS.text };
+    const [, proposed] = ADDED[kind];
+    const field = { name: "name", label: "Name", value: proposed, kind: KINDS.text };
     const title = `A new ${kind} layer, on top of all`;
     const typed = await ask(title, [field], ["OK"], ({ name }) => this.bench.attempt([`layer add ${kind} ${name}`]));
     if (!typed) return;

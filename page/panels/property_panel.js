@@ -3,8 +3,8 @@
 import { button, byId, element, mark } from "./dom.js";
 import { fieldFor, numberField, textField } from "./fields.js";
 import { KINDS, TYPES } from "../core/kinds.js";
-import { memberLine } from "../core/member_lines.js";
-import { cutText } from "../files/members.js";
+import { memberLine, removalLine } from "../core/member_lines.js";
+import { LONGEST_NAME, cutText } from "../files/members.js";
 import { folderOf } from "../files/names.js";
 import { saidOf } from "../core/refusals.js";
 import { whyNotNamed, whyNotSet } from "../core/unsupported_edits.js";
@@ -86,11 +86,11 @@ export class PropertyPanel {
   }
 
   // ---- what is no property
-  // The size of the map; the name, the class, the place, the size and the rotation of an object.
+  // The size and the class of the map; the class of a layer; the name, the class, the place, the size and the rotation of an object.
   factRows(owner) {
     const { data } = owner;
-    if (this.kind === "map") return [this.fact("size", `${data.width} × ${data.height}`, "")];
-    if (this.kind !== "object") return [];
+    if (this.kind === "map") return [this.fact("size", `${data.width} × ${data.height}`, ""), this.classRow(owner)];
+    if (this.kind !== "object") return [this.classRow(owner)];
     // Tiled 1.9 has it elsewhere.
     const kind = !data.type && data.class ? "class" : "type";
     return [
@@ -102,7 +102,12 @@ export class PropertyPanel {
     ];
   }
 
-  // A text or a number of an object, which is an own member of it.
+  // The class of the map, or of a layer.
+  classRow(owner) {
+    return this.memberRow(owner, "class", "class", owner.data.class ?? "");
+  }
+
+  // A text or a number, which is an own member.
   memberRow({ word }, name, member, value) {
     const isNumber = typeof value === "number";
     const why = isNumber ? "" : whyNotNamed(value);
@@ -169,10 +174,11 @@ export class PropertyPanel {
   }
 
   propertyRow(word, name, type, box) {
-    const isSpelled = KINDS.key.fault(name) === "";
-    const title = isSpelled ? "Remove this property" : "No line can say this name";
+    // Of a longer name the page has its first letters.
+    const isCut = name.length > LONGEST_NAME;
+    const title = isCut ? `It has more than ${LONGEST_NAME} letters: Tiled removes it.` : "Remove this property";
     // The second press of a double click at '+' comes to where this button is then.
-    const remove = button("×", title, event => event.detail < 2 && this.bench.act([`prop remove ${word} ${name}`]), { disabled: !isSpelled });
+    const remove = button("×", title, event => event.detail < 2 && this.bench.act([removalLine(word, name)]), { disabled: isCut });
     const row = rowOf(name, type, `${name}: ${type}`, element("td", {}, box), element("td", {}, remove));
     row.dataset.property = name;
     return row;

@@ -1,6 +1,7 @@
 // SPDX-License-Identifier: MIT OR Apache-2.0
 // What a reader of the screen is told: which part of the page is what, by roles and names, and how things stand, by states. The panels mark
 // by classes what is chosen, pressed or folded; here each mark becomes a state, so that both tell the same.
+import { isLocked } from "../tools/barred_layers.js";
 import { byId, element } from "./dom.js";
 
 // The parts that stand there all the time: [selector, attributes].
@@ -109,8 +110,7 @@ export class Readers {
     const layer = this.bench.map?.layer(Number(at.dataset.layer));
     if (!layer) return;
     const isGroup = layer.type === "group";
-    const isLocked = at.querySelector(".lock")?.hidden === false;
-    const words = listed(textOf(at, ".name"), textOf(at, ".kind"), layer.data.visible === false && "hidden", isLocked && "locked");
+    const words = listed(textOf(at, ".name"), textOf(at, ".kind"), layer.data.visible === false && "hidden", isLocked(layer) && "locked");
     put(at, { role: "treeitem", "aria-level": layer.depth + 1, "aria-selected": at.classList.contains("now"), "aria-label": words,
       "aria-expanded": isGroup ? !this.layers.folded.has(layer.id) : null });
     for (const each of at.querySelectorAll("button")) each.tabIndex = -1;

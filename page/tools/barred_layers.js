@@ -1,5 +1,6 @@
 // SPDX-License-Identifier: MIT OR Apache-2.0
 // Layers on which the hand draws only where it was told to: those that are hidden or locked, or stand in a group that is.
+import { memberLine } from "../core/member_lines.js";
 import { endNotice, notice } from "../panels/notice_bars.js";
 
 const ABOUT = "barred layer";
@@ -9,8 +10,11 @@ function withGroups(layer) {
   return layer ? [layer, ...withGroups(layer.group)] : [];
 }
 
-// `locked` is a member that Tiled writes; the editor keeps it, and no line sets it.
+// Tiled writes the member `locked` of a layer that is.
 export const isLocked = layer => layer.data.locked === true;
+
+// The line that locks a layer, or unlocks it.
+export const lockLine = ({ id }, isOn) => (isOn ? memberLine(`layer:${id}`, "locked", true) : `member remove layer:${id} locked`);
 
 // Whether a layer or a group that it stands in is locked.
 export const isLockedIn = layer => withGroups(layer).some(isLocked);
@@ -58,8 +62,10 @@ export class BarredLayers {
     const key = this.keyOf(layer);
     const buttons = [["Draw all the same", () => void this.allowed.add(key), `Draw on ${layer.data.name} though it is hidden or locked`]];
     const hidden = withGroups(layer).filter(each => each.data.visible === false);
+    const locked = withGroups(layer).filter(isLocked);
     if (hidden.length) buttons.unshift(["Show it", () => bench.act(hidden.map(each => `layer show ${each.id} yes`)), "Show the layer"]);
-    notice(ABOUT, hidden.length ? `${why} What is drawn on it would not be seen.` : `${why} That was set in Tiled; no line unlocks it.`, buttons, "mild");
+    else buttons.unshift(["Unlock it", () => bench.act(locked.map(each => lockLine(each, false))), "Unlock the layer"]);
+    notice(ABOUT, hidden.length ? `${why} What is drawn on it would not be seen.` : `${why} So nothing is drawn on it by mistake.`, buttons, "mild");
     this.said = key;
     return true;
   }
