@@ -1,12 +1,12 @@
 # SPDX-License-Identifier: MIT OR Apache-2.0
 """Runs the program with `--all-edits` and without it: which lines it reads, which forms standard error
-says of a strict run's last line, and how the option stands beside others. What the lines of own
-members do, the sessions of `sessions/members` say."""
+says of a strict run's last line, and how the option stands beside others. What the lines for all edits
+do, the sessions of `sessions/members` and `sessions/all_edits` say."""
 import json
 
 from lib.asides import OPTION as ALL_MAPS
 from lib.cases import CORES, Case, check_each, unlike
-from lib.forms import OF_MEMBERS
+from lib.forms import FURTHER, OF_MEMBERS
 from lib.maps import map_of, text_of, thing, things
 from lib.refusals import refusal
 from lib.sessions import ALL_EDITS, Run, fault_of_replies, fault_of_run, heard, joined
@@ -23,6 +23,7 @@ NOT_READ = [
     ('member put object:1 {}', 3),
     ('member remove object:1 name', 3),
     ('member', 3),
+    ('layer add image x', 4),
     ('object put 2 {}', 4),
     ('object into 1 2 0', 4),
     ('layer add group x', 4),
@@ -52,10 +53,13 @@ def test_lines_without_the_option():
 
 
 def test_a_limit():
-    """A step of own members is one of those that a document keeps."""
+    """A step of a line for all edits is one of those that a document keeps."""
     rows = [
         ('member set object:1 rotation 45', 'ok 2/2 dirty 0'),
         ('member remove object:1 rotation', 'ok 2/2 dirty 0'),
+        ('layer add group Houses', 'ok 2/2 dirty 0'),
+        ('object put 2 {"point":true}', 'ok 2/2 dirty 0'),
+        ('tileset put {"firstgid":100}', 'ok 2/2 dirty 0'),
         ('goto 0', 'ok 0/2 dirty 0'),
     ]
     fault = fault_of_run(run_of('with a limit', rows, ALL_EDITS, '--limit', '2'))
@@ -71,7 +75,10 @@ def test_all_maps():
         ('open a a.tmj', 'ok 0/0 clean 0'),
         ('member set object:1 rotation 0.5', refusal(61)),
         ('member put object:1 {"rotation":0.5}', refusal(61)),
+        ('object put 1 {"x":1.5}', refusal(61)),
+        ('tileset put {"firstgid":100,"tileoffset":{"x":0.5,"y":0}}', refusal(61)),
         ('member set object:1 rotation 90', 'ok 1/1 dirty 0'),
+        ('object put 1 {"x":7,"y":8}', 'ok 2/2 dirty 0'),
         ('save a.tmj', None),
     ]
     session = joined(line.encode() for line, _ in rows)
@@ -81,29 +88,44 @@ def test_all_maps():
     fault = fault_of_replies(session, joined(wanted), joined(replies[:-1]))
     assert not fault, fault
     assert len(replies) == len(rows) and replies[-1].startswith(b'saved a.tmj '), replies
-    saved = json.loads(files['a.tmj'])['layers'][0]['objects'][0]
-    fault = unlike((1.5, 2, 90), (saved['x'], saved['y'], saved['rotation']))
+    saved, put = json.loads(files['a.tmj'])['layers'][0]['objects']
+    fault = unlike((1.5, 2, 90, 2, 7, 8), (saved['x'], saved['y'], saved['rotation'], put['id'], put['x'], put['y']))
     assert not fault, fault
 
 
 # ---- strict runs
 
 
+OWNERS = 'map, or layer: or object: or tileset: and an id'
+NUMBER = 'a whole number from 0 to 4294967295, with no zero in front'
+LAYERS = ['layer add tile NAME', 'layer add object NAME', 'layer add group NAME', 'layer add image NAME']
+
+
 def forms_behind(told, forms):
     return '\n'.join([told, *(f'  {form}' for form in forms)])
+
+
+def forms_of(front):
+    return [form for form in FURTHER if form.startswith(front)]
 
 
 def strict_cases():
     """The last line of a strict run, and what standard error says of it behind its number."""
     bad, unknown = refusal(4), refusal(3)
     lines = {
-        'member set object:1 rotation': forms_behind(bad, OF_MEMBERS),
-        'member set object:1 rotation ': forms_behind(bad, OF_MEMBERS),
-        'member set nothing a 1': forms_behind(bad, OF_MEMBERS),
-        'member remove object:1 name x': forms_behind(bad, OF_MEMBERS),
-        'member': forms_behind(bad, OF_MEMBERS),
-        'member undo': forms_behind(bad, OF_MEMBERS),
+        'member set object:1 rotation': forms_behind(f'{bad}: word 5 is missing: a JSON text', forms_of('member set ')),
+        'member set object:1 rotation ': forms_behind(f'{bad}: word 5 is not a JSON text', forms_of('member set ')),
+        'member set nothing a 1': forms_behind(f'{bad}: word 3 is not {OWNERS}', forms_of('member set ')),
+        'member remove object:1 name x': forms_behind(f'{bad}: word 5 is one too many', forms_of('member remove ')),
+        'member': forms_behind(f'{bad}: word 2 is missing: a word that a form has there', OF_MEMBERS),
+        'member undo': forms_behind(f'{bad}: word 2 is not a word that a form has there', OF_MEMBERS),
         'members': forms_behind(f'{unknown}: word 1 is not a command', OF_MEMBERS),
+        'object put door {}': forms_behind(f'{bad}: word 3 is not {NUMBER}', ['object put LAYER JSON']),
+        'tileset put': forms_behind(f'{bad}: word 3 is missing: a JSON text', ['tileset put JSON']),
+        'layer add groups x': forms_behind(f'{bad}: word 3 is not tile, object, group or image', LAYERS),
+        'object put 2 {}}': refusal(60),
+        'prop take map {}': refusal(63),
+        'tileset put {}': refusal(62),
         'member+ set object:1 a 1': forms_behind(f'{unknown}: word 1 is not a command', OF_MEMBERS),
         'frob': f'{unknown}: word 1 is not a command\n  fill LAYER X Y TILE',
         'undo x': f'{bad}: word 2 is one too many\n  undo',

@@ -433,6 +433,166 @@ editor.active = document;""", []),
              'const door = document.objects.get(1); document.macro("A", () => { door.name = "door"; door.setMembers({ x: 16, y: 0 }); });'
              'document.macro("B", () => { door.rotation = 90; }); document.macro("C", () => editor.step("member set object:1 rotation 0"))',
              ['begin B', 'member set object:1 rotation 90', 'end', 'begin C', 'member set object:1 rotation 0', 'end']),
+    # ---- own members of layers and of the map
+    Scenario('values of layers', 'ground, things = document.layers[1], document.layers["Things"]\nground.class_name = "floor"\nground.opacity = 0.0\n'
+             'ground.tint = "#80ff8800"\nthings.locked = True\nthings.opacity = 2\nthings.tint = None\nground.tint = "#ffffff"\nground.tint = None',
+             'const [ground, things] = [document.layers.get(1), document.layers.get("Things")]; ground.className = "floor"; ground.opacity = 0;'
+             'ground.tint = "#80ff8800"; things.locked = true; things.opacity = 2; things.tint = null; ground.tint = "#ffffff"; ground.tint = null',
+             ['member set layer:1 class "floor"', 'member set layer:1 opacity 0', 'member set layer:1 tintcolor "#80ff8800"', 'member set layer:2 locked true',
+              'member set layer:2 opacity 2', 'member set layer:1 tintcolor "#ffffff"', 'member remove layer:1 tintcolor'],
+             [('[[each.class_name, each.opacity, each.tint, each.locked] for each in document.layers]',
+               '[...document.layers].map((each) => [each.className, each.opacity, each.tint, each.locked])',
+               [['floor', 0, None, False], ['', 2, None, True], ['', 1, None, False]])]),
+    Scenario('values of the map', 'document.class_name = "a \\"b\\"\\n"\ndocument.background = None\ndocument.background = "#102030"',
+             'document.className = "a \\"b\\"\\n"; document.background = null; document.background = "#102030"',
+             [r'member set map class "a \"b\"\n"', 'member set map backgroundcolor "#102030"'],
+             [('[document.class_name, document.background]', '[document.className, document.background]', ['a "b"\n', '#102030']),
+              ('document.members', 'document.members',
+               {'backgroundcolor': '#102030', 'class': 'a "b"\n', 'nextlayerid': 4, 'nextobjectid': 2, 'orientation': 'orthogonal',
+                'renderorder': 'right-down', 'tileheight': 16, 'tilewidth': 16})]),
+    Scenario('values of the map that are taken away', 'document.background = "#102030"\ndocument.background = None\ndocument.background = None',
+             'document.background = "#102030"; document.background = null; document.background = null',
+             ['member set map backgroundcolor "#102030"', 'member remove map backgroundcolor'], [('document.background', 'document.background', None)]),
+    Scenario('own members of a layer', 'members = document.layers[2].members\nmembers["parallaxx"] = 2\nmembers.set("opacity", 0, merge=True)\n'
+             'members.set("opacity", 3, merge=True)\nmembers.update(x=32, color="#fff")\nmembers.put({"name": "People"}, merge=True)\ndel members["parallaxx"]\n'
+             'assert members == document.layers[2].members and "parallaxx" not in members and members.pop("none", 5) == 5\ndel members["name"]',
+             'const things = document.layers.get(2); things.setMember("parallaxx", 2); things.setMember("opacity", 0, { merge: true });'
+             'things.setMember("opacity", 3, { merge: true }); things.setMembers({ x: 32, color: "#fff" });'
+             'things.setMembers({ name: "People" }, { merge: true }); const came = [things.removeMember("parallaxx"), things.removeMember("parallaxx")];'
+             'if (String(came) !== "true,false" || !things.removeMember("name")) throw new Error(came)',
+             ['member set layer:2 parallaxx 2', 'member set+ layer:2 opacity 0', 'member set+ layer:2 opacity 3', 'member put layer:2 {"x":32,"color":"#fff"}',
+              'member put+ layer:2 {"name":"People"}', 'member remove layer:2 parallaxx', 'member remove layer:2 name'],
+             [('document.layers[2].members', 'document.layers.get(2).members',
+               {'color': '#fff', 'draworder': 'topdown', 'id': 2, 'name': '', 'objects': [{
+                   'height': 16, 'id': 1, 'name': 'door', 'properties': [{'name': 'locked', 'type': 'bool', 'value': True}], 'rotation': 0, 'type': '',
+                   'visible': True, 'width': 16, 'x': 16, 'y': 0}], 'opacity': 3, 'type': 'objectgroup', 'visible': True, 'x': 32, 'y': 0})]),
+    Scenario('own members of the map', 'members = document.members\nmembers["renderorder"] = "left-up"\nmembers.set("tilewidth", 8, merge=True)\n'
+             'members.set("tilewidth", 24, merge=True)\nmembers.put({"tileheight": 32, "orientation": "isometric"})\nmembers.update(nextlayerid=9)\n'
+             'del members["renderorder"]\nassert members.pop("none", 5) == 5 and members == document.members\ndocument.layers.add("tile", "Roof")',
+             'document.setMember("renderorder", "left-up"); document.setMember("tilewidth", 8, { merge: true });'
+             'document.setMember("tilewidth", 24, { merge: true }); document.setMembers({ tileheight: 32, orientation: "isometric" });'
+             'document.setMembers({ nextlayerid: 9 }); const came = [document.removeMember("renderorder"), document.removeMember("renderorder")];'
+             'if (String(came) !== "true,false") throw new Error(came); document.layers.add("tile", "Roof")',
+             ['member set map renderorder "left-up"', 'member set+ map tilewidth 8', 'member set+ map tilewidth 24',
+              'member put map {"tileheight":32,"orientation":"isometric"}', 'member put map {"nextlayerid":9}', 'member remove map renderorder',
+              'layer add tile Roof'],
+             [('document.members', 'document.members',
+               {'nextlayerid': 10, 'nextobjectid': 2, 'orientation': 'isometric', 'tileheight': 32, 'tilewidth': 24}),
+              ('[document.tile_width, document.tile_height, document.orientation, document.layers["Roof"].id]',
+               '[document.tileWidth, document.tileHeight, document.orientation, document.layers.get("Roof").id]', [24, 32, 'isometric', 9])]),
+    Scenario('own members of layers and of the map in macros', 'ground = document.layers[1]\nwith document.macro("A"):\n'
+             '  ground.opacity = 1\n  ground.tint = None\n  document.background = None\n'
+             '  del ground.members["visible"]\n  ground.members.update(name="Tile Layer 1", x=0)\n'
+             '  document.members.put({"tilewidth": 16})\n  ground.locked = False\nwith document.macro("B"):\n  ground.locked = True\nwith document.macro("C"):\n'
+             '  document.class_name = "level"\n  del ground.members["name"]',
+             'const ground = document.layers.get(1); document.macro("A", () => { ground.opacity = 1; ground.tint = null; document.background = null;'
+             ' ground.removeMember("visible"); ground.setMembers({ name: "Tile Layer 1", x: 0 }); document.setMembers({ tilewidth: 16 });'
+             ' ground.locked = false; });'
+             'document.macro("B", () => { ground.locked = true; }); document.macro("C", () => { document.className = "level"; ground.removeMember("name"); })',
+             ['begin B', 'member set layer:1 locked true', 'end', 'begin C', 'member set map class "level"', 'member remove layer:1 name', 'end']),
+    Scenario('own members of layers that other lines change', 'members, codes = document.layers[2].members, []\n'
+             'for work in (lambda: members.set("objects", []), lambda: members.pop("objects"), lambda: members.update(type="group"),\n'
+             '             lambda: document.members.set("layers", []), lambda: document.members.__delitem__("infinite"), lambda: members.put({"width": 1})):\n'
+             '  try:\n    work()\n  except roskevad.Refused as refusal:\n    codes.append(refusal.code)\nassert codes == [41] * 6, codes',
+             'const things = document.layers.get(2); const codes = [];'
+             'for (const work of [() => things.setMember("objects", []), () => things.removeMember("objects"), () => things.setMembers({ type: "group" }),'
+             ' () => document.setMember("layers", []), () => document.removeMember("infinite"), () => things.setMembers({ width: 1 })]) {'
+             ' try { work(); } catch (fault) { codes.push(fault.code); } } if (String(codes) !== String(Array(6).fill(41))) throw new Error(codes)',
+             []),
+    Scenario('own members of a layer that is gone', 'layer = document.layers[3]\nmembers = layer.members\nlayer.remove()\ncodes = []\n'
+             'for work in (lambda: setattr(layer, "class_name", "a"), lambda: members.put({}), lambda: members.update(x=1), lambda: members.pop("x"),\n'
+             '             lambda: setattr(layer, "tint", None), lambda: layer.opacity, lambda: layer.members, lambda: setattr(layer, "locked", True)):\n'
+             '  try:\n    work()\n  except roskevad.Refused as refusal:\n    codes.append(refusal.code)\nassert codes == [30] * 8, codes',
+             'const layer = document.layers.get(3); layer.remove(); const codes = [];'
+             'for (const work of [() => { layer.className = "a"; }, () => layer.setMembers({}), () => layer.setMembers({ x: 1 }),'
+             ' () => layer.removeMember("x"), () => { layer.tint = null; }, () => layer.opacity, () => layer.members, () => { layer.locked = true; }]) {'
+             ' try { work(); } catch (fault) { codes.push(fault.code); } } if (String(codes) !== String(Array(8).fill(30))) throw new Error(codes)',
+             ['layer remove 3']),
+    # ---- things of each kind that are added
+    plain('layers of each kind', 'document.layers.add("group", "Houses"); document.layers.add("image", "The sky")',
+          ['layer add group Houses', 'layer add image The sky'],
+          values=[('[[each.kind, each.members] for each in list(document.layers)[3:]]', '[...document.layers].slice(3).map((each) => [each.kind, each.members])', [
+              ['group', {'id': 4, 'layers': [], 'name': 'Houses', 'opacity': 1, 'type': 'group', 'visible': True, 'x': 0, 'y': 0}],
+              ['image', {'id': 5, 'image': '', 'name': 'The sky', 'opacity': 1, 'type': 'imagelayer', 'visible': True, 'x': 0, 'y': 0}]])]),
+    Scenario('objects of each shape', 'things = document.layers["Things"].objects\nthings.add("", 8, -8, point=True)\n'
+             'things.add("Lake", 1, 2, 3, 4, ellipse=True)\n'
+             'things.add("a", 0, 0, polygon=[(0, 0), [8, 8]])\nthings.add("b", 0, 0, polyline=[{"x": 0, "y": -8.0}])\n'
+             'things.add("c", 0, 0, 16, 8, text="two\\nlines")\nthings.add("d", 0, 0, text={"text": "a", "wrap": True})\n'
+             'things.add("e", 0, 16, 16, 16, tile=document.tilesets[1].value(4, flipped_horizontally=True))',
+             'const { objects } = document.layers.get("Things"); objects.add("", 8, -8, 0, 0, { point: true }); objects.add("Lake", 1, 2, 3, 4, { ellipse: true });'
+             'objects.add("a", 0, 0, 0, 0, { polygon: [[0, 0], Int8Array.of(8, 8)] }); objects.add("b", 0, 0, 0, 0, { polyline: [{ x: 0, y: -8 }] });'
+             'objects.add("c", 0, 0, 16, 8, { text: "two\\nlines" }); objects.add("d", 0, 0, 0, 0, { text: { text: "a", wrap: true } });'
+             'objects.add("e", 0, 16, 16, 16, { tile: document.tilesets.get(1).value(4, { flippedHorizontally: true }) })',
+             ['object put 2 {"name":"","type":"","x":8,"y":-8,"width":0,"height":0,"rotation":0,"visible":true,"point":true}',
+              'object put 2 {"name":"Lake","type":"","x":1,"y":2,"width":3,"height":4,"rotation":0,"visible":true,"ellipse":true}',
+              'object put 2 {"name":"a","type":"","x":0,"y":0,"width":0,"height":0,"rotation":0,"visible":true,"polygon":[{"x":0,"y":0},{"x":8,"y":8}]}',
+              'object put 2 {"name":"b","type":"","x":0,"y":0,"width":0,"height":0,"rotation":0,"visible":true,"polyline":[{"x":0,"y":-8}]}',
+              r'object put 2 {"name":"c","type":"","x":0,"y":0,"width":16,"height":8,"rotation":0,"visible":true,"text":{"text":"two\nlines"}}',
+              'object put 2 {"name":"d","type":"","x":0,"y":0,"width":0,"height":0,"rotation":0,"visible":true,"text":{"text":"a","wrap":true}}',
+              'object put 2 {"name":"e","type":"","x":0,"y":16,"width":16,"height":16,"rotation":0,"visible":true,"gid":2147483653}'],
+             [('[[each.id, each.is_point] for each in document.objects]', '[...document.objects].map((each) => [each.id, each.isPoint])',
+               [[1, False], [2, True], *([at, False] for at in range(3, 9))]),
+              ('[document.objects[2].members, document.objects[8].tile.local_id]', '[document.objects.get(2).members, document.objects.get(8).tile.localId]',
+               [{'height': 0, 'id': 2, 'name': '', 'point': True, 'rotation': 0, 'type': '', 'visible': True, 'width': 0, 'x': 8, 'y': -8}, 4])]),
+    Scenario('an object with a class, a turn and properties', 'things = document.layers["Things"].objects\n'
+             'things.add("key", 32, 0, class_name="Key", rotation=90.0, visible=False,\n'
+             '           properties={"two words": "", "opens": document.objects["door"], "n": -5, "b": True})\n'
+             'things.add("key", 32, 0, class_name="", rotation=0, visible=True, point=False, tile=None, properties={})\nthings.add("a\\nb", 1.0, 2)',
+             'const { objects } = document.layers.get("Things");'
+             'objects.add("key", 32, 0, 0, 0, { className: "Key", rotation: 90, visible: false,'
+             ' properties: { "two words": "", opens: document.objects.get("door"), n: -5, b: true } });'
+             'objects.add("key", 32, 0, 0, 0, { className: "", rotation: -0, visible: true, point: false, tile: null, properties: {} });'
+             'objects.add("a\\nb", 1, 2)',
+             ['object put 2 {"name":"key","type":"Key","x":32,"y":0,"width":0,"height":0,"rotation":90,"visible":false,"properties":[{"name":"two words",'
+              '"type":"string","value":""},{"name":"opens","type":"object","value":1},{"name":"n","type":"int","value":-5},'
+              '{"name":"b","type":"bool","value":true}]}',
+              'object add 2 32 0 0 0 key', r'object put 2 {"name":"a\nb","type":"","x":1,"y":2,"width":0,"height":0,"rotation":0,"visible":true}'],
+             [('[[each.class_name, each.rotation, each.visible, dict(each.properties)] for each in document.objects][1]',
+               '[...document.objects].map((each) => [each.className, each.rotation, each.visible, Object.fromEntries(each.properties)])[1]',
+               ['Key', 90, False, {'two words': '', 'opens': 1, 'n': -5, 'b': True}])]),
+    Scenario('objects as a file has them', 'things = document.layers["Things"].objects\ndoor = document.objects["door"]\nwas = door.members.copy()\n'
+             'door.remove()\n'
+             'assert things.put(was).id == 1 and things.put({"id": 9}).id == 9 and things.put({"x": 5.0}).id == 10',
+             'const { objects } = document.layers.get("Things"); const was = document.objects.get("door").members; document.objects.get("door").remove();'
+             'const ids = [objects.put(was), objects.put({ id: 9 }), objects.put({ x: 5 })].map(Number); if (String(ids) !== "1,9,10") throw new Error(ids)',
+             ['object remove 1', 'object put 2 {"id":1,"name":"door","type":"","x":16,"y":0,"width":16,"height":16,"rotation":0,"visible":true,'
+              '"properties":[{"name":"locked","type":"bool","value":true}]}', 'object put 2 {"id":9}', 'object put 2 {"x":5}'],
+             [('[each.members for each in document.objects][1:]', '[...document.objects].map((each) => each.members).slice(1)', [{'id': 9}, {'id': 10, 'x': 5}])]),
+    Scenario('objects in macros', 'things = document.layers["Things"].objects\nwith document.macro("A"):\n  len(things)\nwith document.macro("B"):\n'
+             '  things.put({}).name = "a"\ntry:\n  with document.macro("C"):\n    things.put({"x": 0.5})\nexcept roskevad.Refused as refusal:\n'
+             '  assert refusal.code == 61',
+             'const { objects } = document.layers.get("Things"); document.macro("A", () => objects.size);'
+             'document.macro("B", () => { objects.put({}).name = "a"; }); try { document.macro("C", () => objects.put({ x: 0.5 })); }'
+             ' catch (fault) { if (fault.code !== 61) throw fault; }',
+             ['begin B', 'object put 2 {}', 'member set object:2 name "a"', 'end', 'begin C', 'end', 'undo']),
+    Scenario('tilesets as a file has them', 'art = document.tilesets.put({"firstgid": 100, "name": "art", "image": "art.png", "tilewidth": 16, "tileheight": 16,'
+             ' "tilecount": 64, "columns": 8})\ndocument.tilesets.put({"firstgid": 200, "source": "other.tsj"})\ndocument.stamp(1, 0, 0, [[art.value(5)]])',
+             'const art = document.tilesets.put({ firstgid: 100, name: "art", image: "art.png", tilewidth: 16, tileheight: 16, tilecount: 64, columns: 8 });'
+             'document.tilesets.put({ firstgid: 200, source: "other.tsj" }); document.stamp(1, 0, 0, [[art.value(5)]])',
+             ['tileset put {"firstgid":100,"name":"art","image":"art.png","tilewidth":16,"tileheight":16,"tilecount":64,"columns":8}',
+              'tileset put {"firstgid":200,"source":"other.tsj"}', 'stamp 1 0 0 1 105'],
+             [('[[each.first_id, each.source, each.name] for each in document.tilesets]',
+               '[...document.tilesets].map((each) => [each.firstId, each.source, each.name])',
+               [[1, 'town.tsj', None], [100, None, 'art'], [200, 'other.tsj', None]]),
+              ('[document.layers[1].tile(0, 0).local_id, len(document.tilesets["art"].tiles)]',
+               '[document.layers.get(1).tile(0, 0).localId, document.tilesets.get("art").tiles.length]', [5, 64])]),
+    Scenario('a tileset of an image', 'document.tilesets.add_from_image(100, "art", "img/art.png", 130, 132, 16, 16, margin=1, spacing=1)',
+             'document.tilesets.addFromImage(100, "art", "img/art.png", 130, 132, 16, 16, { margin: 1, spacing: 1 })',
+             ['tileset put {"firstgid":100,"name":"art","image":"img/art.png","imagewidth":130,"imageheight":132,"tilewidth":16,"tileheight":16,"margin":1,'
+              '"spacing":1,"columns":7,"tilecount":49}'],
+             [('document.tilesets[100].members', 'document.tilesets.get(100).members',
+               {'columns': 7, 'image': 'img/art.png', 'imageheight': 132, 'imagewidth': 130, 'margin': 1, 'name': 'art', 'spacing': 1, 'tilecount': 49,
+                'tileheight': 16, 'tilewidth': 16})]),
+    Scenario('properties of any name', 'names = ["two words", "a\\nb", "", "n"]\n'
+             'thing = document.layers["Things"].objects.put({"properties": [{"name": name, "value": name} for name in [*names, "last"]]})\n'
+             'for name in names:\n  del thing.properties[name]\nassert thing.properties.pop("none", 5) == 5',
+             'const names = ["two words", "a\\nb", "", "n"]; const { objects } = document.layers.get("Things");'
+             'const { properties } = objects.put({ properties: [...names, "last"].map((name) => ({ name, value: name })) });'
+             'const came = [...names, "none"].map((name) => properties.delete(name)); if (String(came) !== "true,true,true,true,false") throw new Error(came)',
+             [r'object put 2 {"properties":[{"name":"two words","value":"two words"},{"name":"a\nb","value":"a\nb"},{"name":"","value":""},{"name":"n",'
+              r'"value":"n"},{"name":"last","value":"last"}]}', 'prop take object:2 "two words"', r'prop take object:2 "a\nb"', 'prop take object:2 ""',
+              'prop remove object:2 n'],
+             [('dict(document.objects[2].properties)', 'Object.fromEntries(document.objects.get(2).properties)', {'last': 'last'})]),
     # ---- documents
     Scenario('a document that is not active', 'other = editor.new("b", 2, 2, 8, 8, "b.tsj")\ndocument.stamp(1, 0, 0, [[5]])',
              'editor.new("b", 2, 2, 8, 8, "b.tsj"); document.stamp(1, 0, 0, [[5]])', ['new b 2 2 8 8 b.tsj', 'use town', 'stamp 1 0 0 1 5'],

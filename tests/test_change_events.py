@@ -11,7 +11,7 @@ import sys
 import threading
 from dataclasses import dataclass
 
-from lib.cases import Case, check_each, raised, unlike
+from lib.cases import Case, check_each, raised, see, unlike
 from lib.places import EXAMPLE_MAPS, TESTS, TOP
 
 sys.path.insert(0, str(TOP / 'python'))
@@ -21,11 +21,6 @@ from roskevad import Closed, Editor, InCallback, Refused  # noqa: E402
 
 PACKAGES = ('nodejs',)
 TOWN = EXAMPLE_MAPS / 'town.tmj'
-
-
-def see(wanted, came):
-    fault = unlike(wanted, came)
-    assert not fault, fault
 
 
 @dataclass
@@ -66,6 +61,19 @@ SCENARIOS = [
              'const door = document.objects.get("door"); door.rotation = 90; door.rotation = 90; door.setMembers({ x: 3, point: true });'
              'door.removeMember("point"); editor.step(\'member set+ object:1 name "gate"\')',
              [row('added', (count, count, 0), outline=True, about=['object', 1]) for count in (8, 9, 10, 11)]),
+    Scenario('own members of a layer', 'walls = document.layers["Walls"]\nwalls.opacity = 0\nwalls.opacity = 0\nwalls.members.update(parallaxx=2, class_="a")\n'
+             'walls.tint = None\ndel walls.members["parallaxx"]\neditor.step(\'member set+ layer:3 name "Fences"\')',
+             'const walls = document.layers.get("Walls"); walls.opacity = 0; walls.opacity = 0; walls.setMembers({ parallaxx: 2, class_: "a" });'
+             'walls.tint = null; walls.removeMember("parallaxx"); editor.step(\'member set+ layer:3 name "Fences"\')',
+             [row('added', (count, count, 0), outline=True, about=['layer', 3]) for count in (8, 9, 10, 11)]),
+    Scenario('own members that merge', 'for opacity in (0, 2, 1): document.layers["Walls"].members.set("opacity", opacity, merge=True)',
+             'for (const opacity of [0, 2, 1]) { document.layers.get("Walls").setMember("opacity", opacity, { merge: true }); }',
+             [row(became, (count, count, 0), outline=True, about=['layer', 3]) for became, count in (('added', 8), ('merged', 8), ('gone', 7))]),
+    Scenario('own members of the map', 'document.class_name = "level"\ndocument.class_name = "level"\ndocument.members.put({"orientation": "isometric"})\n'
+             'document.undo()',
+             'document.className = "level"; document.className = "level"; document.setMembers({ orientation: "isometric" }); document.undo()',
+             [row('added', (8, 8, 0), outline=True, about=['map', 0]), row('added', (9, 9, 0), outline=True, about=['map', 0]),
+              row('turned', (8, 9, 0), outline=True, about=['map', 0])]),
     Scenario('a property of the map', 'document.properties["people"] = 4', 'document.properties.set("people", 4)',
              [row('added', (8, 8, 0), outline=True, about=['map', 0])]),
     plain('a tileset', 'document.tilesets.add(33, "b.tsj")', row('added', (8, 8, 0), outline=True, about=['tileset', 33])),

@@ -22,7 +22,7 @@ import shutil
 import subprocess
 
 from lib.cases import CORES, Case, check_each, fail_with, passed, skip, unlike
-from lib.forms import HELP, OF_MEMBERS, spread
+from lib.forms import FURTHER, HELP, spread
 from lib.pages import CODE, Clone, Page, pages
 from lib.places import BIN, EXAMPLES, TOP
 from lib.refusals import OF_MAPS, ROWS
@@ -245,13 +245,13 @@ def forms_of_tables(text):
     return [form for code in codes for form in spread(code.replace('\\|', '|'))]
 
 
-def test_forms_of_own_members():
-    """So it has those of the lines of own members, which have a section of their own: `set` and `put`
-    may have a `+`."""
-    section = LINES.read_text().partition('<!-- forms: members -->')[2]
+def test_forms_for_all_edits():
+    """So it has those of the lines for all edits, which have a section of their own: `member set` and
+    `member put` may have a `+`."""
+    section = LINES.read_text().partition('<!-- forms: all edits -->')[2]
     forms = forms_of_tables(section.partition('<!-- end of forms -->')[0])
-    forms += [form.replace(word, f'{word}+', 1) for form in forms for word in (' set', ' put') if word in form]
-    fault = unlike(sorted(forms), sorted(OF_MEMBERS))
+    forms += [form.replace(front, f'{front}+', 1) for form in forms for front in ('member set', 'member put') if form.startswith(front)]
+    fault = unlike(sorted(forms), sorted(FURTHER))
     assert forms and not fault, fault
 
 

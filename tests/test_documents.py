@@ -5,13 +5,10 @@ stamp; how often loops call the library; what is logged, and what documents and 
 themselves."""
 import collections
 import contextlib
-import copy
 import functools
 import json
 import logging
-import operator
 import os
-import pickle
 import random
 import signal
 import subprocess
@@ -20,7 +17,7 @@ import tempfile
 import threading
 from pathlib import Path
 
-from lib.cases import Case, check_each, raised, unlike
+from lib.cases import Case, check_each, raised, see, unlike
 from lib.maps import compact, group, map_of, packed, text_of, things, tiles
 from lib.places import EXAMPLE_MAPS, TOP
 
@@ -41,11 +38,6 @@ class Named:
 
     def __fspath__(self):
         return str(self.path)
-
-
-def see(wanted, came):
-    fault = unlike(wanted, came)
-    assert not fault, fault
 
 
 def made(editor, name='a'):
@@ -124,7 +116,8 @@ def test_names_that_are_not_there():
     with Editor() as editor:
         town = editor.open(TOWN)
         rows = [
-            (town, 'tilewidth'), (town.layers, 'first'), (town.layers['Ground'], 'opacity'), (town.layers['Ground'], 'id'), (town.objects, 'a'),
+            (town, 'tilewidth'), (town, 'orientation'), (town, 'members'), (town.layers, 'first'), (town.layers['Ground'], 'tintcolor'),
+            (town.layers['Ground'], 'members'), (town.layers['Ground'], 'id'), (town.objects, 'a'),
             (town.objects['Inn'], 'point'), (town.objects['Inn'], 'type'), (town.properties, 'author'), (town.tilesets, 'a'),
             (town.tilesets[1], 'columns'), (town.tilesets[1], 'first_id'), (town.selection, 'size'), (town.selection, 'runs'),
         ]
@@ -150,6 +143,9 @@ def test_tiles_of_files():
         odd = [{'id': []}, 5, {'id': 0, 'properties': [3, {'name': 4}], 'objectgroup': 7}, {'id': 1, 'objectgroup': {'objects': [6, {'x': 1}]}}]
         path.write_text(json.dumps({'tilecount': 2, 'tiles': odd}))
         see([(0, '', {}, []), (1, '', {}, [{'x': 1}])], [tuple(tile) for tile in made.tilesets[1].tiles])
+        images = [{'id': 7, 'image': 'b.png', 'type': 'Tree'}, {'id': 0, 'image': 'a.png'}]
+        path.write_text(json.dumps({'tilecount': 2, 'tiles': images, 'columns': 0}))
+        see([(0, '', {}, []), (7, 'Tree', {}, [])], [tuple(tile) for tile in made.tilesets[1].tiles])
         for count in (-1, 2**28, 1e9):
             path.write_text(json.dumps({'tilecount': count}))
             raised(ValueError, lambda: made.tilesets[1].tiles)
@@ -209,7 +205,9 @@ def test_what_a_file_leaves_out():
         wanted = [(name, *rest[:1], *place, *rest[1:]) for name, place in (('key', (5, 6)), ('', (3, 4)), ('', (0, 0)))]
         see(wanted, told)
         see(bare, [document.objects[number].members for number in (1, 2, 3)])
-        see([('', True)] * 3, [(layer.name, layer.visible) for layer in document.layers])
+        told = [(each.name, each.visible, each.class_name, each.opacity, each.tint, each.locked) for each in document.layers]
+        see([('', True, '', 1, None, False)] * 3, told)
+        see(('', None), (document.class_name, document.background))
         see(('orthogonal', {'a': 'b'}, 'string'), (document.orientation, dict(document.properties), document.properties.type_of('a')))
         # A name that is left out is the empty text in look-ups, too.
         objects = document.objects, document.layers[2].objects, document.layers[3].objects
@@ -246,76 +244,6 @@ def test_tilesets_that_renumber():
     # Where there is no tileset, no tile has a meaning yet.
     with Editor() as editor:
         see(33, editor.open(text_of(map_of(tiles(1, data=[40, 0]), tilesets=[]))).tilesets.add(33, 'walls.tsj').first_id)
-
-
-# ---- own members of objects
-
-
-def endless():
-    value = []
-    value.append(value)
-    return value
-
-
-def fault_of_no_json(case):
-    """How a value that no line can say does something else than raise its fault, or says a line, or None."""
-    with Editor() as editor:
-        door = made(editor).layers.add('object', 'Things').objects.add('door', 0, 0)
-        with Calls(editor) as calls:
-            for call in (lambda value: door.members.set('a', value), lambda value: door.members.update(a=[value])):
-                raised(case.wanted, call, case.given)
-        return unlike(0, calls.counts['step'])
-
-
-def test_values_that_no_line_says():
-    check_each([
-        Case('a set', {1}, TypeError), Case('bytes', b'a', TypeError), Case('a function', print, TypeError), Case('a complex', 1j, TypeError),
-        Case('a name that is no text', {1: 2}, TypeError), Case('NaN', float('nan'), ValueError), Case('an infinity', {'a': -float('inf')}, ValueError),
-        Case('half of a character', '\ud800', ValueError), Case('half of one in a name', {'\udc80': 1}, ValueError), Case('itself', endless(), ValueError),
-    ], fault_of_no_json)
-    with Editor() as editor:
-        door = made(editor).layers.add('object', 'Things').objects.add('door', 0, 0)
-        for name, value, kind in (('name', None, TypeError), ('class_name', b'a', TypeError), ('rotation', True, TypeError), ('rotation', '90', TypeError),
-                                  ('rotation', float('nan'), ValueError), ('tile', 1.5, TypeError), ('tile', 2**32, ValueError), ('name', '\ud800', ValueError)):
-            raised(kind, setattr, door, name, value)
-        for name in ('', 'a b', 'a\nb', '\ud800'):
-            raised(ValueError, door.members.set, name, 1)
-        raised(TypeError, door.members.set, 5, 1)
-        see(2, door.document.status.count)
-
-
-def test_values_that_are_refused():
-    """What the editor refuses is refused by it, and a fraction is not rounded."""
-    with Editor() as editor:
-        door = made(editor).layers.add('object', 'Things').objects.add('door', 0, 0)
-        deep = functools.reduce(lambda inner, _: [inner], range(88), 0)
-        for code, name, value in ((61, 'rotation', 22.5), (61, 'a', [1, 0.1]), (63, 'x', 'left'), (63, 'visible', 1), (68, 'x', 10**12), (41, 'id', 7),
-                                  (41, 'properties', []), (60, 'a', [deep]), (63, 'a', {'roskevad': 1}), (1, 'a', 'x' * 65_535)):
-            for call in (lambda: door.members.set(name, value), lambda: door.members.put({'a': 1, name: value})):
-                see((code, 2), (raised(Refused, call).code, door.document.status.count))
-        door.members['a'] = deep
-        see(deep, door.members['a'])
-
-
-def test_members_are_a_dict():
-    """So they are read as any other one; and what is no edit of one member or of some is none."""
-    with Editor() as editor:
-        door = made(editor).layers.add('object', 'Things').objects.add('door', 3, 4)
-        members = door.members
-        whole = {'height': 0, 'id': 1, 'name': 'door', 'rotation': 0, 'type': '', 'visible': True, 'width': 0, 'x': 3, 'y': 4}
-        see((whole, whole, True), (members, json.loads(json.dumps(members)), isinstance(members, dict)))
-        for other in (members.copy(), copy.copy(members), copy.deepcopy(members), pickle.loads(pickle.dumps(members))):
-            other['a'] = 5
-            see((dict, {**whole, 'a': 5}), (type(other), other))
-        for call in (members.clear, members.popitem, functools.partial(operator.ior, members, {'a': 1})):
-            raised(TypeError, call)
-        door.move(5, 6)
-        see((whole, 5, 3), (members, door.members['x'], door.document.status.count))
-        see((0, 7, 7), (members.setdefault('rotation', 5), members.setdefault('a', 7), door.members['a']))
-        door.members['b'] = 8
-        see((8, 7, 5), (members.pop('b', None), members.pop('a'), members['x']))
-        raised(KeyError, members.pop, 'a')
-        raised(KeyError, lambda: members['a'])
 
 
 # ---- work that is not saved
@@ -563,7 +491,9 @@ layer add tile L;layer add object O;layer rename # N;layer show # no;layer show 
 object add # 1 1 2 2 o;object move # 5 5;object move+ # 6 6;object resize # 3 3;object remove #;prop set map k# int 1;prop set+ map k# int 2
 prop remove map k#;tileset add 10# t.tsj;tileset remove 10#;undo;redo;goto #;clean;dirty;clear;begin A;end;limit #;show;status;undotext
 redotext;text #;list;use other;use town;use -;save s.tmj;new n# 2 2 8 8 n.tsj;close n#;discard n#;open o# s.tmj;discard o#;# a comment;
-member set object:# rotation #;member set+ object:# rotation 1;member put object:# {"name":"m#","x":#};member remove object:# rotation"""
+member set object:# rotation #;member set+ object:# rotation 1;member put object:# {"name":"m#","x":#};member remove object:# rotation
+member set layer:# class "c#";member put layer:# {"name":"m#","opacity":#};member remove layer:# class;member set map class "c#";member remove map class
+layer add group G;layer add image I;object put # {"x":#,"point":true};object put # {"id":1#};prop take map "k#";tileset put {"firstgid":10#,"name":"t"}"""
 
 
 def test_what_is_read_is_what_is_there():

@@ -1,7 +1,7 @@
 # SPDX-License-Identifier: MIT OR Apache-2.0
 """Edits a map in the layouts that teams have, saves it over its file, and counts the lines that go
-and come: each kind of edit changes its own lines, a neighbour's comma and the next ids alone. The
-map is one that Tiled itself writes so. Its layouts are Tiled's, that minimized and with line ends
+and come: each kind of edit, of own members too, changes its own lines, a neighbour's comma and the
+next ids alone. The map is one that Tiled itself writes so. Its layouts are Tiled's, that minimized and with line ends
 as on Windows, and those of Python's and Node's printers. How many lines an edit has, a table says
 by the rules of docs/map-files.md. Each saved file is what the layout's printer makes of the edited
 map, which the plain model tells; its tree is that of the compact save. With an undo and a save the
@@ -20,9 +20,10 @@ from lib.asides import OPTION
 from lib.cases import CORES, Case, check_each, passed, unlike
 from lib.edits import EDITS, edited, read_edit
 from lib.map_layouts import in_base64, in_csv, lines_changed, map_for_edits, printers, turned
-from lib.maps import compact, text_of
+from lib.maps import compact, map_of, text_of, tiles
+from lib.members import MEMBER_EDITS, read_members
 from lib.places import EXAMPLE_MAPS, TOP
-from lib.sessions import heard
+from lib.sessions import ALL_EDITS, heard
 
 sys.path.insert(0, str(TOP / 'python'))
 from roskevad import Editor  # noqa: E402
@@ -83,6 +84,24 @@ EDIT_ROWS = [
     ('tileset add 65 town.tsj', (0, 4), (0, 4)),
     ('tileset remove 33', (4, 0), (4, 0)),
 ]
+# Own members. A new one stands by its name. In front of all members of the map it takes the bracket
+# on its line in Tiled's layout. A point of a polygon has two members.
+read_members()
+MEMBER_ROWS = [
+    ('member set object:1 rotation 90', (1, 1), (1, 1)),
+    ('member set object:2 point true', (0, 1), (0, 1)),
+    ('member set object:3 polygon [{"x":0,"y":0},{"x":8,"y":4}]', (0, 1 + 8), (0, 2 + 8)),
+    ('member set layer:2 tintcolor "#ff8000"', (0, 1), (0, 1)),
+    ('member set layer:6 opacity 0', (1, 1), (1, 1)),
+    ('member set map backgroundcolor "#203040"', (1, 2), (0, 1)),
+    ('member set map renderorder "left-up"', (1, 1), (1, 1)),
+    ('member put object:2 {"name":"gate","rotation":45,"type":"door"}', (3, 3), (3, 3)),
+    ('member put layer:3 {"offsetx":8,"offsety":-4}', (0, 2), (0, 2)),
+    ('member put map {"hexsidelength":8,"orientation":"hexagonal"}', (1, 2), (1, 2)),
+    ('member remove object:1 rotation', (1, 0), (1, 0)),
+    ('member remove layer:3 draworder', (1, 0), (1, 0)),
+    ('member remove map compressionlevel', (2, 1), (1, 0)),
+]
 # The edits of a map in Base64, where the cells of a layer are one text. A new layer is CSV.
 CELL_WORDS = ('stamp', 'erase', 'fill', 'resize')
 BASE64_ROWS = [
@@ -91,12 +110,28 @@ BASE64_ROWS = [
 ]
 # What Tiled's next save changes besides. It sorts properties, and a new one stands last. It gives
 # all layers the format of the last one; so three in Base64 lose three members each, and get one.
+# It writes some members of each object, layer and map, and two more of a hexagonal map.
 CHANGED_BY_TILED = {
     ('prop set map age int 3', in_csv): (5, 5),
     ('layer add tile Roof', in_base64): (3 * 3, 3 * 1),
+    ('member put map {"hexsidelength":8,"orientation":"hexagonal"}', in_csv): (0, 2),
+    ('member remove object:1 rotation', in_csv): (0, 1),
+    ('member remove layer:3 draworder', in_csv): (0, 1),
+    ('member remove map compressionlevel', in_csv): (1, 2),
 }
 # Where members do not stand by their names, a new one stands last, behind one that gets a comma.
-BEHIND_OTHERS = {'prop set object:2 key string iron': (1, 1 + 7)}
+# The first ones by their names stand last there, so the ones before them lose theirs.
+BEHIND_OTHERS = {
+    'prop set object:2 key string iron': (1, 1 + 7),
+    'member set object:2 point true': (1, 1 + 1),
+    'member set object:3 polygon [{"x":0,"y":0},{"x":8,"y":4}]': (1, 1 + 10),
+    'member set layer:2 tintcolor "#ff8000"': (1, 1 + 1),
+    'member set map backgroundcolor "#203040"': (1, 1 + 1),
+    'member put layer:3 {"offsetx":8,"offsety":-4}': (1, 1 + 2),
+    'member put map {"hexsidelength":8,"orientation":"hexagonal"}': (2, 2 + 1),
+    'member remove layer:3 draworder': (1 + 1, 1),
+    'member remove map compressionlevel': (1 + 1, 1),
+}
 # The one edit whose undo, saved, does not bring the very bytes back. Python's printer escapes
 # letters beyond ASCII. A file tells that by having such an escape. This layer has the only one, so
 # once it is gone from the file, its letter comes back as it is.
@@ -121,7 +156,7 @@ def tree_behind(tree, line):
 def saved(data, *lines, options=(OPTION,)):
     """What a session saves that opens a map and hears these lines."""
     session = '\n'.join(['open m m.tmj', *lines, 'save m.tmj', '']).encode()
-    done, files = heard(session, {'m.tmj': data}, options)
+    done, files = heard(session, {'m.tmj': data}, [*options, ALL_EDITS])
     assert b'\nno ' not in b'\n' + done.stdout and not done.stderr, done
     return files['m.tmj']
 
@@ -155,13 +190,61 @@ def check_rows(rows, form):
 
 def test_edits():
     kinds = {read_edit(row[0]).words for row in EDIT_ROWS}
-    assert kinds == set(EDITS) - {'select', 'select none'} and len(kinds) == 17, kinds
+    assert kinds == set(EDITS) - {'select', 'select none', *MEMBER_EDITS} and len(kinds) == 17, kinds
     check_rows(EDIT_ROWS, in_csv)
+
+
+def test_edits_of_own_members():
+    assert {read_edit(row[0]).words for row in MEMBER_ROWS} == set(MEMBER_EDITS)
+    check_rows(MEMBER_ROWS, in_csv)
 
 
 def test_edits_in_base64():
     """The empty compression stays."""
     check_rows(BASE64_ROWS, in_base64)
+
+
+MANY_COLUMNS, MANY_ROWS = 60, 50
+LINES_OF_MANY = (
+    'stamp 1 59 49 1 3',
+    'stamp 1 0 0 1 99',
+    'stamp 2 30 20 2 5,6',
+    'fill 2 3 3 7',
+    'erase 1 0 0 60 50',
+    'resize 61 50 0 0',
+    'resize 60 40 0 -10',
+    'layer move 1 1',
+    'layer remove 2',
+)
+
+
+def map_with_many_cells():
+    """A map whose layers have more bytes than are looked at in one go."""
+    cells = [1 + at * at % 70_001 for at in range(MANY_COLUMNS * MANY_ROWS)]
+    layers = (
+        tiles(1, MANY_COLUMNS, MANY_ROWS, data=cells),
+        tiles(2, MANY_COLUMNS, MANY_ROWS),
+    )
+    return map_of(*layers, width=MANY_COLUMNS, height=MANY_ROWS, nextlayerid=3, version='1.8')
+
+
+def fault_of_many(case):
+    """How a save is not what the layout's printer makes of the edited map, or that of its undo not
+    what the file had, or None."""
+    tree, printer, line = case.given
+    source = printer(tree)
+    fault = unlike(printer(tree_behind(tree, line)), saved(source, line))
+    return fault or unlike(source, saved(source, line, 'save m.tmj', 'undo'))
+
+
+def test_edits_of_many_cells():
+    tree = map_with_many_cells()
+    cases = [
+        Case(f'{line}, {layout}', (tree, printer, line), None)
+        for line in LINES_OF_MANY
+        for layout, printer in printers().items()
+    ]
+    check_each(cases, fault_of_many, CORES)
 
 
 def fault_of_turned(case):
@@ -179,7 +262,7 @@ def test_edits_of_members_turned_round():
     tree = map_for_edits()
     cases = [
         Case(line, (tree, line), BEHIND_OTHERS.get(line, indented))
-        for line, _, indented in EDIT_ROWS
+        for line, _, indented in EDIT_ROWS + MEMBER_ROWS
     ]
     check_each(cases, fault_of_turned, CORES)
 
@@ -221,7 +304,8 @@ def fault_of_tiled(case):
 
 def test_tiled_saves_edits_again():
     with folder_of_maps() as folder:
-        rows = [(in_csv, row) for row in EDIT_ROWS] + [(in_base64, row) for row in BASE64_ROWS]
+        rows = [(in_csv, row) for row in EDIT_ROWS + MEMBER_ROWS]
+        rows += [(in_base64, row) for row in BASE64_ROWS]
         cases = [
             Case(
                 f'{line}, {form.__name__}',
@@ -254,6 +338,18 @@ def add_an_object(document):
     document.layers[4].objects.add('door', 16, 0, 16, 16)
 
 
+def set_rotation(document, degrees):
+    document.objects[1].members['rotation'] = degrees
+
+
+def set_tint(document, colour):
+    document.layers[2].members['tintcolor'] = colour
+
+
+def put_offsets(document):
+    document.layers[3].members.update(offsetx=8, offsety=-4)
+
+
 CALLS = {
     'stamp 1 1 1 2 20,21': lambda document: document.stamp(1, 1, 1, [[20, 21]]),
     'erase 1 0 0 2 2': lambda document: document.erase(1, 0, 0, 2, 2),
@@ -272,6 +368,10 @@ CALLS = {
     'prop remove layer:3 note': lambda document: document.layers[3].properties.pop('note'),
     'tileset add 65 town.tsj': lambda document: document.tilesets.add(65, 'town.tsj'),
     'tileset remove 33': lambda document: document.tilesets[33].remove(),
+    'member set object:1 rotation 90': lambda document: set_rotation(document, 90),
+    'member set layer:2 tintcolor "#ff8000"': lambda document: set_tint(document, '#ff8000'),
+    'member put layer:3 {"offsetx":8,"offsety":-4}': put_offsets,
+    'member remove map compressionlevel': lambda document: document.members.pop('compressionlevel'),
 }
 
 
@@ -289,7 +389,8 @@ def fault_of_call(case):
 def test_python():
     """A call of each kind saves the bytes that the program saves."""
     kinds = {read_edit(line).words for line in CALLS}
-    assert len(kinds) == 17 and set(CALLS) <= {row[0] for row in EDIT_ROWS}, kinds
+    assert len(kinds) == 17 + len(MEMBER_EDITS), kinds
+    assert set(CALLS) <= {row[0] for row in EDIT_ROWS + MEMBER_ROWS}
     tree = map_for_edits()
     cases = [
         Case(f'{line}, {layout}', (printer(tree), line), None)

@@ -19,7 +19,7 @@ import threading
 from pathlib import Path
 
 from lib.cases import Case, check_each, passed, raised, unlike
-from lib.forms import HELP, OF_MEMBERS, spread
+from lib.forms import FURTHER, HELP, spread
 from lib.maps import FLAGLESS, cells_of, group, layers_in, map_of, set_cells, text_of, tiles
 from lib.native import c_program
 from lib.places import EXAMPLES, EXAMPLE_MAPS, NATIVE, TOP, example_maps
@@ -455,7 +455,7 @@ def test_forms_of_the_package():
         'color',
         'object',
     }, typed
-    fault = unlike(sorted({*HELP, *OF_MEMBERS} - {'prop set OWNER KEY TYPE VALUE'}), sorted({*given} - {*typed}))
+    fault = unlike(sorted({*HELP, *FURTHER} - {'prop set OWNER KEY TYPE VALUE'}), sorted({*given} - {*typed}))
     assert not fault, fault
     assert all(
         form.split(' ')[0].rstrip('+') == word for word, forms in FORMS.items() for form in forms

@@ -1,5 +1,5 @@
 # SPDX-License-Identifier: MIT OR Apache-2.0
-"""Runs the session files of `sessions/`, those without options, through the Python package and the
+"""Runs the session files of `sessions/`, those without a limit, through the Python package and the
 library in `lib/`, line by line and many lines in a call: they must give the replies and the files
 that stand there."""
 import ctypes
@@ -7,7 +7,7 @@ import sys
 
 from lib.cases import check_in_processes
 from lib.places import TOP
-from lib.sessions import all_runs, fault_of_files, fault_of_replies
+from lib.sessions import fault_of_files, fault_of_replies, runs_of_files
 
 sys.path.insert(0, str(TOP / 'python'))
 from roskevad import Editor  # noqa: E402
@@ -74,7 +74,7 @@ def fault_by_many(run):
 
 def sorted_runs():
     """The longest come first, so that none is left at the end."""
-    runs = (run for run in all_runs() if not run.options)
+    runs = (run for run in runs_of_files() if '--limit' not in run.options)
     return sorted(runs, key=lambda run: -len(run.session))
 
 

@@ -7,30 +7,45 @@ which it is slow."""
 import re
 
 from lib.cases import check_in_processes
+from lib.members import read_members
 from lib.model import Editor
-from lib.sessions import all_runs, answered, fault_of_files, fault_of_replies, joined
+from lib.sessions import all_runs, answered, fault_of_files, fault_of_replies, joined, runs_for_all_edits
+from lib.whole_things import read_whole_things
 
 # The longest session that it hears, in bytes, and a line that makes a map of many columns or rows.
 LONGEST = 20_000
 MAKES_LARGE = re.compile(rb'^(new \S+|resize) (\d{3,} \d|\d+ \d{3,})', re.MULTILINE)
 # Replies to lines that the model does not read: bad lines, bad files, and want of memory.
-NOT_READ = re.compile(rb'no ([1-4]|5[01]|6\d|90) ')
+NOT_READ = re.compile(rb'no ([1-4]|5[01]|90) ')
+BAD_FILE = re.compile(rb'no 6\d ')
+
+
+def is_read(line, reply):
+    """Whether the model reads a line. What JSON of a line is refused for, it tells."""
+    return not NOT_READ.match(reply) and not (line.startswith(b'open ') and BAD_FILE.match(reply))
+
+
+def limit_of(run):
+    return int(run.options[run.options.index('--limit') + 1]) if '--limit' in run.options else 0
 
 
 def fault_of(run):
+    read_members()
+    read_whole_things()
     rows = list(zip(answered(run.session), run.replies.split(b'\n')))
-    rows = [(line, reply) for line, reply in rows if not NOT_READ.match(reply)]
-    editor = Editor(run.before, int(run.options[1]) if run.options else 0)
+    rows = [row for row in rows if is_read(*row)]
+    editor = Editor(run.before, limit_of(run))
     lines, wanted = (joined(column) for column in (zip(*rows) if rows else ((), ())))
     came = joined(editor.step(line.decode()).encode() for line, _ in rows)
     return fault_of_replies(lines, wanted, came) or fault_of_files(run.after, editor.files)
 
 
 def test_replies_of_sessions():
+    runs = [*all_runs(), *runs_for_all_edits()]
     check_in_processes(
         [
             run
-            for run in all_runs()
+            for run in runs
             if len(run.session) <= LONGEST and not MAKES_LARGE.search(run.session)
         ],
         fault_of,

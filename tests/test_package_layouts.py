@@ -140,10 +140,15 @@ def test_maps_of_tiled():
 # ---- packed layers
 
 
-def packed_map(compression, *layers, **members):
+def with_blanks(text):
+    """A text of base64 with blanks around it and in it, as files of Tiled's own format have."""
+    return f'\n   {text[:7]} {text[7:]}\n  '
+
+
+def packed_map(compression, *layers, spelled=str, **members):
     """A map in Tiled's layout, whose layers are packed at the lowest level, which is not the map's."""
     packed = [
-        tiles(at, 6, 5, data=data_of(cells, compression, 1), encoding='base64', compression=compression)
+        tiles(at, 6, 5, data=spelled(data_of(cells, compression, 1)), encoding='base64', compression=compression)
         for at, cells in enumerate(layers, 1)
     ]
     return printed(map_of(*packed, width=6, height=5, compressionlevel=9, **members)).encode()
@@ -152,7 +157,8 @@ def packed_map(compression, *layers, **members):
 def fault_of_packed(case):
     """A layer whose cells are as they were keeps its text, also behind an edit of another one, and where an edit is taken back
     by another one."""
-    data = packed_map(case.given, CELLS, [7] * 30)
+    compression, spelled = case.given
+    data = packed_map(compression, CELLS, [7] * 30, spelled=spelled)
     with Editor() as editor:
         document = editor.open(data)
         document.stamp(1, 0, 0, [[5]])
@@ -166,7 +172,8 @@ def fault_of_packed(case):
 
 def test_packed_layers():
     names = [name for name in COMPRESSIONS if name not in (CSV, PLAIN)]
-    check_each([Case(name, name, None) for name in names], fault_of_packed)
+    cases = [Case(f'{name}, {spelled.__name__}', (name, spelled), None) for name in names for spelled in (str, with_blanks)]
+    check_each(cases, fault_of_packed)
 
 
 def test_layers_that_move():

@@ -33,7 +33,7 @@ SCRIPT = '''
 from pathlib import Path
 from typing import Any, Optional
 from roskevad import Closed, Document, Editor, Layer, LayerKind, MapObject, Refused, Rows, Run, SelectionMode, Status, Tile, TilesetTile
-from roskevad import BadTileset, Error, NotFound, OtherType, document_name, report, turned_right
+from roskevad import BadTileset, Corners, Error, NotFound, OtherType, OwnMembers, Tileset, document_name, report, turned_right
 def run(path: Path) -> Optional[int]:
     with Editor(limit=5, folder='.') as editor:
         reply: str = editor.open_file(path)
@@ -61,6 +61,13 @@ def drawn(editor: Editor, path: Path) -> Status:
         document.erase('Ground', 0, 0, 1, 1)
     document.properties['author'] = 'me'
     key: MapObject = layer.objects.add('key', 0, 0)
+    corners: Corners = [(0, 0), [8.0, 8], {'x': 16, 'y': -8}]
+    lake: MapObject = layer.objects.add('', 0, 0.5, 8, 8, polygon=corners, class_name='Lake', rotation=45, visible=False, properties={'deep': True})
+    copies: list[MapObject] = [layer.objects.put(lake.members.copy()), layer.objects.add('a', key.x + 16, key.y, text={'text': 'a'}, tile=key.tile)]
+    houses: Layer = document.layers.add('group', 'Houses')
+    art: Tileset = document.tilesets.put({'firstgid': 100, 'source': 'art.tsj'}, renumbers=True)
+    art = document.tilesets.add_from_image(200, 'art', 'art.png', 128, 128, 16, 16, margin=1, spacing=1)
+    print(copies, houses, art)
     number: int = int(key) + int(document.objects[key]) + document.layers[layer].id
     tile: Optional[Tile] = layer.tile(0, 0)
     runs: tuple[Run, ...] = document.selection.runs
@@ -75,6 +82,13 @@ def drawn(editor: Editor, path: Path) -> Status:
     tiles: Optional[list[TilesetTile]] = document.tilesets[1].tiles
     print(parent, walls, tiles, document.layers.get('Walls', 'none'))
     layer.name = 'Grass'
+    layer.class_name, layer.opacity, layer.tint, layer.locked = 'ground', 1, layer.tint or None, not layer.locked
+    document.class_name, document.background = document.class_name, document.background or '#102030'
+    layer.members['parallaxx'] = 2
+    members: OwnMembers = document.members
+    members.update(renderorder='left-up')
+    shared: OwnMembers = key.members
+    print(members.pop('compressionlevel', None), shared.setdefault('rotation', 0), layer.members.copy())
     with editor.lock:
         editor.active = made
     document.save()

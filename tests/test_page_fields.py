@@ -7,10 +7,10 @@ import random
 import re
 
 from lib.cases import passed
-from lib.lines_at_fault import lines_at_fault
+from lib.lines_at_fault import FOR_ALL_EDITS
 from lib.maps import layers_in, objects_in
 from lib.refusals import refusal
-from page.bench import Bench, choose, middle_of, object_of, spelled, standing
+from page.bench import Bench, choose, layer_of, middle_of, object_of, spelled, standing
 from page.browser import ActionChains, Keys
 from selenium.webdriver.support.ui import Select
 
@@ -103,7 +103,7 @@ def test_words_of_refusals():
 
 def test_word_at_fault():
     """Of lines with one word at fault, of each form at each word, the page names that word."""
-    made = [*lines_at_fault(random.Random(66))]
+    made = [*FOR_ALL_EDITS.lines_at_fault(random.Random(66))]
     lines = [' '.join(words) for words, _, _ in made]
     with Bench() as page:
         told = page.js(
@@ -216,6 +216,33 @@ def test_name_class_and_rotation():
             page.type_into(f'#properties [data-key="{name}"]', Keys.DELETE)
         assert spelled(page)[-2:] == ['member set object:2 name ""', 'member set object:2 type ""']
         assert page.texts('#owner') == ['Object 2'] and shown(page) == ['', '', '45']
+
+
+def test_classes():
+    """The map and the layer in hand have a field for their class, each edit of which is a step."""
+    with Bench() as page:
+        choose(page, 'Ground')
+        ground = layer_of(page, 'Ground')
+        assert page.texts('#owner') == ['Layer Ground'] and value_of(page, ' class') == ground.get('class', '')
+        page.type_into('#properties [data-key=" class"]', 'floor')
+        page.click('#of-map')
+        assert value_of(page, ' class') == ''
+        page.type_into('#properties [data-key=" class"]', 'level "1"')
+        assert spelled(page) == [f'member set layer:{ground["id"]} class "floor"', r'member set map class "level \"1\""'] and standing(page) == (2, 2)
+        assert page.texts('#steps li .name')[-2:] == ['Set Member · Ground: class', 'Set Member · class']
+        with_ctrl(page, 'z')
+        assert value_of(page, ' class') == '' and standing(page) == (1, 2)
+
+
+def test_another_grid():
+    """A map whose tiles get another size by a line is drawn in that size, and back again by its undo."""
+    with Bench() as page:
+        size = 'return [roskevad.editor.map.tileWidth, roskevad.editor.map.projection.width]'
+        wide = page.js('return roskevad.editor.map.width')
+        page.say('member set map tilewidth 24')
+        assert page.js(size) == [24, 24 * wide]
+        with_ctrl(page, 'z')
+        assert page.js(size) == [16, 16 * wide]
 
 
 def test_names_that_files_have():

@@ -6,6 +6,7 @@ chooser takes no answer from a test."""
 import json
 import shutil
 
+from lib.map_layouts import lines_changed, map_for_edits, printers
 from lib.maps import compact
 from lib.places import EXAMPLE_MAPS
 from page.bench import Bench, cells_with, draw, focus, spelled, standing
@@ -99,6 +100,39 @@ def test_an_unchanged_map():
         page.ctrl('z')
         page.ctrl('s')
         assert (bench.folder / 'town.tmj').stat() == before
+
+
+def test_layouts():
+    """A save keeps the layout of its map: one that is not edited is not written, with a stamp one line changes, and undone it has
+    the bytes of before."""
+    bench = Bench(served=True)
+    with bench as page:
+        for at, (layout, printer) in enumerate(printers().items()):
+            file, source = bench.folder / f'laid_{at}.tmj', printer(map_for_edits())
+            file.write_bytes(source)
+            page.ctrl('o')
+            page.fill_in(file=file.name)
+            before = file.stat()
+            page.ctrl('s')
+            assert file.stat() == before, layout
+            page.say('stamp 6 0 0 1 9')
+            page.ctrl('s')
+            assert lines_changed(source, file.read_bytes()) == (1, 1), layout
+            page.ctrl('z')
+            page.ctrl('s')
+            assert file.read_bytes() == source, layout
+
+
+def test_layout_of_a_download():
+    """A download keeps the layout of the file that was chosen."""
+    bench, source = Bench(), (EXAMPLE_MAPS / 'town.tmj').read_bytes()
+    with bench as page:
+        page.say('stamp 1 0 0 1 9')
+        page.ctrl('s')
+        assert lines_changed(source, bench.saved('town.tmj')) == (1, 1)
+        page.ctrl('z')
+        page.ctrl('s')
+        assert bench.saved('town.tmj') == source
 
 
 DELAY = '''

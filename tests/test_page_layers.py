@@ -193,6 +193,11 @@ def test_hidden():
         assert 'The group Houses is hidden' in page.bubble()
 
 
+def locked_rows(page):
+    """The ids of the layers whose row shows that they are locked."""
+    return sorted(page.js('return [...document.querySelectorAll("#layers .lock.on")].map(lock => Number(lock.closest("li").dataset.layer))'))
+
+
 def test_locked():
     """A layer that Tiled has locked, or that stands in a group that it has locked, is drawn on where the page
     is told to alone; no line is sent for that, and the map keeps what it has."""
@@ -203,8 +208,7 @@ def test_locked():
         layers['Ground']['locked'] = layers['Houses']['locked'] = True
         (bench.folder / 'locked.tmj').write_text(json.dumps(told))
         page.choose_files(*bench.folder.glob('*.ts?'), *bench.folder.glob('*.png'), bench.folder / 'locked.tmj')
-        shown = page.js('return [...document.querySelectorAll("#layers li")].filter(row => !row.querySelector(".lock").hidden).map(row => row.dataset.layer)')
-        assert sorted(map(int, shown)) == sorted([layers['Ground']['id'], layers['Houses']['id']])
+        assert locked_rows(page) == sorted([layers['Ground']['id'], layers['Houses']['id']])
         take_tile(page, (3, 1))
         for name, words in (('Ground', 'Ground is locked'), ('Cottages', 'The group Houses is locked')):
             number, count = choose(page, name), standing(page)
@@ -219,3 +223,26 @@ def test_locked():
             assert cell(page, number, 4, 23) == 12, 'it is told once'
         assert all(line.startswith('stamp') for line in spelled(page))
         assert layer_of(page, 'Ground')['locked'] is True
+
+
+def test_a_lock():
+    """The lock in a row locks a layer and unlocks it, each a step. What is said over the map unlocks all that
+    bars the layer."""
+    with Bench() as page:
+        take_tile(page, (3, 1))
+        ground, houses = layer_of(page, 'Ground')['id'], layer_of(page, 'Houses')['id']
+        for number in (ground, houses):
+            page.click(f'#layers li[data-layer="{number}"] .lock')
+        assert spelled(page) == [f'member set layer:{number} locked true' for number in (ground, houses)]
+        assert locked_rows(page) == sorted([ground, houses])
+        page.click(f'#layers li[data-layer="{ground}"] .lock')
+        assert spelled(page)[-1] == f'member remove layer:{ground} locked' and locked_rows(page) == [houses]
+        assert 'locked' not in layer_of(page, 'Ground')
+        choose(page, 'Cottages')
+        count = standing(page)
+        page.keys('b')
+        page.drag([(3, 23)])
+        assert standing(page) == count and 'The group Houses is locked' in page.notices()[0]
+        page.answer('Unlock it')
+        assert spelled(page)[-1] == f'member remove layer:{houses} locked' and page.notices() == []
+        assert locked_rows(page) == [] and 'locked' not in layer_of(page, 'Houses')

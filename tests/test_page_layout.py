@@ -3,7 +3,7 @@
 and dark, pictures on buttons, the log in words, the page where no map is open, objects' outlines and names."""
 from lib.cases import passed
 from lib.maps import layers_in
-from page.bench import Bench, Tiles, choose, colours_now, middle_of, take_tile, wanted_colour
+from page.bench import Bench, Tiles, choose, colours_now, layer_of, middle_of, take_tile, wanted_colour
 from page.browser import Keys, browser
 
 NEEDS_BROWSER = True
@@ -189,7 +189,7 @@ def test_log():
     with Bench(has_log=False) as page:
         assert not page.find('#line-box').is_displayed() and not page.find('#line-edge').is_displayed()
         assert page.find('#turn-log').get_attribute('aria-expanded') == 'false'
-        ground = choose(page, 'Ground')
+        ground, things = choose(page, 'Ground'), layer_of(page, 'Things')['id']
         take_tile(page, (3, 1))
         page.stroke([(3, 20), (14, 20)])
         page.click('#turn-log')
@@ -209,6 +209,12 @@ def test_log():
             'layer add tile Fog': 'Add tile layer Fog',
             'object move 4 10 20': 'Move Lake' if name_of(page, 4) == 'Lake' else f'Move {name_of(page, 4)}',
             'prop set map weather string rain': 'Set weather of the map',
+            'prop take map "weather"': 'Remove weather of the map',
+            'layer add group The yard': 'Add group layer The yard',
+            'layer add image Sky': 'Add image layer Sky',
+            f'object put {things} {{"name":"Bell tower","point":true}}': 'Add object Bell tower',
+            f'object put {things} {{}}': 'Add object without a name',
+            'tileset put {"firstgid":5000,"source":"more.tsx"}': 'Add tileset more.tsx',
             'select replace 1 2 3 4': 'Select 3 × 4 cells',
             'select subtract 1 2 1 1': 'Take 1 × 1 cells from the selection',
             'select none': 'Select nothing',

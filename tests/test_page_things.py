@@ -1,6 +1,8 @@
 # SPDX-License-Identifier: MIT OR Apache-2.0
 """Edits layers, groups, objects, properties and the map's size on the page in Chromium, by mouse,
 keys and dialogs: each edit is the line that it must be, and is seen."""
+import json
+
 from lib.maps import layers_in
 from page.bench import (
     Bench,
@@ -93,11 +95,14 @@ def test_layers():
         page.click('#rename-layer')
         page.fill_in(name='Mist')
         assert layer_of(page, 'Mist')['id'] == number
-        page.click('#add-object-layer')
-        page.fill_in(name='Signs')
-        assert page.editor.map()['layers'][-1]['type'] == 'objectgroup'
-        page.click('#remove-layer')
-        assert 'Signs' not in page.texts('#layers .name')
+        for kind, name, type_ in (('object', 'Signs', 'objectgroup'), ('image', 'The sky', 'imagelayer'), ('group', 'Yard', 'group')):
+            page.click(f'#add-{kind}-layer')
+            assert f'{kind} layer' in page.find('dialog h2').text
+            page.fill_in(name=name)
+            assert spelled(page)[-1] == f'layer add {kind} {name}' and page.texts('#layers .now .name') == [name]
+            assert page.editor.map()['layers'][-1]['type'] == type_
+            page.click('#remove-layer')
+            assert name not in page.texts('#layers .name')
 
 
 def test_groups():
@@ -158,6 +163,27 @@ def test_properties():
             page.texts('#properties .new .fault')[-1].startswith('not empty')
             and standing(page) == index
         )
+
+
+def test_properties_of_any_name():
+    """One whose name no line can set is removed by its button all the same."""
+    names = ['two words', 'a\nb', '', '"q" ü', 'plain']
+    with Bench() as page:
+        things = layer_of(page, 'Things')['id']
+        properties = [{'name': name, 'type': 'string', 'value': 'x'} for name in names]
+        page.editor.lines(f'object put {things} {json.dumps({"name": "box", "properties": properties})}')
+        number = layer_of(page, 'Things')['objects'][-1]['id']
+        page.js('roskevad.objects.choose(arguments[0])', number)
+        page.settle()
+        for name in names:
+            # A second click at one place would be that of a double click.
+            page.js('document.querySelector("#properties tr[data-property] button").click()')
+            page.settle()
+            said = f'take object:{number} {json.dumps(name, ensure_ascii=False)}' if name != 'plain' else f'remove object:{number} plain'
+            assert spelled(page)[-1] == f'prop {said}', name
+            step = f'Remove Property · box: {name or "(no name)"}'
+            assert ' '.join(page.texts('#steps li .name')[-1].split()) == ' '.join(step.split())
+        assert 'properties' not in layer_of(page, 'Things')['objects'][-1]
 
 
 def test_kinds_of_properties():

@@ -12,7 +12,7 @@ from lib.map_layouts import lines_changed
 from lib.maps import compact, layers_in
 from lib.places import BIN, EXAMPLE_MAPS
 from lib.refusals import refusal
-from page.bench import Bench, cell, cells_with, choose, see_colours, spelled, standing, take_tile
+from page.bench import Bench, cell, cells_with, choose, layer_of, see_colours, spelled, standing, take_tile
 from page.browser import Keys
 
 NEEDS_BROWSER = True
@@ -295,7 +295,7 @@ def test_session_of_own_members():
         told = ['Set rotation of Inn', 'Set name, x of Inn', 'Remove class of Smithy']
         assert [text for text in page.texts('#lines li .words') if text][-3:] == told
         page.say('member set object:2')
-        assert 'bad word' in page.bubble() and 'member put OWNER JSON' in page.bubble()
+        assert 'bad word' in page.bubble() and 'member set OWNER KEY JSON' in page.bubble()
         page.say('save end.tmj')
         session = copied(page)
         assert session.splitlines()[0] == '# all edits' and session.count('#') == 1, session
@@ -306,6 +306,37 @@ def test_session_of_own_members():
         assert page.editor.shown() == before
         play(page, '\n'.join(['# all edits', *lines]))
         assert page.editor.shown() == after and standing(page) == (1, 1)
+
+
+# The other lines that are for all edits, and what the log and the steps say of each.
+OF_ALL_EDITS = {
+    'layer add group The yard': ('Add group layer The yard', 'Add Layer · The yard'),
+    'layer add image Sky': ('Add image layer Sky', 'Add Layer · Sky'),
+    'object put 2 {"name":"Bell tower","polygon":[{"x":0,"y":0},{"x":8,"y":8}]}': ('Add object Bell tower', 'Add Object · Bell tower'),
+    'object put 2 {}': ('Add object without a name', 'Add Object · object 2'),
+    'prop take object:1 "a"': ('Remove a of door', 'Remove Property · door: a'),
+    'tileset put {"firstgid":100,"source":"more.tsx"}': ('Add tileset more.tsx', 'Add Tileset · more.tsx'),
+    'tileset put {"firstgid":100,"name":"art"}': ('Add tileset art', 'Add Tileset · art'),
+}
+
+
+def test_session_of_all_edits():
+    """So is a session with any other line for all edits."""
+    bench = Bench()
+    with bench as page:
+        for number, (line, (words, step)) in enumerate(OF_ALL_EDITS.items()):
+            page.editor.lines(f'new made{number} 4 3 16 16 tiles.tsx', 'layer add object Things', 'object add 2 0 0 8 8 door', 'prop set object:1 a int 1')
+            assert not copied(page).startswith('#'), line
+            page.editor.lines(line)
+            assert copied(page).splitlines()[0] == '# all edits', line
+            assert page.texts('#steps li .name')[-1] == step, line
+            assert [text for text in page.texts('#lines li .words') if text][-1] == words, line
+        page.editor.lines('use town')
+        things = layer_of(page, 'Things')['id']
+        page.editor.lines('layer add group Yard', f'object put {things} {{"name":"two","ellipse":true}}', 'prop take map "people"')
+        page.say('save end.tmj')
+        folder = played(bench, copied(page).encode(), EXAMPLE_MAPS, '--all-edits')
+        assert compact((folder / 'end.tmj').read_bytes()) == compact(bench.saved('end.tmj'))
 
 
 def play(page, text):

@@ -10,7 +10,6 @@ import pickle
 import subprocess
 import sys
 import threading
-import timeit
 
 from lib.cases import Case, check_each, passed, raised, unlike
 from lib.places import EXAMPLE_MAPS, TOP
@@ -419,16 +418,3 @@ def test_newlines_in_bytes():
             [Case(repr(line), line, reply) for line, reply in rows],
             lambda case: unlike(case.wanted, editor.step_bytes(case.given)),
         )
-
-
-# ---- time
-
-
-def test_bytes_are_no_slower():
-    """`step_bytes` takes no more time than `step`: the least of many, which take turns."""
-    with Editor() as editor:
-        editor.step('new a 4 3 16 16 a.tsj')
-        calls = (lambda: editor.step('status'), lambda: editor.step_bytes(b'status'))
-        rounds = [[timeit.timeit(call, number=300) for call in calls] for _ in range(200)]
-    step, step_bytes = (min(each) for each in zip(*rounds))
-    assert step_bytes <= step * 1.05, f'{step_bytes / step:.2f} of the time'

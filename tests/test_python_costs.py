@@ -2,7 +2,7 @@
 """Counts the instructions of loops of calls in Python on a map of 1,000 objects: 1,000 moves and 1,000
 properties that are set take at most 60 times as many as the same lines by `run_lines`, and 1,000 stamps by
 the name of a layer at most 5 times as many as by its id. What is read of one object takes at most 1.2
-times as many on a map of 4,000 objects as on one of 500.
+times as many on a map of 4,000 objects as on one of 500. `step_bytes` takes no more than `step`.
 
 valgrind counts: the same script takes the same instructions each time, whatever else the machine does.
 What it takes without a loop is taken off."""
@@ -18,7 +18,7 @@ from lib.places import TOP
 
 PACKAGES = ('valgrind',)
 COUNT, FEW, MANY = 1000, 500, 4000
-MOST_OF_LINES, MOST_OF_IDS, MOST_OF_FEW = 60, 5, 1.2
+MOST_OF_LINES, MOST_OF_IDS, MOST_OF_FEW, MOST_OF_STEP = 60, 5, 1.2, 1
 # A script with a document of so many objects, and a loop behind it.
 SCRIPT = """
 from roskevad import Editor
@@ -47,6 +47,8 @@ LOOPS = {
         "    each.x, each.layer.name, 'team' in each.properties",
     ],
     'stamps by id': ['for at in range(COUNT): document.stamp(walls.id, at % 100, at // 100, [[5]])'],
+    'step': ["for at in range(COUNT): editor.step('status')"],
+    'step_bytes': ["for at in range(COUNT): editor.step_bytes(b'status')"],
     'stamps by name': ["for at in range(COUNT): document.stamp('Walls', at % 100, at // 100, [[5]])"],
 }
 
@@ -93,3 +95,7 @@ def test_stamps_by_name():
 
 def test_look_ups():
     see((LOOK_UPS, MANY), (LOOK_UPS, FEW), MOST_OF_FEW)
+
+
+def test_bytes():
+    see(('step_bytes', COUNT), ('step', COUNT), MOST_OF_STEP)

@@ -6,17 +6,17 @@ names each document that is not clean.
 
 Behind a 3 or 4 it says which word of the line is at fault, and the forms that the words before it
 have. For that, lines are made of the forms by chance, and one word of each is changed into one that
-can't stand there, or the line ends before it, or goes on behind its last word."""
+can't stand there, or the line ends before it, or goes on behind its last word. With `--all-edits` the
+forms of the lines for all edits are among them."""
 import random
 import subprocess
 import unicodedata
 
 from lib.cases import CORES, Case, check_each, passed, unlike
-from lib.forms import HELP
-from lib.lines_at_fault import lines_at_fault, told_of
+from lib.lines_at_fault import FOR_ALL_EDITS, PLAIN
 from lib.places import TILE_EDITOR
 from lib.refusals import refusal
-from lib.sessions import heard, joined
+from lib.sessions import ALL_EDITS, heard, joined
 
 NEW = b'new town 4 3 16 16 town.tsj'
 STAMP = b'stamp 1 0 0 1 5'
@@ -121,6 +121,18 @@ def test_where_a_strict_run_ends():
 
 # ---- the word at fault
 
+# Forms as standard error has them, of one command each.
+LAYERS = [
+    'layer add tile NAME', 'layer add object NAME', 'layer remove LAYER', 'layer rename LAYER NAME',
+    'layer show LAYER yes', 'layer show LAYER no', 'layer move LAYER PLACE',
+]
+PROPERTIES = ['prop set OWNER KEY TYPE VALUE', 'prop set+ OWNER KEY TYPE VALUE', 'prop remove OWNER KEY']
+# Those that stand there with `--all-edits` alone.
+MORE_LAYERS = ['layer add group NAME', 'layer add image NAME']
+MEMBERS = [
+    'member set OWNER KEY JSON', 'member set+ OWNER KEY JSON', 'member put OWNER JSON', 'member put+ OWNER JSON',
+    'member remove OWNER KEY',
+]
 
 def shown(line):
     """A line as a message has it: at most 200 characters, and control characters as their codes."""
@@ -131,22 +143,29 @@ def shown(line):
     return front + ('...' if len(line) > 200 else '')
 
 
-def refused_at(line, code, told, forms):
-    """A line, and what is said of it."""
+# The lines that an editor reads, and the option with which the program does so.
+DIALECTS = [(PLAIN, []), (FOR_ALL_EDITS, [ALL_EDITS])]
+
+
+def refused_at(line, options, code, told, forms):
+    """A line, the options that it is given with, and what is said of it."""
     first = f'tile_editor: line 1: {shown(line)}: {refusal(code)}: {told}'
-    return Case(line[:200], line, '\n'.join([first, *(f'  {form}' for form in forms), '']))
+    name = ' '.join([*options, line])
+    return Case(name[:200], (line, options), '\n'.join([first, *(f'  {form}' for form in forms), '']))
 
 
 def lines_refused():
     """Lines with one word at fault. Their forms are those that begin as the one that was taken."""
-    for words, fault, form in lines_at_fault(random.Random(63)):
-        forms = [other for other in HELP if other.split(' ')[:fault] == form[:fault]]
-        yield refused_at(' '.join(words), 4, told_of(form, fault, words), forms)
+    for dialect, options in DIALECTS:
+        for words, fault, form in dialect.lines_at_fault(random.Random(63)):
+            told, forms = dialect.told_of(form, fault, words), dialect.forms_behind(form, fault)
+            yield refused_at(' '.join(words), options, 4, told, forms)
 
 
 def fault_of_line(case):
+    line, options = case.given
     done = subprocess.run(
-        [TILE_EDITOR, '--strict'], input=case.given.encode(), capture_output=True, timeout=60
+        [TILE_EDITOR, '--strict', *options], input=line.encode(), capture_output=True, timeout=60
     )
     return unlike((3, case.wanted), (done.returncode, done.stderr.decode()))
 
@@ -158,7 +177,7 @@ def test_the_word_at_fault():
 def test_lines_of_no_command():
     """The forms are those of the command that is written so but for spaces around it and signs `+`
     behind it, or else of all commands with the same first letter."""
-    forms = {
+    plain = {
         'Undo': ['use DOC', 'use -', 'undotext', 'undo'],
         'undone': ['use DOC', 'use -', 'undotext', 'undo'],
         ' undo': ['undo'],
@@ -170,10 +189,28 @@ def test_lines_of_no_command():
         '\t': [],
         '\ufeff# a comment': [],
         '+': [],
+        'Member': [],
+        'layers': ['list', *LAYERS, 'limit NUMBER'],
+        ' layer add group A': LAYERS,
+        'prop+ set map a int 1': PROPERTIES,
+        'text+ 0': ['text PLACE'],
+        'open+ a b.tmj': ['open DOC FILE'],
     }
-    check_each(
-        [refused_at(line, 3, 'word 1 is not a command', wanted) for line, wanted in forms.items()], fault_of_line, CORES
-    )
+    for_all_edits = {
+        **plain,
+        'Member': MEMBERS,
+        ' member': MEMBERS,
+        'member+ set object:1 a 1': MEMBERS,
+        'layers': ['list', *LAYERS, 'limit NUMBER', *MORE_LAYERS],
+        ' layer add group A': [*LAYERS, *MORE_LAYERS],
+        'prop+ set map a int 1': [*PROPERTIES, 'prop take OWNER JSON'],
+    }
+    cases = [
+        refused_at(line, options, 3, 'word 1 is not a command', wanted)
+        for options, forms in (([], plain), ([ALL_EDITS], for_all_edits))
+        for line, wanted in forms.items()
+    ]
+    check_each(cases, fault_of_line, CORES)
 
 
 # ---- nowhere to go

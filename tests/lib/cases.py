@@ -65,6 +65,12 @@ def unlike(wanted, came):
     return None if wanted == came else f'wanted {shown(wanted)}\n    came {shown(came)}'
 
 
+def see(wanted, came):
+    """That what came is what was wanted."""
+    fault = unlike(wanted, came)
+    assert not fault, fault
+
+
 def told(case, fault):
     """A case at fault: its name, what was given, and the fault."""
     given = f'\n    given {shown(case.given)}' if isinstance(case, Case) else ''

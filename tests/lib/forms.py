@@ -23,5 +23,6 @@ TEXT = subprocess.run(
     [BIN / 'tile_editor', '--help'], capture_output=True, text=True, check=True
 ).stdout
 HELP = forms_in(TEXT)
-# Those of the lines of own members.
-OF_MEMBERS = forms_in(TEXT, 'Lines of own members, with --all-edits:')
+# Those of the lines for all edits, and of the lines of own members among them.
+FURTHER = forms_in(TEXT, 'Further lines, with --all-edits:')
+OF_MEMBERS = [form for form in FURTHER if form.startswith('member ')]

@@ -1,46 +1,29 @@
 # SPDX-License-Identifier: MIT OR Apache-2.0
 """What each line of own members does to a map, plainly: on the tree of its JSON text, by the rules
-of docs/session-lines.md. Objects alone have such lines."""
-import json
+of docs/session-lines.md. Objects, layers and the map have such lines."""
+from lib.edits import EDITS, LAST_ID, MOST_PIXELS, Edit, Refused, find_owner, see
+from lib.json_words import is_whole, json_word, object_word
+from lib.maps import layers_in, objects_in
 
-from lib.edits import EDITS, Edit, Refused, find_object, see
-
-MOST_DEEP, MOST_PIXELS, MOST_VALUE = 88, 1_000_000_000, 4_294_967_295
-# The members of an object that its other lines change, and the one that no line may name.
-OTHERS = ('id', 'properties', 'roskevad')
-
-
-def is_whole(number):
-    return isinstance(number, int) and not isinstance(number, bool)
-
-
-def depth(tree):
-    inner = tree.values() if isinstance(tree, dict) else tree if isinstance(tree, list) else None
-    return 0 if inner is None else 1 + max(map(depth, inner), default=0)
-
-
-def parts(tree):
-    """The tree, and all that stands in it."""
-    yield tree
-    if isinstance(tree, (dict, list)):
-        for inner in tree.values() if isinstance(tree, dict) else tree:
-            yield from parts(inner)
+MOST_VALUE, MOST_TILE_SIDE = 4_294_967_295, 65_535
+# Of each kind of owner the members that other lines change, and the one that no line may name.
+OTHERS = {
+    'object': ('id', 'properties', 'roskevad'),
+    'layer': (
+        'id', 'type', 'properties', 'data', 'chunks', 'startx', 'starty', 'objects', 'layers',
+        'width', 'height', 'encoding', 'compression', 'roskevad',
+    ),
+    'map': (
+        'width', 'height', 'infinite', 'chunks', 'data', 'objects', 'layers', 'tilesets',
+        'properties', 'type', 'version', 'roskevad',
+    ),
+}
 
 
-def json_word(text):
-    """What a JSON text of a line says."""
-    try:
-        tree = json.loads(text)
-    except ValueError as fault:
-        raise Refused(60) from fault
-    see(not any(isinstance(part, float) for part in parts(tree)), 61)
-    see(depth(tree) <= MOST_DEEP, 60)
-    see(not any(isinstance(part, dict) and 'roskevad' in part for part in parts(tree)), 63)
-    return tree
+# ---- own members are as a file may have them
 
 
-def see_object(item):
-    """An object's own members are as a file may have them."""
+def see_object(item, _):
     for name in ('x', 'y', 'width', 'height'):
         see(is_whole(item.get(name, 0)), 63)
         see(abs(item.get(name, 0)) <= MOST_PIXELS, 68)
@@ -50,35 +33,61 @@ def see_object(item):
     see(0 <= item.get('gid', 0) <= MOST_VALUE, 68)
 
 
-def object_of(draft, owner):
-    """The object that a line names."""
-    kind, _, number = owner.partition(':')
-    if kind != 'object':
+def see_layer(layer, _):
+    """A layer has a name and is visible or not, whether or not its file says so."""
+    see(isinstance(layer.setdefault('name', ''), str), 63)
+    see(isinstance(layer.setdefault('visible', True), bool), 63)
+
+
+def see_map(tree, draft):
+    for name, most in (
+        ('tilewidth', MOST_TILE_SIDE),
+        ('tileheight', MOST_TILE_SIDE),
+        ('nextlayerid', LAST_ID),
+        ('nextobjectid', LAST_ID),
+    ):
+        see(name in tree, 62)
+        see(is_whole(tree[name]), 63)
+        see(1 <= tree[name] <= most, 68)
+    see(all(layer['id'] < tree['nextlayerid'] for layer in layers_in(draft.tree['layers'])), 68)
+    see(all(item['id'] < tree['nextobjectid'] for item in objects_in(draft.tree)), 68)
+
+
+SEEN = {'object': see_object, 'layer': see_layer, 'map': see_map}
+
+
+# ---- edits
+
+
+def owner_of(draft, owner):
+    """The kind of the owner that a line names, and the owner."""
+    kind = owner.partition(':')[0]
+    if kind not in OTHERS:
         raise Refused(41)
-    return find_object(draft.tree, int(number))
+    return kind, find_owner(draft.tree, owner)
 
 
 def set_member(draft, owner, name, text):
-    item = object_of(draft, owner)
-    see(name not in OTHERS, 41)
+    kind, item = owner_of(draft, owner)
+    see(name not in OTHERS[kind], 41)
     item[name] = json_word(text)
-    see_object(item)
+    SEEN[kind](item, draft)
 
 
 def put_members(draft, owner, text):
-    item = object_of(draft, owner)
-    members = json_word(text)
-    see(isinstance(members, dict), 63)
-    see(not any(name in OTHERS for name in members), 41)
+    kind, item = owner_of(draft, owner)
+    members = object_word(text)
+    see(not any(name in OTHERS[kind] for name in members), 41)
     item.update(members)
-    see_object(item)
+    SEEN[kind](item, draft)
 
 
 def remove_member(draft, owner, name):
-    item = object_of(draft, owner)
-    see(name not in OTHERS, 41)
+    kind, item = owner_of(draft, owner)
+    see(name not in OTHERS[kind], 41)
     see(name in item, 42)
     del item[name]
+    SEEN[kind](item, draft)
 
 
 MEMBER_EDITS = {
@@ -88,6 +97,6 @@ MEMBER_EDITS = {
 }
 
 
-def read_more():
+def read_members():
     """From now on the model reads lines of own members too."""
     EDITS.update(MEMBER_EDITS)

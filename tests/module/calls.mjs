@@ -66,7 +66,7 @@ for (const [name, thing] of Object.entries(made)) {
 }
 document.discard();
 const names = Object.keys(members.Document);
-const given = { macro: ["a", () => 0], stamp: [1, 0, 0, [[1]]], erase: [1, 0, 0, 1, 1], on: ["change", () => 0] };
+const given = { macro: ["a", () => 0], stamp: [1, 0, 0, [[1]]], erase: [1, 0, 0, 1, 1], on: ["change", () => 0], setMember: ["a", 1], setMembers: [{}] };
 const closed = [];
 for (const name of names) {
   try {

@@ -132,7 +132,9 @@ async function whatAFileLeavesOut() {
   ]);
   same(told, [["key", "", 5, 6, 0, 0, true, false], ["", "", 3, 4, 0, 0, true, false], ["", "", 0, 0, 0, 0, true, false]]);
   same([1, 2, 3].map((id) => sorted(document.objects.get(id).members)), bare.map(sorted));
-  same([...document.layers].map(({ name, visible }) => [name, visible]), [["", true], ["", true], ["", true]]);
+  const ofLayers = [...document.layers].map((each) => [each.name, each.visible, each.className, each.opacity, each.tint, each.locked]);
+  same(ofLayers, Array(3).fill(["", true, "", 1, null, false]));
+  same([document.className, document.background], ["", null]);
   same([document.orientation, document.properties.typeOf("a")], ["orthogonal", "string"]);
   const lists = [document.objects, document.layers.get(2).objects, document.layers.get(3).objects];
   same(lists.map((each) => [each.has("x"), each.has(""), each.get("").id]), [[false, true, 1], [false, true, 1], [false, true, 3]]);
@@ -233,6 +235,18 @@ async function tilesetsThatRenumber() {
   editor.close();
 }
 
+// A collection of images has the tiles that it lists, whose ids may have gaps; a tileset of one image has all.
+async function tilesOfCollections() {
+  const editor = await Editor.create();
+  const tree = editor.new("made", 1, 1, 8, 8, "a.tsj").map();
+  const images = [{ id: 7, image: "b.png", type: "Tree" }, { id: 0, image: "a.png" }];
+  const own = [{ firstgid: 1, name: "a", tilecount: 2, tiles: images }, { firstgid: 9, image: "c.png", name: "b", tilecount: 2, tiles: [images[1]] }];
+  const document = await editor.open(JSON.stringify({ ...tree, tilesets: own }));
+  const told = [...document.tilesets].map(({ tiles }) => tiles.map(({ localId, type }) => [localId, type]));
+  same(told, [[[0, ""], [7, "Tree"]], [[0, ""], [1, ""]]]);
+  editor.close();
+}
+
 // `using` tells of work that it drops, where the engine has that.
 async function disposedEditors() {
   if (!Symbol.dispose) {
@@ -257,13 +271,86 @@ async function disposedEditors() {
   same(told, ["an Editor is closed, and what was not saved is dropped: a"]);
 }
 
+// What no object, no tileset and no layer is, is told before any line is said; what the editor refuses is refused by it, and no
+// fraction is rounded.
+async function thingsThatAreNotAdded() {
+  const editor = await Editor.create();
+  const town = editor.new("town", 4, 3, 16, 16, "town.tsj");
+  const things = town.layers.add("object", "Things");
+  const { objects } = things;
+  objects.add("door", 3, 4);
+  const looks = [
+    [TypeError, { polygon: 5 }], [TypeError, { polygon: [5] }], [TypeError, { polygon: [[1, 2, 3]] }], [TypeError, { polyline: [[1]] }],
+    [TypeError, { polyline: ["ab"] }], [TypeError, { polyline: [{ x: 1 }] }], [TypeError, { polygon: "ab" }], [TypeError, { polygon: [[0, Infinity]] }],
+    [TypeError, { text: 5 }], [TypeError, { tile: "a" }], [TypeError, { className: null }], [TypeError, { rotation: "90" }],
+    [TypeError, { properties: ["a"] }], [TypeError, { properties: { a: null } }], [RangeError, { properties: { a: 0.5 } }], [RangeError, { tile: -1 }],
+    [RangeError, { properties: { "\ud800": 1 } }],
+  ];
+  const shapes = Object.entries({ point: true, ellipse: true, polygon: [], polyline: [], text: "a", tile: 5 });
+  const pairs = shapes.flatMap((one, at) => shapes.slice(at + 1).map((other) => [RangeError, Object.fromEntries([one, other])]));
+  const places = [
+    [TypeError, [5, 0, 0]], [TypeError, ["a", "0", 0]], [TypeError, ["a", 0, NaN]], [TypeError, ["a", 0, null]], [RangeError, ["a", 1e9 + 1, 0]],
+    [RangeError, ["a", 0, 0, -1]], [RangeError, ["\ud800", 0, 0]],
+  ];
+  const members = [[TypeError, 5], [TypeError, null], [TypeError, []], [TypeError, { a: undefined }], [TypeError, { a: NaN }], [RangeError, { a: "\udc80" }]];
+  const images = [
+    [RangeError, [100, "a", "a.png", 15, 16, 16, 16]], [RangeError, [100, "a", "a.png", 16, 16, 0, 16]], [RangeError, [-1, "a", "a.png", 16, 16, 16, 16]],
+    [RangeError, [100, "a", "a.png", 16, 16, 16, 16, { margin: 1 }]], [RangeError, [100, "a", "a.png", 16, 16, 8, 8, { spacing: -1 }]],
+    [TypeError, [100, null, "a.png", 16, 16, 16, 16]], [TypeError, [100, "a", 5, 16, 16, 16, 16]], [TypeError, [100, "a", "a.png", 16.5, 16, 16, 16]],
+  ];
+  const calls = countedCalls(editor, () => {
+    [...looks, ...pairs].forEach(([kind, options]) => thrown(kind, () => objects.add("a", 0, 0, 0, 0, options)));
+    places.forEach(([kind, words]) => thrown(kind, () => objects.add(...words)));
+    members.forEach(([kind, given]) => thrown(kind, () => objects.put(given)));
+    members.forEach(([kind, given]) => thrown(kind, () => town.tilesets.put(given)));
+    images.forEach(([kind, words]) => thrown(kind, () => town.tilesets.addFromImage(...words)));
+    [() => town.objects.put({}), () => town.objects.add("a", 0, 0), () => town.layers.add("wall", "a")].forEach((call) => thrown(RangeError, call));
+  });
+  same(calls.step ?? 0, 0);
+  const refused = [
+    [61, () => objects.add("a", 0.5, 0)], [61, () => objects.add("a", 0, 0, 0, 0, { rotation: 22.5 })], [61, () => objects.put({ x: 0.5 })],
+    [61, () => objects.add("a", 0, 0, 0, 0, { polygon: [[0, 0], [0.5, 1]] })], [63, () => objects.put({ x: "a" })], [67, () => objects.put({ id: 1 })],
+    [63, () => objects.put({ roskevad: [] })], [68, () => objects.put({ y: 1e9 + 1 })], [31, () => town.layers.get(1).objects.put({})],
+    [39, () => objects.add("a", 0, 0, 2e9)], [68, () => objects.add("", 0, 0, 2e9)], [62, () => town.tilesets.put({})],
+    [38, () => town.tilesets.put({ firstgid: 1 })], [63, () => town.tilesets.put({ firstgid: "9" })],
+  ];
+  same(refused.map(([, call]) => thrown(Refused, call).code), refused.map(([code]) => code));
+  same([town.status.count, objects.size, town.tilesets.size], [2, 1, 1]);
+  editor.close();
+}
+
+// A first id that would give a used tile another meaning is refused as by `add`; and Tiled cuts as many tiles from an image.
+async function tilesetsOfImages() {
+  const editor = await Editor.create();
+  const town = editor.new("town", 4, 3, 16, 16, "town.tsj");
+  town.stamp(1, 0, 0, [[40]]);
+  const calls = [
+    ["tilesets.put({ firstgid: 33, .. })", (options) => town.tilesets.put({ firstgid: 33, name: "art" }, options)],
+    ['tilesets.addFromImage(33, "art", ..)', (options) => town.tilesets.addFromImage(33, "art", "art.png", 128, 128, 16, 16, options)],
+  ];
+  for (const [line, call] of calls) {
+    const refusal = thrown(Refused, call);
+    same([refusal.code, refusal.line, refusal.why.includes("renumbers: true"), town.status.index], [37, line, true, 1]);
+    same([call({ renumbers: true }).firstId, town.tilesets.size], [33, 2]);
+    town.undo();
+  }
+  const grids = [[[128, 128, 16, 16, 0, 0], 8, 8], [[130, 132, 16, 16, 1, 1], 7, 7], [[33, 32, 16, 16, 0, 1], 2, 1], [[100, 75, 9, 32, 3, 5], 7, 2]];
+  for (const [[width, height, wide, high, margin, spacing], columns, rows] of grids) {
+    const art = town.tilesets.addFromImage(100, "art", "art.png", width, height, wide, high, { margin, spacing });
+    same([art.members.columns, art.members.tilecount, art.tiles.length], [columns, columns * rows, columns * rows]);
+    town.undo();
+  }
+  editor.close();
+}
+
 // What has no such name, or is only read, is never set silently.
 async function namesThatAreNotThere() {
   const editor = await Editor.create();
   const town = editor.new("town", 4, 3, 16, 16, "town.tsj");
   const key = town.layers.add("object", "Things").objects.add("key", 16, 8);
   const rows = [
-    [town, "tilewidth"], [town.layers, "a"], [town.layers.get(1), "opacity"], [town.layers.get(1), "id"], [town.objects, "a"],
+    [town, "tilewidth"], [town, "tileWidth"], [town, "width"], [town, "orientation"], [town, "members"], [town.layers, "a"],
+    [town.layers.get(1), "tintcolor"], [town.layers.get(1), "members"], [town.layers.get(1), "id"], [town.objects, "a"], [key, "members"],
     [key, "point"], [key, "type"], [key, "isPoint"], [key, "x"], [town.properties, "author"], [town.tilesets, "a"],
     [town.tilesets.get(1), "firstId"], [town.selection, "a"],
   ];
@@ -272,10 +359,14 @@ async function namesThatAreNotThere() {
       thing[name] = true;
     });
   }
-  const { message } = thrown(TypeError, () => {
-    key.type = "Door";
-  });
-  same(message, "type of an object is not set as a value: className does");
+  const whys = [
+    [key, "type", "type of an object is not set as a value: className does"],
+    [town.layers.get(1), "members", "members of an object or a layer is not set as a value: setMembers(members) does"],
+    [town, "tileWidth", 'tileWidth of a document is not set as a value: setMember("tilewidth", value) does'],
+  ];
+  for (const [thing, name, why] of whys) {
+    same(thrown(TypeError, () => Reflect.set(thing, name, 5)).message, why);
+  }
   editor.close();
 }
 
@@ -294,19 +385,31 @@ async function valuesOfOwnMembers() {
   ];
   const calls = countedCalls(editor, () => {
     for (const [kind, value] of values) {
-      thrown(kind, () => key.setMember("a", value));
-      thrown(kind, () => key.setMembers({ a: [value] }));
+      for (const thing of [key, town.layers.get(1), town]) {
+        thrown(kind, () => thing.setMember("a", value));
+        thrown(kind, () => thing.setMembers({ a: [value] }));
+      }
     }
     const wrong = { name: null, className: 5, rotation: "90", tile: 1.5 };
     for (const [name, value] of Object.entries(wrong)) {
       thrown(TypeError, () => Reflect.set(key, name, value));
     }
     thrown(RangeError, () => Reflect.set(key, "tile", 2 ** 32));
-    for (const name of ["", "a b", "a\nb", "\ud800"]) {
-      thrown(RangeError, () => key.setMember(name, 1));
+    const wrongOfOthers = [
+      [town.layers.get(1), { className: null, opacity: "1", tint: 0xff0000 }], [town.layers.get(2), { className: 5, opacity: NaN, tint: undefined }],
+      [town, { className: null, background: 5 }],
+    ];
+    for (const [thing, names] of wrongOfOthers) {
+      Object.entries(names).forEach(([name, value]) => thrown(TypeError, () => Reflect.set(thing, name, value)));
     }
-    for (const members of [5, null, "a", [], new Map()]) {
-      thrown(TypeError, () => key.setMembers(members));
+    thrown(RangeError, () => Reflect.set(town, "background", "\ud800"));
+    for (const thing of [key, town.layers.get(1), town]) {
+      for (const name of ["", "a b", "a\nb", "\ud800"]) {
+        thrown(RangeError, () => thing.setMember(name, 1));
+      }
+      for (const members of [5, null, "a", [], new Map()]) {
+        thrown(TypeError, () => thing.setMembers(members));
+      }
     }
   });
   same(calls.step ?? 0, 0);
@@ -324,7 +427,116 @@ async function valuesOfOwnMembers() {
   key.setMembers({ b: Object.assign(Object.create(null), { c: 1e15 }) });
   same([key.members.a, key.members.b], [deep, { c: 1e15 }]);
   const { message, wordAtFault, forms } = thrown(Refused, () => editor.step("member set object:1"));
-  same([wordAtFault, forms.length, message.includes("member put OWNER JSON")], [null, 5, true]);
+  same([wordAtFault.place, wordAtFault.word, forms.length, message.includes("member put OWNER JSON")], [4, null, 5, true]);
+  editor.close();
+}
+
+// The names that are none of own members, of a layer of any kind and of the map.
+const OF_OTHER_LINES = {
+  layer: [
+    "id", "type", "properties", "data", "chunks", "startx", "starty", "objects", "layers", "width", "height", "encoding",
+    "compression", "roskevad",
+  ],
+  map: [
+    "width", "height", "infinite", "chunks", "data", "objects", "layers", "tilesets", "properties", "type", "version",
+    "roskevad",
+  ],
+};
+
+// What the editor refuses of a layer and of the map, whatever way it is said, and nothing is done.
+async function refusedMembersOfLayersAndMaps() {
+  const editor = await Editor.create();
+  const town = editor.new("town", 4, 3, 16, 16, "town.tsj");
+  town.layers.add("object", "Things").objects.add("key", 16, 8);
+  const [ground, things] = town.layers;
+  const before = town.map();
+  const rows = [
+    [ground, [[61, "opacity", 0.5], [61, "a", [1, 0.1]], [63, "name", 7], [63, "visible", 1], [63, "a", { roskevad: 1 }]]],
+    [things, [[61, "parallaxx", 1.5], [63, "name", null], [63, "visible", "yes"], [1, "a", "x".repeat(65_535)]]],
+    [town, [
+      [61, "parallaxoriginx", 0.5], [63, "tilewidth", "wide"], [63, "nextobjectid", null], [68, "nextlayerid", 2], [68, "nextobjectid", 1],
+    ]],
+  ];
+  for (const [thing, values] of rows) {
+    for (const [code, name, value] of values) {
+      const calls = [
+        () => thing.setMember(name, value), () => thing.setMembers({ a: 1, [name]: value }),
+        () => thing.setMember(name, value, { merge: true }),
+      ];
+      same(calls.map((call) => thrown(Refused, call).code), [code, code, code]);
+    }
+    for (const name of OF_OTHER_LINES[thing === town ? "map" : "layer"]) {
+      same([name, thrown(Refused, () => thing.setMember(name, 1)).code, thrown(Refused, () => thing.removeMember(name)).code], [name, 41, 41]);
+    }
+  }
+  for (const name of ["tilewidth", "tileheight", "nextlayerid", "nextobjectid"]) {
+    same([name, thrown(Refused, () => town.removeMember(name)).code], [name, 62]);
+  }
+  same(thrown(Refused, () => Reflect.set(ground, "opacity", 0.5)).code, 61);
+  same([things.removeMember("none"), town.removeMember("none")], [false, false]);
+  same([town.status.count, town.map()], [2, before]);
+  editor.close();
+}
+
+// What is set is there, what changes nothing is no step, and undone all is as it was. What a layer must have comes back at its
+// default.
+async function membersOfLayersAndMaps() {
+  const editor = await Editor.create();
+  const town = editor.new("town", 4, 3, 16, 16, "town.tsj");
+  town.layers.add("object", "Things").objects.add("key", 16, 8);
+  const [ground, things] = town.layers;
+  const before = town.map();
+  same([ground.className, ground.opacity, ground.tint, ground.locked, town.className, town.background], ["", 1, null, false, "", null]);
+  const own = { nextlayerid: 3, nextobjectid: 2, orientation: "orthogonal", renderorder: "right-down", tileheight: 16, tilewidth: 16 };
+  same(sorted(town.members), own);
+  [ground.opacity, ground.tint, town.background, town.className] = [1, null, null, "level"];
+  town.className = "level";
+  ground.setMembers({ visible: true, name: "Tile Layer 1" });
+  town.setMembers({});
+  same([sorted(town.members), town.status.count], [{ class: "level", ...own }, 3]);
+  town.members.tilewidth = 5;
+  same([town.tileWidth, town.members.tilewidth], [16, 16]);
+  [ground.className, ground.tint, ground.locked] = ["floor", "#80ff8800", 1];
+  same([ground.className, ground.tint, ground.locked, town.status.count], ["floor", "#80ff8800", true, 6]);
+  [ground.tint, town.background] = [null, "#102030"];
+  same([ground.tint, "tintcolor" in ground.members, town.background, town.status.count], [null, false, "#102030", 8]);
+  for (const opacity of [0, 2, 3]) {
+    ground.setMember("opacity", opacity, { merge: true });
+  }
+  same([ground.opacity, town.status.count], [3, 9]);
+  things.visible = false;
+  same([things.removeMember("name"), things.removeMember("visible"), things.name, things.visible, town.status.count], [true, true, "", true, 12]);
+  same([things.removeMember("name"), things.removeMember("visible"), town.status.count], [true, true, 12]);
+  same(things.members.objects.length, 1);
+  town.goto(2);
+  same(town.map(), before);
+  editor.close();
+}
+
+// What files have of layers and of the map is read as it is, fractions too, and what no edit names is saved as it was.
+async function membersOfFiles() {
+  const editor = await Editor.create();
+  const common = { name: "a", type: "imagelayer", visible: true, x: 0, y: 0 };
+  const sky = { ...common, id: 1, image: "sky.png", opacity: 0.25, tintcolor: "#ff8800" };
+  const houses = { ...common, id: 2, layers: [], locked: true, offsetx: 1.5, opacity: 1, type: "group" };
+  const tree = {
+    backgroundcolor: "#102030", class: "level", compressionlevel: -1, height: 1, infinite: false, layers: [sky, { ...houses, class: "row" }],
+    nextlayerid: 3, nextobjectid: 1, orientation: "isometric", parallaxoriginx: 2.5, renderorder: "right-down", tileheight: 8, tilesets: [],
+    tilewidth: 8, type: "map", version: "1.10", width: 1,
+  };
+  const town = await editor.open(JSON.stringify(tree));
+  const told = [...town.layers].map((layer) => [layer.className, layer.opacity, layer.tint, layer.locked]);
+  same(told, [["", 0.25, "#ff8800", false], ["row", 1, null, true]]);
+  const { height, infinite, layers, tilesets, type, version, width, ...own } = tree;
+  void [height, infinite, layers, tilesets, type, version, width];
+  same([sorted(town.members), town.className, town.background], [own, "level", "#102030"]);
+  town.layers.get(1).opacity = 1;
+  town.layers.get(2).setMembers({ name: "Houses", parallaxx: 2 });
+  town.background = null;
+  const wanted = { ...tree, layers: [{ ...sky, opacity: 1 }, { ...houses, class: "row", name: "Houses", parallaxx: 2 }] };
+  delete wanted.backgroundcolor;
+  const saved = JSON.parse(new TextDecoder().decode(await town.saveBytes()));
+  same([sorted(saved), saved.layers.map(sorted)], [{ ...sorted(wanted), layers: saved.layers }, wanted.layers.map(sorted)]);
   editor.close();
 }
 
@@ -489,6 +701,8 @@ async function readThings() {
     "stamp 1 0 0 1 5", "layer add tile L", "erase+ 1 0 0 1 1", "layer rename 1 N", "fill 1 0 0 6", "undo", "select none", "redo",
     "use other", "resize 5 4 0 0", "use town", "prop set map k int 1", "begin A", "object add 3 0 0 1 1 o", "end", "goto 0",
     "use -", "tileset add 9 t.tsj", "new third 1 1 1 1 t.tsj", "discard third", "clear", "show", "layer show 1 no", "status",
+    'member set layer:1 class "a"', 'member put layer:1 {"name":"M","opacity":0}', "member remove layer:1 class", 'member set map class "a"',
+    "layer add group G", "layer add image I", 'object put 3 {"x":5,"point":true}', 'object put 3 {"id":90}', 'prop take map "k"', 'tileset put {"firstgid":20}',
   ];
   const ways = [
     (editor, line) => editor.step(line),
@@ -519,8 +733,10 @@ async function readThings() {
 }
 
 export const DOCUMENT_CHECKS = [
-  drawnDocuments, worksThatGoOnLater, savedDocuments, propertiesOfOtherTypes, points, valuesOfOwnMembers, whatAFileLeavesOut,
-  callsThatRefusalsName, textsInJSON, propertiesAsObjects, tilesetsThatRenumber, disposedEditors, namesThatAreNotThere,
+  drawnDocuments, worksThatGoOnLater, savedDocuments, propertiesOfOtherTypes, points, valuesOfOwnMembers, refusedMembersOfLayersAndMaps,
+  membersOfLayersAndMaps, membersOfFiles, whatAFileLeavesOut,
+  callsThatRefusalsName, textsInJSON, propertiesAsObjects, tilesetsThatRenumber, thingsThatAreNotAdded, tilesetsOfImages, tilesOfCollections, disposedEditors,
+  namesThatAreNotThere,
   loopsOfStamps, loopsOfObjects,
   textsOfDocuments, thingsAndIds, groupsAndRemovals, readThings,
 ];

@@ -1,7 +1,7 @@
 // SPDX-License-Identifier: MIT OR Apache-2.0
 // What the declarations must take, and what they must not. It is checked, and never run.
 import {
-  BadModule, BadTileset, Broken, CellArea, Closed, Document, Editor, Error as MapError, FORMS, InCallback, Layer, MapObject, Module, NoMemory,
+  BadModule, BadTileset, Broken, CellArea, Closed, Corners, Document, Editor, Error as MapError, FORMS, InCallback, Layer, MapObject, Module, NoMemory,
   NotFound, OtherType, Refused, Report, ReportedObject, Run, Status, StepRow, Subject, Tile, Told, VERSION, documentName, formsOf, report,
 } from "../../js/roskevad.js";
 
@@ -79,6 +79,26 @@ async function used(bytes: Uint8Array): Promise<void> {
   door.setMembers({ x: 5, polygon: [{ x: 0, y: 0 }] });
   const wasThere: boolean = door.removeMember("point");
   void wasThere;
+  const corners: Corners = [[0, 0], Int8Array.of(8, 8), { x: 16, y: -8 }];
+  const lake: MapObject = ground.objects.add("", 0, 0.5, 8, 8, {
+    polygon: corners, className: "Lake", rotation: 45, visible: false, properties: { deep: true, door, depth: 5 },
+  });
+  const word: MapObject = ground.objects.add("a", 0, 0, 0, 0, { text: { text: "a", wrap: true }, tile: null, properties: null });
+  const copies: MapObject[] = [ground.objects.put(door.members), ground.objects.add("b", 0, 0, 16, 16, { tile: tile ?? 5 }), lake, word];
+  const houses: Layer = town.layers.add("group", "Houses");
+  const art = town.tilesets.put({ firstgid: 100, source: "art.tsj" }, { renumbers: true });
+  const sets: number[] = [art.firstId, town.tilesets.addFromImage(200, "art", "art.png", 128, 128, 16, 16, { margin: 1, spacing: 1 }).firstId];
+  void [copies, houses, sets];
+  [ground.className, ground.opacity, ground.tint, ground.locked] = ["floor", 1, ground.tint ?? "#ff8800", !ground.locked];
+  ground.tint = null;
+  ground.setMember("parallaxx", 2, { merge: true });
+  ground.setMembers({ name: "Floor", offsetx: 8 });
+  [town.className, town.background] = ["level", null];
+  town.setMember("renderorder", "left-up");
+  town.setMembers({ tilewidth: 8 }, { merge: true });
+  const gone: boolean[] = [ground.removeMember("parallaxx"), town.removeMember("renderorder")];
+  const own: unknown = town.members.orientation;
+  void [gone, own];
   void [given, id, same, drawn, author, tile, run.length, status.depth, written, walls, isPoint, town.tilesets.first?.firstId];
   // @ts-expect-error: a mode is one of four
   town.select(0, 0, 1, 1, { mode: "cut" });
@@ -88,8 +108,22 @@ async function used(bytes: Uint8Array): Promise<void> {
   town.stroke(() => town.saveBytes());
   // @ts-expect-error: a class is set by its own name
   door.type = "b";
+  // @ts-expect-error: a corner is a pair of numbers
+  ground.objects.add("a", 0, 0, 0, 0, { polygon: [5] });
+  // @ts-expect-error: an object has no such look
+  ground.objects.add("a", 0, 0, 0, 0, { circle: true });
+  // @ts-expect-error: a kind of a layer is one of four
+  town.layers.add("wall", "a");
+  // @ts-expect-error: a tileset as a file has it is an object
+  town.tilesets.put("art.tsj");
   // @ts-expect-error: a rotation is a number
   door.rotation = "90";
+  // @ts-expect-error: a tint is a text, or null
+  ground.tint = 5;
+  // @ts-expect-error: members are set by calls
+  town.members = {};
+  // @ts-expect-error: so is a width
+  town.width = 5;
   // @ts-expect-error: an index is only read
   status.index = 5;
   // @ts-expect-error: documents are opened

@@ -75,6 +75,8 @@ static size_t word_told(const char *line, size_t length, char *room, size_t size
     roskevad_faulty_word word = {0, 0, 0, 0};
     size_t sum = roskevad_editor_word_fault(line, length, &word, room, size);
     sum += roskevad_word_fault(roskevad_bytes_at(line), length, &word, roskevad_room_at(room), size);
+    sum += roskevad_editor_word_fault_for(ROSKEVAD_ALL_EDITS, line, length, &word, room, size);
+    sum += roskevad_word_fault_for(ROSKEVAD_PLAIN_LINES, roskevad_bytes_at(line), length, &word, roskevad_room_at(room), size);
     return sum + word.place + word.at + word.length + word.is_missing;
 }
 

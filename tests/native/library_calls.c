@@ -238,7 +238,7 @@ static void check_what_lines_did(void)
     roskevad_editor_close(&editor);
 }
 
-/* An editor for all edits reads the lines of own members, and one of the plain lines does not. For a number that stands for neither all is as
+/* An editor for all edits reads the lines for all edits, and one of the plain lines does not. For a number that stands for neither all is as
  * it was. */
 static void check_all_edits(void)
 {
@@ -265,7 +265,11 @@ static void check_all_edits(void)
     told = told_of(&editor, "member set object:1 id 7");
     WANT(told.refusal == 41 && told.differs == 0 && told.word == 0);
     told = told_of(&editor, "member set object:1");
-    WANT(told.refusal == 4 && told.word == 0);
+    WANT(told.refusal == 4 && told.word == 4);
+    told = told_of(&editor, "layer add tiles a");
+    WANT(told.refusal == 4 && told.word == 3);
+    told = told_of(&editor, "object put 2 ");
+    WANT(told.refusal == 4 && told.word == 4);
     told = told_of(&editor, "stamp 1 0 x 1 5");
     WANT(told.refusal == 4 && told.word == 4);
     told = told_of(&editor, "frob x");
@@ -273,6 +277,22 @@ static void check_all_edits(void)
     WANT(roskevad_editor_run_lines(&editor, STROKE, sizeof STROKE - 1, true, room, sizeof room, &done) == 2 && done.is_refused == 0);
     WANT(roskevad_editor_tell(&editor, &told) == ROSKEVAD_DONE && told.before == 3 && told.index == 2 && told.count == 2);
     WANT((told.differs & ROSKEVAD_DIFFERS_OUTLINE) != 0 && told.subject == ROSKEVAD_OBJECT && told.id == 1);
+    told = told_of(&editor, "object put 2 {\"id\":7}");
+    WANT(told.refusal == 0 && told.became == ROSKEVAD_BECAME_ADDED && told.differs == ROSKEVAD_DIFFERS_OUTLINE && told.index == 3);
+    WANT(told.subject == ROSKEVAD_OBJECT && told.id == 7);
+    WANT(roskevad_editor_next_object_id(&editor) == 8 && roskevad_editor_object_layer(&editor, 7) == 2);
+    told = told_of(&editor, "tileset put {\"firstgid\":100}");
+    WANT(told.refusal == 0 && told.became == ROSKEVAD_BECAME_ADDED && told.differs == ROSKEVAD_DIFFERS_OUTLINE && told.index == 4);
+    WANT(told.subject == ROSKEVAD_TILESET && told.id == 100);
+    told = told_of(&editor, "layer add group Houses");
+    WANT(told.refusal == 0 && told.became == ROSKEVAD_BECAME_ADDED && (told.differs & ROSKEVAD_DIFFERS_ALL_CELLS) != 0 && told.index == 5);
+    WANT(told.subject == ROSKEVAD_LAYER && told.id == 3 && roskevad_editor_next_layer_id(&editor) == 4);
+    told = told_of(&editor, "prop set object:7 a int 1");
+    WANT(told.refusal == 0 && told.index == 6);
+    told = told_of(&editor, "prop take object:7 \"a\"");
+    WANT(told.refusal == 0 && told.became == ROSKEVAD_BECAME_ADDED && told.differs == ROSKEVAD_DIFFERS_OUTLINE && told.subject == ROSKEVAD_OBJECT && told.id == 7);
+    told = told_of(&editor, "prop take map \"a b\"");
+    WANT(told.refusal == 35 && told.differs == 0 && told.word == 0);
     roskevad_editor_close(&editor);
 }
 
@@ -644,6 +664,23 @@ static void check_word_faults(void)
     WANT(roskevad_editor_word_fault(NULL, 0, &word, NULL, 0) == ROSKEVAD_NONE);
 }
 
+/* The same, where the lines for all edits are read too. For a number that stands for neither dialect nothing is given out. */
+static void check_word_faults_for(void)
+{
+    static const char READ[] = "tileset put {}", REFUSED[] = "tileset put", TOLD[] = "word 3 is missing: a JSON text";
+    roskevad_faulty_word word = {9, 9, 9, 9};
+    char room[256];
+    memset(room, 'x', sizeof room);
+    WANT(roskevad_editor_word_fault_for(ROSKEVAD_ALL_EDITS, READ, sizeof READ - 1, &word, room, sizeof room) == ROSKEVAD_NONE && word.place == 9 && room[0] == 'x');
+    WANT(roskevad_editor_word_fault_for(2, REFUSED, sizeof REFUSED - 1, &word, room, sizeof room) == ROSKEVAD_TOO_GREAT && word.place == 9 && room[0] == 'x');
+    WANT(roskevad_editor_word_fault_for(SIZE_MAX, READ, sizeof READ - 1, &word, room, sizeof room) == ROSKEVAD_TOO_GREAT && word.place == 9 && room[0] == 'x');
+    WANT(roskevad_editor_word_fault_for(ROSKEVAD_ALL_EDITS, REFUSED, sizeof REFUSED - 1, &word, room, 8) == sizeof TOLD - 1 && room[0] == 'x');
+    WANT(word.place == 3 && word.at == sizeof REFUSED - 1 && word.length == 0 && word.is_missing == 1);
+    WANT(roskevad_editor_word_fault_for(ROSKEVAD_ALL_EDITS, REFUSED, sizeof REFUSED - 1, &word, room, sizeof room) == sizeof TOLD - 1 && memcmp(room, TOLD, sizeof TOLD - 1) == 0);
+    WANT(roskevad_editor_word_fault_for(ROSKEVAD_PLAIN_LINES, REFUSED, sizeof REFUSED - 1, &word, room, sizeof room) < 256 && word.place == 2 && word.at == 8 && word.length == 3);
+    WANT(roskevad_editor_word_fault_for(ROSKEVAD_ALL_EDITS, NULL, 0, &word, NULL, 0) == ROSKEVAD_NONE);
+}
+
 /* Lines of which one is refused, on a editor with no document. */
 static void check_lines(roskevad_editor *editor)
 {
@@ -685,6 +722,7 @@ static void run_random(size_t lines)
     check_layouts();
     check_map_faults();
     check_word_faults();
+    check_word_faults_for();
     check_what_lines_did();
     check_all_edits();
     check_lines(&editor);
