@@ -4,7 +4,19 @@ group, groups that are folded, and layers that are hidden or locked, on which no
 import json
 
 from lib.maps import layers_in
-from page.bench import Bench, cell, cells_with, choose, colours_now, layer_of, see_colours, spelled, standing, take_tile
+from page.bench import (
+    Bench,
+    cell,
+    cells_with,
+    choose,
+    colours_now,
+    layer_of,
+    middle_of,
+    see_colours,
+    spelled,
+    standing,
+    take_tile,
+)
 from page.browser import ActionChains, Keys
 
 NEEDS_BROWSER = True
@@ -246,3 +258,104 @@ def test_a_lock():
         page.answer('Unlock it')
         assert spelled(page)[-1] == f'member remove layer:{houses} locked' and page.notices() == []
         assert locked_rows(page) == [] and 'locked' not in layer_of(page, 'Houses')
+
+
+def grouped_town(bench, name):
+    """A copy of the town under another name, in which the object layer Places stands in the group Green, and the
+    Inn has no class."""
+    town = json.loads((bench.folder / 'town.tmj').read_text())
+    green = next(each for each in town['layers'] if each['name'] == 'Green')
+    places = next(each for each in town['layers'] if each['name'] == 'Places')
+    town['layers'].remove(places)
+    green['layers'].append(places)
+    next(each for each in places['objects'] if each['id'] == 2)['type'] = ''
+    (bench.folder / name).write_text(json.dumps(town))
+    return [bench.folder / name, *bench.folder.glob('*.ts?'), *bench.folder.glob('*.png')]
+
+
+def change_nothing(page, words, *acts):
+    """Does what may change nothing of the map; each time the page says why at the hand."""
+    before = page.editor.map()
+    for act in acts:
+        page.js('roskevad.bench.bubble.hide()')
+        act()
+        assert words in page.bubble(), (act, page.bubble())
+        assert not page.texts('dialog[open]') and page.editor.map() == before, act
+
+
+def test_a_lock_bars_tiles():
+    """On a locked layer no tool and no key changes a cell, and what is copied is not pasted there. The map is
+    resized with all that it has."""
+    with Bench() as page:
+        ground = choose(page, 'Ground')
+        take_tile(page, (3, 1))
+        page.click(f'#layers li[data-layer="{ground}"] .lock')
+
+        def drawn(key):
+            return lambda: (page.keys(key), page.drag([(3, 20), (6, 22)]))
+
+        change_nothing(page, 'Ground is locked', *(drawn(key) for key in 'befp'))
+        page.keys('r')
+        page.drag([(3, 20), (4, 21)])
+        keys = (lambda: page.keys(Keys.DELETE), lambda: page.ctrl('x'))
+        change_nothing(page, 'Ground is locked', *keys)
+        page.ctrl('c')
+        page.ctrl('v')
+        change_nothing(page, 'Ground is locked', lambda: page.drag([(8, 8)]))
+        width = page.editor.map()['width']
+        page.click('#resize')
+        page.fill_in(width=width + 2)
+        assert page.editor.map()['width'] == width + 2 and layer_of(page, 'Ground')['locked'] is True
+
+
+def test_a_locked_group_bars_objects():
+    """Of a layer in a locked group no object is dragged, resized, moved by keys, removed, cut, doubled or added."""
+    bench = Bench(empty=True)
+    with bench as page:
+        page.choose_files(*grouped_town(bench, 'grouped.tmj'))
+        green = layer_of(page, 'Green')['id']
+        page.keys('s')
+        page.click('#objects li[data-object="2"]')
+        page.ctrl('c')
+        page.click(f'#layers li[data-layer="{green}"] .lock')
+        x, y = middle_of(page, 2)
+        corner = page.js('const {object} = roskevad.bench.chosenObject, {scale} = roskevad.view; return [object.width * scale / 2, object.height * scale / 2]')
+        far = [x + int(corner[0]), y + int(corner[1])]
+        change_nothing(
+            page,
+            'The group Green is locked',
+            lambda: page.drag_points([[x, y], [x + 30, y + 9], [x + 40, y + 20]]),
+            lambda: page.drag_points([far, [far[0] + 20, far[1] + 20], [far[0] + 30, far[1] + 30]]),
+            lambda: page.keys(Keys.ARROW_RIGHT),
+            lambda: page.keys(Keys.DELETE),
+            lambda: page.ctrl('v'),
+            lambda: page.ctrl('d'),
+            lambda: page.ctrl('x'),
+            lambda: (page.keys('i'), page.drag([(20, 5), (22, 6)])),
+        )
+        assert spelled(page) == [f'member set layer:{green} locked true']
+        page.keys('s')
+        page.click(f'#layers li[data-layer="{green}"] .lock')
+        page.click('#objects li[data-object="2"]')
+        page.keys(Keys.ARROW_RIGHT)
+        assert spelled(page)[-1].startswith('object move 2 ')
+
+
+def test_looks_of_locks():
+    """The lock of a layer that is open is faint until the mouse is at its row. In a locked group each layer shows
+    that it is locked by that, and the lock in its row is its own all the same."""
+    with Bench() as page:
+        houses, cottages, ground = (layer_of(page, name)['id'] for name in ('Houses', 'Cottages', 'Ground'))
+
+        def faint(number):
+            return float(page.js('return getComputedStyle(document.querySelector(`#layers li[data-layer="${arguments[0]}"] .lock .icon`)).opacity', number))
+
+        assert max(faint(number) for number in (houses, cottages, ground)) < 0.4
+        page.click(f'#layers li[data-layer="{houses}"] .lock')
+        assert faint(houses) == 1 and 0.4 < faint(cottages) < 1 and faint(ground) < 0.4
+        lock = f'#layers li[data-layer="{cottages}"] .lock'
+        assert page.find(lock).get_attribute('title') == 'The group Houses is locked. Lock this layer, too'
+        page.click(lock)
+        assert spelled(page)[-1] == f'member set layer:{cottages} locked true' and faint(cottages) == 1
+        assert page.find(lock).get_attribute('title') == 'Unlock this layer. The group Houses stays locked'
+        assert page.texts('#steps li .name')[-2:] == ['Set Member · Houses: locked', 'Set Member · Cottages: locked']

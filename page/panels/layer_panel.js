@@ -3,7 +3,7 @@
 import { ask, button, byId, element } from "./dom.js";
 import { iconButton, showIcon } from "./icons.js";
 import { KINDS } from "../core/kinds.js";
-import { isLocked, lockLine } from "../tools/barred_layers.js";
+import { isLocked, lockLine, lockedGroupOf } from "../tools/barred_layers.js";
 import { LayerDrag } from "./layer_drag.js";
 import { putRows } from "./list_rows.js";
 
@@ -69,10 +69,7 @@ export class LayerPanel {
     showIcon(eye, isShown ? "seen" : "hidden");
     eye.title = isShown ? "Hide this layer" : "Show this layer";
     eye.setAttribute("aria-label", `${isShown ? "Hide" : "Show"} ${layer.data.name}`);
-    showIcon(lock, isLocked(layer) ? "locked" : "unlocked");
-    lock.title = isLocked(layer) ? "Unlock this layer" : "Lock this layer, so that nothing is drawn on it";
-    lock.setAttribute("aria-label", `${isLocked(layer) ? "Unlock" : "Lock"} ${layer.data.name}`);
-    lock.classList.toggle("on", isLocked(layer));
+    this.showLock(lock, layer);
     name.textContent = layer.data.name || "(no name)";
     name.title = layer.data.name;
     kind.textContent = LAYER_KINDS[layer.type] ?? layer.type;
@@ -80,6 +77,17 @@ export class LayerPanel {
     row.classList.toggle("now", layer.id === this.bench.layerId);
     row.classList.toggle("hidden", !layer.isSeen);
     return row;
+  }
+
+  // A layer in a locked group shows that lock, too.
+  showLock(lock, layer) {
+    const [isOn, group] = [isLocked(layer), lockedGroupOf(layer)];
+    showIcon(lock, isOn || group ? "locked" : "unlocked");
+    if (!group) lock.title = isOn ? "Unlock this layer" : "Lock this layer, so that nothing is drawn on it";
+    else lock.title = isOn ? `Unlock this layer. The group ${group.data.name} stays locked` : `The group ${group.data.name} is locked. Lock this layer, too`;
+    lock.setAttribute("aria-label", `${isOn ? "Unlock" : "Lock"} ${layer.data.name}`);
+    lock.classList.toggle("on", isOn);
+    lock.classList.toggle("by-group", Boolean(group));
   }
 
   newRow(id) {

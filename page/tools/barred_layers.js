@@ -19,6 +19,9 @@ export const lockLine = ({ id }, isOn) => (isOn ? memberLine(`layer:${id}`, "loc
 // Whether a layer or a group that it stands in is locked.
 export const isLockedIn = layer => withGroups(layer).some(isLocked);
 
+// The innermost group that is locked and has the layer in it; undefined where there is none.
+export const lockedGroupOf = layer => withGroups(layer.group).find(isLocked);
+
 // Why a layer is barred, in words; "" where it is not.
 export function whyBarred(layer) {
   const nameOf = each => (each === layer ? each.data.name : `The group ${each.data.name}`);
