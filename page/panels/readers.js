@@ -95,8 +95,9 @@ export class Readers {
   nameFields(row) {
     const name = row.querySelector("td span")?.textContent ?? "";
     for (const field of row.querySelectorAll("input, select, textarea")) {
-      const part = field.parentElement.querySelector(".part") && field.previousElementSibling?.textContent;
-      if (!field.placeholder) put(field, { "aria-label": listed(name, part) || "type" });
+      const label = field.closest(".value")?.previousElementSibling;
+      const words = listed(name, label?.matches(".part") && label.textContent, field.type === "range" && "slider") || "type";
+      if (!field.placeholder || name) put(field, { "aria-label": words });
     }
   }
 
