@@ -63,14 +63,14 @@ class Page {
     this.bars = new Bars(this);
     this.tools = new Tools(bench);
     this.documents = new Documents(bench);
-    this.toolbar = new Toolbar(bench, this.tools, this.documents, this.miniMap);
+    this.layers = new LayerPanel(bench);
+    this.toolbar = new Toolbar(bench, this.tools, this.documents, this.miniMap, this.layers);
     this.look = new Look(() => this.view.takeLook());
     this.startPage = new StartPage(bench, this.documents);
     this.miniMap.isBusy = () => bench.isHeld;
     this.palette = new Palette(bench, this.tilesets);
     this.tilesetPanel = new TilesetPanel(bench, this.tilesets, this.palette);
     this.status = new StatusBar(bench, this.tilesets);
-    this.layers = new LayerPanel(bench);
     this.properties = new PropertyPanel(bench);
     this.objects = new ObjectList(bench, this.tools);
     this.steps = new StepPanel(bench);

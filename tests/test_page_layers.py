@@ -18,6 +18,7 @@ from page.bench import (
     take_tile,
 )
 from page.browser import ActionChains, Keys
+from test_page_fields import field_of, type_keys, with_ctrl
 
 NEEDS_BROWSER = True
 IS_LONG = True
@@ -57,6 +58,11 @@ def let_go(page):
     page.settle()
 
 
+def row_fields(page):
+    """What stands in the fields of rows of the list."""
+    return page.js('return [...document.querySelectorAll("#layers .row-field")].map(field => field.value)')
+
+
 def ids_of(layers):
     return [layer['id'] for layer in layers]
 
@@ -76,10 +82,8 @@ def test_double_click():
         choose(page, 'Square')
         choose(page, 'Ground')
         assert page.js('return window.rows.every((row, at) => document.querySelectorAll("#layers li")[at] === row)')
-        page.double_click(
-            lambda: page.find(f'#layers li[data-layer="{square}"] .name'), lambda: page.texts('dialog[open]')
-        )
-        page.fill_in(name='Market place')
+        page.double_click(lambda: page.find(f'#layers li[data-layer="{square}"] .name'), lambda: row_fields(page))
+        type_keys(page, 'Market place', Keys.ENTER)
         assert spelled(page) == [f'layer rename {square} Market place']
         assert page.texts('#layers li.now .name') == ['Market place']
         ActionChains(page.driver).double_click(page.find(f'#layers li[data-layer="{ground}"] .eye')).perform()
@@ -359,3 +363,145 @@ def test_looks_of_locks():
         assert spelled(page)[-1] == f'member set layer:{cottages} locked true' and faint(cottages) == 1
         assert page.find(lock).get_attribute('title') == 'Unlock this layer. The group Houses stays locked'
         assert page.texts('#steps li .name')[-2:] == ['Set Member · Houses: locked', 'Set Member · Cottages: locked']
+
+
+def now(page):
+    return page.js('return roskevad.bench.layerId')
+
+
+def test_layer_above_and_below():
+    """PgUp and PgDn choose the layer in the row above or below, as far as there is one, with Ctrl too; what is
+    under the hand is told of it. In a field, and where another list has the keys, they are for that."""
+    with Bench() as page:
+        ids = page.js('return [...document.querySelectorAll("#layers li")].map(row => Number(row.dataset.layer))')
+        page.click(f'#layers li[data-layer="{ids[0]}"] .name')
+        page.drag([(3, 20)])
+        page.keys(Keys.PAGE_UP)
+        assert now(page) == ids[0]
+        for number in ids[1:4]:
+            page.keys(Keys.PAGE_DOWN)
+            assert now(page) == number and page.texts('#layers .now .name') == [page.js('return roskevad.bench.layer.data.name')]
+            assert page.js('return roskevad.bench.layer.data.name') in page.find('#place').text
+        page.ctrl(Keys.PAGE_UP)
+        assert now(page) == ids[2]
+        page.ctrl(Keys.PAGE_DOWN)
+        assert now(page) == ids[3] and page.texts('#owner') == [f'Layer {layer_named(page, ids[3])}']
+        field_of(page, ' offsetx').click()
+        type_keys(page, Keys.PAGE_DOWN)
+        assert now(page) == ids[3]
+        page.js('document.querySelector("#steps li").focus()')
+        type_keys(page, Keys.PAGE_DOWN)
+        assert now(page) == ids[3]
+        page.js('document.querySelector("#layers .now").focus()')
+        type_keys(page, Keys.PAGE_DOWN)
+        assert now(page) == ids[4] and not spelled(page)
+        page.keys(Keys.F1)
+        assert {'PgUp, Ctrl+PgUp', 'PgDn, Ctrl+PgDn'} <= set(page.texts('#keys th'))
+        page.press('dialog button', 'Close')
+
+
+def layer_named(page, number):
+    return next(layer['name'] for layer in layers_in(page.editor.map()['layers']) if layer['id'] == number)
+
+
+def test_the_current_layer():
+    """The name of the current layer is the only bold one, as light and dark."""
+    with Bench() as page:
+        choose(page, 'Cottages')
+        weights = 'return [...document.querySelectorAll("#layers .name, #steps .name")].filter(name => getComputedStyle(name).fontWeight > 400).map(name => name.textContent)'
+        assert page.js(weights) == ['Cottages']
+
+
+def test_new_layers():
+    """A new layer is named in a row above the current one, and added there with its name as one step; above the
+    group, where the current one stands in one; Escape adds none, and Enter takes the name that is proposed."""
+    with Bench() as page:
+        make_room(page)
+        town = page.editor.map()
+        number, names = town['nextlayerid'], page.texts('#layers .name')
+        choose(page, 'Ground')
+        page.click('#add-tile-layer')
+        count = sum(layer['type'] == 'tilelayer' for layer in layers_in(town['layers']))
+        assert row_fields(page) == [f'Tile Layer {count + 1}'] and not page.texts('dialog[open]')
+        rows = page.js('return [...document.querySelectorAll("#layers li")].map(row => row.dataset.layer ?? "new")')
+        assert rows[-2:] == ['new', str(town['layers'][0]['id'])]
+        type_keys(page, Keys.ESCAPE)
+        assert not row_fields(page) and not spelled(page) and page.texts('#layers .name') == names
+        page.click('#add-tile-layer')
+        type_keys(page, 'Paths', Keys.ENTER)
+        assert spelled(page) == ['begin Add Layer || add layer', 'layer add tile Paths', f'layer move {number} 1', 'end'], spelled(page)
+        assert standing(page) == (1, 1) and ids_of(page.editor.map()['layers'])[:2] == [town['layers'][0]['id'], number]
+        assert now(page) == number and page.texts('#layers .name') == [*names[:-1], 'Paths', 'Ground']
+        assert page.find('#bubble').get_attribute('hidden')
+        page.ctrl('z')
+        assert page.editor.map() == {**town, 'nextlayerid': number} and page.texts('#layers .name') == names
+        # In a group, above all of that.
+        choose(page, 'Cottages')
+        page.click('#add-object-layer')
+        type_keys(page, Keys.ENTER)
+        at = page.editor.map()['layers'].index(layer_of(page, 'Object Layer 3'))
+        assert page.editor.map()['layers'][at - 1]['name'] == 'Houses' and standing(page) == (1, 1)
+        # On top of all one line is enough.
+        page.click(f'#layers li[data-layer="{town["layers"][-1]["id"]}"] .name')
+        page.click('#add-group-layer')
+        type_keys(page, 'Clouds', Keys.ENTER)
+        assert spelled(page)[-1] == 'layer add group Clouds' and standing(page) == (2, 2)
+        assert page.editor.map()['layers'][-1]['name'] == 'Clouds'
+
+
+def test_a_press_behind_a_new_layer():
+    """A press on the map adds the layer that is being named, and is on it."""
+    with Bench() as page:
+        choose(page, 'Ground')
+        take_tile(page, (3, 1))
+        number = page.editor.map()['nextlayerid']
+        page.click('#add-tile-layer')
+        type_keys(page, 'Marks')
+        page.drag([(3, 20), (5, 20)])
+        assert layer_of(page, 'Marks')['id'] == number == now(page)
+        assert spelled(page)[-2:] == [f'stamp {number} 3 20 1 12', f'stamp+ {number} 4 20 1 12,12'] or cells_with(page, 'Marks', 12) == {(3, 20), (4, 20), (5, 20)}
+        assert standing(page) == (2, 2)
+
+
+def test_rename_in_the_row():
+    """A layer is renamed in its row: Enter and leaving the row set the name, Escape leaves the old one; what is
+    refused stays, marked; a name that is no other one is no step."""
+    with Bench() as page:
+        ground = choose(page, 'Ground')
+        page.js('document.querySelector("#layers .now").focus()')
+        type_keys(page, Keys.F2)
+        assert row_fields(page) == ['Ground']
+        type_keys(page, 'Floor', Keys.ESCAPE)
+        assert not row_fields(page) and not spelled(page) and page.texts('#layers .now .name') == ['Ground']
+        assert page.js('return document.activeElement === document.querySelector("#layers .now")'), 'the keys stay in the list'
+        page.click('#rename-layer')
+        type_keys(page, Keys.ENTER)
+        assert not row_fields(page) and not spelled(page)
+        page.click('#rename-layer')
+        type_keys(page, 'x' * 201, Keys.ENTER)
+        assert row_fields(page) == ['x' * 201] and '200' in page.texts('#layers .fault')[0] and not spelled(page)
+        with_ctrl(page, 'a')
+        type_keys(page, 'Floor', Keys.ENTER)
+        assert spelled(page) == [f'layer rename {ground} Floor'] and not page.texts('#layers .fault')
+        page.click('#rename-layer')
+        type_keys(page, 'Soil')
+        page.click('#of-map')
+        assert spelled(page)[-1] == f'layer rename {ground} Soil' and not row_fields(page)
+        page.click('#rename-layer')
+        type_keys(page, 'So')
+        with_ctrl(page, 'z')
+        assert row_fields(page) == ['Soil'] and len(spelled(page)) == 2
+        type_keys(page, Keys.DELETE, Keys.ENTER)
+        assert spelled(page)[-1] == f'member set layer:{ground} name ""' and page.texts('#layers .now .name') == ['(no name)']
+
+
+def test_raise_and_lower():
+    """Where a layer is the highest or the lowest one of its group the button for that is grey, and says so."""
+    with Bench() as page:
+        top = page.editor.map()['layers']
+        for name, up, down in ((top[-1]['name'], False, True), ('Ground', True, False), ('Cottages', False, True)):
+            choose(page, name)
+            assert [page.find(css).is_enabled() for css in ('#layer-up', '#layer-down')] == [up, down], name
+        assert page.find('#layer-up').get_attribute('title') == 'It is the highest layer of its group already'
+        page.click('#layer-down')
+        assert page.find('#layer-up').is_enabled() and spelled(page) == [f'layer move {now(page)} 1']

@@ -58,6 +58,8 @@ export class Readers {
     // What is said at the hand is told here, in a part that always stands there.
     new MutationObserver(() => this.say(byId("bubble").textContent)).observe(byId("bubble"), { childList: true });
     bench.editor.addEventListener("state", () => this.nameMap());
+    // A row of the list that has the focus is told by that.
+    bench.addEventListener("layer chosen", () => document.activeElement.closest("#layers") || this.say(`Layer ${bench.layer?.data.name ?? ""}`));
     document.addEventListener("keydown", event => this.press(event));
   }
 

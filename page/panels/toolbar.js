@@ -17,7 +17,7 @@ const TOOLS = [
 const LARGEST_BRUSH = 9;
 
 export class Toolbar {
-  constructor(bench, tools, documents, miniMap) {
+  constructor(bench, tools, documents, miniMap, layers) {
     Object.assign(this, { bench, tools, documents, miniMap, editor: bench.editor });
     const buttonOf = ([name, text, key, title]) => iconButton(name, text, `${text} (${key}): ${title}`, () => tools.choose(name), { id: `tool-${name}` });
     byId("tools").append(...TOOLS.map(buttonOf));
@@ -47,7 +47,7 @@ export class Toolbar {
       event.target.blur();
     };
     bench.addEventListener("tool", () => this.show());
-    this.keys = new Keys({ bench, tools, toolbar: this, documents, view: bench.view, clips, stamps: new KeptStamps(bench, tools) });
+    this.keys = new Keys({ bench, tools, toolbar: this, documents, layers, view: bench.view, clips, stamps: new KeptStamps(bench, tools) });
   }
 
   show() {

@@ -79,6 +79,8 @@ export class Tools {
     this.drawnUpTo = -Infinity;
     this.viewHand = new ViewHand(bench.view, event => this.down(event), () => this.cancel());
     this.listen(bench.view.box);
+    // What is shown under the hand is about the layer that is chosen.
+    bench.addEventListener("layer chosen", () => this.showHand(bench.place));
   }
 
   get now() {
