@@ -133,7 +133,8 @@ def test_keys_in_the_fields():
         assert spelled(page)[-1] == f'member set layer:{ground} offsetx 5'
         with_ctrl(page, 'z')
         assert value_of(page, ' offsetx') == '4' and standing(page) == (1, 2)
-        for name, typed, why in ((' opacity', '2', 'from 0 to 1'), (' opacity', '-1', 'from 0 to 1'), (' offsety', 'up', 'number'), (' tintcolor', 'red', '#rrggbb')):
+        wrong = [(' opacity', '2', 'from 0 to 1'), (' opacity', '-1', 'from 0 to 1'), (' offsety', 'up', 'number'), (' tintcolor', 'red', '#rrggbb')]
+        for name, typed, why in wrong:
             put(page, name, typed)
             [fault] = faults(page)
             assert why in fault and value_of(page, name) == typed, (name, fault)
@@ -155,7 +156,8 @@ def test_fractions():
         shown = {' opacity': '0.5', ' offsetx': '2.5', ' parallaxy': '0.25', ' tintcolor': '#80ff8000'}
         assert {name: value_of(page, name) for name in shown} == shown
         assert float(slider(page).get_attribute('value')) == 0.5 and not any(is_grey(page, name) for name in shown)
-        for name, typed, wanted in ((' opacity', '0.75', '0 or 1'), (' opacity', '0,75', '0 or 1'), (' offsetx', '3.5', '3 or 4'), (' parallaxx', '-.5', '-1 or 0')):
+        wrong = [(' opacity', '0.75', '0 or 1'), (' opacity', '0,75', '0 or 1'), (' offsetx', '3.5', '3 or 4'), (' parallaxx', '-.5', '-1 or 0')]
+        for name, typed, wanted in wrong:
             put(page, name, typed)
             assert faults(page) == [f'{wanted}: only whole values can be set today'] and value_of(page, name) == typed
             field_of(page, name).send_keys(Keys.ESCAPE)
@@ -175,8 +177,10 @@ def test_fractions():
 def test_fractions_are_sent_where_they_are_taken():
     """Where the editor takes fractions, the fields send them as they are typed."""
     with Bench() as page:
-        page.js('roskevad.editor.hasFractions = true')
-        page.js('const {editor} = roskevad; window.sent = []; editor.doLines = lines => (window.sent.push(...lines), {replies: [], count: 1, isAccepted: true, told: {}})')
+        page.js('''const {editor} = roskevad, done = {replies: [], count: 1, isAccepted: true, told: {}};
+                   window.sent = [];
+                   editor.hasFractions = true;
+                   editor.doLines = lines => (window.sent.push(...lines), done)''')
         ground = choose(page, 'Ground')
         for name, typed in ((' opacity', '0,5'), (' offsetx', '-2.50'), (' parallaxx', '.3')):
             put(page, name, typed)

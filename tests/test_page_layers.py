@@ -405,11 +405,12 @@ def layer_named(page, number):
 
 
 def test_the_current_layer():
-    """The name of the current layer is the only bold one, as light and dark."""
+    """The name of the current layer is the only bold one."""
     with Bench() as page:
         choose(page, 'Cottages')
-        weights = 'return [...document.querySelectorAll("#layers .name, #steps .name")].filter(name => getComputedStyle(name).fontWeight > 400).map(name => name.textContent)'
-        assert page.js(weights) == ['Cottages']
+        bold = '''const all = [...document.querySelectorAll("#layers .name, #steps .name")];
+                  return all.filter(name => getComputedStyle(name).fontWeight > 400).map(name => name.textContent)'''
+        assert page.js(bold) == ['Cottages']
 
 
 def test_new_layers():
@@ -505,3 +506,68 @@ def test_raise_and_lower():
         assert page.find('#layer-up').get_attribute('title') == 'It is the highest layer of its group already'
         page.click('#layer-down')
         assert page.find('#layer-up').is_enabled() and spelled(page) == [f'layer move {now(page)} 1']
+
+
+TILE_TOOLS, OBJECT_TOOLS = ['brush', 'eraser', 'fill', 'rectangle'], ['objects', 'insert']
+
+
+def grey_tools(page):
+    return page.js('return [...document.querySelectorAll("#tools .off")].map(button => button.id.slice(5))')
+
+
+def title_of(page, tool):
+    return page.find(f'#tool-{tool}').get_attribute('title')
+
+
+def test_tools_of_layers():
+    """A tool that cannot act on the current layer is grey, and its title says why; it stays in hand, and acts on
+    the next layer that it is for."""
+    with Bench() as page:
+        choose(page, 'Ground')
+        assert grey_tools(page) == ['insert'] and 'Choose an object layer first.' in title_of(page, 'insert')
+        assert title_of(page, 'brush').startswith('Brush (B): Draw')
+        choose(page, 'Places')
+        assert grey_tools(page) == TILE_TOOLS
+        assert title_of(page, 'fill') == 'Fill (F): Places has objects and no tiles. Choose a tile layer to draw.'
+        choose(page, 'Houses')
+        assert grey_tools(page) == [*TILE_TOOLS, 'insert'] and 'Houses is a group' in title_of(page, 'brush')
+        faint = page.js('return [...document.querySelectorAll("#tools .icon")].map(icon => Number(getComputedStyle(icon).opacity) < 0.6)')
+        assert faint == [True] * 4 + [False, False, True]
+        page.keys('f')
+        choose(page, 'Ground')
+        assert page.js('return roskevad.tools.name') == 'fill' and grey_tools(page) == ['insert']
+        # Of a map without objects.
+        page.click('#new')
+        page.fill_in(name='field', width='8', height='7')
+        assert grey_tools(page) == OBJECT_TOOLS and 'This map has no objects' in title_of(page, 'objects')
+        assert "'Add an object layer'" in title_of(page, 'insert')
+        page.click('#add-object-layer')
+        type_keys(page, Keys.ENTER)
+        assert grey_tools(page) == TILE_TOOLS
+        page.ctrl('z')
+        assert grey_tools(page) == OBJECT_TOOLS
+
+
+def test_tools_of_maps():
+    """A map opens with a tool that its layer takes; each map has its own again behind a change of tab."""
+    bench = Bench(empty=True)
+    with bench as page:
+        town = json.loads((bench.folder / 'town.tmj').read_text())
+        town['layers'] = [layer for layer in town['layers'] if layer['type'] == 'objectgroup']
+        (bench.folder / 'places.tmj').write_text(json.dumps(town))
+        name = 'return roskevad.tools.name'
+        files = [*bench.folder.glob('*.ts?'), *bench.folder.glob('*.png')]
+        page.choose_files(*files, bench.folder / 'town.tmj')
+        page.keys('p')
+        page.choose_files(bench.folder / 'places.tmj')
+        assert page.js(name) == 'objects' and grey_tools(page) == TILE_TOOLS
+        page.keys('i')
+        page.choose_files(bench.folder / 'house.tmj')
+        assert page.js(name) == 'brush'
+        page.keys('e')
+        page.click('#new')
+        page.fill_in(name='field', width='8', height='7')
+        assert page.js(name) == 'eraser', 'it takes that'
+        for document, tool in (('town', 'rectangle'), ('places', 'insert'), ('house', 'eraser')):
+            page.click(f'.tab[data-document="{document}"]')
+            assert page.js(name) == tool, document

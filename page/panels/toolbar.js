@@ -4,6 +4,7 @@ import { Clips, KeptStamps } from "../tools/clips.js";
 import { byId, element, onEnter } from "./dom.js";
 import { iconButton, showIcon } from "./icons.js";
 import { Keys } from "../tools/keys.js";
+import { whyNotOn } from "../tools/layer_tools.js";
 
 const TOOLS = [
   ["brush", "Brush", "B", "Draw with the stamp; the right button takes tiles from the map; Shift draws a line from the last cell"],
@@ -52,7 +53,7 @@ export class Toolbar {
 
   show() {
     const { state } = this.editor;
-    for (const [name] of TOOLS) byId(`tool-${name}`).classList.toggle("on", name === this.tools.name);
+    this.showTools();
     byId("undo").disabled = state.index === 0 || state.depth > 0;
     byId("redo").disabled = state.index === state.count || state.depth > 0;
     const why = state.depth > 0 ? "End the macro first: what is in it is one step. " : "";
@@ -62,6 +63,19 @@ export class Toolbar {
     byId("turn-names").classList.toggle("on", this.bench.overlay.hasNames);
     byId("grid").classList.toggle("on", this.bench.overlay.hasGrid);
     byId("brush-size").value = String(this.bench.brushSize);
+  }
+
+  // A tool that cannot act on the layer in hand is grey, and says why.
+  showTools() {
+    const { map, layer } = this.bench;
+    for (const [name, text, key, words] of TOOLS) {
+      const shown = byId(`tool-${name}`);
+      const why = whyNotOn(name, map, layer);
+      const title = `${text} (${key}): ${why || words}`;
+      shown.classList.toggle("on", name === this.tools.name);
+      shown.classList.toggle("off", why !== "");
+      if (shown.title !== title) shown.title = title;
+    }
   }
 
   // A macro that is open is told in letters.
