@@ -85,6 +85,7 @@ def test_fields_of_each_kind():
             assert spelled(page)[-1] == line.format(ground), name
             step = way if '·' in way else f'Set Member · The "floor": {way}'
             assert page.texts('#steps li .name')[-1] == step and not is_grey(page, name), name
+            assert name != ' offsetx' or is_grey(page, ' offsety')
         for name, line in ((' visible', 'layer show {} no'), (' locked', 'member set layer:{} locked true')):
             field_of(page, name).click()
             page.settle()

@@ -400,6 +400,24 @@ def test_layer_above_and_below():
         page.press('dialog button', 'Close')
 
 
+def test_in_a_folded_group():
+    """From a layer in a folded group PgDn goes on behind the group, and a rename shows its row."""
+    with Bench() as page:
+        cottages, houses = choose(page, 'Cottages'), layer_of(page, 'Houses')['id']
+        fold = f'#layers li[data-layer="{houses}"] .fold'
+        page.click(fold)
+        page.keys(Keys.PAGE_DOWN)
+        assert page.texts('#layers .now .name') == ['Ground']
+        page.keys(Keys.PAGE_UP)
+        assert now(page) == houses
+        page.click(fold)
+        choose(page, 'Cottages')
+        page.click(fold)
+        page.click('#rename-layer')
+        type_keys(page, 'Huts', Keys.ENTER)
+        assert spelled(page) == [f'layer rename {cottages} Huts'] and page.texts('#layers .now .name') == ['Huts']
+
+
 def layer_named(page, number):
     return next(layer['name'] for layer in layers_in(page.editor.map()['layers']) if layer['id'] == number)
 
@@ -448,6 +466,18 @@ def test_new_layers():
         type_keys(page, 'Clouds', Keys.ENTER)
         assert spelled(page)[-1] == 'layer add group Clouds' and standing(page) == (2, 2)
         assert page.editor.map()['layers'][-1]['name'] == 'Clouds'
+
+
+def test_a_layer_too_many():
+    """Where the map has all layers that it can have, the name of another one is marked, with why; none is added."""
+    with Bench() as page:
+        page.editor.lines(*['layer add tile More'] * 250)
+        lines = len(spelled(page))
+        page.click('#add-tile-layer')
+        type_keys(page, 'One more', Keys.ENTER)
+        assert row_fields(page) == ['One more'] and page.texts('#layers .fault') == ['A map has at most 256 layers.']
+        type_keys(page, Keys.ESCAPE)
+        assert not row_fields(page) and len(spelled(page)) == lines and not page.texts('#layers .fault')
 
 
 def test_a_press_behind_a_new_layer():
@@ -506,6 +536,15 @@ def test_raise_and_lower():
         assert page.find('#layer-up').get_attribute('title') == 'It is the highest layer of its group already'
         page.click('#layer-down')
         assert page.find('#layer-up').is_enabled() and spelled(page) == [f'layer move {now(page)} 1']
+
+
+def test_remove():
+    """Behind a layer that is removed the one below is the current one, or else the one above, or the group."""
+    with Bench() as page:
+        for name, next_name in (('Cottages', 'Smithy'), ('Inn', 'Smithy'), ('Smithy', 'Houses'), ('Ground', 'Houses')):
+            number = choose(page, name)
+            page.click('#remove-layer')
+            assert spelled(page)[-1] == f'layer remove {number}' and page.texts('#layers .now .name') == [next_name], name
 
 
 TILE_TOOLS, OBJECT_TOOLS = ['brush', 'eraser', 'fill', 'rectangle'], ['objects', 'insert']

@@ -10,6 +10,7 @@ import { renameLine } from "../core/member_lines.js";
 import { saidOf } from "../core/refusals.js";
 import { RowField } from "./row_field.js";
 import { whyNotNamed } from "../core/unsupported_edits.js";
+import { MAX_LAYERS } from "../../js/limits.js";
 
 const LAYER_KINDS = { tilelayer: "tiles", objectgroup: "objects", imagelayer: "image", group: "group" };
 // The kinds of layers that are added, in the order of Tiled's menu: their type, the words for each, and the name that is proposed.
@@ -182,14 +183,17 @@ export class LayerPanel {
     if (!layer) return;
     const why = whyNotNamed(layer.data.name);
     if (why) return void this.bench.say(`This name is not changed here. ${why}`);
+    this.unfoldChosen();
+    this.renew();
     const row = this.rows.get(layer.id);
+    if (row.classList.contains("naming")) return;
     const before = layer.data.name;
     const take = name => (name === before ? "" : this.doNow([renameLine(layer, name)]));
     const field = new RowField(before, KINDS.label, take, () => {
       row.classList.remove("naming");
       for (const each of row.querySelectorAll(".row-field, .fault")) each.remove();
     });
-    if (!row.classList.contains("naming")) this.nameIn(row, field);
+    this.nameIn(row, field);
   }
 
   // A new layer is named in a row of its own, and added with that name. Escape adds none.
@@ -221,6 +225,7 @@ export class LayerPanel {
   // Adds a layer above the one in hand, or above the group in which that stands, as one step. Gives "", or why that is refused.
   addNow(kind, name) {
     const { map } = this.bench;
+    if (map.layers.length >= MAX_LAYERS) return `A map has at most ${MAX_LAYERS} layers.`;
     const [id, below] = [map.data.nextlayerid, outermost(this.bench.layer)];
     const isOnTop = !below || below.place === below.siblings - 1;
     const lines = [`layer add ${kind} ${name}`, ...(isOnTop ? [] : [`layer move ${id} ${below.place + 1}`])];
@@ -229,8 +234,17 @@ export class LayerPanel {
     return why;
   }
 
-  remove() {
-    if (this.bench.layer) this.bench.act([`layer remove ${this.bench.layerId}`]);
+  // Behind it the layer below is the current one, or else the one above, or the group that had it.
+  async remove() {
+    const { bench } = this;
+    const { layer, map } = bench;
+    if (!layer) return;
+    const beside = by => map.layers.find(each => each.group === layer.group && each.place === layer.place + by);
+    const next = beside(-1) ?? beside(1) ?? layer.group;
+    const done = await bench.act([`layer remove ${layer.id}`]);
+    if (!done.isAccepted || !next) return;
+    bench.layerId = next.id;
+    bench.settle();
   }
 
   // Among the layers of its group.
@@ -247,7 +261,10 @@ export class LayerPanel {
   // Chooses the layer in the row above, by -1, or below.
   step(by) {
     const { bench, listed } = this;
-    const layer = bench.map && listed[Math.max(0, Math.min(listed.length - 1, listed.indexOf(bench.layer) + by))];
+    let from = bench.layer;
+    // Of a layer in a folded group, the row of that group.
+    while (from && !listed.includes(from)) from = from.group;
+    const layer = from && listed[Math.max(0, Math.min(listed.length - 1, listed.indexOf(from) + by))];
     if (layer) bench.chooseLayer(layer.id);
   }
 }

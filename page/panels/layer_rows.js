@@ -21,6 +21,8 @@ const TINT = orNothing(KINDS.colour);
 // The line that gives a member of a layer a value.
 const lineFor = (word, member, value) => (value === USUAL[member] && !WRITTEN.has(member) ? memberRemoval(word, member) : memberLine(word, member, value));
 
+const isUsual = ({ member, value, usual = USUAL[member] }) => value === String(usual);
+
 // A colour of a file, as fields have it.
 const spelledColour = colour => `#${colour.replace("#", "").toLowerCase()}`;
 
@@ -48,14 +50,15 @@ export class LayerRows {
     ];
   }
 
-  // A row with the fields of some parts: { member, value, label, field }, of which `field()` makes the field.
+  // A row with the fields of some parts: { member, value, usual, label, field }, of which `field()` makes the field.
   row(word, name, title, parts, more = []) {
     const made = this.panel.kept(` ${word} ${name}`, parts.map(part => part.value), () => {
       const fields = parts.map(part => part.field());
       parts.forEach((part, at) => Object.assign(fields[at].input.dataset, { key: ` ${part.member}`, owner: word }));
       return { element: rowOf(name, "", title, cellOf(fields, parts.map(part => part.label), 2 - more.length), ...more.map(each => each())), fields };
     });
-    made.element.classList.toggle("usual", parts.every(part => part.value === String(part.usual ?? USUAL[part.member])));
+    parts.forEach((part, at) => made.fields[at].box.classList.toggle("usual", isUsual(part)));
+    made.element.classList.toggle("usual", parts.every(isUsual));
     return made;
   }
 
@@ -68,7 +71,7 @@ export class LayerRows {
     const why = whyNotNamed(value);
     if (why) return this.panel.fact("name", value, why);
     const field = () => textField(KINDS.label, value, text => this.panel.send(renameLine(layer, text)));
-    return this.row(word, "name", "", [{ member: "name", value, usual: null, field }]);
+    return this.row(word, "name", "", [{ member: "name", value, usual: "", field }]);
   }
 
   checkPart(member, isOn, usual, lineOf, label = "") {
