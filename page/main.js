@@ -38,6 +38,7 @@ import { TilesetPanel } from "./panels/tileset_panel.js";
 import { Tilesets } from "./view/tilesets.js";
 import { Toolbar } from "./panels/toolbar.js";
 import { Tools } from "./tools/tools.js";
+import { toolFor } from "./tools/layer_tools.js";
 
 // How many milliseconds a drawing is waited for.
 const LONGEST_DRAWING = 2000;
@@ -63,14 +64,14 @@ class Page {
     this.bars = new Bars(this);
     this.tools = new Tools(bench);
     this.documents = new Documents(bench);
-    this.toolbar = new Toolbar(bench, this.tools, this.documents, this.miniMap);
+    this.layers = new LayerPanel(bench);
+    this.toolbar = new Toolbar(bench, this.tools, this.documents, this.miniMap, this.layers);
     this.look = new Look(() => this.view.takeLook());
     this.startPage = new StartPage(bench, this.documents);
     this.miniMap.isBusy = () => bench.isHeld;
     this.palette = new Palette(bench, this.tilesets);
     this.tilesetPanel = new TilesetPanel(bench, this.tilesets, this.palette);
     this.status = new StatusBar(bench, this.tilesets);
-    this.layers = new LayerPanel(bench);
     this.properties = new PropertyPanel(bench);
     this.objects = new ObjectList(bench, this.tools);
     this.steps = new StepPanel(bench);
@@ -135,7 +136,7 @@ class Page {
     if (isOther) this.view.images.forget();
     // Where the map of a document cannot be shown, no hand is on it.
     this.view.box.inert = active !== null && !this.editor.map;
-    if (isOther && !kept) this.view.fit();
+    if (isOther && !kept) this.showFirst();
     this.view.takeMap(isOther ? null : parts);
     this.showNotDrawn();
     this.overlay.redraw();
@@ -146,6 +147,14 @@ class Page {
     const words = kept?.stamp ? whyKept : why;
     // What is said of the lines that have led here comes first.
     if (words) await this.editor.during(new Promise(done => setTimeout(() => done(this.bench.say(words)))));
+  }
+
+  // Shows a map for the first time: all of it, with a tool that its layer takes.
+  showFirst() {
+    const { bench, tools } = this;
+    this.view.fit();
+    const name = toolFor(bench.layer, tools.name);
+    if (name !== tools.name) tools.choose(name);
   }
 
   // Objects of the map have come, gone or changed, each from what it was before.
@@ -197,6 +206,7 @@ class Page {
   }
 
   showChosen() {
+    this.toolbar.showTools();
     this.layers.show();
     this.properties.show();
   }

@@ -8,7 +8,7 @@ import re
 
 from lib.cases import passed
 from lib.lines_at_fault import FOR_ALL_EDITS
-from lib.maps import layers_in, objects_in
+from lib.maps import objects_in
 from lib.refusals import refusal
 from page.bench import Bench, choose, layer_of, middle_of, object_of, spelled, standing
 from page.browser import ActionChains, Keys
@@ -415,12 +415,11 @@ def test_dialogs():
     """A dialog selects its text, stays open on a refusal, and marks the field at fault; what was
     typed stays."""
     with Bench() as page:
-        page.find('#add-tile-layer').click()
-        page.wait(lambda: page.texts('dialog[open]'), 'a dialog')
-        type_keys(page, 'Deco', Keys.ENTER)
-        assert spelled(page) == ['layer add tile Deco']
         page.find('#new').click()
-        page.fill_in(name='my map')
+        page.wait(lambda: page.texts('dialog[open]'), 'a dialog')
+        type_keys(page, 'my map')
+        assert page.find('dialog [name=name]').get_attribute('value') == 'my map'
+        page.fill_in()
         assert page.texts('dialog[open]') and '1 to 64' in page.find('dialog .fault').text
         page.fill_in(name='town')
         assert 'name taken' in page.find('dialog .fault').text, page.texts('dialog .fault')
@@ -442,10 +441,3 @@ def test_dialogs():
         page.fill_in('Cancel')
         page.click('#macro')
         assert 'End the macro first' in page.find('#undo').get_attribute('title')
-        choose(page, 'Tile Layer 1')
-        page.find('#rename-layer').click()
-        page.wait(lambda: page.texts('dialog[open]'), 'a dialog')
-        type_keys(page, Keys.DELETE, Keys.ENTER)
-        assert 'not empty' in page.find('dialog .fault').text
-        type_keys(page, 'Floor', Keys.ENTER)
-        assert [layer['name'] for layer in layers_in(page.editor.map()['layers'])] == ['Floor']

@@ -66,6 +66,7 @@ def test_list_of_keys():
         digits = {f'{held}{digit}' for held in ('', 'Ctrl+', 'Shift+') for digit in range(1, 10)}
         single = {key for key in bound if 'arrow' not in key} - digits
         names = {'escape': 'Esc', 'delete': 'Del', 'backspace': 'Backspace', 'f1': 'F1'}
+        names |= {f'{held}{key}': f'{held}{name}' for held in ('', 'Ctrl+') for key, name in (('pageup', 'PgUp'), ('pagedown', 'PgDn'))}
         listed = {key for row in told for key in row.split(', ')}
         missing = [key for key in single if not listed & {names.get(key, key), key.title(), key.upper(), f'{key[:-1]}{key[-1].upper()}'}]
         assert not missing, missing
@@ -350,7 +351,7 @@ def test_lists_by_keys():
         press(page, Keys.ARROW_DOWN)
         assert focused(page) == 'Houses, group', 'the group Green is folded'
         press(page, Keys.F2)
-        assert page.find('dialog h2').text == 'Rename a layer'
+        assert focused(page) == 'name' and not page.texts('dialog[open]')
         press(page, Keys.ESCAPE)
         assert focused(page) == 'Houses, group'
         take_tile(page, (3, 0))

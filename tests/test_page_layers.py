@@ -4,8 +4,21 @@ group, groups that are folded, and layers that are hidden or locked, on which no
 import json
 
 from lib.maps import layers_in
-from page.bench import Bench, cell, cells_with, choose, colours_now, layer_of, see_colours, spelled, standing, take_tile
+from page.bench import (
+    Bench,
+    cell,
+    cells_with,
+    choose,
+    colours_now,
+    layer_of,
+    middle_of,
+    see_colours,
+    spelled,
+    standing,
+    take_tile,
+)
 from page.browser import ActionChains, Keys
+from test_page_fields import field_of, type_keys, with_ctrl
 
 NEEDS_BROWSER = True
 IS_LONG = True
@@ -45,6 +58,11 @@ def let_go(page):
     page.settle()
 
 
+def row_fields(page):
+    """What stands in the fields of rows of the list."""
+    return page.js('return [...document.querySelectorAll("#layers .row-field")].map(field => field.value)')
+
+
 def ids_of(layers):
     return [layer['id'] for layer in layers]
 
@@ -64,10 +82,8 @@ def test_double_click():
         choose(page, 'Square')
         choose(page, 'Ground')
         assert page.js('return window.rows.every((row, at) => document.querySelectorAll("#layers li")[at] === row)')
-        page.double_click(
-            lambda: page.find(f'#layers li[data-layer="{square}"] .name'), lambda: page.texts('dialog[open]')
-        )
-        page.fill_in(name='Market place')
+        page.double_click(lambda: page.find(f'#layers li[data-layer="{square}"] .name'), lambda: row_fields(page))
+        type_keys(page, 'Market place', Keys.ENTER)
         assert spelled(page) == [f'layer rename {square} Market place']
         assert page.texts('#layers li.now .name') == ['Market place']
         ActionChains(page.driver).double_click(page.find(f'#layers li[data-layer="{ground}"] .eye')).perform()
@@ -246,3 +262,351 @@ def test_a_lock():
         page.answer('Unlock it')
         assert spelled(page)[-1] == f'member remove layer:{houses} locked' and page.notices() == []
         assert locked_rows(page) == [] and 'locked' not in layer_of(page, 'Houses')
+
+
+def grouped_town(bench, name):
+    """A copy of the town under another name, in which the object layer Places stands in the group Green, and the
+    Inn has no class."""
+    town = json.loads((bench.folder / 'town.tmj').read_text())
+    green = next(each for each in town['layers'] if each['name'] == 'Green')
+    places = next(each for each in town['layers'] if each['name'] == 'Places')
+    town['layers'].remove(places)
+    green['layers'].append(places)
+    next(each for each in places['objects'] if each['id'] == 2)['type'] = ''
+    (bench.folder / name).write_text(json.dumps(town))
+    return [bench.folder / name, *bench.folder.glob('*.ts?'), *bench.folder.glob('*.png')]
+
+
+def change_nothing(page, words, *acts):
+    """Does what may change nothing of the map; each time the page says why at the hand."""
+    before = page.editor.map()
+    for act in acts:
+        page.js('roskevad.bench.bubble.hide()')
+        act()
+        assert words in page.bubble(), (act, page.bubble())
+        assert not page.texts('dialog[open]') and page.editor.map() == before, act
+
+
+def test_a_lock_bars_tiles():
+    """On a locked layer no tool and no key changes a cell, and what is copied is not pasted there. The map is
+    resized with all that it has."""
+    with Bench() as page:
+        ground = choose(page, 'Ground')
+        take_tile(page, (3, 1))
+        page.click(f'#layers li[data-layer="{ground}"] .lock')
+
+        def drawn(key):
+            return lambda: (page.keys(key), page.drag([(3, 20), (6, 22)]))
+
+        change_nothing(page, 'Ground is locked', *(drawn(key) for key in 'befp'))
+        page.keys('r')
+        page.drag([(3, 20), (4, 21)])
+        keys = (lambda: page.keys(Keys.DELETE), lambda: page.ctrl('x'))
+        change_nothing(page, 'Ground is locked', *keys)
+        page.ctrl('c')
+        page.ctrl('v')
+        change_nothing(page, 'Ground is locked', lambda: page.drag([(8, 8)]))
+        width = page.editor.map()['width']
+        page.click('#resize')
+        page.fill_in(width=width + 2)
+        assert page.editor.map()['width'] == width + 2 and layer_of(page, 'Ground')['locked'] is True
+
+
+def test_a_locked_group_bars_objects():
+    """Of a layer in a locked group no object is dragged, resized, moved by keys, removed, cut, doubled or added."""
+    bench = Bench(empty=True)
+    with bench as page:
+        page.choose_files(*grouped_town(bench, 'grouped.tmj'))
+        green = layer_of(page, 'Green')['id']
+        page.keys('s')
+        page.click('#objects li[data-object="2"]')
+        page.ctrl('c')
+        page.click(f'#layers li[data-layer="{green}"] .lock')
+        x, y = middle_of(page, 2)
+        corner = page.js('const {object} = roskevad.bench.chosenObject, {scale} = roskevad.view; return [object.width * scale / 2, object.height * scale / 2]')
+        far = [x + int(corner[0]), y + int(corner[1])]
+        change_nothing(
+            page,
+            'The group Green is locked',
+            lambda: page.drag_points([[x, y], [x + 30, y + 9], [x + 40, y + 20]]),
+            lambda: page.drag_points([far, [far[0] + 20, far[1] + 20], [far[0] + 30, far[1] + 30]]),
+            lambda: page.keys(Keys.ARROW_RIGHT),
+            lambda: page.keys(Keys.DELETE),
+            lambda: page.ctrl('v'),
+            lambda: page.ctrl('d'),
+            lambda: page.ctrl('x'),
+            lambda: (page.keys('i'), page.drag([(20, 5), (22, 6)])),
+        )
+        assert spelled(page) == [f'member set layer:{green} locked true']
+        page.keys('s')
+        page.click(f'#layers li[data-layer="{green}"] .lock')
+        page.click('#objects li[data-object="2"]')
+        page.keys(Keys.ARROW_RIGHT)
+        assert spelled(page)[-1].startswith('object move 2 ')
+
+
+def test_looks_of_locks():
+    """The lock of a layer that is open is faint until the mouse is at its row. In a locked group each layer shows
+    that it is locked by that, and the lock in its row is its own all the same."""
+    with Bench() as page:
+        houses, cottages, ground = (layer_of(page, name)['id'] for name in ('Houses', 'Cottages', 'Ground'))
+
+        def faint(number):
+            return float(page.js('return getComputedStyle(document.querySelector(`#layers li[data-layer="${arguments[0]}"] .lock .icon`)).opacity', number))
+
+        assert max(faint(number) for number in (houses, cottages, ground)) < 0.4
+        page.click(f'#layers li[data-layer="{houses}"] .lock')
+        assert faint(houses) == 1 and 0.4 < faint(cottages) < 1 and faint(ground) < 0.4
+        lock = f'#layers li[data-layer="{cottages}"] .lock'
+        assert page.find(lock).get_attribute('title') == 'The group Houses is locked. Lock this layer, too'
+        page.click(lock)
+        assert spelled(page)[-1] == f'member set layer:{cottages} locked true' and faint(cottages) == 1
+        assert page.find(lock).get_attribute('title') == 'Unlock this layer. The group Houses stays locked'
+        assert page.texts('#steps li .name')[-2:] == ['Set Member · Houses: locked', 'Set Member · Cottages: locked']
+
+
+def now(page):
+    return page.js('return roskevad.bench.layerId')
+
+
+def test_layer_above_and_below():
+    """PgUp and PgDn choose the layer in the row above or below, as far as there is one, with Ctrl too; what is
+    under the hand is told of it. In a field, and where another list has the keys, they are for that."""
+    with Bench() as page:
+        ids = page.js('return [...document.querySelectorAll("#layers li")].map(row => Number(row.dataset.layer))')
+        page.click(f'#layers li[data-layer="{ids[0]}"] .name')
+        page.drag([(3, 20)])
+        page.keys(Keys.PAGE_UP)
+        assert now(page) == ids[0]
+        for number in ids[1:4]:
+            page.keys(Keys.PAGE_DOWN)
+            assert now(page) == number and page.texts('#layers .now .name') == [page.js('return roskevad.bench.layer.data.name')]
+            assert page.js('return roskevad.bench.layer.data.name') in page.find('#place').text
+        page.ctrl(Keys.PAGE_UP)
+        assert now(page) == ids[2]
+        page.ctrl(Keys.PAGE_DOWN)
+        assert now(page) == ids[3] and page.texts('#owner') == [f'Layer {layer_named(page, ids[3])}']
+        field_of(page, ' offsetx').click()
+        type_keys(page, Keys.PAGE_DOWN)
+        assert now(page) == ids[3]
+        page.js('document.querySelector("#steps li").focus()')
+        type_keys(page, Keys.PAGE_DOWN)
+        assert now(page) == ids[3]
+        page.js('document.querySelector("#layers .now").focus()')
+        type_keys(page, Keys.PAGE_DOWN)
+        assert now(page) == ids[4] and not spelled(page)
+        page.keys(Keys.F1)
+        assert {'PgUp, Ctrl+PgUp', 'PgDn, Ctrl+PgDn'} <= set(page.texts('#keys th'))
+        page.press('dialog button', 'Close')
+
+
+def test_in_a_folded_group():
+    """From a layer in a folded group PgDn goes on behind the group, and a rename shows its row."""
+    with Bench() as page:
+        cottages, houses = choose(page, 'Cottages'), layer_of(page, 'Houses')['id']
+        fold = f'#layers li[data-layer="{houses}"] .fold'
+        page.click(fold)
+        page.keys(Keys.PAGE_DOWN)
+        assert page.texts('#layers .now .name') == ['Ground']
+        page.keys(Keys.PAGE_UP)
+        assert now(page) == houses
+        page.click(fold)
+        choose(page, 'Cottages')
+        page.click(fold)
+        page.click('#rename-layer')
+        type_keys(page, 'Huts', Keys.ENTER)
+        assert spelled(page) == [f'layer rename {cottages} Huts'] and page.texts('#layers .now .name') == ['Huts']
+
+
+def layer_named(page, number):
+    return next(layer['name'] for layer in layers_in(page.editor.map()['layers']) if layer['id'] == number)
+
+
+def test_the_current_layer():
+    """The name of the current layer is the only bold one."""
+    with Bench() as page:
+        choose(page, 'Cottages')
+        bold = '''const all = [...document.querySelectorAll("#layers .name, #steps .name")];
+                  return all.filter(name => getComputedStyle(name).fontWeight > 400).map(name => name.textContent)'''
+        assert page.js(bold) == ['Cottages']
+
+
+def test_new_layers():
+    """A new layer is named in a row above the current one, and added there with its name as one step; above the
+    group, where the current one stands in one; Escape adds none, and Enter takes the name that is proposed."""
+    with Bench() as page:
+        make_room(page)
+        town = page.editor.map()
+        number, names = town['nextlayerid'], page.texts('#layers .name')
+        choose(page, 'Ground')
+        page.click('#add-tile-layer')
+        count = sum(layer['type'] == 'tilelayer' for layer in layers_in(town['layers']))
+        assert row_fields(page) == [f'Tile Layer {count + 1}'] and not page.texts('dialog[open]')
+        rows = page.js('return [...document.querySelectorAll("#layers li")].map(row => row.dataset.layer ?? "new")')
+        assert rows[-2:] == ['new', str(town['layers'][0]['id'])]
+        type_keys(page, Keys.ESCAPE)
+        assert not row_fields(page) and not spelled(page) and page.texts('#layers .name') == names
+        page.click('#add-tile-layer')
+        type_keys(page, 'Paths', Keys.ENTER)
+        assert spelled(page) == ['begin Add Layer || add layer', 'layer add tile Paths', f'layer move {number} 1', 'end'], spelled(page)
+        assert standing(page) == (1, 1) and ids_of(page.editor.map()['layers'])[:2] == [town['layers'][0]['id'], number]
+        assert now(page) == number and page.texts('#layers .name') == [*names[:-1], 'Paths', 'Ground']
+        assert page.find('#bubble').get_attribute('hidden')
+        page.ctrl('z')
+        assert page.editor.map() == {**town, 'nextlayerid': number} and page.texts('#layers .name') == names
+        # In a group, above all of that.
+        choose(page, 'Cottages')
+        page.click('#add-object-layer')
+        type_keys(page, Keys.ENTER)
+        at = page.editor.map()['layers'].index(layer_of(page, 'Object Layer 3'))
+        assert page.editor.map()['layers'][at - 1]['name'] == 'Houses' and standing(page) == (1, 1)
+        # On top of all one line is enough.
+        page.click(f'#layers li[data-layer="{town["layers"][-1]["id"]}"] .name')
+        page.click('#add-group-layer')
+        type_keys(page, 'Clouds', Keys.ENTER)
+        assert spelled(page)[-1] == 'layer add group Clouds' and standing(page) == (2, 2)
+        assert page.editor.map()['layers'][-1]['name'] == 'Clouds'
+
+
+def test_a_layer_too_many():
+    """Where the map has all layers that it can have, the name of another one is marked, with why; none is added."""
+    with Bench() as page:
+        page.editor.lines(*['layer add tile More'] * 250)
+        lines = len(spelled(page))
+        page.click('#add-tile-layer')
+        type_keys(page, 'One more', Keys.ENTER)
+        assert row_fields(page) == ['One more'] and page.texts('#layers .fault') == ['A map has at most 256 layers.']
+        type_keys(page, Keys.ESCAPE)
+        assert not row_fields(page) and len(spelled(page)) == lines and not page.texts('#layers .fault')
+
+
+def test_a_press_behind_a_new_layer():
+    """A press on the map adds the layer that is being named, and is on it."""
+    with Bench() as page:
+        choose(page, 'Ground')
+        take_tile(page, (3, 1))
+        number = page.editor.map()['nextlayerid']
+        page.click('#add-tile-layer')
+        type_keys(page, 'Marks')
+        page.drag([(3, 20), (5, 20)])
+        assert layer_of(page, 'Marks')['id'] == number == now(page)
+        assert spelled(page)[-2:] == [f'stamp {number} 3 20 1 12', f'stamp+ {number} 4 20 1 12,12'] or cells_with(page, 'Marks', 12) == {(3, 20), (4, 20), (5, 20)}
+        assert standing(page) == (2, 2)
+
+
+def test_rename_in_the_row():
+    """A layer is renamed in its row: Enter and leaving the row set the name, Escape leaves the old one; what is
+    refused stays, marked; a name that is no other one is no step."""
+    with Bench() as page:
+        ground = choose(page, 'Ground')
+        page.js('document.querySelector("#layers .now").focus()')
+        type_keys(page, Keys.F2)
+        assert row_fields(page) == ['Ground']
+        type_keys(page, 'Floor', Keys.ESCAPE)
+        assert not row_fields(page) and not spelled(page) and page.texts('#layers .now .name') == ['Ground']
+        assert page.js('return document.activeElement === document.querySelector("#layers .now")'), 'the keys stay in the list'
+        page.click('#rename-layer')
+        type_keys(page, Keys.ENTER)
+        assert not row_fields(page) and not spelled(page)
+        page.click('#rename-layer')
+        type_keys(page, 'x' * 201, Keys.ENTER)
+        assert row_fields(page) == ['x' * 201] and '200' in page.texts('#layers .fault')[0] and not spelled(page)
+        with_ctrl(page, 'a')
+        type_keys(page, 'Floor', Keys.ENTER)
+        assert spelled(page) == [f'layer rename {ground} Floor'] and not page.texts('#layers .fault')
+        page.click('#rename-layer')
+        type_keys(page, 'Soil')
+        page.click('#of-map')
+        assert spelled(page)[-1] == f'layer rename {ground} Soil' and not row_fields(page)
+        page.click('#rename-layer')
+        type_keys(page, 'So')
+        with_ctrl(page, 'z')
+        assert row_fields(page) == ['Soil'] and len(spelled(page)) == 2
+        type_keys(page, Keys.DELETE, Keys.ENTER)
+        assert spelled(page)[-1] == f'member set layer:{ground} name ""' and page.texts('#layers .now .name') == ['(no name)']
+
+
+def test_raise_and_lower():
+    """Where a layer is the highest or the lowest one of its group the button for that is grey, and says so."""
+    with Bench() as page:
+        top = page.editor.map()['layers']
+        for name, up, down in ((top[-1]['name'], False, True), ('Ground', True, False), ('Cottages', False, True)):
+            choose(page, name)
+            assert [page.find(css).is_enabled() for css in ('#layer-up', '#layer-down')] == [up, down], name
+        assert page.find('#layer-up').get_attribute('title') == 'It is the highest layer of its group already'
+        page.click('#layer-down')
+        assert page.find('#layer-up').is_enabled() and spelled(page) == [f'layer move {now(page)} 1']
+
+
+def test_remove():
+    """Behind a layer that is removed the one below is the current one, or else the one above, or the group."""
+    with Bench() as page:
+        for name, next_name in (('Cottages', 'Smithy'), ('Inn', 'Smithy'), ('Smithy', 'Houses'), ('Ground', 'Houses')):
+            number = choose(page, name)
+            page.click('#remove-layer')
+            assert spelled(page)[-1] == f'layer remove {number}' and page.texts('#layers .now .name') == [next_name], name
+
+
+TILE_TOOLS, OBJECT_TOOLS = ['brush', 'eraser', 'fill', 'rectangle'], ['objects', 'insert']
+
+
+def grey_tools(page):
+    return page.js('return [...document.querySelectorAll("#tools .off")].map(button => button.id.slice(5))')
+
+
+def title_of(page, tool):
+    return page.find(f'#tool-{tool}').get_attribute('title')
+
+
+def test_tools_of_layers():
+    """A tool that cannot act on the current layer is grey, and its title says why; it stays in hand, and acts on
+    the next layer that it is for."""
+    with Bench() as page:
+        choose(page, 'Ground')
+        assert grey_tools(page) == ['insert'] and 'Choose an object layer first.' in title_of(page, 'insert')
+        assert title_of(page, 'brush').startswith('Brush (B): Draw')
+        choose(page, 'Places')
+        assert grey_tools(page) == TILE_TOOLS
+        assert title_of(page, 'fill') == 'Fill (F): Places has objects and no tiles. Choose a tile layer to draw.'
+        choose(page, 'Houses')
+        assert grey_tools(page) == [*TILE_TOOLS, 'insert'] and 'Houses is a group' in title_of(page, 'brush')
+        faint = page.js('return [...document.querySelectorAll("#tools .icon")].map(icon => Number(getComputedStyle(icon).opacity) < 0.6)')
+        assert faint == [True] * 4 + [False, False, True]
+        page.keys('f')
+        choose(page, 'Ground')
+        assert page.js('return roskevad.tools.name') == 'fill' and grey_tools(page) == ['insert']
+        # Of a map without objects.
+        page.click('#new')
+        page.fill_in(name='field', width='8', height='7')
+        assert grey_tools(page) == OBJECT_TOOLS and 'This map has no objects' in title_of(page, 'objects')
+        assert "'Add an object layer'" in title_of(page, 'insert')
+        page.click('#add-object-layer')
+        type_keys(page, Keys.ENTER)
+        assert grey_tools(page) == TILE_TOOLS
+        page.ctrl('z')
+        assert grey_tools(page) == OBJECT_TOOLS
+
+
+def test_tools_of_maps():
+    """A map opens with a tool that its layer takes; each map has its own again behind a change of tab."""
+    bench = Bench(empty=True)
+    with bench as page:
+        town = json.loads((bench.folder / 'town.tmj').read_text())
+        town['layers'] = [layer for layer in town['layers'] if layer['type'] == 'objectgroup']
+        (bench.folder / 'places.tmj').write_text(json.dumps(town))
+        name = 'return roskevad.tools.name'
+        files = [*bench.folder.glob('*.ts?'), *bench.folder.glob('*.png')]
+        page.choose_files(*files, bench.folder / 'town.tmj')
+        page.keys('p')
+        page.choose_files(bench.folder / 'places.tmj')
+        assert page.js(name) == 'objects' and grey_tools(page) == TILE_TOOLS
+        page.keys('i')
+        page.choose_files(bench.folder / 'house.tmj')
+        assert page.js(name) == 'brush'
+        page.keys('e')
+        page.click('#new')
+        page.fill_in(name='field', width='8', height='7')
+        assert page.js(name) == 'eraser', 'it takes that'
+        for document, tool in (('town', 'rectangle'), ('places', 'insert'), ('house', 'eraser')):
+            page.click(f'.tab[data-document="{document}"]')
+            assert page.js(name) == tool, document

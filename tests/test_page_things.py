@@ -21,6 +21,7 @@ from page.bench import (
 from page.browser import ActionChains, Keys
 from selenium.webdriver.common.actions.wheel_input import ScrollOrigin
 from selenium.webdriver.support.ui import Select
+from test_page_fields import type_keys
 
 NEEDS_BROWSER = True
 IS_LONG = True
@@ -70,10 +71,9 @@ def test_objects():
 def test_layers():
     """Layers are added, renamed, moved, hidden and removed; the tree has them."""
     with Bench() as page:
+        page.click(f'#layers li[data-layer="{page.editor.map()["layers"][-1]["id"]}"] .name')
         page.click('#add-tile-layer')
-        assert 'on top of all' in page.find('dialog h2').text
-        page.fill_in(name='Clouds over all')
-        assert page.bubble().startswith('Clouds over all is on top of all layers.')
+        type_keys(page, 'Clouds over all', Keys.ENTER)
         number = layer_of(page, 'Clouds over all')['id']
         assert (
             page.js('return roskevad.bench.layerId') == number
@@ -88,17 +88,17 @@ def test_layers():
             and page.texts('#layers .name')[0] != 'Clouds over all'
         )
         page.click('#layer-up')
-        page.click('#layer-up')
         assert (
-            'out of range' in page.bubble() and page.texts('#layers .name')[0] == 'Clouds over all'
+            not page.find('#layer-up').is_enabled()
+            and page.texts('#layers .name')[0] == 'Clouds over all'
         )
         page.click('#rename-layer')
-        page.fill_in(name='Mist')
+        type_keys(page, 'Mist', Keys.ENTER)
         assert layer_of(page, 'Mist')['id'] == number
         for kind, name, type_ in (('object', 'Signs', 'objectgroup'), ('image', 'The sky', 'imagelayer'), ('group', 'Yard', 'group')):
+            choose(page, 'Mist')
             page.click(f'#add-{kind}-layer')
-            assert f'{kind} layer' in page.find('dialog h2').text
-            page.fill_in(name=name)
+            type_keys(page, name, Keys.ENTER)
             assert spelled(page)[-1] == f'layer add {kind} {name}' and page.texts('#layers .now .name') == [name]
             assert page.editor.map()['layers'][-1]['type'] == type_
             page.click('#remove-layer')
@@ -123,8 +123,7 @@ def test_groups():
         page.drag([(2, 2), (5, 2)])
         assert spelled(page)[0] == f'stamp {number} 2 2 1 12' and cell(page, number, 5, 2) == 12
         see_colours(page, [(x, 2) for x in range(2, 6)])
-        page.click('#layer-up')
-        assert 'out of range' in page.bubble(), 'it is the last one of its group'
+        assert not page.find('#layer-up').is_enabled(), 'it is the last one of its group'
         choose(page, 'Houses')
         page.drag([(2, 2)])
         assert page.bubble() == 'Houses is a group. Choose a tile layer in it to draw.'

@@ -38,6 +38,34 @@ function whole(least, most) {
   return { wanted, fault, spelled: spelledWhole };
 }
 
+const NUMBER = /^[+-]?(\d+\.?\d*|\.\d+)(e[+-]?\d+)?$/i;
+
+// A number as JSON spells it: with a point, also where it was typed with a comma.
+function spelledNumber(text) {
+  const plain = text.trim().replace(",", ".");
+  return NUMBER.test(plain) ? String(Number(plain)) : text;
+}
+
+// A number that has a fraction only where the editor takes such. `step` is how far an arrow key goes.
+export function numberKind(least, most, hasFractions, step) {
+  const wanted = `a number from ${grouped(least)} to ${grouped(most)}`;
+  const fault = text => {
+    if (!NUMBER.test(text)) return hasFractions ? "a number" : "a whole number";
+    const value = Number(text);
+    if (value < least || value > most) return wanted;
+    const isTaken = hasFractions || Number.isInteger(value);
+    return isTaken ? "" : `${Math.floor(value)} or ${Math.ceil(value)}: only whole values can be set today`;
+  };
+  return { wanted, fault, spelled: spelledNumber, step: hasFractions ? step : 1, hint: hasFractions ? "" : "Only whole values can be set today" };
+}
+
+// A value, or nothing.
+export const orNothing = kind => ({
+  wanted: `${kind.wanted}, or nothing`,
+  fault: text => (text === "" ? "" : kind.fault(text)),
+  spelled: text => (text.trim() === "" ? "" : kind.spelled(text)),
+});
+
 function matched(pattern, wanted, spelled = text => text) {
   return { wanted, fault: text => (pattern.test(text) ? "" : wanted), spelled };
 }

@@ -3,8 +3,14 @@
 import { said } from "../../js/json_values.js";
 import { isKey } from "../../js/words.js";
 
-// The line that gives a member a value. `owner` is its owner as lines spell it.
-export const memberLine = (owner, member, value) => `member set ${owner} ${member} ${said(value, member)}`;
+// The line that gives a member a value. `owner` is its owner as lines spell it. One that follows joins the step before it.
+export const memberLine = (owner, member, value, follows = false) => `member set${follows ? "+" : ""} ${owner} ${member} ${said(value, member)}`;
+
+// The line that takes a member out.
+export const memberRemoval = (owner, member) => `member remove ${owner} ${member}`;
+
+// The line that gives a layer another name, which may be empty.
+export const renameLine = ({ id }, name) => (name === "" ? memberLine(`layer:${id}`, "name", "") : `layer rename ${id} ${name}`);
 
 // The line that removes a property.
 export const removalLine = (owner, name) => (isKey(name) ? `prop remove ${owner} ${name}` : `prop take ${owner} ${said(name, "a name")}`);

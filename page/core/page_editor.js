@@ -7,6 +7,7 @@ import { Broken, Editor, FORMS, NoMemory, VERSION, documentName } from "../../js
 import { Changes } from "./changes.js";
 import { FreshEditor } from "./fresh_editor.js";
 import { Journal } from "./journal.js";
+import { takesFractions } from "./fractions.js";
 import { cellsIn } from "./log_words.js";
 import { isAboutDocuments, isLook, isTurn, wordOf } from "./line_kinds.js";
 import { MapModel } from "./map_model.js";
@@ -91,6 +92,11 @@ export class PageEditor extends EventTarget {
 
   get runs() {
     return this.map?.runs ?? [];
+  }
+
+  // Whether a value may have a fraction.
+  get takesFractions() {
+    return (this.hasFractions ??= takesFractions(this.module));
   }
 
   // ---- lines

@@ -23,7 +23,10 @@ const WAYS = {
 };
 
 // What own members are called by those who draw, where files call them otherwise.
-const CALLED = { type: "class", gid: "tile" };
+const CALLED = {
+  type: "class", gid: "tile", tintcolor: "tint", offsetx: "offset x", offsety: "offset y", parallaxx: "parallax x", parallaxy: "parallax y",
+  repeatx: "repeat x", repeaty: "repeat y",
+};
 const called = name => CALLED[name] ?? name;
 const nameIn = text => (jsonIn(text) === "" ? "(no name)" : jsonIn(text));
 const namesIn = text => jsonIn(text) && Object.keys(jsonIn(text)).map(called).join(", ");

@@ -7,7 +7,7 @@ const undone = new WeakSet();
 
 // Whether a field has a text that the map does not have.
 function isTyped(field) {
-  const isText = field instanceof HTMLTextAreaElement || (field instanceof HTMLInputElement && !["checkbox", "color"].includes(field.type));
+  const isText = field instanceof HTMLTextAreaElement || (field instanceof HTMLInputElement && !["checkbox", "color", "range"].includes(field.type));
   return isText && field.value !== field.defaultValue;
 }
 

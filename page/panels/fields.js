@@ -80,11 +80,12 @@ class TypedField {
   }
 }
 
-// A whole number: the arrow keys count it up and down.
-class NumberField extends TypedField {
+// A number: the arrow keys count it up and down.
+export class NumberField extends TypedField {
   constructor(kind, value, take) {
     super(kind, value, take);
-    this.input.inputMode = "numeric";
+    this.input.inputMode = (kind.step ?? 1) < 1 ? "decimal" : "numeric";
+    this.input.title = this.input.dataset.title = kind.hint ?? "";
   }
 
   key(event) {
@@ -93,7 +94,8 @@ class NumberField extends TypedField {
     event.preventDefault();
     const text = this.kind.spelled(this.input.value);
     if (this.kind.fault(text)) return null;
-    this.input.value = String(Number(text) + by);
+    // Without the last digits, which no one has typed: 0.1 and 0.2 make 0.3.
+    this.input.value = String(Number((Number(text) + by * (this.kind.step ?? 1)).toFixed(6)));
     return this.commit();
   }
 }
@@ -120,8 +122,8 @@ class FileField extends TextField {
     this.box.append(button("…", "Choose a file of the folder", () => this.choose(files()), { className: "choose-file" }));
   }
 
-  async choose({ place, folder }) {
-    const paths = await pathsFrom(place, folder).catch(() => []);
+  async choose({ place, folder, fits = () => true }) {
+    const paths = (await pathsFrom(place, folder).catch(() => [])).filter(fits);
     const typed = await ask("A file of the folder", [{ name: "file", label: "File", value: this.input.value, kind: this.kind, list: paths }]);
     if (!typed) return;
     this.input.value = typed.file;
@@ -139,9 +141,11 @@ class ColourField extends TypedField {
     this.fit();
   }
 
+  // Where there is no colour, the picker shows white.
   fit() {
     const text = this.kind.spelled(this.input.value);
-    if (this.swatch && !this.kind.fault(text)) this.swatch.value = `#${text.slice(-6)}`;
+    if (this.swatch && !this.kind.fault(text)) this.swatch.value = text ? `#${text.slice(-6)}` : "#ffffff";
+    this.swatch?.classList.toggle("none", text === "");
   }
 
   pick() {
@@ -244,8 +248,7 @@ class ObjectField extends ChosenField {
 export const titleOf = object => `${object.name || "(no name)"}  ${object.id}`;
 
 // The field for the values of a type. `around` has calls: `map`, and `files`, which gives their place and the folder of the map.
-export function fieldFor(type, value, take, around) {
-  const kind = TYPES[type];
+export function fieldFor(type, value, take, around, kind = TYPES[type]) {
   if (type === "bool") return new BoolField(value, take);
   if (type === "object") return new ObjectField(value, take, around);
   if (type === "color") return new ColourField(kind, value, take);
@@ -253,5 +256,6 @@ export function fieldFor(type, value, take, around) {
   return type === "int" ? new NumberField(kind, value, take) : new TextField(kind, value, take);
 }
 
+export const colourField = (kind, value, take) => new ColourField(kind, value, take);
 export const textField = (kind, value, take) => new TextField(kind, value, take);
 export const numberField = (kind, value, take) => new NumberField(kind, value, take);

@@ -18,7 +18,7 @@ export class LayerDrag {
 
   down(event) {
     const row = this.panel.rowOf(event);
-    if (event.button !== 0 || !row || event.target.closest("button")) return;
+    if (event.button !== 0 || !row || event.target.closest("button, input")) return;
     this.from = { id: Number(row.dataset.layer), x: event.clientX, y: event.clientY };
   }
 
@@ -78,7 +78,7 @@ export class LayerDrag {
     const { isDragging, goal, layer } = this.from ? this : {};
     this.end();
     if (!isDragging || !layer) return;
-    if (!goal) this.bench.say("A layer stays in its group: no line moves it into another one, or out of it.");
+    if (!goal) this.bench.say("A layer stays in its group: it cannot be moved into another one yet, or out of it.");
     else if (goal.place !== layer.place) this.bench.act([`layer move ${layer.id} ${goal.place}`]);
   }
 

@@ -3,10 +3,12 @@
 import { button, byId, element, mark } from "./dom.js";
 import { fieldFor, numberField, textField } from "./fields.js";
 import { KINDS, TYPES } from "../core/kinds.js";
+import { LayerRows } from "./layer_rows.js";
 import { memberLine, removalLine } from "../core/member_lines.js";
 import { LONGEST_NAME, cutText } from "../files/members.js";
 import { folderOf } from "../files/names.js";
 import { saidOf } from "../core/refusals.js";
+import { cellOf, rowOf } from "./table_rows.js";
 import { whyNotNamed, whyNotSet } from "../core/unsupported_edits.js";
 
 const OWNERS = ["map", "layer", "object"];
@@ -32,6 +34,7 @@ export class PropertyPanel {
       files: () => ({ place: bench.editor.place, folder: folderOf(bench.editor.openDocuments.file?.path ?? "") }),
     };
     this.last = this.newRow();
+    this.layerRows = new LayerRows(this);
     const columns = Array.from({ length: 3 }, () => element("col"));
     byId("properties").querySelector("table").append(element("colgroup", {}, ...columns), this.body);
     byId("properties").append(this.last);
@@ -86,11 +89,11 @@ export class PropertyPanel {
   }
 
   // ---- what is no property
-  // The size and the class of the map; the class of a layer; the name, the class, the place, the size and the rotation of an object.
+  // The size and the class of the map; what a layer has; the name, the class, the place, the size and the rotation of an object.
   factRows(owner) {
     const { data } = owner;
     if (this.kind === "map") return [this.fact("size", `${data.width} × ${data.height}`, ""), this.classRow(owner)];
-    if (this.kind !== "object") return [this.classRow(owner)];
+    if (this.kind === "layer") return this.layerRows.rows(owner, this.bench.layer);
     // Tiled 1.9 has it elsewhere.
     const kind = !data.type && data.class ? "class" : "type";
     return [
@@ -116,7 +119,7 @@ export class PropertyPanel {
       const take = text => this.send(memberLine(word, member, isNumber ? Number(text) : text));
       const field = isNumber ? numberField(KINDS.coordinate, String(value), take) : textField(KINDS.label, value, take);
       Object.assign(field.input.dataset, { key: ` ${name}`, owner: word });
-      return { element: rowOf(name, "", isNumber ? "in degrees, clockwise" : "", element("td", { colSpan: 2 }, field.box)), fields: [field] };
+      return { element: rowOf(name, "", isNumber ? "in degrees, clockwise" : "", cellOf([field])), fields: [field] };
     });
   }
 
@@ -131,8 +134,7 @@ export class PropertyPanel {
     return this.kept(` ${word} ${name}`, values, () => {
       const fields = parts.map(([part, kind], at) => numberField(kind, values[at], text => this.setPart(part, text)));
       fields.forEach((field, at) => Object.assign(field.input.dataset, { key: ` ${parts[at][0]}`, owner: word }));
-      const boxes = fields.flatMap((field, at) => [element("span", { className: "part", textContent: parts[at][2] }), field.box]);
-      return { element: rowOf(name, "", "in pixels", element("td", { className: "parts", colSpan: 2 }, ...boxes)), fields };
+      return { element: rowOf(name, "", "in pixels", cellOf(fields, parts.map(part => part[2]))), fields };
     });
   }
 
@@ -259,9 +261,4 @@ function textOf(value) {
     } else text += `${text && "\n"}${title}${String(each).slice(0, MOST_SHOWN + 1).replace(/\r\n?/g, "\n")}`;
   }
   return text;
-}
-
-function rowOf(name, type, title, ...cells) {
-  const kind = type ? element("span", { className: "kind", textContent: ` ${type}` }) : null;
-  return element("tr", {}, element("td", { title }, element("span", { textContent: name }), kind), ...cells);
 }

@@ -58,6 +58,8 @@ export class Readers {
     // What is said at the hand is told here, in a part that always stands there.
     new MutationObserver(() => this.say(byId("bubble").textContent)).observe(byId("bubble"), { childList: true });
     bench.editor.addEventListener("state", () => this.nameMap());
+    // A row of the list that has the focus is told by that.
+    bench.addEventListener("layer chosen", () => document.activeElement.closest("#layers") || this.say(`Layer ${bench.layer?.data.name ?? ""}`));
     document.addEventListener("keydown", event => this.press(event));
   }
 
@@ -95,8 +97,9 @@ export class Readers {
   nameFields(row) {
     const name = row.querySelector("td span")?.textContent ?? "";
     for (const field of row.querySelectorAll("input, select, textarea")) {
-      const part = field.parentElement.querySelector(".part") && field.previousElementSibling?.textContent;
-      if (!field.placeholder) put(field, { "aria-label": listed(name, part) || "type" });
+      const label = field.closest(".value")?.previousElementSibling;
+      const words = listed(name, label?.matches(".part") && label.textContent, field.type === "range" && "slider") || "type";
+      if (!field.placeholder || name) put(field, { "aria-label": words });
     }
   }
 

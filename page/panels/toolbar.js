@@ -4,6 +4,7 @@ import { Clips, KeptStamps } from "../tools/clips.js";
 import { byId, element, onEnter } from "./dom.js";
 import { iconButton, showIcon } from "./icons.js";
 import { Keys } from "../tools/keys.js";
+import { whyNotOn } from "../tools/layer_tools.js";
 
 const TOOLS = [
   ["brush", "Brush", "B", "Draw with the stamp; the right button takes tiles from the map; Shift draws a line from the last cell"],
@@ -17,7 +18,7 @@ const TOOLS = [
 const LARGEST_BRUSH = 9;
 
 export class Toolbar {
-  constructor(bench, tools, documents, miniMap) {
+  constructor(bench, tools, documents, miniMap, layers) {
     Object.assign(this, { bench, tools, documents, miniMap, editor: bench.editor });
     const buttonOf = ([name, text, key, title]) => iconButton(name, text, `${text} (${key}): ${title}`, () => tools.choose(name), { id: `tool-${name}` });
     byId("tools").append(...TOOLS.map(buttonOf));
@@ -47,12 +48,12 @@ export class Toolbar {
       event.target.blur();
     };
     bench.addEventListener("tool", () => this.show());
-    this.keys = new Keys({ bench, tools, toolbar: this, documents, view: bench.view, clips, stamps: new KeptStamps(bench, tools) });
+    this.keys = new Keys({ bench, tools, toolbar: this, documents, layers, view: bench.view, clips, stamps: new KeptStamps(bench, tools) });
   }
 
   show() {
     const { state } = this.editor;
-    for (const [name] of TOOLS) byId(`tool-${name}`).classList.toggle("on", name === this.tools.name);
+    this.showTools();
     byId("undo").disabled = state.index === 0 || state.depth > 0;
     byId("redo").disabled = state.index === state.count || state.depth > 0;
     const why = state.depth > 0 ? "End the macro first: what is in it is one step. " : "";
@@ -62,6 +63,19 @@ export class Toolbar {
     byId("turn-names").classList.toggle("on", this.bench.overlay.hasNames);
     byId("grid").classList.toggle("on", this.bench.overlay.hasGrid);
     byId("brush-size").value = String(this.bench.brushSize);
+  }
+
+  // A tool that cannot act on the layer in hand is grey, and says why.
+  showTools() {
+    const { map, layer } = this.bench;
+    for (const [name, text, key, words] of TOOLS) {
+      const shown = byId(`tool-${name}`);
+      const why = whyNotOn(name, map, layer);
+      const title = `${text} (${key}): ${why || words}`;
+      shown.classList.toggle("on", name === this.tools.name);
+      shown.classList.toggle("off", why !== "");
+      if (shown.title !== title) shown.title = title;
+    }
   }
 
   // A macro that is open is told in letters.

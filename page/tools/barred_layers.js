@@ -1,6 +1,6 @@
 // SPDX-License-Identifier: MIT OR Apache-2.0
 // Layers on which the hand draws only where it was told to: those that are hidden or locked, or stand in a group that is.
-import { memberLine } from "../core/member_lines.js";
+import { memberLine, memberRemoval } from "../core/member_lines.js";
 import { endNotice, notice } from "../panels/notice_bars.js";
 
 const ABOUT = "barred layer";
@@ -14,10 +14,13 @@ function withGroups(layer) {
 export const isLocked = layer => layer.data.locked === true;
 
 // The line that locks a layer, or unlocks it.
-export const lockLine = ({ id }, isOn) => (isOn ? memberLine(`layer:${id}`, "locked", true) : `member remove layer:${id} locked`);
+export const lockLine = ({ id }, isOn) => (isOn ? memberLine(`layer:${id}`, "locked", true) : memberRemoval(`layer:${id}`, "locked"));
 
 // Whether a layer or a group that it stands in is locked.
 export const isLockedIn = layer => withGroups(layer).some(isLocked);
+
+// The innermost group that is locked and has the layer in it; undefined where there is none.
+export const lockedGroupOf = layer => withGroups(layer.group).find(isLocked);
 
 // Why a layer is barred, in words; "" where it is not.
 export function whyBarred(layer) {

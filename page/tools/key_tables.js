@@ -34,6 +34,7 @@ export function pressed(calls, event) {
 // ---- the list of keys, from the tables that bind them
 const NAMES = {
   escape: "Esc", delete: "Del", backspace: "Backspace", f1: "F1", f2: "F2", space: "Space", enter: "Enter", home: "Home", end: "End",
+  pageup: "PgUp", pagedown: "PgDn",
   arrowleft: "←", arrowright: "→", arrowup: "↑", arrowdown: "↓",
 };
 

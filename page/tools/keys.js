@@ -66,6 +66,14 @@ function viewRows({ toolbar, tools, view }) {
   ];
 }
 
+function layerRows({ layers }) {
+  const also = "with Ctrl, as in Tiled, only where the browser leaves that to the page";
+  return [
+    [["pageup", "Ctrl+pageup"], `Chooses the layer above; ${also}`, () => layers.step(-1)],
+    [["pagedown", "Ctrl+pagedown"], "Chooses the layer below", () => layers.step(1)],
+  ];
+}
+
 // Those that go in fields, too.
 function mapRows({ documents }) {
   return [
@@ -79,11 +87,14 @@ function pageRows({ toolbar }) {
   return [[["f1", "?"], "Lists the keys", () => toolbar.keys.list()]];
 }
 
+// These page through what has the focus, where that is a list of something else, or no map is open.
+const PAGING = new Set(["pageup", "pagedown"]);
+const PAGED = "#steps, #objects, #lines, #empty";
 // The table, by what its rows are about.
-const GROUPS = [["Tools", toolRows], ["The stamp", stampRows], ["Cells, objects and steps", editRows], ["The view", viewRows], ["Maps", mapRows], ["The page", pageRows]];
+const GROUPS = [["Tools", toolRows], ["The stamp", stampRows], ["Cells, objects and steps", editRows], ["Layers", layerRows], ["The view", viewRows], ["Maps", mapRows], ["The page", pageRows]];
 
 export class Keys {
-  // `parts` has the bench, the tools, the toolbar, the documents, the view, and the clips and kept stamps of cells.
+  // `parts` has the bench, the tools, the toolbar, the documents, the layers, the view, and the clips and kept stamps of cells.
   constructor(parts) {
     Object.assign(this, { tools: parts.tools });
     this.groups = GROUPS.map(([title, rowsOf]) => ({ title, rows: rowsOf(parts) }));
@@ -108,7 +119,7 @@ export class Keys {
       if (this.inFields.has(word)) this.leaveField(event, word);
       return;
     }
-    if (event.altKey || !this.calls.has(word) || this.isText(word) || (word === "space" && this.isForButton())) return;
+    if (event.altKey || !this.calls.has(word) || this.isText(word) || this.isForPaging(word) || (word === "space" && this.isForButton())) return;
     this.run(event, word);
   }
 
@@ -129,6 +140,10 @@ export class Keys {
   // Over the map the space bar is for the hand; elsewhere it may press a button.
   isForButton() {
     return document.activeElement instanceof HTMLButtonElement && !this.tools.bench.place;
+  }
+
+  isForPaging(word) {
+    return PAGING.has(word) && (!this.tools.bench.map || document.activeElement.closest(PAGED) !== null);
   }
 
   // Whether the key is for text that is marked on the page.

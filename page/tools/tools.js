@@ -1,14 +1,14 @@
 // SPDX-License-Identifier: MIT OR Apache-2.0
 // The tools of the hand on the map, and its events there. Each gives the editor session lines, and nothing else.
 import { FillTool, fillRectangle } from "./fill_tools.js";
+import { PAINTING } from "./layer_tools.js";
 import { ObjectTool, insertObject } from "./object_tools.js";
 import { StrokeTool } from "./stroke_tool.js";
 import { ViewHand } from "./view_hand.js";
 
 const DRAWN = "#7fd67f";
 const COLOURS = { brush: DRAWN, eraser: "#ff8f8f", fill: DRAWN, rectangle: DRAWN, select: "#8cc8ff", insert: "#ffd34d", capture: "#d8b4ff" };
-// The tools that draw on the layer in hand, and those that draw the stamp: with these the right button takes tiles.
-const PAINTING = new Set(["brush", "eraser", "fill", "rectangle"]);
+// The tools that draw the stamp: with these the right button takes tiles.
 const STAMPING = new Set(["brush", "fill", "rectangle"]);
 // Those whose cells are those of the layer in hand, where it lies.
 const ON_LAYER = new Set([...PAINTING, "capture"]);
@@ -79,6 +79,8 @@ export class Tools {
     this.drawnUpTo = -Infinity;
     this.viewHand = new ViewHand(bench.view, event => this.down(event), () => this.cancel());
     this.listen(bench.view.box);
+    // What is shown under the hand is about the layer that is chosen.
+    bench.addEventListener("layer chosen", () => this.showHand(bench.place));
   }
 
   get now() {
