@@ -5,7 +5,6 @@ import { fieldFor, numberField, textField } from "./fields.js";
 import { KINDS, TYPES } from "../core/kinds.js";
 import { memberLine, removalLine } from "../core/member_lines.js";
 import { LONGEST_NAME, cutText } from "../files/members.js";
-import { folderOf } from "../files/names.js";
 import { saidOf } from "../core/refusals.js";
 import { whyNotNamed, whyNotSet } from "../core/unsupported_edits.js";
 
@@ -29,7 +28,7 @@ export class PropertyPanel {
     this.body = element("tbody");
     this.around = {
       map: () => bench.map,
-      files: () => ({ place: bench.editor.place, folder: folderOf(bench.editor.openDocuments.file?.path ?? "") }),
+      files: () => ({ place: bench.editor.place, folder: bench.editor.folder }),
     };
     this.last = this.newRow();
     const columns = Array.from({ length: 3 }, () => element("col"));

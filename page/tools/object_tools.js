@@ -152,8 +152,8 @@ export class ObjectTool {
   }
 
   cut() {
-    return !this.isAboutCells && this.onChosen("cut", (object, layer) => this.copies.whole(object, "cut", () => {
-      this.copies.take(object, layer);
+    return !this.isAboutCells && this.onChosen("cut", (object, layer) => this.copies.whole(object, "cut", members => {
+      this.copies.take(members, object, layer);
       this.bench.act([`object remove ${object.id}`]);
     }));
   }

@@ -3,7 +3,7 @@
 import { isLockedIn } from "../tools/barred_layers.js";
 import { CellOverlay } from "./cell_overlay.js";
 import { boxesOn, placeOnScreen } from "./object_boxes.js";
-import { areaOf, boxOf, cornersOf, handlePlaces, isOn, ownPlace } from "./object_shapes.js";
+import { areaOf, boxOf, cornersOf, handlePlaces, isOn, middleOf, ownPlace, placeWith } from "./object_shapes.js";
 import { alignedAt, isThing, paintThing, reachOfThing } from "./thing_painter.js";
 import { colourOfText } from "./tints.js";
 
@@ -354,6 +354,11 @@ export class Overlay {
     const { projection } = this.map;
     const [left, top] = projection.place(x, y);
     return projection.named(left - layer.offsetX, top - layer.offsetY);
+  }
+
+  // The place of an object of a layer whose middle lies at a place of the map.
+  placeAround(object, layer, x, y) {
+    return placeWith(object, layer, middleOf(this.shapeOf(object)), x, y, this.map.projection);
   }
 
   // An object with how it stands at its place.
