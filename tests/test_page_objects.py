@@ -1,6 +1,6 @@
 # SPDX-License-Identifier: MIT OR Apache-2.0
 """Works with objects on the page in Chromium, by mouse and keys: which one a click chooses, the
-list with its search, a new one and its name, handles and arrow keys, copies and what these do not
+list with its search, names, handles and arrow keys, copies and what these do not
 keep, and keys that act on what the tool in hand shows as chosen."""
 import json
 import math
@@ -43,10 +43,6 @@ def type_keys(page, *keys):
     ActionChains(page.driver).send_keys(*keys).perform()
     page.js('return new Promise(done => setTimeout(done, 50))')
     page.settle()
-
-
-def wait_dialog(page):
-    page.wait(lambda: page.texts('dialog[open]'), 'a dialog')
 
 
 def drag_handle(page, number, edges, across, down, *held):
@@ -149,42 +145,15 @@ def test_many():
         assert 'locked' in page.bubble() and len(spelled(page)) == 1
 
 
-def test_new():
-    """The name of a new object is asked for before its line is sent, and the new one is chosen; the
-    proposed name goes by typing; an empty one is refused in the dialog."""
+def test_rename():
+    """A double click in the list asks for another name of an object."""
     with Bench() as page:
-        choose(page, 'Places')
-        page.keys('i')
-        page.drag([(20, 5), (22, 6)])
-        wait_dialog(page)
-        assert not spelled(page)
-        type_keys(page, Keys.DELETE, Keys.ENTER)
-        assert 'not empty' in page.find('dialog .fault').text and not spelled(page)
-        type_keys(page, 'Camp', Keys.ENTER)
-        layer = layer_of(page, 'Places')['id']
-        assert spelled(page) == [f'object add {layer} 320 80 48 32 Camp']
-        number = objects_in(page.editor.map())[-1]['id']
-        assert chosen(page) == number and page.texts('#owner') == ['Object Camp']
-        page.keys(Keys.DELETE)
-        assert spelled(page)[-1] == f'object remove {number}'
-        choose(page, 'Ground')
-        page.keys('i')
-        page.drag([(20, 5), (22, 6)])
-        assert page.bubble() == 'Choose an object layer first: Things or Places.' and len(spelled(page)) == 2
-        things = layer_of(page, 'Things')['id']
-        page.say(f'layer remove {things}')
-        choose(page, 'Ground')
-        page.keys('i')
-        page.drag([(20, 5), (22, 6)])
-        wait_dialog(page)
-        type_keys(page, 'Camp', Keys.ENTER)
-        assert spelled(page)[-1] == f'object add {layer} 320 80 48 32 Camp', 'the only object layer takes it'
-        assert page.js('return roskevad.bench.layerId') == layer
-        number = chosen(page)
+        page.keys('s')
+        page.drag_points([middle_of(page, INN)])
         page.double_click(lambda: page.find('#objects li.now'), lambda: page.texts('dialog[open]'))
-        type_keys(page, 'Old camp', Keys.ENTER)
-        assert spelled(page)[-1] == f'member set object:{number} name "Old camp"' and page.texts('#owner') == ['Object Old camp']
-        assert page.texts('#objects .now .name') == ['Old camp'] and object_of(page, number)['name'] == 'Old camp'
+        type_keys(page, 'Old inn', Keys.ENTER)
+        assert spelled(page) == [f'member set object:{INN} name "Old inn"'] and page.texts('#owner') == ['Object Old inn']
+        assert page.texts('#objects .now .name') == ['Old inn'] and object_of(page, INN)['name'] == 'Old inn'
 
 
 def test_handles():

@@ -33,9 +33,13 @@ export class ObjectList {
     this.list.ondblclick = event => this.rename(event.target.closest("[data-object]"));
     bench.addEventListener("chosen", () => this.show());
     bench.addEventListener("object chosen", () => this.list.querySelector(".now")?.scrollIntoView({ block: "nearest" }));
-    bench.addEventListener("tool", () => this.turnTo(SIDES[tools.name]));
-    bench.addEventListener("inserted", () => tools.choose("objects"));
+    bench.addEventListener("tool", () => this.turnTo(this.sideFor(tools)));
     this.turnTo("tiles");
+  }
+
+  // A tile for a new object is taken from the tiles.
+  sideFor({ name, all }) {
+    return name === "insert" && all.insert.shape === "tile" ? "tiles" : SIDES[name];
   }
 
   turnTo(side = this.side) {

@@ -4,7 +4,7 @@
 import { pathFrom } from "../files/names.js";
 import { endNotice, notice } from "../panels/notice_bars.js";
 import { listed } from "./object_copies.js";
-import { TileNumbers } from "../core/tile_numbers.js";
+import { TileNumbers, idIn } from "../core/tile_numbers.js";
 
 // What the notices are about: tilesets that a map does not have, and tiles past the end of theirs.
 const MISSING = "missing tilesets";
@@ -87,6 +87,14 @@ export class CarriedTiles {
     const { stamp } = bench;
     notice(PAST, words, [["Draw it all the same", () => void (this.allowed = stamp), "Draw tiles that are past the end of their tileset"], ["OK", () => {}]], "mild");
     return true;
+  }
+
+  // How wide and high a tile of the map is: as its image, or else as a cell.
+  sizeOf(value) {
+    const { map } = this.bench;
+    const tileset = this.tilesets.of(value);
+    const tile = idIn(value, tileset);
+    return tileset?.has(tile) ? tileset.sizeOf(tile) : [map.tileWidth, map.tileHeight];
   }
 
   // ---- copies

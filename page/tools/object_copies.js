@@ -10,11 +10,20 @@ const ABOUT = "copy";
 export const listed = (words, last = "and") => (words.length < 2 ? words.join("") : `${words.slice(0, -1).join(", ")} ${last} ${words[words.length - 1]}`);
 export const nameOf = object => object.name || `Object ${object.id}`;
 
-// The layer that takes a new object: the one in hand, or else the only one of the map. null where there is none, or several: it is said.
-export function layerForObjects(bench) {
-  const all = bench.map.layers.filter(each => each.type === "objectgroup");
+const objectLayers = ({ map }) => map.layers.filter(each => each.type === "objectgroup");
+
+// The layer that takes a new object: the one in hand, or else the only one of the map. null where there is none, or several.
+export function objectLayer(bench) {
   if (bench.layer?.type === "objectgroup") return bench.layer;
-  if (all.length === 1) return all[0];
+  const all = objectLayers(bench);
+  return all.length === 1 ? all[0] : null;
+}
+
+// The same; where there is none it is said.
+export function layerForObjects(bench) {
+  const found = objectLayer(bench);
+  if (found) return found;
+  const all = objectLayers(bench);
   const names = all.map(each => each.data.name || "(no name)");
   const words = all.length ? `Choose an object layer first: ${listed(names, "or")}.` : "Add an object layer first, by 'Add an object layer' below the layers.";
   return bench.say(words);
