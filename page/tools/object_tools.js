@@ -24,10 +24,13 @@ export class ObjectTool {
   }
 
   // ---- the hand
-  // Shows by the pointer what a press would do.
+  // Shows by the pointer what a press would do, and the object that it would choose.
   hover(place) {
     const { view, overlay } = this.bench;
-    if (!this.drag) view.box.dataset.over = this.handleAt(place) ?? (overlay.objectAt(place.pixelX, place.pixelY, this.bench.layerId) ? "object" : "");
+    if (this.drag) return null;
+    const found = overlay.objectAt(place.pixelX, place.pixelY, this.bench.layerId);
+    view.box.dataset.over = this.handleAt(place) ?? (found ? "object" : "");
+    overlay.hover(found?.object.id ?? null);
     return null;
   }
 

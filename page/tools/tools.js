@@ -232,6 +232,7 @@ export class Tools {
     const { overlay, map, view } = this.bench;
     view.box.classList.toggle("astray", this.isAstray);
     const tool = this.all[this.busy];
+    if (!place || tool !== this.all.objects) overlay.hover(null);
     const hand = !map || this.isAstray ? null : place ? tool.hover(place, event) : tool.rest?.() ?? null;
     overlay.hand = hand && { layer: ON_LAYER.has(this.busy) ? this.bench.layer : null, ...hand };
     overlay.redrawHand();

@@ -23,6 +23,9 @@ const BESIDE = 8;
 const NAME = 16;
 const MOST_WIDTHS = 20_000;
 
+// Whether an object needs no outline: its tile is drawn, or its words.
+const isSeenAsIs = object => isThing(object) && Boolean(object.gid || object.text.text);
+
 export class Overlay {
   constructor(view, editor, tilesets) {
     this.view = view;
@@ -37,6 +40,8 @@ export class Overlay {
     this.hasNames = true;
     // The object that is chosen, by its id.
     this.chosen = null;
+    // The one under the hand, by its id.
+    this.hovered = null;
     this.place = null;
     // Whether all is drawn anew; else only where these objects are, { object, layer } of each. And whether what the hand is about to do is.
     Object.assign(this, { isChanged: true, objects: [], isHandChanged: true });
@@ -104,6 +109,14 @@ export class Overlay {
     this.redrawObjects([before, id].map(each => this.map?.object(each)).filter(each => each));
   }
 
+  // Has an object shown as the one under the hand, by its id; null for none.
+  hover(id) {
+    if (id === this.hovered) return;
+    const before = this.hovered;
+    this.hovered = id;
+    this.redrawObjects([before, id].map(each => this.map?.object(each)).filter(each => each));
+  }
+
   draw() {
     const { canvas } = this;
     const boxes = this.isChanged || !this.map ? null : boxesOn(canvas, this.objects.map(({ object, layer }) => this.boxOf(object, layer)));
@@ -146,7 +159,7 @@ export class Overlay {
         const isWhole = left-- > 0;
         if (!this.isIn(box, object, place)) continue;
         if (isWhole) this.drawObject(object, layer);
-        else others.push(object);
+        else if (!isSeenAsIs(object)) others.push(object);
       }
       if (others.length) this.drawBoxes(others, layer);
     }
@@ -173,7 +186,7 @@ export class Overlay {
   isIn([left, top, right, bottom], object, [x, y]) {
     const reach = this.reachOnScreen(object);
     if (x + reach > left && x - reach < right && y + reach > top && y - reach < bottom) return true;
-    if (!object.name || !this.hasNames) return false;
+    if (!object.name || !(this.hasNames || this.hovered === object.id)) return false;
     const [aside, above] = this.nameCorner(object);
     if (y + above >= bottom || y + above + NAME * this.view.ratio <= top || x + aside >= right) return false;
     return x + this.nameBox(object)[2] > left;
@@ -214,14 +227,20 @@ export class Overlay {
     pen.save();
     pen.translate(...this.screenPlace(object, layer));
     const isChosen = this.chosen === object.id && this.showsChosen;
+    const isHovered = this.hovered === object.id;
+    if (isChosen || isHovered || !isSeenAsIs(object)) this.drawOutline(object, layer, isChosen, isHovered);
+    this.drawName(object, isChosen, isHovered);
+    pen.restore();
+  }
+
+  drawOutline(object, layer, isChosen, isHovered) {
+    const { pen, view } = this;
     pen.save();
     pen.globalAlpha = layer.opacity;
-    pen.lineWidth = (isChosen ? 3 : 1.5) * view.ratio;
+    pen.lineWidth = (isChosen ? 3 : isHovered ? 2.5 : 1.5) * view.ratio;
     pen.strokeStyle = isChosen ? "#ffd34d" : colourOfText(layer.data.color, OUTLINE);
-    pen.fillStyle = isChosen ? "#ffd34d33" : "#ffffff22";
+    pen.fillStyle = isChosen ? "#ffd34d33" : isHovered ? "#ffffff44" : "#ffffff22";
     this.shapes.paint(pen, object);
-    pen.restore();
-    this.drawName(object, isChosen);
     pen.restore();
   }
 
@@ -256,8 +275,9 @@ export class Overlay {
     pen.stroke();
   }
 
-  drawName(object, isChosen) {
-    if (!object.name || (!this.hasNames && !isChosen)) return;
+  // Names that are hidden are seen of what is chosen or under the hand.
+  drawName(object, isChosen, isHovered) {
+    if (!object.name || !(this.hasNames || isChosen || isHovered)) return;
     const { pen, view: { ratio } } = this;
     const [left, top, right] = this.nameBox(object);
     pen.font = this.font;
