@@ -4,8 +4,9 @@ corner, on pixels and on grids, with the tool in hand afterwards and no dialog; 
 import json
 
 from lib.cases import passed
-from lib.maps import objects_in
-from page.bench import Bench, choose, colours_now, layer_of, object_of, points_at, spelled, standing, take_tile
+from lib.maps import compact, objects_in
+from lib.places import EXAMPLE_MAPS
+from page.bench import Bench, choose, colours_now, layer_of, object_of, played, points_at, spelled, standing, take_tile
 from page.browser import ActionChains, Keys
 from selenium.webdriver.support.ui import Select
 
@@ -93,6 +94,35 @@ def test_shapes():
             passed()
         session = page.editor.session().decode()
         assert session.startswith('# all edits') and session.count(f'\nobject put {layer} ') == 7 + 7
+
+
+def test_kept():
+    """New objects and copies are there again behind a reload, with their steps, and the program plays the copied session to
+    the same map."""
+    bench = Bench()
+    with bench as page:
+        choose(page, 'Places')
+        insert(page, 'ellipse', 'cell')
+        drag(page, (40, 90), (70, 140))
+        insert(page, 'polygon', 'half')
+        for place in ((140, 90), (200, 90), (200, 130)):
+            drag(page, place)
+        page.keys(Keys.ENTER)
+        page.ctrl('d')
+        page.ctrl('z')
+        page.js('roskevad.bench.chooseObject(8)')
+        page.ctrl('d')
+        page.ctrl('x')
+        page.ctrl('v')
+        shown, steps = page.editor.shown(), page.texts('#steps .name')
+        assert [each.partition(' · ')[0] for each in steps[1:]] == [
+            'Insert Ellipse', 'Insert Polygon', 'Duplicate Object', 'Remove Object', 'Paste Object',
+        ]
+        page.reload()
+        assert page.editor.shown() == shown and page.texts('#steps .name') == steps
+        page.say('save end.tmj')
+        folder = played(bench, page.editor.session(), EXAMPLE_MAPS, '--all-edits')
+        assert compact((folder / 'end.tmj').read_bytes()) == compact(bench.saved('end.tmj')) == shown
 
 
 def test_names():

@@ -13,7 +13,7 @@ const TOOLS = [
   ["fill", "Fill", "F", "Fill joined cells that are alike with the stamp"],
   ["rectangle", "Rectangle", "P", "Fill a rectangle with the stamp"],
   ["select", "Select", "R", "Select cells; Shift adds, Ctrl subtracts, both intersect"],
-  ["objects", "Objects", "S", "Choose an object, and drag it; Ctrl keeps to the grid"],
+  ["objects", "Objects", "S", "Choose an object, and drag it; Snap says where it goes, and Ctrl turns that round"],
   ["insert", "Insert", "I", "Draw a new object; again for its next shape"],
 ];
 // The buttons of shapes: how each is made.

@@ -114,7 +114,7 @@ export class Layouts {
       layers.folded = new Set(kept.folded);
       bench.layerId = kept.layer;
       if (Object.hasOwn(SNAPPINGS, kept.snapping)) bench.snapping = kept.snapping;
-      if (Object.hasOwn(SHAPES, kept.shape)) tools.all.insert.take(kept.shape);
+      if (Object.hasOwn(SHAPES, kept.shape)) tools.all.insert.shape = kept.shape;
       if (Object.hasOwn(tools.all, kept.tool)) tools.choose(kept.tool);
       toolbar.setBrush(kept.brush);
       properties.choose(kept.owner);
