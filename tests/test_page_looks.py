@@ -170,7 +170,9 @@ def test_objects_seen():
 # How opaque what is drawn over the map is, at places in pixels of the map with a length aside on the screen.
 OVER = '''
 const {view, overlay} = roskevad;
-return arguments[0].map(([x, y, right, down]) => overlay.pen.getImageData(Math.floor(view.originX + x * view.scale + right), Math.floor(view.originY + y * view.scale + down), 1, 1).data[3]);'''
+const at = (origin, place, aside) => Math.floor(origin + place * view.scale + aside);
+const alphaAt = ([x, y, right, down]) => overlay.pen.getImageData(at(view.originX, x, right), at(view.originY, y, down), 1, 1).data[3];
+return arguments[0].map(alphaAt);'''
 
 
 def is_drawn(page, *places):
