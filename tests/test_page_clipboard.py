@@ -8,7 +8,7 @@ import random
 from lib.cases import passed
 from lib.maps import objects_in
 from lib.places import EXAMPLE_MAPS
-from page.bench import Bench, choose, middle_of, spelled, standing
+from page.bench import Bench, choose, spelled, standing
 from page.browser import Keys
 
 NEEDS_BROWSER = True
@@ -530,7 +530,13 @@ INN = 2
 def test_refused_objects():
     """Behind a copy of an object that is refused no other one is pasted; the rest of it is, where that was
     asked for, and while its map is shown."""
-    with Bench('objects.tmj', 'town.tmj', has_log=False) as page:
+    bench = Bench(empty=True, has_log=False)
+    with bench as page:
+        town = json.loads((bench.folder / 'town.tmj').read_text())
+        inn = next(each for each in objects_in(town) if each['id'] == INN)
+        inn['rotation'] = 0.5
+        (bench.folder / 'town.tmj').write_text(json.dumps(town))
+        page.choose_files(bench.folder / 'objects.tmj', bench.folder / 'town.tmj', *bench.folder.glob('*.ts?'))
         page.click('.tab[data-document="town"]')
         layer = choose(page, 'Places')
         page.editor.lines(f'object add {layer} 32 400 32 16 trap')
@@ -538,10 +544,10 @@ def test_refused_objects():
         page.js('roskevad.bench.chooseObject(7)')
         page.ctrl('c')
         count = len(objects_in(page.editor.map()))
-        page.drag_points([middle_of(page, INN)])
+        page.js('roskevad.bench.chooseObject(arguments[0])', INN)
         for key in 'cx':
             page.ctrl(key)
-            assert 'class Door' in page.notices()[0], key
+            assert 'the fraction of its turn' in page.notices()[0], key
         page.ctrl('v')
         assert len(objects_in(page.editor.map())) == count and page.bubble().startswith('Nothing is copied.'), page.bubble()
         page.ctrl('c')
@@ -554,7 +560,7 @@ def test_refused_objects():
         assert 'Choose an object first' in page.bubble() and 'Nothing is copied any more' in page.bubble(), page.bubble()
         page.js('roskevad.bench.chooseObject(arguments[0])', INN)
         page.ctrl('d')
-        assert 'class Door' in page.notices()[0]
+        assert 'the fraction of its turn' in page.notices()[0]
         page.click('.tab[data-document="objects"]')
         assert not page.notices(), 'the rest would go into a layer of another map'
 
@@ -584,9 +590,10 @@ def test_kinds():
         choose(page, 'Things')
         page.keys('b')
         page.ctrl('v')
-        [_, added, *properties, _] = spelled(page)[1:]
-        assert added.startswith(f'object add {things} ') and added.endswith(' 16 16 crate'), added
-        assert [each.partition(' object:')[2].partition(' ')[2] for each in properties] == ['lid bool true'], properties
+        [_, added, _] = spelled(page)[1:]
+        assert added.startswith(f'object put {things} '), added
+        members = json.loads(added.split(' ', 3)[3])
+        assert members['name'] == 'crate' and members['properties'] == [{'name': 'lid', 'type': 'bool', 'value': True}], members
         assert page.bubble().startswith('Without key'), page.bubble()
         passed()
         choose(page, 'Ground')
@@ -608,20 +615,79 @@ def test_kinds():
         assert 'no objects' in page.bubble()
 
 
+def add_things(page, *objects):
+    """Adds an object layer with objects to the map that is shown; the ids of these."""
+    page.editor.lines('layer add object Things')
+    layer = page.editor.map()['layers'][-1]['id']
+    first = page.editor.map()['nextobjectid']
+    page.editor.lines(*[f'object put {layer} {json.dumps(each)}' for each in objects])
+    page.js('roskevad.bench.chooseLayer(arguments[0])', layer)
+    return list(range(first, first + len(objects)))
+
+
+def copy_object(page, number):
+    page.keys('s')
+    page.js('roskevad.bench.chooseObject(arguments[0])', number)
+    page.ctrl('c')
+
+
+def pasted(page):
+    """Pastes, and gives the object that has come; None where nothing was pasted."""
+    before = {each['id'] for each in objects_in(page.editor.map())}
+    page.ctrl('v')
+    come = [each for each in objects_in(page.editor.map()) if each['id'] not in before]
+    return come[0] if come else None
+
+
+SIGN = {'name': 'sign', 'type': 'Sign', 'x': 32, 'y': 32, 'width': 16, 'height': 16, 'rotation': 90}
+
+
 def test_tile_objects():
-    """No copy of an object has its tile, so no number of one reaches another map: what is copied of it is named, and
-    pasted without its tile."""
-    with Bench('objects.tmj', 'town.tmj', has_log=False) as page:
-        page.click('.tab[data-document="objects"]')
-        [number] = [each['id'] for each in objects_in(page.editor.map()) if each.get('gid')]
-        page.keys('s')
-        page.js('roskevad.bench.chooseObject(arguments[0])', number)
-        page.ctrl('c')
-        assert 'its tile' in page.notices()[0]
-        page.answer('Copy the rest')
-        page.click('.tab[data-document="town"]')
-        choose(page, 'Things')
-        page.ctrl('v')
-        page.fill_in(name='sign')
-        added = max(objects_in(page.editor.map()), key=lambda each: each['id'])
-        assert standing(page) == (1, 1) and added['id'] == 7 and 'gid' not in added, added
+    """The tile of an object is the same tile on another map, with its flips and whichever number it has there. Where
+    the tileset is missing nothing is pasted, and it is offered; the stamp in hand stays."""
+    with Maps('one', 'two', 'few') as page:
+        numbers = add_things(page, *[{**SIGN, 'gid': gid} for gid in TILES[:4]])
+        for name in ('two', 'few'):
+            go(page, name)
+            add_things(page)
+        for number, gid in zip(numbers, TILES):
+            go(page, 'one')
+            copy_object(page, number)
+            assert not page.notices() and pasted(page)['gid'] == gid, 'at home it stays'
+            go(page, 'two')
+            made = pasted(page)
+            assert {**SIGN, 'gid': gid + 36}.items() <= {**made, 'x': 32, 'y': 32}.items(), made
+            assert page.texts('#steps .now .name') == ['Paste Object · sign']
+            passed()
+        go(page, 'few')
+        stamp, count = hand(page), standing(page)[1]
+        assert pasted(page) is None and 'tiles.tsx' in page.bubble() and 'Nothing was pasted' in page.bubble(), page.bubble()
+        assert hand(page) == stamp and standing(page)[1] == count
+        page.answer('Add it')
+        [made], [added] = objects_in(page.editor.map()), page.editor.map()['tilesets'][1:]
+        assert added['source'] == 'tiles.tsx' and made['gid'] == (TILES[3] - 1) + added['firstgid'], made
+        assert standing(page)[1] == count + 2
+
+
+def test_objects_elsewhere():
+    """On a map in another folder an object names the same files, as its template and in properties; what no file is
+    stays as it is, and so does a web address. Properties that name an object are left out there, but for none."""
+    files = [{'name': 'sound', 'type': 'file', 'value': 'sounds/ouch.ogg'}, {'name': 'none', 'type': 'file', 'value': ''}]
+    files += [{'name': 'page', 'type': 'file', 'value': 'https://a.example/b'}, {'name': 'text', 'type': 'string', 'value': 'sounds/ouch.ogg'}]
+    named = [{'name': 'key', 'type': 'object', 'value': 1}, {'name': 'no key', 'type': 'object', 'value': 0}]
+    with Maps('one', 'sub/deep', 'two', served=True) as page:
+        [number] = add_things(page, {'template': 'signs/wood.tj', 'x': 8, 'y': 8, 'properties': [*files, *named]})
+        for name in ('two', 'sub/deep'):
+            go(page, name)
+            add_things(page)
+        go(page, 'one')
+        copy_object(page, number)
+        assert pasted(page)['properties'] == [*files, *named]
+        for name, up in (('two', ''), ('sub/deep', '../')):
+            go(page, name)
+            made = pasted(page)
+            assert made['template'] == f'{up}signs/wood.tj'
+            values = [f'{up}sounds/ouch.ogg', '', 'https://a.example/b', 'sounds/ouch.ogg', 0]
+            assert [each['value'] for each in made['properties']] == values, made
+            assert page.bubble().startswith('Without key:'), page.bubble()
+            passed()

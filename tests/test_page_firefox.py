@@ -1,6 +1,7 @@
 # SPDX-License-Identifier: MIT OR Apache-2.0
 """Opens the page's one file in Firefox from a disk: chooses files, draws with the mouse, undoes by keys,
-saves, and loads the page anew in the midst of work."""
+draws and copies objects, saves, and loads the page anew in the midst of work."""
+import json
 import shutil
 import subprocess
 import tempfile
@@ -14,7 +15,7 @@ PACKAGES = ('firefox-esr',)
 IS_LONG = True
 PAGE = TOP / 'python' / 'roskevad' / 'page' / 'roskevad.html'
 FILES = [EXAMPLE_MAPS / name for name in ('tiles.tsx', 'tiles.png', 'town.tmj')]
-CONTROL, SHIFT = '\ue009', '\ue008'
+CONTROL, SHIFT, ENTER = '\ue009', '\ue008', '\ue007'
 STATE = '''
 const {index, count, isClean} = window.roskevad.editor.standing();
 return {index, count, isClean};'''
@@ -81,3 +82,36 @@ def test_a_drawing():
         assert standing(fox) == (1, 2, True)
         stroke(fox, [(3, 25), (8, 25)])
         assert standing(fox) == (2, 2, False)
+
+
+def objects_of(fox):
+    """The objects of the layer in hand, as the map has them."""
+    shown = json.loads(fox.js('return window.roskevad.editor.editor.step("show").slice(4)'))
+    number = fox.js('return window.roskevad.bench.layerId')
+    return next(each['objects'] for each in shown['layers'] if each['id'] == number)
+
+
+def test_objects():
+    """A polygon and an ellipse are drawn, copied, cut and pasted, and undone."""
+    with Fox() as fox:
+        chosen(fox)
+        fox.js('const {bench, editor} = window.roskevad; bench.chooseLayer(editor.map.layers.find(each => each.type === "objectgroup").id)')
+        before = len(objects_of(fox))
+        for _ in range(3):
+            fox.press('i')
+        stroke(fox, [(20, 5), (22, 6)])
+        assert objects_of(fox)[-1]['ellipse'] and standing(fox) == (1, 1, False)
+        fox.press('i')
+        for cell in ((3, 20), (8, 20), (8, 24)):
+            stroke(fox, [cell])
+        fox.press(ENTER)
+        polygon = objects_of(fox)[-1]
+        assert polygon['polygon'] == [{'x': 0, 'y': 0}, {'x': 80, 'y': 0}, {'x': 80, 'y': 64}] and standing(fox) == (2, 2, False)
+        fox.press(CONTROL, 'd')
+        fox.press(CONTROL, 'x')
+        fox.press(CONTROL, 'v')
+        copy = objects_of(fox)[-1]
+        assert copy == {**polygon, **{each: copy[each] for each in ('id', 'x', 'y')}} and len(objects_of(fox)) == before + 3
+        assert standing(fox) == (5, 5, False)
+        fox.press(CONTROL, 'z')
+        assert len(objects_of(fox)) == before + 2

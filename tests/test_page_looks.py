@@ -2,6 +2,8 @@
 """Looks at what the page to draw on shows, by its pixels in Chromium: the example maps as their
 tilesets have them, hidden layers, flips, tiles of other sizes than a cell as Tiled draws them, the
 grid, the selection, objects and their names, and the palette."""
+import json
+
 from lib.cases import passed
 from page import tiles
 from page.bench import (
@@ -163,6 +165,66 @@ def test_objects_seen():
             and standing(page)[0] == 1
         )
         assert page.colours(points) == way
+
+
+# How opaque what is drawn over the map is, at places in pixels of the map with a length aside on the screen.
+OVER = '''
+const {view, overlay} = roskevad;
+const at = (origin, place, aside) => Math.floor(origin + place * view.scale + aside);
+const alphaAt = ([x, y, right, down]) => overlay.pen.getImageData(at(view.originX, x, right), at(view.originY, y, down), 1, 1).data[3];
+return arguments[0].map(alphaAt);'''
+
+
+def is_drawn(page, *places):
+    return [alpha > 0 for alpha in page.js(OVER, [[*place, 0, 0][:4] for place in places])]
+
+
+def point_at(page, x, y):
+    """Moves the hand to a place of the map."""
+    chain = ActionChains(page.driver, duration=0)
+    chain.w3c_actions.pointer_action.move_to_location(*points_at(page, [(x, y)])[0])
+    chain.perform()
+    page.settle()
+
+
+def test_outlines():
+    """A tile and a text have a frame where they are chosen, or under the mouse with Objects; other shapes have one
+    always, turned as they are, and a point is a pin. Hidden names are seen of the one under the mouse."""
+    with Bench() as page:
+        page.click('#grid')
+        layer = choose(page, 'Places')
+        made = [
+            {'gid': 12, 'x': 48, 'y': 64, 'width': 32, 'height': 32, 'name': 'tile'},
+            {'text': {'text': 'words'}, 'x': 112, 'y': 32, 'width': 32, 'height': 32, 'name': 'text'},
+            {'text': {'text': ''}, 'x': 176, 'y': 32, 'width': 32, 'height': 32},
+            {'x': 260, 'y': 40, 'width': 32, 'height': 16, 'rotation': 90},
+            {'x': 320, 'y': 60, 'point': True, 'width': 0, 'height': 0},
+        ]
+        page.editor.lines(*[f'object put {layer} {json.dumps(each)}' for each in made])
+        tile, text, empty, turned, plain = (48, 48), (112, 48), (176, 48), (260, 56), (276, 40)
+        name = (50, 32, 0, -10)
+        page.picture()
+        for tool in 'bs':
+            page.keys(tool)
+            assert is_drawn(page, tile, text, empty, turned, plain, name) == [False, False, True, True, False, True], tool
+            # Its head is 13 pixels above the point.
+            assert is_drawn(page, (320, 60, 0, -13), (320, 60, 0, -1), (320, 60, 6, 0)) == [True, True, False]
+        page.keys('n')
+        for x, y, wanted in ((64, 48, [True, False, True]), (128, 48, [False, True, False]), (400, 40, [False] * 3)):
+            point_at(page, x, y)
+            assert is_drawn(page, tile, text, name) == wanted, (x, y)
+        page.keys('b')
+        point_at(page, 64, 48)
+        assert is_drawn(page, tile, name) == [False, False], 'the brush is not about objects'
+        page.keys('s')
+        page.drag_points(points_at(page, [(64, 48)]))
+        page.picture()
+        assert is_drawn(page, tile, text, name) == [True, False, True]
+        [frame] = page.colours(points_at(page, [tile]))
+        assert frame == CHOSEN
+        (x, y), = points_at(page, [(320, 60)])
+        page.drag_points([(x, y - 13)])
+        assert page.texts('#owner') == [f"Object {layer_of(page, 'Places')['objects'][-1]['id']}"], 'a pin is chosen by its head'
 
 
 def test_palette():

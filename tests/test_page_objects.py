@@ -1,6 +1,6 @@
 # SPDX-License-Identifier: MIT OR Apache-2.0
 """Works with objects on the page in Chromium, by mouse and keys: which one a click chooses, the
-list with its search, a new one and its name, handles and arrow keys, copies and what these do not
+list with its search, names, handles and arrow keys, copies and what these do not
 keep, and keys that act on what the tool in hand shows as chosen."""
 import json
 import math
@@ -43,10 +43,6 @@ def type_keys(page, *keys):
     ActionChains(page.driver).send_keys(*keys).perform()
     page.js('return new Promise(done => setTimeout(done, 50))')
     page.settle()
-
-
-def wait_dialog(page):
-    page.wait(lambda: page.texts('dialog[open]'), 'a dialog')
 
 
 def drag_handle(page, number, edges, across, down, *held):
@@ -149,42 +145,15 @@ def test_many():
         assert 'locked' in page.bubble() and len(spelled(page)) == 1
 
 
-def test_new():
-    """The name of a new object is asked for before its line is sent, and the new one is chosen; the
-    proposed name goes by typing; an empty one is refused in the dialog."""
+def test_rename():
+    """A double click in the list asks for another name of an object."""
     with Bench() as page:
-        choose(page, 'Places')
-        page.keys('i')
-        page.drag([(20, 5), (22, 6)])
-        wait_dialog(page)
-        assert not spelled(page)
-        type_keys(page, Keys.DELETE, Keys.ENTER)
-        assert 'not empty' in page.find('dialog .fault').text and not spelled(page)
-        type_keys(page, 'Camp', Keys.ENTER)
-        layer = layer_of(page, 'Places')['id']
-        assert spelled(page) == [f'object add {layer} 320 80 48 32 Camp']
-        number = objects_in(page.editor.map())[-1]['id']
-        assert chosen(page) == number and page.texts('#owner') == ['Object Camp']
-        page.keys(Keys.DELETE)
-        assert spelled(page)[-1] == f'object remove {number}'
-        choose(page, 'Ground')
-        page.keys('i')
-        page.drag([(20, 5), (22, 6)])
-        assert page.bubble() == 'Choose an object layer first: Things or Places.' and len(spelled(page)) == 2
-        things = layer_of(page, 'Things')['id']
-        page.say(f'layer remove {things}')
-        choose(page, 'Ground')
-        page.keys('i')
-        page.drag([(20, 5), (22, 6)])
-        wait_dialog(page)
-        type_keys(page, 'Camp', Keys.ENTER)
-        assert spelled(page)[-1] == f'object add {layer} 320 80 48 32 Camp', 'the only object layer takes it'
-        assert page.js('return roskevad.bench.layerId') == layer
-        number = chosen(page)
+        page.keys('s')
+        page.drag_points([middle_of(page, INN)])
         page.double_click(lambda: page.find('#objects li.now'), lambda: page.texts('dialog[open]'))
-        type_keys(page, 'Old camp', Keys.ENTER)
-        assert spelled(page)[-1] == f'member set object:{number} name "Old camp"' and page.texts('#owner') == ['Object Old camp']
-        assert page.texts('#objects .now .name') == ['Old camp'] and object_of(page, number)['name'] == 'Old camp'
+        type_keys(page, 'Old inn', Keys.ENTER)
+        assert spelled(page) == [f'member set object:{INN} name "Old inn"'] and page.texts('#owner') == ['Object Old inn']
+        assert page.texts('#objects .now .name') == ['Old inn'] and object_of(page, INN)['name'] == 'Old inn'
 
 
 def test_handles():
@@ -266,47 +235,120 @@ def test_arrows():
         assert object_of(page, INN) == inn, 'with another tool no object moves'
 
 
+# Objects of all kinds, with all that Tiled gives one.
+CORNERS = [{'x': 0, 'y': 0}, {'x': 32, 'y': -8}, {'x': 16, 'y': 40}]
+DEEP = [
+    {'name': 'two words', 'type': 'string', 'value': 'a\nb'},
+    {'name': 'speed', 'type': 'float', 'value': 3},
+    {'name': 'tint', 'type': 'color', 'value': ''},
+    {'name': 'rank', 'propertytype': 'Rank', 'type': 'int', 'value': 2},
+    {'name': 'drops', 'propertytype': 'Loot', 'type': 'class', 'value': {'gold': 5, 'also': {'gem': True}}},
+]
+KINDS_OF_OBJECTS = [
+    {'name': '', 'x': 40, 'y': 400, 'width': 32, 'height': 16},
+    {'name': 'trap', 'type': 'Trap', 'x': 40, 'y': 400, 'width': 32, 'height': 16, 'rotation': 45, 'properties': DEEP},
+    {'name': 'pond', 'x': 40, 'y': 400, 'width': 48, 'height': 24, 'ellipse': True},
+    {'name': 'exit', 'type': 'Exit', 'x': 40, 'y': 400, 'width': 0, 'height': 0, 'point': True},
+    {'name': 'roof', 'x': 40, 'y': 400, 'width': 0, 'height': 0, 'polygon': CORNERS, 'rotation': -30},
+    {'name': 'wall', 'x': 40, 'y': 400, 'width': 0, 'height': 0, 'polyline': CORNERS},
+    {'name': 'sign', 'x': 40, 'y': 400, 'width': 80, 'height': 20, 'text': {'text': 'Inn\n"old"', 'wrap': True, 'pixelsize': 12}},
+    {'name': 'chest', 'type': 'Chest', 'x': 40, 'y': 416, 'width': 32, 'height': 16, 'gid': 12 + (1 << 31)},
+    {'name': 'guard', 'x': 40, 'y': 400, 'template': 'guard.tj', 'own': [None, {'a': 'b'}]},
+    {'name': 'x' * 300, 'class': 'Old', 'x': 40, 'y': 400, 'width': 8, 'height': 8},
+]
+
+
+def put(page, layer, **members):
+    """Adds an object, and chooses it; its id."""
+    page.editor.lines(f'object put {layer} {json.dumps(members)}')
+    number = max(each['id'] for each in objects_in(page.editor.map()))
+    page.js('roskevad.bench.chooseObject(arguments[0])', number)
+    return number
+
+
 def test_copies():
-    """Ctrl+D copies a plain rectangle with its properties as one step, and chooses the copy. Of
-    others a notice names what a copy would not keep, and offers the rest."""
+    """Ctrl+D makes a copy of an object of any kind with all that it is, one cell to the right and down, as one
+    step, and chooses it."""
     with Bench() as page:
         layer = layer_of(page, 'Places')['id']
-        page.editor.lines(
-            f'object add {layer} 32 400 32 16 trap',
-            'prop set object:7 hurts bool true',
-            'prop set object:7 sound file ouch.ogg',
-        )
-        count = len(spelled(page))
         page.keys('s')
-        page.drag_points([middle_of(page, 7)])
-        page.ctrl('d')
-        assert spelled(page)[count:] == [
-            'begin Duplicate Object || duplicate object',
-            f'object add {layer} 48 416 32 16 trap',
-            'prop set object:8 hurts bool true',
-            'prop set object:8 sound file ouch.ogg',
-            'end',
-        ] and chosen(page) == 8
-        first, second = object_of(page, 7), object_of(page, 8)
-        assert second == {**first, 'id': 8, 'x': 48, 'y': 416} and standing(page) == (4, 4)
-        page.ctrl('z')
-        assert [each['id'] for each in layer_of(page, 'Places')['objects']][-1] == 7
-        page.drag_points([middle_of(page, LAKE)])
-        before = page.editor.map()
-        choose(page, 'Places')
-        page.click(f'#objects li[data-object="{LAKE}"]')
-        page.ctrl('d')
-        told = page.notices()[0]
-        assert 'ellipse' in told and 'class Area' in told and page.editor.map() == before
-        page.answer('Copy the rest')
-        copy = objects_in(page.editor.map())[-1]
-        assert (copy['name'], copy['width'], copy['type']) == ('Lake', 192, '')
-        assert copy['properties'] == object_of(page, LAKE)['properties']
+        for members in KINDS_OF_OBJECTS:
+            number = put(page, layer, **members)
+            [_, count], lines = standing(page), len(spelled(page))
+            page.ctrl('d')
+            first, second = object_of(page, number), object_of(page, number + 1)
+            assert second == {**first, 'id': number + 1, 'x': first['x'] + 16, 'y': first['y'] + 16}, members['name']
+            assert chosen(page) == number + 1 and standing(page) == (count + 1, count + 1)
+            [begin, line, end] = spelled(page)[lines:]
+            assert begin == 'begin Duplicate Object || duplicate object' and end == 'end'
+            assert line.startswith(f'object put {layer} ' + '{') and not page.notices()
+            said = f"Duplicate Object · {members['name'][:100] or f'object {number + 1}'}"
+            assert page.texts('#steps .now .name')[0].startswith(said)
+            page.ctrl('z')
+            assert object_of(page, number) == first and len(objects_in(page.editor.map())) == number
+            passed()
+
+
+def test_whole_town():
+    """Each object of the town is copied and cut whole: a cut and a paste give back what was there, but for its id
+    and its place."""
+    with Bench() as page:
+        page.keys('s')
+        for before in objects_in(page.editor.map()):
+            page.js('roskevad.bench.chooseObject(arguments[0])', before['id'])
+            page.ctrl('x')
+            assert spelled(page)[-1] == f"object remove {before['id']}" and not page.notices()
+            page.ctrl('v')
+            after = object_of(page, chosen(page))
+            assert after == {**before, **{each: after[each] for each in ('id', 'x', 'y')}}, before['name']
+            passed()
+
+
+def test_what_a_copy_has_not():
+    """Of what no copy keeps the page names each, and offers to copy the rest, which has whole numbers in its place;
+    what has a fraction is not cut. An object that is too large is copied by nothing, and nothing stays copied."""
+    bench = Bench(empty=True)
+    with bench as page:
+        town = json.loads((bench.folder / 'town.tmj').read_text())
+        layer = next(each for each in town['layers'] if each['name'] == 'Places')
+        deep = [{'name': 'speed', 'type': 'float', 'value': 0.5}, {'name': 'drops', 'type': 'class', 'value': {'share': [0.25]}}]
+        odd = {'id': 7, 'name': 'odd', 'type': 'Odd', 'x': 40.5, 'y': 400.25, 'width': 30.5, 'height': 16, 'rotation': 22.5, 'visible': True}
+        odd['properties'] = [*deep, {'name': 'kept', 'type': 'float', 'value': 2}]
+        bent = {'id': 8, 'name': 'bent', 'type': '', 'x': 80.75, 'y': 400, 'width': 0, 'height': 0, 'rotation': 0, 'visible': True}
+        bent['polygon'] = [{'x': 0, 'y': 0}, {'x': 10.5, 'y': 3.25}, {'x': 5, 'y': 20}]
+        many = [{'x': at % 100, 'y': at // 100} for at in range(5000)]
+        layer['objects'] += [odd, bent, {**bent, 'id': 9, 'name': 'long', 'polygon': many}]
+        town['nextobjectid'] = 10
+        (bench.folder / 'odd.tmj').write_text(json.dumps(town))
+        page.choose_files(bench.folder / 'odd.tmj', *bench.folder.glob('*.ts?'))
+        page.keys('s')
+        lost = ('the fraction of its size', 'the fraction of its turn', 'the property speed', 'the property drops')
+        for number, words in ((7, lost), (8, ['the fraction of its corners'])):
+            for key, done in (('c', 'copied'), ('x', 'cut'), ('d', 'copied')):
+                page.js('roskevad.bench.chooseObject(arguments[0])', number)
+                page.ctrl(key)
+                name = {7: 'odd', 8: 'bent'}[number]
+                told = page.notices()[0].partition('.')[0]
+                assert told.startswith(f'{name} is not {done}: a copy would not keep the ') and all(each in told for each in words), told
+                assert told.count('the ') == len(words), 'and nothing else'
+                assert len(spelled(page)) == 3 * (number - 7) and ('Copy the rest' in page.notices()[0]) == (done == 'copied')
+            page.answer('Copy the rest')
+        first, second = object_of(page, 10), object_of(page, 11)
+        assert (first['width'], first['rotation'], first['type'], first['x'], first['y']) in [(w, r, 'Odd', 57, 416) for w in (30, 31) for r in (22, 23)]
+        assert first['properties'] == [{'name': 'kept', 'type': 'float', 'value': 2}]
+        corners = second['polygon']
+        assert len(corners) == 3 and corners[0] == {'x': 0, 'y': 0} and corners[2] == {'x': 5, 'y': 20} and corners[1] in [{'x': x, 'y': 3} for x in (10, 11)]
+        for key, done in (('c', 'copied'), ('x', 'cut'), ('d', 'copied')):
+            page.js('roskevad.bench.chooseObject(9)')
+            page.ctrl(key)
+            assert page.bubble().startswith(f'long is not {done}: it is too large for a copy, by ') and not page.notices(), page.bubble()
+        page.ctrl('v')
+        assert page.bubble().startswith('Nothing is copied.') and len(objects_in(page.editor.map())) == 11
 
 
 def test_clipboard():
-    """With Objects Ctrl+C, Ctrl+V and Ctrl+X are about the chosen object; one that a copy would not keep
-    whole is not cut."""
+    """With Objects Ctrl+C, Ctrl+V and Ctrl+X are about the chosen object; the middle of a paste is where the mouse
+    is, of a turned tile and of a polygon, too."""
     with Bench() as page:
         layer = layer_of(page, 'Places')['id']
         page.editor.lines(f'object add {layer} 32 400 32 16 trap')
@@ -319,16 +361,18 @@ def test_clipboard():
         place = page.js('const {pixelX, pixelY} = roskevad.bench.place; return [pixelX, pixelY]')
         left, top = (math.floor(at - half + 0.5) for at, half in zip(place, (16, 8)))
         page.ctrl('v')
-        assert spelled(page)[-3:] == [
-            'begin Paste Object || paste object',
-            f'object add {layer} {left} {top} 32 16 trap',
-            'end',
-        ] and chosen(page) == 8
+        members = '{"height":16,"name":"trap","rotation":0,"type":"","visible":true,"width":32,"x":%d,"y":%d}' % (left, top)
+        assert spelled(page)[-3:] == ['begin Paste Object || paste object', f'object put {layer} {members}', 'end'] and chosen(page) == 8
         assert abs(left - 184) < 2 and abs(top - 412) < 2, 'its middle is where the mouse is'
-        page.drag_points([middle_of(page, INN)])
-        lines = spelled(page)
-        page.ctrl('x')
-        assert 'class Door' in page.notices()[0] and spelled(page) == lines
+        # By its corners it reaches from 0 to 32 and from -8 to 40.
+        for members, middle in (({'polygon': CORNERS}, (16, 16)), ({'gid': 12, 'width': 32, 'height': 16, 'rotation': 90}, (8, 16))):
+            put(page, layer, x=300, y=300, **members)
+            page.ctrl('c')
+            page.js('document.activeElement?.blur()')
+            page.ctrl('v')
+            now = object_of(page, chosen(page))
+            assert abs(now['x'] + middle[0] - place[0]) <= 1 and abs(now['y'] + middle[1] - place[1]) <= 1, now
+            page.ctrl('z')
 
 
 def test_keys_and_tools():

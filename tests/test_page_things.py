@@ -3,7 +3,7 @@
 keys and dialogs: each edit is the line that it must be, and is seen."""
 import json
 
-from lib.maps import layers_in
+from lib.maps import layers_in, objects_in
 from page.bench import (
     Bench,
     cell,
@@ -55,17 +55,17 @@ def test_objects():
         )
         count = standing(page)[1]
         page.keys('i')
-        page.drag([(20, 5), (22, 6)])
-        page.fill_in(name='gate to the east')
-        layer = page.js('return roskevad.bench.layerId')
+        page.drag([(20, 5), (22, 6)], Keys.CONTROL)
+        page.type_into('#properties [data-key=" name"]', 'gate to the east')
+        new = max(objects_in(page.editor.map()), key=lambda each: each['id'])
         assert (
-            spelled(page)[-1] == f'object add {layer} 320 80 48 32 gate to the east'
-            and standing(page)[1] == count + 1
+            [new[each] for each in ('name', 'x', 'y', 'width', 'height')] == ['gate to the east', 320, 80, 48, 32]
+            and standing(page)[1] == count + 2
         )
         page.keys('s')
         page.drag([(21, 5)])
         page.keys(Keys.DELETE)
-        assert spelled(page)[-1].startswith('object remove ') and standing(page)[1] == count + 2
+        assert spelled(page)[-1].startswith('object remove ') and standing(page)[1] == count + 3
 
 
 def test_layers():

@@ -343,9 +343,9 @@ def test_objects_over_cells():
         show(page, put(folder / 'iso.tmj', map_of(layers, 9, 8, **KINDS[4])))
         choose(page, 'Things')
         page.keys('i')
-        page.drag([(4, 3), (6, 5)])
-        page.fill_in(name='door')
-        assert spelled(page)[-1] == 'object add 2 64 48 48 48 door'
+        page.drag([(4, 3), (6, 5)], Keys.CONTROL)
+        new = page.editor.map()['layers'][1]['objects'][0]
+        assert [new[each] for each in ('x', 'y', 'width', 'height')] == [64, 48, 48, 48]
         page.keys('s')
         page.drag([(1, 1)])
         assert page.js('return roskevad.bench.objectId') is None

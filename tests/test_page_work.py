@@ -3,16 +3,13 @@
 sessions that are copied and played, the page loaded anew, and two windows. Most is done on the one
 file, and files and sessions also on what `./tile_page` serves."""
 import json
-import shutil
-import subprocess
-from pathlib import Path
 
 from lib.cases import passed
 from lib.map_layouts import lines_changed
 from lib.maps import compact, layers_in
-from lib.places import BIN, EXAMPLE_MAPS
+from lib.places import EXAMPLE_MAPS
 from lib.refusals import refusal
-from page.bench import Bench, cell, cells_with, choose, layer_of, see_colours, spelled, standing, take_tile
+from page.bench import Bench, cell, cells_with, choose, layer_of, played, see_colours, spelled, standing, take_tile
 from page.browser import Keys
 
 NEEDS_BROWSER = True
@@ -197,20 +194,6 @@ def test_box():
         page.settle()
         assert page.texts('#lines li code')[-2:] == ['open x layers.tmj', 'status']
         assert page.texts('#lines li .reply')[-1] == 'ok 0/0 clean 0'
-
-
-def played(bench, session, before, *options):
-    """The folder behind a session that `tile_editor` plays over files as they were."""
-    folder = Path(bench.top.name) / 'played'
-    shutil.copytree(before, folder)
-    done = subprocess.run(
-        [BIN / 'tile_editor', '--all-maps', '--folder', folder, *options, *bench.options],
-        input=session,
-        capture_output=True,
-        timeout=60,
-    )
-    assert done.returncode == 0 and b'\nno ' not in b'\n' + done.stdout, done.stdout[-300:]
-    return folder
 
 
 def work_on(page):

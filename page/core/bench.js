@@ -14,6 +14,8 @@ export class Bench extends EventTarget {
     this.layerId = null;
     this.objectId = null;
     this.brushSize = 1;
+    // Where the hand puts objects, by its word in snapping.js.
+    this.snapping = "none";
     this.carried = new CarriedTiles(this);
     this.clipboard = new Clipboard(this);
     // The stamp in hand: the numbers that its tiles have on the active map; and what it is, as a copy (see tile_numbers.js).

@@ -2,6 +2,7 @@
 // What may stand in a field, or at a word of a line. Each kind says what is wanted, what is wrong with a text, and how a line spells it.
 import { MAX_COORDINATE, MAX_DOCUMENT_NAME, MAX_FILE_NAME, MAX_NUMBER, MAX_PIXELS, MAX_SIDE, MAX_TEXT, MAX_TILE_SIDE } from "../../js/limits.js";
 import { isWhole } from "../../js/words.js";
+import { LONGEST_TEXT } from "../files/members.js";
 
 const encoder = new TextEncoder();
 // eslint-disable-next-line no-control-regex
@@ -21,6 +22,12 @@ function labelFault(text) {
 const textFault = text => (text === "" ? "not empty: no line takes an empty text" : labelFault(text));
 
 const keyFault = text => (text.includes(" ") ? "no space in it: no line can say such a name" : textFault(text));
+
+// The same of a text that is drawn, which may have several lines.
+function wordsFault(text) {
+  if (!isWhole(text)) return "whole characters: this has half of one";
+  return text.length > LONGEST_TEXT ? `at most ${grouped(LONGEST_TEXT)} letters; this has ${grouped(text.length)}` : "";
+}
 
 // A whole number as a line spells it: without zeros in front, and without a plus sign.
 function spelledWhole(text) {
@@ -80,6 +87,7 @@ const asIs = text => text;
 export const KINDS = {
   text: { wanted: `a text of 1 to ${MAX_TEXT} bytes`, fault: textFault, spelled: asIs },
   label: { wanted: `a text of at most ${MAX_TEXT} bytes`, fault: labelFault, spelled: asIs },
+  words: { wanted: `a text of at most ${LONGEST_TEXT} letters`, fault: wordsFault, spelled: asIs },
   key: { wanted: `a name of 1 to ${MAX_TEXT} bytes, without a space`, fault: keyFault, spelled: asIs },
   coordinate: whole(-MAX_COORDINATE, MAX_COORDINATE),
   size: whole(0, MAX_PIXELS),

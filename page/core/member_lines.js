@@ -1,5 +1,7 @@
 // SPDX-License-Identifier: MIT OR Apache-2.0
-// The lines that say values as JSON: those that set own members of an object, a layer or the map, and that remove a property of any name.
+// The lines that say values as JSON: those that add an object, that set own members of an object, a layer or the map, and that remove a
+// property of any name.
+import { MAX_LINE } from "../../js/limits.js";
 import { said } from "../../js/json_values.js";
 import { isKey } from "../../js/words.js";
 
@@ -14,3 +16,9 @@ export const renameLine = ({ id }, name) => (name === "" ? memberLine(`layer:${i
 
 // The line that removes a property.
 export const removalLine = (owner, name) => (isKey(name) ? `prop remove ${owner} ${name}` : `prop take ${owner} ${said(name, "a name")}`);
+
+// The line that adds an object to a layer, as a file has it.
+export const objectLine = (layer, members) => `object put ${layer} ${said(members, "an object")}`;
+
+// How many bytes of a line are more than it may have; 0 where none are.
+export const bytesTooMany = line => Math.max(0, new TextEncoder().encode(line).length - MAX_LINE);

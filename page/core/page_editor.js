@@ -12,7 +12,7 @@ import { cellsIn } from "./log_words.js";
 import { isAboutDocuments, isLook, isTurn, wordOf } from "./line_kinds.js";
 import { MapModel } from "./map_model.js";
 import { hashOf } from "../files/hashes.js";
-import { FileNames, freeName } from "../files/names.js";
+import { FileNames, folderOf, freeName } from "../files/names.js";
 import { OpenDocuments } from "./open_documents.js";
 import { loadModule } from "./own_module.js";
 import { Changed, ChosenFiles } from "../files/places.js";
@@ -97,6 +97,11 @@ export class PageEditor extends EventTarget {
   // Whether a value may have a fraction.
   get takesFractions() {
     return (this.hasFractions ??= takesFractions(this.module));
+  }
+
+  // The folder of the active map, with its slash; "" where it has none.
+  get folder() {
+    return folderOf(this.openDocuments.file?.path ?? "");
   }
 
   // ---- lines
@@ -275,6 +280,11 @@ export class PageEditor extends EventTarget {
     const now = [...ids].map(id => [id, objects.has(id) ? objects.get(id) : null]);
     const found = now.map(([id, object]) => [id, object && { members: object.members, layer: object.layer.id }]);
     return this.map.take(found, this.editor.lastObjectId() + 1, layer => active._ids("object_ids", layer));
+  }
+
+  // All that the active map says of an object: the page's own map has no more than what it shows.
+  membersOf(id) {
+    return this.editor.active.objects.get(id).members;
   }
 
   takeSelection() {

@@ -115,6 +115,13 @@ class TextField extends TypedField {
   }
 }
 
+// A text of several lines: Shift and Enter begin another one.
+class LinesField extends TextField {
+  key(event) {
+    if (event.key !== "Enter" || !event.shiftKey) super.key(event);
+  }
+}
+
 // A file: its path, and a button that lists those of the folder.
 class FileField extends TextField {
   constructor(kind, value, take, { files }) {
@@ -257,5 +264,6 @@ export function fieldFor(type, value, take, around, kind = TYPES[type]) {
 }
 
 export const colourField = (kind, value, take) => new ColourField(kind, value, take);
+export const linesField = (kind, value, take) => new LinesField(kind, value, take);
 export const textField = (kind, value, take) => new TextField(kind, value, take);
 export const numberField = (kind, value, take) => new NumberField(kind, value, take);

@@ -46,7 +46,7 @@ export class Lesson {
   // Escape is first about what is under way and what is chosen.
   mayLeave() {
     const { bench, tools } = this.page;
-    const isBusy = tools.held || bench.map?.selected || bench.objectId !== null || isTyping() || window.document.querySelector("dialog[open]");
+    const isBusy = tools.held || tools.now.isDrawing || bench.map?.selected || bench.objectId !== null || isTyping() || window.document.querySelector("dialog[open]");
     return this.isOn && !isBusy;
   }
 

@@ -3,7 +3,7 @@
 import { KINDS } from "../core/kinds.js";
 import { ask, byId, element } from "./dom.js";
 import { memberLine } from "../core/member_lines.js";
-import { boxOf } from "../view/object_shapes.js";
+import { middleOf } from "../view/object_shapes.js";
 import { whyNotNamed } from "../core/unsupported_edits.js";
 
 // How many rows the list has at most: others are found by the search.
@@ -13,10 +13,10 @@ const SIDES = { objects: "objects", insert: "objects", brush: "tiles", eraser: "
 
 const countOf = number => number.toLocaleString("en-US");
 
-// The place of an object's middle.
-function middleOf(object) {
-  const [left, top, right, bottom] = boxOf(object);
-  return { x: (object.x ?? 0) + (left + right) / 2, y: (object.y ?? 0) + (top + bottom) / 2 };
+// The place of an object's middle, as far as it is not turned.
+function placeOfMiddle(object) {
+  const [x, y] = middleOf(object);
+  return { x: (object.x ?? 0) + x, y: (object.y ?? 0) + y };
 }
 
 export class ObjectList {
@@ -33,9 +33,13 @@ export class ObjectList {
     this.list.ondblclick = event => this.rename(event.target.closest("[data-object]"));
     bench.addEventListener("chosen", () => this.show());
     bench.addEventListener("object chosen", () => this.list.querySelector(".now")?.scrollIntoView({ block: "nearest" }));
-    bench.addEventListener("tool", () => this.turnTo(SIDES[tools.name]));
-    bench.addEventListener("inserted", () => tools.choose("objects"));
+    bench.addEventListener("tool", () => this.turnTo(this.sideFor(tools)));
     this.turnTo("tiles");
+  }
+
+  // A tile for a new object is taken from the tiles.
+  sideFor({ name, all }) {
+    return name === "insert" && all.insert.shape === "tile" ? "tiles" : SIDES[name];
   }
 
   turnTo(side = this.side) {
@@ -140,7 +144,7 @@ export class ObjectList {
     bench.chooseObject(id);
     const { view } = bench;
     const { object, layer } = bench.chosenObject;
-    const [x, y] = bench.overlay.screenPlace(middleOf(bench.overlay.shapeOf(object)), layer);
+    const [x, y] = bench.overlay.screenPlace(placeOfMiddle(bench.overlay.shapeOf(object)), layer);
     if (x > 0 && y > 0 && x < view.canvas.width && y < view.canvas.height) return;
     view.pan(Math.round(view.canvas.width / 2 - x), Math.round(view.canvas.height / 2 - y));
   }

@@ -1,12 +1,11 @@
 // SPDX-License-Identifier: MIT OR Apache-2.0
 // The properties of the map, of a layer or of an object, in a table; and what else a line can set of an object.
 import { button, byId, element, mark } from "./dom.js";
-import { fieldFor, numberField, textField } from "./fields.js";
+import { fieldFor, linesField, numberField, textField } from "./fields.js";
 import { KINDS, TYPES } from "../core/kinds.js";
 import { LayerRows } from "./layer_rows.js";
 import { memberLine, removalLine } from "../core/member_lines.js";
 import { LONGEST_NAME, cutText } from "../files/members.js";
-import { folderOf } from "../files/names.js";
 import { saidOf } from "../core/refusals.js";
 import { cellOf, rowOf } from "./table_rows.js";
 import { whyNotNamed, whyNotSet } from "../core/unsupported_edits.js";
@@ -31,7 +30,7 @@ export class PropertyPanel {
     this.body = element("tbody");
     this.around = {
       map: () => bench.map,
-      files: () => ({ place: bench.editor.place, folder: folderOf(bench.editor.openDocuments.file?.path ?? "") }),
+      files: () => ({ place: bench.editor.place, folder: bench.editor.folder }),
     };
     this.last = this.newRow();
     this.layerRows = new LayerRows(this);
@@ -89,7 +88,7 @@ export class PropertyPanel {
   }
 
   // ---- what is no property
-  // The size and the class of the map; what a layer has; the name, the class, the place, the size and the rotation of an object.
+  // The size and the class of the map; what a layer has; the name, the class, the text, the place, the size and the rotation of an object.
   factRows(owner) {
     const { data } = owner;
     if (this.kind === "map") return [this.fact("size", `${data.width} × ${data.height}`, ""), this.classRow(owner)];
@@ -99,6 +98,7 @@ export class PropertyPanel {
     return [
       this.memberRow(owner, "name", "name", data.name ?? ""),
       this.memberRow(owner, "class", kind, data[kind] ?? ""),
+      ...(data.text ? [this.textRow(owner)] : []),
       this.partRow(owner, PARTS.slice(0, 2), "place"),
       this.partRow(owner, PARTS.slice(2), "size"),
       this.memberRow(owner, "rotation", "rotation", data.rotation ?? 0),
@@ -120,6 +120,20 @@ export class PropertyPanel {
       const field = isNumber ? numberField(KINDS.coordinate, String(value), take) : textField(KINDS.label, value, take);
       Object.assign(field.input.dataset, { key: ` ${name}`, owner: word });
       return { element: rowOf(name, "", isNumber ? "in degrees, clockwise" : "", cellOf([field])), fields: [field] };
+    });
+  }
+
+  // The text that is drawn. The page may have a part of it.
+  textRow({ word, data }) {
+    return this.kept(` ${word} text`, [data.text.text ?? ""], () => {
+      const take = text => {
+        const { text: whole } = this.bench.editor.membersOf(data.id);
+        const isKnown = (whole.text ?? "") === (this.owner().data.text.text ?? "");
+        return isKnown ? this.send(memberLine(word, "text", { ...whole, text })) : "this text is longer than what is shown here";
+      };
+      const field = linesField(KINDS.words, data.text.text ?? "", take);
+      Object.assign(field.input.dataset, { key: " text", owner: word });
+      return { element: rowOf("text", "", "Shift+Enter begins another line", element("td", { colSpan: 2 }, field.box)), fields: [field] };
     });
   }
 

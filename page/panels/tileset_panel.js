@@ -3,7 +3,7 @@
 import { byId, element } from "./dom.js";
 import { iconButton } from "./icons.js";
 import { FileList } from "../files/file_list.js";
-import { folderOf, pathFrom } from "../files/names.js";
+import { pathFrom } from "../files/names.js";
 import { endNotice, notice } from "./notice_bars.js";
 import { checked, readTileset } from "../files/tileset_files.js";
 
@@ -53,7 +53,7 @@ export class TilesetPanel {
     if (!map) return this.bench.say("Open a map first.");
     const { place } = this.editor;
     const files = await place.tilesets().catch(fault => this.bench.say(fault.message) ?? []);
-    const folder = folderOf(this.editor.openDocuments.file?.path ?? "");
+    const folder = this.editor.folder;
     const has = new Set(map.data.tilesets.map(set => set.source));
     const known = new Map(files.filter(each => has.has(pathFrom(folder, each.path))).map(each => [each.path, "in the map already"]));
     const first = element("input", { name: "first", type: "number", min: 1, value: this.bench.carried.numbers.nextFirst() });

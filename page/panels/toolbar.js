@@ -3,7 +3,9 @@
 import { Clips, KeptStamps } from "../tools/clips.js";
 import { byId, element, onEnter } from "./dom.js";
 import { iconButton, showIcon } from "./icons.js";
+import { titleOf } from "../tools/insert_tool.js";
 import { Keys } from "../tools/keys.js";
+import { SNAPPINGS } from "../tools/snapping.js";
 import { whyNotOn } from "../tools/layer_tools.js";
 
 const TOOLS = [
@@ -12,9 +14,19 @@ const TOOLS = [
   ["fill", "Fill", "F", "Fill joined cells that are alike with the stamp"],
   ["rectangle", "Rectangle", "P", "Fill a rectangle with the stamp"],
   ["select", "Select", "R", "Select cells; Shift adds, Ctrl subtracts, both intersect"],
-  ["objects", "Objects", "S", "Choose an object, and drag it; Ctrl keeps to the grid"],
-  ["insert", "Insert", "I", "Drag over cells for a new object"],
+  ["objects", "Objects", "S", "Choose an object, and drag it; Snap says where it goes, and Ctrl turns that round"],
+  ["insert", "Insert", "I", "Draw a new object; again for its next shape"],
 ];
+// The buttons of shapes: how each is made.
+const SHAPE_TITLES = {
+  rectangle: "Drag for a rectangle; a click takes a cell",
+  point: "Click for a point",
+  ellipse: "Drag for an ellipse; a click takes a cell",
+  polygon: "Click at each corner; Enter, a double click or a click at the first corner ends",
+  polyline: "Click at each corner; Enter or a double click ends",
+  tile: "Click for the tile in hand, as an object",
+  text: "Drag for the box of a text, or click",
+};
 const LARGEST_BRUSH = 9;
 
 export class Toolbar {
@@ -22,6 +34,7 @@ export class Toolbar {
     Object.assign(this, { bench, tools, documents, miniMap, editor: bench.editor });
     const buttonOf = ([name, text, key, title]) => iconButton(name, text, `${text} (${key}): ${title}`, () => tools.choose(name), { id: `tool-${name}` });
     byId("tools").append(...TOOLS.map(buttonOf));
+    this.addShapes();
     byId("turns").append(
       iconButton("undo", "Undo", "Undo (Ctrl+Z)", event => this.turn("undo", event), { id: "undo" }),
       iconButton("redo", "Redo", "Redo (Ctrl+Shift+Z, Ctrl+Y)", event => this.turn("redo", event), { id: "redo" }),
@@ -51,9 +64,36 @@ export class Toolbar {
     this.keys = new Keys({ bench, tools, toolbar: this, documents, layers, view: bench.view, clips, stamps: new KeptStamps(bench, tools) });
   }
 
+  // The shapes of new objects, and where the mouse puts objects.
+  addShapes() {
+    const insert = this.tools.all.insert;
+    const buttonOf = ([shape, title]) => iconButton(`shape${titleOf(shape)}`, titleOf(shape), `${titleOf(shape)} (I, Shift+I): ${title}`, () => insert.take(shape), { id: `shape-${shape}` });
+    byId("shapes").append(...Object.entries(SHAPE_TITLES).map(buttonOf));
+    const options = Object.entries(SNAPPINGS).map(([value, [words]]) => element("option", { value, textContent: `Snap: ${words}` }));
+    byId("snapping").append(...options);
+    byId("snapping").onchange = event => {
+      this.bench.snapping = event.target.value;
+      event.target.blur();
+      this.bench.tell("layout");
+    };
+  }
+
+  showShapes() {
+    const { all, name } = this.tools;
+    byId("shapes").hidden = name !== "insert";
+    byId("snapping-box").hidden = name !== "insert" && name !== "objects";
+    for (const shape of Object.keys(SHAPE_TITLES)) {
+      const button = byId(`shape-${shape}`);
+      button.classList.toggle("on", shape === all.insert.shape);
+      button.ariaPressed = String(shape === all.insert.shape);
+    }
+    byId("snapping").value = this.bench.snapping;
+  }
+
   show() {
     const { state } = this.editor;
     this.showTools();
+    this.showShapes();
     byId("undo").disabled = state.index === 0 || state.depth > 0;
     byId("redo").disabled = state.index === state.count || state.depth > 0;
     const why = state.depth > 0 ? "End the macro first: what is in it is one step. " : "";

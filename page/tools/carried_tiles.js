@@ -1,10 +1,10 @@
 // SPDX-License-Identifier: MIT OR Apache-2.0
 // Tiles that come from another map, or that were taken before the tilesets of this one were changed: the hand has them as this map numbers
 // them, or it does not have them, and why is said.
-import { folderOf, pathFrom } from "../files/names.js";
+import { pathFrom } from "../files/names.js";
 import { endNotice, notice } from "../panels/notice_bars.js";
 import { listed } from "./object_copies.js";
-import { TileNumbers } from "../core/tile_numbers.js";
+import { TileNumbers, idIn } from "../core/tile_numbers.js";
 
 // What the notices are about: tilesets that a map does not have, and tiles past the end of theirs.
 const MISSING = "missing tilesets";
@@ -89,23 +89,31 @@ export class CarriedTiles {
     return true;
   }
 
+  // How wide and high a tile of the map is: as its image, or else as a cell.
+  sizeOf(value) {
+    const { map } = this.bench;
+    const tileset = this.tilesets.of(value);
+    const tile = idIn(value, tileset);
+    return tileset?.has(tile) ? tileset.sizeOf(tile) : [map.tileWidth, map.tileHeight];
+  }
+
   // ---- copies
-  // Calls `go` with a copy as this map numbers it. Where it is none here that is said, and what was not `done`, and nothing else is left in
-  // the hand; where only tilesets are missing that are files, they are offered.
-  bring(copy, done, go) {
+  // Calls `go` with a copy as this map numbers it. Where it is none here that is said, and what was not `done`, and where it was to come into
+  // the hand nothing else is left there; where only tilesets are missing that are files, they are offered.
+  bring(copy, done, go, isForHand = true) {
     const { bench } = this;
     const { width, height } = copy;
     const read = this.numbers.read(copy);
     endNotice(MISSING);
     if (read.values) return go({ width, height, values: read.values });
     const words = `${this.whyOf(read)} Nothing was ${done}.`;
-    bench.takeStamp(NO_TILE);
+    if (isForHand) bench.takeStamp(NO_TILE);
     bench.say(words);
     if (read.past.length || !read.lost.every(set => this.isFile(set))) return null;
     const document = this.editor.openDocuments.document;
     const add = async () => {
       if (document !== this.editor.openDocuments.document || !(await this.add(read.lost, copy))) return false;
-      return this.bring(copy, done, go);
+      return this.bring(copy, done, go, isForHand);
     };
     const what = read.lost.length > 1 ? "them" : "it";
     notice(MISSING, words, [[`Add ${what}`, add, `Add ${named(read.lost.map(set => set.name))} to this map, and go on`], ["OK", () => {}]], "mild");
@@ -119,7 +127,7 @@ export class CarriedTiles {
 
   // Adds tilesets to the map, as one step, behind all tiles that are known or used, and has them read. Gives whether they are there.
   async add(lost, copy) {
-    const folder = folderOf(this.editor.openDocuments.file?.path ?? "");
+    const folder = this.editor.folder;
     let first = this.numbers.nextFirst();
     const lines = lost.map(set => {
       const line = `tileset add ${first} ${pathFrom(folder, set.path)}`;

@@ -11,10 +11,12 @@ export class Clipboard {
     Object.assign(this, { tiles, object: null });
   }
 
-  // Keeps an object of the active map, and what stands for that, as in a copy of tiles.
-  keepObject(object, layer) {
+  // Keeps the members of a copy of an object of the active map: with its tile, as a copy of tiles, and with the folder of that map.
+  keepObject(members, layer) {
+    const { numbers } = this.bench.carried;
+    const tile = numbers.copyOf({ width: 1, height: 1, values: [members.gid ?? 0] });
     this.tiles = null;
-    this.object = { object: structuredClone(object), layer: layer.id, home: this.bench.carried.numbers.home };
+    this.object = { ...tile, members: structuredClone(members), layer: layer.id, folder: this.bench.editor.folder };
   }
 
   // Does what copies something. Where that is refused, which it says, what was copied before is dropped: it would be pasted in its place.

@@ -29,7 +29,7 @@ export class Clips {
     if (!bench.map) return bench.say("Open a map first.");
     if (clipboard.tiles) return bench.carried.bring(clipboard.tiles, "pasted", stamp => this.takeForPaste(stamp));
     if (!clipboard.object) return bench.say("Nothing is copied. Ctrl+C copies the selected cells, or with the tool Objects the chosen object.");
-    if (tools.name !== "objects") tools.choose("objects");
+    if (!tools.now.paste) tools.choose("objects");
     return tools.now.paste();
   }
 

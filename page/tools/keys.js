@@ -9,6 +9,12 @@ const all = prefix => DIGITS.map(digit => `${prefix}${digit}`);
 // How far an arrow key moves the view where the tool has no use for it: in pixels of the page.
 const STEP = 80;
 
+// Takes the tool Insert, or where it is in hand another shape.
+function turnShape(tools, by) {
+  if (tools.name === "insert") tools.all.insert.turn(by);
+  else tools.choose("insert");
+}
+
 // The rows of the table: [keys, what they do, a call with the digit or the direction of the key and its event].
 function toolRows({ tools }) {
   const tool = (key, name, text) => [[key], text, () => tools.choose(name)];
@@ -19,8 +25,10 @@ function toolRows({ tools }) {
     tool("p", "rectangle", "Rectangle: fills a rectangle with the stamp"),
     tool("r", "select", "Select cells; Shift adds, Ctrl subtracts, both intersect"),
     tool("s", "objects", "Objects: chooses an object, and drags it"),
-    tool("i", "insert", "Insert: makes an object over the cells of a drag"),
-    [["escape"], "Ends a stroke or a drag, and then drops what is chosen or selected", () => tools.escape()],
+    [["i"], "Insert: draws a new object; again it takes the next shape", () => turnShape(tools, 1)],
+    [["Shift+i"], "Insert: takes the shape before", () => turnShape(tools, -1)],
+    [["enter"], "Ends a polygon or a line", () => tools.end()],
+    [["escape"], "Ends a stroke or a drag, gives up a polygon, and then drops what is chosen or selected", () => tools.escape()],
   ];
 }
 
@@ -45,7 +53,7 @@ function editRows({ toolbar, clips, bench }) {
     [["Ctrl+x"], "Cuts the selected cells, or the chosen object", () => clips.cut()],
     [["Ctrl+v"], "Takes copied cells as the stamp, and drops the selection; or pastes a copied object", () => clips.paste()],
     [["Ctrl+d"], "Makes a copy of the chosen object", () => clips.duplicate()],
-    [["delete", "backspace"], "Removes the chosen object, or empties the selected cells", () => clips.remove()],
+    [["delete", "backspace"], "Removes the chosen object, or empties the selected cells; takes back a corner of a polygon", () => clips.remove()],
     [["Ctrl+a"], "Selects all cells", () => bench.map && bench.act([`select replace 0 0 ${bench.map.width} ${bench.map.height}`])],
     [["Ctrl+Shift+a"], "Selects nothing", () => bench.act(["select none"])],
   ];
@@ -119,7 +127,7 @@ export class Keys {
       if (this.inFields.has(word)) this.leaveField(event, word);
       return;
     }
-    if (event.altKey || !this.calls.has(word) || this.isText(word) || this.isForPaging(word) || (word === "space" && this.isForButton())) return;
+    if (event.altKey || !this.calls.has(word) || this.isText(word) || this.isForPaging(word) || this.isForFocus(word)) return;
     this.run(event, word);
   }
 
@@ -137,9 +145,11 @@ export class Keys {
     this.run(event, word);
   }
 
-  // Over the map the space bar is for the hand; elsewhere it may press a button.
-  isForButton() {
-    return document.activeElement instanceof HTMLButtonElement && !this.tools.bench.place;
+  // Whether the key is for what has the focus. Over the map the space bar is for the hand; elsewhere it may press a button. Enter may press one
+  // where nothing is drawn corner by corner.
+  isForFocus(word) {
+    if (word === "enter") return !this.tools.now.isDrawing;
+    return word === "space" && document.activeElement instanceof HTMLButtonElement && !this.tools.bench.place;
   }
 
   isForPaging(word) {

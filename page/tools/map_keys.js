@@ -7,8 +7,6 @@ const WITH_SHIFT = ARROW_KEYS.map(key => `Shift+${key}`);
 // How many cells an arrow key goes with Shift, and how near to an edge of the view the cell may come, in pixels of the page.
 const FAR = 10;
 const EDGE = 24;
-// The tools of a rectangle: Enter begins it, and ends it.
-const RECTANGLES = new Set(["rectangle", "select", "insert"]);
 
 const within = (place, most) => Math.max(0, Math.min(most - 1, place));
 
@@ -29,7 +27,7 @@ export class MapKeys {
   rows() {
     return [
       [[...ARROW_KEYS, ...WITH_SHIFT], "Move the cell of the keys, with Shift by ten", (to, event) => this.move(to, event)],
-      [["enter"], "Does there what a click does; Rectangle, Select and Insert begin, and end by another Enter", (_, event) => this.enter(event)],
+      [["enter"], "Does there what a click does; what is dragged begins, and ends by another Enter", (_, event) => this.enter(event)],
       [["Shift+enter"], "Draws a line from the last cell; Select adds", (_, event) => this.enter(event)],
     ];
   }
@@ -69,7 +67,7 @@ export class MapKeys {
     this.place();
     const isBegun = this.tools.held !== null;
     if (!isBegun) this.point("pointerdown", event);
-    if (isBegun || !RECTANGLES.has(this.tools.name)) this.point("pointerup", event);
+    if (isBegun || !this.tools.now.isDragged) this.point("pointerup", event);
     // A press takes the focus from all fields.
     if (!document.querySelector("dialog[open]")) this.box.focus({ preventScroll: true });
     this.say(byId("place").textContent);

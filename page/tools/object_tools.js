@@ -1,12 +1,14 @@
 // SPDX-License-Identifier: MIT OR Apache-2.0
-// The tools of the hand for objects: one that chooses, drags and resizes them, and one that adds them.
-import { ask } from "../panels/dom.js";
-import { KINDS } from "../core/kinds.js";
-import { ObjectCopies, layerForObjects, nameOf } from "./object_copies.js";
+// The tool of the hand that chooses objects, drags and resizes them.
+import { ObjectCopies, nameOf } from "./object_copies.js";
+import { gridOf, snapped } from "./snapping.js";
 import { handleAt, resized } from "../view/object_shapes.js";
 
-// How far the hand moves before a press is a drag, in pixels of the screen.
+// How far the hand moves before a press is a drag, in pixels of the page.
 const SHORTEST_DRAG = 3;
+
+// Whether the hand has moved so far from one place to another, where a pixel of the page has so many of the screen.
+export const isDrag = (from, to, ratio) => Math.hypot(to.x - from.x, to.y - from.y) >= SHORTEST_DRAG * ratio;
 
 // Chooses an object, and drags it or one of its handles: the page draws it on its way, and its lines are sent at the end.
 export class ObjectTool {
@@ -22,10 +24,13 @@ export class ObjectTool {
   }
 
   // ---- the hand
-  // Shows by the pointer what a press would do.
+  // Shows by the pointer what a press would do, and the object that it would choose.
   hover(place) {
     const { view, overlay } = this.bench;
-    if (!this.drag) view.box.dataset.over = this.handleAt(place) ?? (overlay.objectAt(place.pixelX, place.pixelY, this.bench.layerId) ? "object" : "");
+    if (this.drag) return null;
+    const found = overlay.objectAt(place.pixelX, place.pixelY, this.bench.layerId);
+    view.box.dataset.over = this.handleAt(place) ?? (found ? "object" : "");
+    overlay.hover(found?.object.id ?? null);
     return null;
   }
 
@@ -51,7 +56,7 @@ export class ObjectTool {
   move(place, event) {
     const { drag } = this;
     if (!drag) return;
-    if (!drag.isMoved && Math.hypot(place.x - drag.from.x, place.y - drag.from.y) < SHORTEST_DRAG * this.bench.view.ratio) return;
+    if (!drag.isMoved && !isDrag(drag.from, place, this.bench.view.ratio)) return;
     if (!drag.isMoved && this.bench.barsObjects(drag.layer, drag.handle ? "resized" : "moved")) return this.cancel();
     drag.isMoved = true;
     this.bench.overlay.dragged = { id: drag.object.id, ...this.goal(place, event) };
@@ -70,19 +75,17 @@ export class ObjectTool {
     this.bench.overlay.dragged = null;
   }
 
-  // Where the object goes, or how large it is: with Ctrl on the grid.
+  // Where the object goes, or how large it is, on the grid where there is one.
   goal(place, event, drag = this.drag) {
-    const { map } = this.bench;
     const { object, layer, handle, from } = drag;
-    const isOnGrid = event.ctrlKey || event.metaKey;
-    const snapTo = side => at => (isOnGrid ? Math.round(at / side) * side : Math.round(at));
-    const snaps = map.projection.side.map(snapTo);
+    const grid = gridOf(this.bench, event);
+    const snaps = [0, 1].map(axis => at => snapped(at, grid?.[axis]));
     if (handle) {
       const [[toX, toY], [fromX, fromY]] = [place, from].map(at => this.bench.overlay.ownPlace(object, layer, at.pixelX, at.pixelY));
       return resized(object, handle, [toX - fromX, toY - fromY], snaps);
     }
     // Where the hand has not moved it one way, it keeps the whole part that it has there, and so its fraction.
-    const moved = (at, by, snap) => (by === 0 && !isOnGrid ? Math.floor(at) : snap(at + by));
+    const moved = (at, by, snap) => (by === 0 && !grid ? Math.floor(at) : snap(at + by));
     return { x: moved(object.x ?? 0, place.pixelX - from.pixelX, snaps[0]), y: moved(object.y ?? 0, place.pixelY - from.pixelY, snaps[1]) };
   }
 
@@ -152,8 +155,8 @@ export class ObjectTool {
   }
 
   cut() {
-    return !this.isAboutCells && this.onChosen("cut", (object, layer) => this.copies.whole(object, "cut", () => {
-      this.copies.take(object, layer);
+    return !this.isAboutCells && this.onChosen("cut", (object, layer) => this.copies.whole(object, "cut", members => {
+      this.copies.take(members, object, layer);
       this.bench.act([`object remove ${object.id}`]);
     }));
   }
@@ -172,18 +175,4 @@ export class ObjectTool {
     this.bench.chooseObject(null);
     return true;
   }
-}
-
-// Adds an object over a rectangle of cells, under a name that is asked for, and chooses it.
-export async function insertObject(bench, [x, y, width, height]) {
-  const { map } = bench;
-  const layer = layerForObjects(bench);
-  if (!layer || bench.barsObjects(layer, "added")) return null;
-  const [left, top, ...size] = map.projection.objectBox([x, y, x + width, y + height]);
-  const box = [...bench.overlay.inLayer(layer, left, top).map(Math.round), ...size];
-  const field = { name: "name", label: "Name", value: "object", kind: KINDS.text };
-  const typed = await ask("A new object", [field], ["OK"], ({ name }) => bench.attempt([`object add ${layer.id} ${box.join(" ")} ${name}`]));
-  if (!typed) return null;
-  bench.chooseObject(bench.map.data.nextobjectid - 1);
-  return bench.tell("inserted");
 }

@@ -1,13 +1,14 @@
 // SPDX-License-Identifier: MIT OR Apache-2.0
 // The tools of the hand on the map, and its events there. Each gives the editor session lines, and nothing else.
 import { FillTool, fillRectangle } from "./fill_tools.js";
+import { InsertTool } from "./insert_tool.js";
 import { PAINTING } from "./layer_tools.js";
-import { ObjectTool, insertObject } from "./object_tools.js";
+import { ObjectTool } from "./object_tools.js";
 import { StrokeTool } from "./stroke_tool.js";
 import { ViewHand } from "./view_hand.js";
 
 const DRAWN = "#7fd67f";
-const COLOURS = { brush: DRAWN, eraser: "#ff8f8f", fill: DRAWN, rectangle: DRAWN, select: "#8cc8ff", insert: "#ffd34d", capture: "#d8b4ff" };
+const COLOURS = { brush: DRAWN, eraser: "#ff8f8f", fill: DRAWN, rectangle: DRAWN, select: "#8cc8ff", capture: "#d8b4ff" };
 // The tools that draw the stamp: with these the right button takes tiles.
 const STAMPING = new Set(["brush", "fill", "rectangle"]);
 // Those whose cells are those of the layer in hand, where it lies.
@@ -21,7 +22,7 @@ function cellsBetween([x0, y0], [x1, y1]) {
 // A drag over cells: `done` is called with its rectangle.
 class RectangleTool {
   constructor(bench, name, done) {
-    Object.assign(this, { bench, name, done, first: null });
+    Object.assign(this, { bench, name, done, first: null, isDragged: true });
   }
 
   hover(place) {
@@ -56,20 +57,22 @@ function select(bench, cells, { shift, ctrl }) {
 // All tools by their names, the one that is used, and the hand's events on the map.
 //
 // A tool has `down`, `move` and `up`, each with the place of the hand and its event, and `hover`, which tells what is shown under the
-// hand. With `cancel` it ends what it is about. It may also have calls for keys: `copy`, `cut`, `paste`, `remove`, `duplicate`, `drop` and
-// `nudge`. One that gives `true` has done what its key asks for; else the key is about cells.
+// hand; `rest`, where it is there, tells what is shown while the hand is not on the map. With `cancel` it ends what it is about. `isDragged`
+// tells whether it wants a press and a release. It may also have calls for keys: `copy`, `cut`, `paste`, `remove`, `duplicate`, `drop`, `nudge`
+// and `end`. One that gives `true` has done what its key asks for; else the key is about cells.
 export class Tools {
   constructor(bench) {
     this.bench = bench;
     const rectangle = (name, done) => new RectangleTool(bench, name, done);
+    const objects = new ObjectTool(bench);
     this.all = {
       brush: new StrokeTool(bench, "brush", COLOURS.brush),
       eraser: new StrokeTool(bench, "eraser", COLOURS.eraser),
       fill: new FillTool(bench, COLOURS.fill),
       rectangle: rectangle("rectangle", cells => fillRectangle(bench, cells)),
       select: rectangle("select", (cells, keys) => select(bench, cells, keys)),
-      objects: new ObjectTool(bench),
-      insert: rectangle("insert", cells => insertObject(bench, cells)),
+      objects,
+      insert: new InsertTool(bench, objects, () => this.showHand(bench.place)),
       capture: rectangle("capture", cells => bench.takeCells(...cells)),
     };
     this.name = "brush";
@@ -215,6 +218,12 @@ export class Tools {
     bench.chooseObject(null);
   }
 
+  // Ends what the tool draws corner by corner.
+  end() {
+    this.now.end?.();
+    this.showHand(this.bench.place);
+  }
+
   // Whether the tool would draw tiles on a layer that has none.
   get isAstray() {
     const { layer } = this.bench;
@@ -224,8 +233,10 @@ export class Tools {
   showHand(place, event = null) {
     const { overlay, map, view } = this.bench;
     view.box.classList.toggle("astray", this.isAstray);
-    const hand = place && map && !this.isAstray ? this.all[this.busy].hover(place, event) : null;
-    overlay.hand = hand && { ...hand, layer: ON_LAYER.has(this.busy) ? this.bench.layer : null };
+    const tool = this.all[this.busy];
+    if (!place || tool !== this.all.objects) overlay.hover(null);
+    const hand = !map || this.isAstray ? null : place ? tool.hover(place, event) : tool.rest?.() ?? null;
+    overlay.hand = hand && { layer: ON_LAYER.has(this.busy) ? this.bench.layer : null, ...hand };
     overlay.redrawHand();
     this.bench.place = place;
     this.bench.tell("hand");

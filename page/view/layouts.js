@@ -2,6 +2,8 @@
 // How each map is shown and worked on: its zoom, its place, its layer, the tool, the stamp and the panels. That is kept for as long as this
 // tab lives, also where the page is loaded anew.
 import { withUsedSets } from "../core/tile_numbers.js";
+import { SHAPES } from "../tools/insert_tool.js";
+import { SNAPPINGS } from "../tools/snapping.js";
 
 const STORED = "roskevad-layouts";
 // The largest stamp that is stored, the longest text of its tilesets, how many maps are, and how long behind a change that is done.
@@ -66,7 +68,7 @@ export class Layouts {
     const { bench, view, tools, palette, layers, properties, objects, panels } = this.page;
     return {
       view: [view.scale, view.originX, view.originY], layer: bench.layerId, tool: tools.name, brush: bench.brushSize, stamp: bench.hand,
-      tileset: palette.first, side: palette.side, folded: [...layers.folded], owner: properties.kind, left: objects.side,
+      shape: tools.all.insert.shape, snapping: bench.snapping, tileset: palette.first, side: palette.side, folded: [...layers.folded], owner: properties.kind, left: objects.side,
       panels: panels.state(), ...(this.pending && tilesOf(this.pending)),
     };
   }
@@ -111,6 +113,8 @@ export class Layouts {
       panels.take(kept.panels);
       layers.folded = new Set(kept.folded);
       bench.layerId = kept.layer;
+      if (Object.hasOwn(SNAPPINGS, kept.snapping)) bench.snapping = kept.snapping;
+      if (Object.hasOwn(SHAPES, kept.shape)) tools.all.insert.shape = kept.shape;
       if (Object.hasOwn(tools.all, kept.tool)) tools.choose(kept.tool);
       toolbar.setBrush(kept.brush);
       properties.choose(kept.owner);

@@ -58,6 +58,20 @@ export function ownPlace(object, layer, x, y, projection) {
   return [(d * right - c * down) / (a * d - b * c), (a * down - b * right) / (a * d - b * c)];
 }
 
+// The place of an object of which a place in its own coordinates lies at a place of the map.
+export function placeWith(object, layer, [ownX, ownY], x, y, projection) {
+  const [a, b, c, d] = object.gid ? [1, 0, 0, 1] : projection.matrix;
+  const [right, down] = turned(a * ownX + c * ownY, b * ownX + d * ownY, object.rotation ?? 0);
+  const [left, top] = projection.place(x, y);
+  return projection.named(left - layer.offsetX - right, top - layer.offsetY - down);
+}
+
+// The middle of an object in its own coordinates.
+export function middleOf(object) {
+  const [left, top, right, bottom] = boxOf(object);
+  return [(left + right) / 2, (top + bottom) / 2];
+}
+
 // ---- what is under the hand
 function distanceToEdge(x, y, from, to) {
   const [wide, high] = [to.x - from.x, to.y - from.y];

@@ -3,27 +3,28 @@
 import { isLockedIn } from "../tools/barred_layers.js";
 import { CellOverlay } from "./cell_overlay.js";
 import { boxesOn, placeOnScreen } from "./object_boxes.js";
-import { areaOf, boxOf, cornersOf, handlePlaces, isOn, ownPlace } from "./object_shapes.js";
+import { areaOf, boxOf, cornersOf, handlePlaces, isOn, middleOf, ownPlace, placeWith } from "./object_shapes.js";
+import { PIN, ShapePainter } from "./shape_painter.js";
 import { alignedAt, isThing, paintThing, reachOfThing } from "./thing_painter.js";
 import { colourOfText } from "./tints.js";
 
 const LONGEST_NAME = 300;
 // How many objects that are seen are drawn whole, those of the first layers first: of the others the box is, without a name.
 export const MOST_WHOLE = 4000;
-// From how many corners on a line is as thin as can be, and how many corners of one are drawn.
-const MANY_CORNERS = 4096;
-export const MOST_CORNERS = 65_536;
 // The colour of an outline where its layer tells none.
 const OUTLINE = "#e4e7eb";
 // The side of a handle, in pixels of the page; and how far around an object its outline reaches, that of a spot, its handles, and the
 // sharpest corner of a line.
 const HANDLE = 8;
-const AROUND = { outline: 4, spot: 8, handles: 13, corner: 28 };
+const AROUND = { outline: 4, spot: 8, pin: PIN.above + PIN.radius + 4, handles: 13, corner: 28 };
 // How high a name stands above its object, how much wider than its letters it is, how high, and of how many the width is kept.
 const ABOVE = 18;
 const BESIDE = 8;
 const NAME = 16;
 const MOST_WIDTHS = 20_000;
+
+// Whether an object needs no outline: its tile is drawn, or its words.
+const isSeenAsIs = object => isThing(object) && Boolean(object.gid || object.text.text);
 
 export class Overlay {
   constructor(view, editor, tilesets) {
@@ -32,11 +33,15 @@ export class Overlay {
     this.tilesets = tilesets;
     this.canvas = view.box.querySelector("#overlay");
     this.pen = this.canvas.getContext("2d");
-    this.cells = new CellOverlay(view, this.pen, view.box.querySelector("#hand").getContext("2d"));
+    this.handPen = view.box.querySelector("#hand").getContext("2d");
+    this.cells = new CellOverlay(view, this.pen, this.handPen);
+    this.shapes = new ShapePainter(view, tilesets);
     this.hasGrid = true;
     this.hasNames = true;
     // The object that is chosen, by its id.
     this.chosen = null;
+    // The one under the hand, by its id.
+    this.hovered = null;
     this.place = null;
     // Whether all is drawn anew; else only where these objects are, { object, layer } of each. And whether what the hand is about to do is.
     Object.assign(this, { isChanged: true, objects: [], isHandChanged: true });
@@ -44,7 +49,8 @@ export class Overlay {
     this.widths = new Map();
     // How far objects with corners reach.
     this.reaches = new WeakMap();
-    // What the hand is about to do: { cells: [x, y, width, height], values, line, colour }; a line goes from a cell to a cell.
+    // What the hand is about to do: { cells: [x, y, width, height], values, line, colour }; a line goes from a cell to a cell. Or the members
+    // of an object that it is about to add to a layer: { object, layer, colour, corners }, with corners that stand already.
     this.hand = null;
   }
 
@@ -68,7 +74,7 @@ export class Overlay {
     this.frame ??= requestAnimationFrame(() => {
       this.frame = null;
       this.draw();
-      if (this.isHandChanged) this.cells.drawHand(this.hand);
+      if (this.isHandChanged) this.drawHand();
       Object.assign(this, { isChanged: false, objects: [], isHandChanged: false });
     });
   }
@@ -100,6 +106,14 @@ export class Overlay {
     if (id === this.chosen) return;
     const before = this.chosen;
     this.chosen = id;
+    this.redrawObjects([before, id].map(each => this.map?.object(each)).filter(each => each));
+  }
+
+  // Has an object shown as the one under the hand, by its id; null for none.
+  hover(id) {
+    if (id === this.hovered) return;
+    const before = this.hovered;
+    this.hovered = id;
     this.redrawObjects([before, id].map(each => this.map?.object(each)).filter(each => each));
   }
 
@@ -145,13 +159,13 @@ export class Overlay {
         const isWhole = left-- > 0;
         if (!this.isIn(box, object, place)) continue;
         if (isWhole) this.drawObject(object, layer);
-        else others.push(object);
+        else if (!isSeenAsIs(object)) others.push(object);
       }
       if (others.length) this.drawBoxes(others, layer);
     }
     if (!chosen || !this.isShown(chosen)) return;
     this.drawObject(this.placed(chosen.object), chosen.layer);
-    this.drawHandles(chosen);
+    if (this.hasHandles) this.drawHandles(chosen);
   }
 
   // Whether a part of the object or its name may be seen, where its place is on the screen: all of it lies within its greatest length of that.
@@ -172,7 +186,7 @@ export class Overlay {
   isIn([left, top, right, bottom], object, [x, y]) {
     const reach = this.reachOnScreen(object);
     if (x + reach > left && x - reach < right && y + reach > top && y - reach < bottom) return true;
-    if (!object.name || !this.hasNames) return false;
+    if (!object.name || !(this.hasNames || this.hovered === object.id)) return false;
     const [aside, above] = this.nameCorner(object);
     if (y + above >= bottom || y + above + NAME * this.view.ratio <= top || x + aside >= right) return false;
     return x + this.nameBox(object)[2] > left;
@@ -186,6 +200,7 @@ export class Overlay {
   }
 
   aroundOf(object) {
+    if (object.point) return AROUND.pin;
     if (cornersOf(object)) return AROUND.corner;
     return object.width || object.height ? AROUND.outline : AROUND.spot;
   }
@@ -207,58 +222,43 @@ export class Overlay {
   drawObject(object, layer) {
     const { pen, view } = this;
     if (object.visible === false) return;
-    const scale = view.scale;
     // The map shows tiles and texts, but for one that is dragged.
     if (view.hidden === object.id) paintThing(view.painter, layer, object, pen);
     pen.save();
     pen.translate(...this.screenPlace(object, layer));
-    pen.save();
-    pen.rotate((object.rotation ?? 0) * Math.PI / 180);
     const isChosen = this.chosen === object.id && this.showsChosen;
-    pen.globalAlpha = layer.opacity;
-    pen.lineWidth = (isChosen ? 3 : 1.5) * view.ratio;
-    pen.strokeStyle = isChosen ? "#ffd34d" : colourOfText(layer.data.color, OUTLINE);
-    pen.fillStyle = isChosen ? "#ffd34d33" : "#ffffff22";
-    this.drawShape(object, scale);
-    pen.restore();
-    this.drawName(object, isChosen);
+    const isHovered = this.hovered === object.id;
+    if (isChosen || isHovered || !isSeenAsIs(object)) this.drawOutline(object, layer, isChosen, isHovered);
+    this.drawName(object, isChosen, isHovered);
     pen.restore();
   }
 
-  drawShape(object, scale) {
-    const { pen } = this;
-    const [width, height] = [(object.width ?? 0) * scale, (object.height ?? 0) * scale];
-    const corners = cornersOf(object);
-    pen.beginPath();
-    if (object.gid) {
-      const [left, top] = alignedAt(this.tilesets.of(object.gid), this.map);
-      pen.rect(-left * width, -top * height, width, height);
-      this.strokeShape();
-      return;
-    }
+  drawOutline(object, layer, isChosen, isHovered) {
+    const { pen, view } = this;
     pen.save();
-    pen.transform(...this.map.projection.matrix, 0, 0);
-    if (corners) this.addCorners(corners, scale);
-    else if (object.ellipse) pen.ellipse(width / 2, height / 2, width / 2, height / 2, 0, 0, 7);
-    else if (object.point || (!width && !height)) pen.arc(0, 0, 5, 0, 7);
-    else pen.rect(0, 0, width, height);
-    if (object.polygon) pen.closePath();
+    pen.globalAlpha = layer.opacity;
+    pen.lineWidth = (isChosen ? 3 : isHovered ? 2.5 : 1.5) * view.ratio;
+    pen.strokeStyle = isChosen ? "#ffd34d" : colourOfText(layer.data.color, OUTLINE);
+    pen.fillStyle = isChosen ? "#ffd34d33" : isHovered ? "#ffffff44" : "#ffffff22";
+    this.shapes.paint(pen, object);
     pen.restore();
-    if (corners?.length > MANY_CORNERS) this.strokeThin();
-    else {
-      if (!object.polyline) pen.fill();
-      this.strokeShape();
-    }
   }
 
-  addCorners(corners, scale) {
-    const step = Math.ceil(corners.length / MOST_CORNERS);
-    for (let at = 0; at < corners.length; at += step) this.pen.lineTo(corners[at].x * scale, corners[at].y * scale);
-  }
-
-  strokeThin() {
-    this.pen.lineWidth = 1;
-    this.pen.stroke();
+  // Draws what the hand is about to do.
+  drawHand() {
+    const { hand, handPen: pen, view } = this;
+    this.cells.drawHand(hand?.object ? null : hand);
+    if (!this.map || !hand?.object) return;
+    const { object, layer, corners = [] } = hand;
+    pen.save();
+    pen.globalAlpha = 0.75;
+    if (isThing(object)) paintThing(view.painter, layer, object, pen);
+    pen.globalAlpha = 1;
+    pen.translate(...this.screenPlace(object, layer));
+    Object.assign(pen, { lineWidth: 2 * view.ratio, strokeStyle: hand.colour, fillStyle: `${hand.colour}33` });
+    this.shapes.paint(pen, object);
+    pen.restore();
+    for (const corner of corners) this.drawHandle(pen, this.screenPlace(corner, layer));
   }
 
   // The boxes around objects of a layer, which are not turned.
@@ -275,20 +275,9 @@ export class Overlay {
     pen.stroke();
   }
 
-  // A line with a dark edge, which is seen on any ground.
-  strokeShape() {
-    const { pen, view } = this;
-    const [colour, width] = [pen.strokeStyle, pen.lineWidth];
-    pen.strokeStyle = "#000c";
-    pen.lineWidth = width + 2 * view.ratio;
-    pen.stroke();
-    pen.strokeStyle = colour;
-    pen.lineWidth = width;
-    pen.stroke();
-  }
-
-  drawName(object, isChosen) {
-    if (!object.name || (!this.hasNames && !isChosen)) return;
+  // Names that are hidden are seen of what is chosen or under the hand.
+  drawName(object, isChosen, isHovered) {
+    if (!object.name || !(this.hasNames || isChosen || isHovered)) return;
     const { pen, view: { ratio } } = this;
     const [left, top, right] = this.nameBox(object);
     pen.font = this.font;
@@ -303,7 +292,8 @@ export class Overlay {
   nameCorner(object) {
     const { ratio, scale } = this.view;
     const [aside, up] = object.gid ? alignedAt(this.tilesets.of(object.gid), this.map) : [0, 0];
-    return [-aside * (object.width ?? 0) * scale, -up * (object.height ?? 0) * scale - ABOVE * ratio];
+    const above = object.point ? ABOVE + PIN.above + PIN.radius : ABOVE;
+    return [-aside * (object.width ?? 0) * scale, -up * (object.height ?? 0) * scale - above * ratio];
   }
 
   // The box of its name: [left, top, right].
@@ -341,7 +331,17 @@ export class Overlay {
   }
 
   isUnder(object, layer, x, y) {
-    return object.visible !== false && isOn(this.shapeOf(object), ...this.ownPlace(object, layer, x, y), this.view.scale / this.view.ratio);
+    if (object.visible === false) return false;
+    if (object.point && this.isOnPin(object, layer, x, y)) return true;
+    return isOn(this.shapeOf(object), ...this.ownPlace(object, layer, x, y), this.view.scale / this.view.ratio);
+  }
+
+  // Whether a place of the map is on the head of a point's pin, which stands upright on the screen.
+  isOnPin(object, layer, x, y) {
+    const { ratio, scale } = this.view;
+    const [[left, top], [atX, atY]] = [placeOnScreen(this.view, object, layer), this.map.projection.place(x, y)];
+    const [across, down] = [this.view.originX + atX * scale - left, this.view.originY + atY * scale - top];
+    return Math.hypot(across, down + PIN.above * ratio) <= (PIN.radius + 1) * ratio;
   }
 
   // A place of the map in an object's own coordinates.
@@ -356,6 +356,11 @@ export class Overlay {
     return projection.named(left - layer.offsetX, top - layer.offsetY);
   }
 
+  // The place of an object of a layer whose middle lies at a place of the map.
+  placeAround(object, layer, x, y) {
+    return placeWith(object, layer, middleOf(this.shapeOf(object)), x, y, this.map.projection);
+  }
+
   // An object with how it stands at its place.
   shapeOf(object) {
     return object.gid ? { ...object, aligned: alignedAt(this.tilesets.of(object.gid), this.map) } : object;
@@ -366,8 +371,12 @@ export class Overlay {
     return layer.isSeen && object.visible !== false;
   }
 
-  // Whether the tool in hand shows which object is chosen.
+  // Whether the tool in hand shows which object is chosen, and whether that has handles.
   get showsChosen() {
+    return ["objects", "insert"].includes(this.view.box.dataset.tool);
+  }
+
+  get hasHandles() {
     return this.view.box.dataset.tool === "objects";
   }
 
@@ -375,21 +384,23 @@ export class Overlay {
   drawHandles({ object, layer }) {
     const { pen, view } = this;
     const shown = this.placed(object);
-    const side = HANDLE * view.ratio;
     pen.save();
     pen.translate(...this.screenPlace(shown, layer));
     pen.rotate((object.rotation ?? 0) * Math.PI / 180);
     const [a, b, c, d] = object.gid ? [1, 0, 0, 1] : this.map.projection.matrix;
-    pen.lineWidth = view.ratio;
-    pen.strokeStyle = "#000";
-    pen.fillStyle = "#fff";
     for (const [, x, y] of handlePlaces(this.shapeOf(shown), view.scale / view.ratio)) {
-      const [left, top] = [(a * x + c * y) * view.scale, (b * x + d * y) * view.scale];
-      const box = [Math.round(left - side / 2), Math.round(top - side / 2), side, side];
-      pen.fillRect(...box);
-      pen.strokeRect(...box);
+      this.drawHandle(pen, [(a * x + c * y) * view.scale, (b * x + d * y) * view.scale]);
     }
     pen.restore();
+  }
+
+  drawHandle(pen, [left, top]) {
+    const { ratio } = this.view;
+    const side = HANDLE * ratio;
+    const box = [Math.round(left - side / 2), Math.round(top - side / 2), side, side];
+    Object.assign(pen, { lineWidth: ratio, strokeStyle: "#000", fillStyle: "#fff" });
+    pen.fillRect(...box);
+    pen.strokeRect(...box);
   }
 
   // An object with the place and the size to which it is dragged.

@@ -1,9 +1,10 @@
 // SPDX-License-Identifier: MIT OR Apache-2.0
 // What a map has that the page does not draw, or draws otherwise than Tiled, in words.
 import { MOST_PIXELS, grouped } from "../files/image_files.js";
-import { MOST_CORNERS, MOST_WHOLE } from "./overlay.js";
+import { MOST_WHOLE } from "./overlay.js";
 import { LONGEST_TEXT } from "../files/members.js";
 import { cornersOf } from "./object_shapes.js";
+import { MOST_CORNERS } from "./shape_painter.js";
 
 // How many of a kind are named.
 const MOST_NAMED = 3;

@@ -5,12 +5,13 @@ pixels."""
 import base64
 import json
 import shutil
+import subprocess
 import tempfile
 from pathlib import Path
 from xml.etree import ElementTree
 
 from lib.maps import cells_of, layers_in
-from lib.places import EXAMPLE_MAPS, TOP
+from lib.places import BIN, EXAMPLE_MAPS, TOP
 from page.browser import DOWNLOADS, Page, Server, browser, pixels
 
 PAGE = TOP / 'python' / 'roskevad' / 'page' / 'roskevad.html'
@@ -82,6 +83,20 @@ class Bench:
             self.server.end()
         self.top.cleanup()
         assert kind or not errors, f'the browser has logged {errors}'
+
+
+def played(bench, session, before, *options):
+    """The folder behind a session that `tile_editor` plays over files as they were."""
+    folder = Path(bench.top.name) / 'played'
+    shutil.copytree(before, folder)
+    done = subprocess.run(
+        [BIN / 'tile_editor', '--all-maps', '--folder', folder, *options, *bench.options],
+        input=session,
+        capture_output=True,
+        timeout=60,
+    )
+    assert done.returncode == 0 and b'\nno ' not in b'\n' + done.stdout, done.stdout[-300:]
+    return folder
 
 
 # ---- what the map has
