@@ -1,6 +1,7 @@
 # SPDX-License-Identifier: MIT OR Apache-2.0
 """Works with the list of layers on the page in Chromium, by mouse and keys: a double click, a drag within a
-group, groups that are folded, and layers that are hidden or locked, on which nothing is drawn unasked."""
+group, groups that are folded, layers that are hidden or locked, on which nothing is drawn unasked, new layers,
+names that are typed in a row, the layer above and below, and tools that a layer does not take."""
 import json
 
 from lib.maps import layers_in
