@@ -73,7 +73,7 @@ export class InsertTool {
   }
 
   move(place, event) {
-    if (this.isHeld) this.corners[this.corners.length - 1] = this.spot(this.layer, place, event);
+    if (this.isHeld && this.layer) this.corners[this.corners.length - 1] = this.spot(this.layer, place, event);
   }
 
   up(place, event) {
