@@ -58,7 +58,7 @@ def fit(page, has_log=False):
 def lesson(page):
     """The tasks of the example world, in the words of docs/page.md."""
     page.open()
-    picture(page, 'page-start', 'header', '#start-told')
+    picture(page, 'page-start', 'header', '#start-hint')
     page.click('#try')
     page.wait(lambda: page.find('#lesson').is_displayed(), 'the lesson')
     fit(page)
