@@ -14,3 +14,4 @@ pub mod LayerHeads
 pub mod MapHeads
 pub mod Words
 pub mod Given
+pub mod TilesetHeads

@@ -12,6 +12,7 @@ mod object;
 mod property;
 mod size;
 mod tileset;
+mod tileset_head;
 
 // no number may have a fraction, and ids and names must differ.
 mod doubles;
@@ -47,4 +48,7 @@ pub use part_text::{
 pub use reading::{read_map, read_map_along};
 pub use refusals::MapRefusal;
 pub use same_head::is_object_head;
+pub use tileset_head::{
+    is_tileset_head, is_tileset_member, read_tileset_head, tileset_head_members, tileset_part,
+};
 pub use word::{MAX_WORD_DEPTH, json_word, json_words};

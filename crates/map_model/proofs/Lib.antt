@@ -33,3 +33,5 @@ pub mod PropertyKeeps
 pub mod PropertyLaws
 pub mod SideBySide
 pub mod HeadLaws
+pub mod MemberValues
+pub mod TilesetHeadLaws

@@ -27,3 +27,5 @@ pub mod Given
 pub mod Groups
 pub mod Ways
 pub mod Heads
+pub mod MemberValues
+pub mod TilesetHeads

@@ -4,10 +4,12 @@ ghost use Rattle.serde_json.specs.View.{view as data_of, members_view};
 ghost use Rattle.map_model.specs.Lists.{Each};
 ghost use Rattle.map_model.specs.Alike.{AreAlike};
 ghost use Rattle.map_model.specs.CellEdits.{AreInRowOrder, HaveRange, IsBelow, cell_number, put_values, side_value, with_value};
+ghost use Rattle.map_model.specs.MemberValues.{all_swapped, emptied};
 ghost use Rattle.map_model.specs.WellFormed.{IsTileValue};
 
 use crate::alike::put_alike;
 use crate::edit::{CellEdit, Side};
+use crate::member_values::{empty_values, swap_values};
 use serde_json::Value;
 use std::marker::Model;
 use std::mem;
@@ -192,6 +194,21 @@ impl Kept {
         ensures { members_view result.now.entries ≡ self.now }
     {
         &self.members
+    }
+
+    /// Exchanges the values of these names with those of others, where both have one.
+    pub(crate) fn swap_values(&mut self, other: &mut Kept, names: &[MapText])
+        ensures own { self.new ≡ (all_swapped names.now (self.old, other.old)).0 }
+        ensures other { other.new ≡ (all_swapped names.now (self.old, other.old)).1 }
+    {
+        swap_values(&mut self.members, &mut other.members, names);
+    }
+
+    /// Drops the values of these names, for each of which null stands then.
+    pub(crate) fn empty_values(&mut self, names: &[MapText])
+        ensures { self.new ≡ emptied names.now self.old }
+    {
+        empty_values(&mut self.members, names);
     }
 }
 

@@ -1,2 +1,3 @@
 pub mod Members
 pub mod Offers
+mod TilesetMembers

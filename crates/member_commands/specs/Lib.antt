@@ -5,3 +5,4 @@ pub mod Changes
 pub mod Objects
 pub mod Layers
 pub mod Maps
+pub mod Tilesets

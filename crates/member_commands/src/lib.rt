@@ -8,7 +8,9 @@ mod making;
 mod map;
 mod object;
 mod set_head;
+mod tileset;
 
 pub use head::Head;
 pub use making::more_fault;
 pub use set_head::{MemberEdit, SetHead};
+pub use tileset::SetTilesetMembers;
