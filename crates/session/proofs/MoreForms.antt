@@ -12,7 +12,8 @@ use Rattle.std.proofs.lemmas.Str.{IsUtf8-from_is_utf8}
 use Rattle.map_model.specs.declared.parts.MoreLayerKind.TheVariants.{Group, Image}
 use Rattle.session.specs.declared.limits.TheConstants.{MAX_LINE}
 use Rattle.session.specs.declared.more_line.MoreLine.{MoreLine}
-use Rattle.session.specs.declared.more_line.MoreLine.TheVariants.{SetMember, PutMembers, RemoveMember, AddLayer, PutObject, TakeProperty, PutTileset}
+use Rattle.session.specs.declared.more_line.MoreLine.TheVariants.{SetMember, PutMembers, RemoveMember, AddLayer, PutObject}
+use Rattle.session.specs.declared.more_line.MoreLine.TheVariants.{ReparentObject, ReparentLayer, PutProperty, TakeProperty, PutTileset, Extend}
 use Rattle.refusals.specs.declared.line_fault.LineFault.{LineFault}
 use Rattle.refusals.specs.declared.line_fault.LineFault.TheVariants.{BadWord}
 use Rattle.session.specs.Grammar.{FieldKind, FieldValue, Gives, Number, Key, OwnerName, ends_at, field_at, last_text_at, word_at, ◌>>=◌}
@@ -240,8 +241,12 @@ facts (RemoveMember owner name) = record { follows = refl; plain = refl; first =
 facts (AddLayer Group name) = record { follows = refl; plain = refl; first = _; more = _; words = refl }
 facts (AddLayer Image name) = record { follows = refl; plain = refl; first = _; more = _; words = refl }
 facts (PutObject layer json) = record { follows = refl; plain = refl; first = _; more = _; words = refl }
+facts (ReparentObject object layer place) = record { follows = refl; plain = refl; first = _; more = _; words = refl }
+facts (ReparentLayer layer group place) = record { follows = refl; plain = refl; first = _; more = _; words = refl }
+facts (PutProperty owner json) = record { follows = refl; plain = refl; first = _; more = _; words = refl }
 facts (TakeProperty owner json) = record { follows = refl; plain = refl; first = _; more = _; words = refl }
 facts (PutTileset json) = record { follows = refl; plain = refl; first = _; more = _; words = refl }
+facts (Extend left top right bottom) = record { follows = refl; plain = refl; first = _; more = _; words = refl }
 
 -- a spelling is UTF-8, and its words are those of the tokens
 pub more_words : (line : MoreLine) → CanBeSpelledMore line

@@ -10,7 +10,8 @@ use Rattle.map_model.specs.declared.owner.Owner.TheVariants as owners
 use Rattle.map_model.specs.declared.parts.MoreLayerKind.TheVariants.{Group, Image}
 use Rattle.session.specs.declared.limits.TheConstants.{MAX_LINE}
 use Rattle.session.specs.declared.more_line.MoreLine.{MoreLine}
-use Rattle.session.specs.declared.more_line.MoreLine.TheVariants.{SetMember, PutMembers, RemoveMember, AddLayer, PutObject, TakeProperty, PutTileset}
+use Rattle.session.specs.declared.more_line.MoreLine.TheVariants.{SetMember, PutMembers, RemoveMember, AddLayer, PutObject}
+use Rattle.session.specs.declared.more_line.MoreLine.TheVariants.{ReparentObject, ReparentLayer, PutProperty, TakeProperty, PutTileset, Extend}
 use Rattle.refusals.specs.declared.line_fault.LineFault.{LineFault}
 use Rattle.refusals.specs.declared.line_fault.LineFault.TheVariants.{TooLong, NotUtf8, UnknownCommand, BadWord}
 use Rattle.session.specs.Grammar.{◌>>=◌, FieldKind, FieldValue, Number, Key, OwnerName, ends_at, field_at, last_text_at, word_at}
@@ -114,23 +115,35 @@ member_lines =
 abbrev pub more_layer_kinds : List (List ℕ × MoreForm)
 more_layer_kinds = (codes "group", Text (AddLayer Group)) ∷ (codes "image", Text (AddLayer Image)) ∷ []
 
+-- the layer, the group or 0 for none, and the place there
+abbrev pub reparent_layer_form : MoreForm
+reparent_layer_form =
+    Field (Common Number) λ layer. Field (Common Number) λ group. Field (Common Number) λ place. Ends (ReparentLayer layer group place)
+
 -- what else is done with a layer
 abbrev pub more_layer_lines : List (List ℕ × MoreForm)
-more_layer_lines = (codes "add", choose_more more_layer_kinds BadWord) ∷ []
+more_layer_lines = (codes "add", choose_more more_layer_kinds BadWord) ∷ (codes "into", reparent_layer_form) ∷ []
 
 abbrev pub put_object_form : MoreForm
 put_object_form = Field (Common Number) λ layer. Json (PutObject layer)
 
+abbrev pub reparent_object_form : MoreForm
+reparent_object_form =
+    Field (Common Number) λ object. Field (Common Number) λ layer. Field (Common Number) λ place. Ends (ReparentObject object layer place)
+
 -- what else is done with an object
 abbrev pub more_object_lines : List (List ℕ × MoreForm)
-more_object_lines = (codes "put", put_object_form) ∷ []
+more_object_lines = (codes "put", put_object_form) ∷ (codes "into", reparent_object_form) ∷ []
 
 abbrev pub take_property_form : MoreForm
 take_property_form = Field (Common OwnerName) λ owner. Json (TakeProperty owner)
 
+abbrev pub put_property_form : MoreForm
+put_property_form = Field (Common OwnerName) λ owner. Json (PutProperty owner)
+
 -- what else is done with a property
 abbrev pub more_property_lines : List (List ℕ × MoreForm)
-more_property_lines = (codes "take", take_property_form) ∷ []
+more_property_lines = (codes "take", take_property_form) ∷ (codes "put", put_property_form) ∷ []
 
 abbrev pub put_tileset_form : MoreForm
 put_tileset_form = Json PutTileset
@@ -138,6 +151,11 @@ put_tileset_form = Json PutTileset
 -- what else is done with a tileset
 abbrev pub more_tileset_lines : List (List ℕ × MoreForm)
 more_tileset_lines = (codes "put", put_tileset_form) ∷ []
+
+abbrev pub extend_form : MoreForm
+extend_form =
+    Field (Common Number) λ left. Field (Common Number) λ top. Field (Common Number) λ right. Field (Common Number) λ bottom.
+    Ends (Extend left top right bottom)
 
 -- the commands of all these lines
 abbrev pub more_commands : List (List ℕ × MoreForm)
@@ -147,6 +165,7 @@ more_commands =
     ∷ (codes "object", choose_more more_object_lines BadWord)
     ∷ (codes "prop", choose_more more_property_lines BadWord)
     ∷ (codes "tileset", choose_more more_tileset_lines BadWord)
+    ∷ (codes "extend", extend_form)
     ∷ []
 
 -- the form of all these lines

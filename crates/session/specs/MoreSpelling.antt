@@ -10,7 +10,8 @@ use Rattle.map_model.specs.declared.parts.MoreLayerKind.{MoreLayerKind}
 use Rattle.map_model.specs.declared.parts.MoreLayerKind.TheVariants.{Group, Image}
 use Rattle.session.specs.declared.limits.TheConstants.{MAX_LINE}
 use Rattle.session.specs.declared.more_line.MoreLine.{MoreLine}
-use Rattle.session.specs.declared.more_line.MoreLine.TheVariants.{SetMember, PutMembers, RemoveMember, AddLayer, PutObject, TakeProperty, PutTileset}
+use Rattle.session.specs.declared.more_line.MoreLine.TheVariants.{SetMember, PutMembers, RemoveMember, AddLayer, PutObject}
+use Rattle.session.specs.declared.more_line.MoreLine.TheVariants.{ReparentObject, ReparentLayer, PutProperty, TakeProperty, PutTileset, Extend}
 use Rattle.refusals.specs.declared.line_fault.LineFault.TheVariants.{TooLong}
 use Rattle.session.specs.Grammar.{Number, Key, OwnerName, line_of}
 use Rattle.session.specs.MoreGrammar.{MoreKind, Common, OwnerOfMembers, MoreValue, more_line_of}
@@ -53,8 +54,30 @@ more_tokens (RemoveMember owner name) =
     Fixed (codes "member") ∷ Fixed (codes "remove") ∷ Given OwnerOfMembers owner ∷ Given (Common Key) name ∷ []
 more_tokens (AddLayer kind name) = Fixed (codes "layer") ∷ Fixed (codes "add") ∷ Fixed (more_layer_kind_word kind) ∷ RestText name ∷ []
 more_tokens (PutObject layer json) = Fixed (codes "object") ∷ Fixed (codes "put") ∷ Given (Common Number) layer ∷ RestJson json ∷ []
+more_tokens (ReparentObject object layer place) =
+    Fixed (codes "object")
+    ∷ Fixed (codes "into")
+    ∷ Given (Common Number) object
+    ∷ Given (Common Number) layer
+    ∷ Given (Common Number) place
+    ∷ []
+more_tokens (ReparentLayer layer group place) =
+    Fixed (codes "layer")
+    ∷ Fixed (codes "into")
+    ∷ Given (Common Number) layer
+    ∷ Given (Common Number) group
+    ∷ Given (Common Number) place
+    ∷ []
+more_tokens (PutProperty owner json) = Fixed (codes "prop") ∷ Fixed (codes "put") ∷ Given (Common OwnerName) owner ∷ RestJson json ∷ []
 more_tokens (TakeProperty owner json) = Fixed (codes "prop") ∷ Fixed (codes "take") ∷ Given (Common OwnerName) owner ∷ RestJson json ∷ []
 more_tokens (PutTileset json) = Fixed (codes "tileset") ∷ Fixed (codes "put") ∷ RestJson json ∷ []
+more_tokens (Extend left top right bottom) =
+    Fixed (codes "extend")
+    ∷ Given (Common Number) left
+    ∷ Given (Common Number) top
+    ∷ Given (Common Number) right
+    ∷ Given (Common Number) bottom
+    ∷ []
 
 -- the words of a field
 abbrev pub more_field_words : (kind : MoreKind) → MoreValue kind → List (List ℕ)

@@ -3,7 +3,7 @@ ghost use Rattle.std.specs.Prelude.{◌≡◌, ◌∷◌, IfErr, IfOk, true};
 ghost use Rattle.refusals.specs.declared.line_fault.LineFault.TheVariants.{BadWord, UnknownCommand};
 ghost use Rattle.session.specs.Grammar.{Gives};
 ghost use Rattle.session.specs.Left.{next};
-ghost use Rattle.session.specs.MoreGrammar.{choose_more, more_form, more_layer_kinds, more_layer_lines, more_line_of, more_object_lines, more_property_lines, more_tileset_lines, put_object_form, put_tileset_form, read_more, take_property_form};
+ghost use Rattle.session.specs.MoreGrammar.{choose_more, extend_form, more_form, more_layer_kinds, more_layer_lines, more_line_of, more_object_lines, more_property_lines, more_tileset_lines, put_object_form, put_property_form, put_tileset_form, read_more, reparent_layer_form, reparent_object_form, take_property_form};
 ghost use Rattle.session.specs.MoreFaults.{IsMoreFaultAt};
 ghost use Rattle.session.specs.MoreLeft.{more_fault_at};
 ghost use Rattle.session.specs.MoreSpelling.{CanBeSpelledMore, more_spelling};
@@ -33,6 +33,23 @@ fn add_layer<'a, T: Trail + Copy>(fields: &mut Fields<'a, T>) -> Result<MoreLine
     Ok(MoreLine::AddLayer { kind, name })
 }
 
+fn reparent_layer<'a, T: Trail + Copy>(
+    fields: &mut Fields<'a, T>,
+) -> Result<MoreLine<'a>, LineFault>
+    ensures value { Gives (λ x. x) result (read_more reparent_layer_form fields.old.words) }
+    ensures place { IfErr result (λ _. fields.new.place ≡ more_fault_at reparent_layer_form (next fields.old.place) fields.old.words) }
+{
+    let layer = fields.number()?;
+    let group = fields.number()?;
+    let place = fields.number()?;
+    fields.end()?;
+    Ok(MoreLine::ReparentLayer {
+        layer,
+        group,
+        place,
+    })
+}
+
 // The line of layers that the words behind `layer` are.
 fn layer<'a, T: Trail + Copy>(fields: &mut Fields<'a, T>) -> Result<MoreLine<'a>, LineFault>
     ensures value { Gives (λ x. x) result (read_more (choose_more more_layer_lines BadWord) fields.old.words) }
@@ -40,6 +57,7 @@ fn layer<'a, T: Trail + Copy>(fields: &mut Fields<'a, T>) -> Result<MoreLine<'a>
 {
     match fields.word(Expected::Action)? {
         "add" => add_layer(fields),
+        "into" => reparent_layer(fields),
         _ => Err(LineFault::BadWord),
     }
 }
@@ -53,6 +71,23 @@ fn put_object<'a, T: Trail + Copy>(fields: &mut Fields<'a, T>) -> Result<MoreLin
     Ok(MoreLine::PutObject { layer, json })
 }
 
+fn reparent_object<'a, T: Trail + Copy>(
+    fields: &mut Fields<'a, T>,
+) -> Result<MoreLine<'a>, LineFault>
+    ensures value { Gives (λ x. x) result (read_more reparent_object_form fields.old.words) }
+    ensures place { IfErr result (λ _. fields.new.place ≡ more_fault_at reparent_object_form (next fields.old.place) fields.old.words) }
+{
+    let object = fields.number()?;
+    let layer = fields.number()?;
+    let place = fields.number()?;
+    fields.end()?;
+    Ok(MoreLine::ReparentObject {
+        object,
+        layer,
+        place,
+    })
+}
+
 // The line of objects that the words behind `object` are.
 fn object<'a, T: Trail + Copy>(fields: &mut Fields<'a, T>) -> Result<MoreLine<'a>, LineFault>
     ensures value { Gives (λ x. x) result (read_more (choose_more more_object_lines BadWord) fields.old.words) }
@@ -60,6 +95,7 @@ fn object<'a, T: Trail + Copy>(fields: &mut Fields<'a, T>) -> Result<MoreLine<'a
 {
     match fields.word(Expected::Action)? {
         "put" => put_object(fields),
+        "into" => reparent_object(fields),
         _ => Err(LineFault::BadWord),
     }
 }
@@ -74,6 +110,16 @@ fn take_property<'a, T: Trail + Copy>(fields: &mut Fields<'a, T>) -> Result<More
     Ok(MoreLine::TakeProperty { owner, json })
 }
 
+#[tactic(auto, unfolding(crate::specs::Grammar::word_at))]
+fn put_property<'a, T: Trail + Copy>(fields: &mut Fields<'a, T>) -> Result<MoreLine<'a>, LineFault>
+    ensures value { Gives (λ x. x) result (read_more put_property_form fields.old.words) }
+    ensures place { IfErr result (λ _. fields.new.place ≡ more_fault_at put_property_form (next fields.old.place) fields.old.words) }
+{
+    let owner = known(owner(fields.word(Expected::Owner)?))?;
+    let json = fields.json()?;
+    Ok(MoreLine::PutProperty { owner, json })
+}
+
 // The line of properties that the words behind `prop` are.
 fn property<'a, T: Trail + Copy>(fields: &mut Fields<'a, T>) -> Result<MoreLine<'a>, LineFault>
     ensures value { Gives (λ x. x) result (read_more (choose_more more_property_lines BadWord) fields.old.words) }
@@ -81,6 +127,7 @@ fn property<'a, T: Trail + Copy>(fields: &mut Fields<'a, T>) -> Result<MoreLine<
 {
     match fields.word(Expected::Action)? {
         "take" => take_property(fields),
+        "put" => put_property(fields),
         _ => Err(LineFault::BadWord),
     }
 }
@@ -104,6 +151,23 @@ fn tileset<'a, T: Trail + Copy>(fields: &mut Fields<'a, T>) -> Result<MoreLine<'
     }
 }
 
+fn extend<'a, T: Trail + Copy>(fields: &mut Fields<'a, T>) -> Result<MoreLine<'a>, LineFault>
+    ensures value { Gives (λ x. x) result (read_more extend_form fields.old.words) }
+    ensures place { IfErr result (λ _. fields.new.place ≡ more_fault_at extend_form (next fields.old.place) fields.old.words) }
+{
+    let left = fields.number()?;
+    let top = fields.number()?;
+    let right = fields.number()?;
+    let bottom = fields.number()?;
+    fields.end()?;
+    Ok(MoreLine::Extend {
+        left,
+        top,
+        right,
+        bottom,
+    })
+}
+
 fn more<'a, T: Trail + Copy>(
     name: &str,
     fields: &mut Fields<'a, T>,
@@ -117,6 +181,7 @@ fn more<'a, T: Trail + Copy>(
         "object" => object(fields),
         "prop" => property(fields),
         "tileset" => tileset(fields),
+        "extend" => extend(fields),
         _ => Err(LineFault::UnknownCommand),
     }
 }
