@@ -8,7 +8,8 @@ use Rattle.session.specs.declared.more_line.MoreLine.{MoreLine}
 use Rattle.session.specs.declared.more_line.MoreLine.TheVariants.{SetMember, PutMembers, RemoveMember, AddLayer, PutObject}
 use Rattle.session.specs.declared.more_line.MoreLine.TheVariants.{ReparentObject, ReparentLayer, PutProperty, TakeProperty, PutTileset, Extend}
 use Rattle.session.specs.Grammar.{is_quiet, line_form, line_of, read, word_at}
-use Rattle.session.specs.MoreSpelling.{MoreIsNotALine, more_spelling, more_token_words, more_tokens}
+use Rattle.session.specs.MoreSpelling.{MoreIsNotALine, more_spelling, more_tokens}
+use Rattle.session.specs.Spelling.{token_words}
 use Rattle.session.specs.Words.{words}
 use Rattle.session.proofs.FirstChecks.{checked}
 use Rattle.session.proofs.MoreForms.{more_read_is_spelled, more_words}
@@ -16,7 +17,7 @@ use Rattle.session.proofs.MoreForms.{more_read_is_spelled, more_words}
 -- what is found of each line by computing: its words begin with a letter, and are no line
 record Refused (line : MoreLine) : Type 0 where
   fault : LineFault
-  are : read line_form (flat_map more_token_words (more_tokens line)) ≡ Err fault
+  are : read line_form (flat_map token_words (more_tokens line)) ≡ Err fault
   loud : is_quiet (more_spelling line) ≡ false
 
 refused : (line : MoreLine) → Refused line
