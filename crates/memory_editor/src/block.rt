@@ -4,6 +4,7 @@
 // undone may be cut by an edit, and what a step below that index took in can't be told from what it was. So the first are looked at
 // when they are undone, the second when it is merged, and the rest when it is asked for.
 
+use crate::edited::Edited;
 use crate::seen::{Seen, count_of, open_seen, steps_seen};
 use crate::standing::Standing;
 use editor::Edit;
@@ -19,7 +20,7 @@ pub struct LineDone<'a> {
     /// What became of its edit, where it was pushed.
     pub pushed: Option<Pushed>,
     /// What its edit changes, where that was merged into a step that stood there before the lines.
-    pub edited: &'a Seen,
+    pub edited: &'a Edited,
 }
 
 /// The lines of one call that were done.
@@ -58,13 +59,6 @@ impl Block {
             is_lost: false,
             dropped: 0,
         }
-    }
-
-    /// The first line of a call is to be done, which may be its only one.
-    #[inline(always)]
-    pub fn awaits(&mut self, before: Standing) {
-        self.low = before.index;
-        self.is_lost = false;
     }
 
     /// How it was before this line, which is the first one. The stack is the active one's behind the line.
@@ -144,7 +138,7 @@ impl Block {
             Pushed::AddedAndDropped => self.drop_first(),
             Pushed::Merged | Pushed::Gone => {
                 if !self.knows_last(&line.before) {
-                    self.below = self.below.joined(line.edited);
+                    self.below = self.below.joined(&line.edited.seen());
                 }
                 self.low = self.low.min(line.now.index);
             }
