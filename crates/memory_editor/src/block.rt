@@ -98,9 +98,10 @@ impl Block {
         self.is_turn = false;
     }
 
-    /// Whether a line adds nothing that is to be kept: what it did lies in the steps above the lowest index, or it did nothing to them.
+    /// Takes a line in, where all that it did lies in the steps above the lowest index, or it did nothing to them, or it dropped the
+    /// first step. Says whether it is such a line: any other is to be added.
     #[inline(always)]
-    pub fn stays(&self, before: &Standing, now: &Standing, pushed: Option<Pushed>) -> bool {
+    pub fn takes(&mut self, before: &Standing, now: &Standing, pushed: Option<Pushed>) -> bool {
         if !before.has_documents_of(*now) || before.depth != 0 || now.depth != 0 {
             return false;
         }
@@ -108,7 +109,10 @@ impl Block {
             None => now.index == before.index || now.index > self.low,
             Some(Pushed::Added) => true,
             Some(Pushed::Nothing) => true,
-            Some(Pushed::AddedAndDropped) => false,
+            Some(Pushed::AddedAndDropped) => {
+                self.drop_first();
+                true
+            }
             Some(Pushed::Merged) => before.index > self.low,
             Some(Pushed::Gone) => now.index > self.low,
         }
@@ -121,6 +125,7 @@ impl Block {
     }
 
     // The first step is gone.
+    #[inline(always)]
     fn drop_first(&mut self) {
         self.dropped = self.dropped.saturating_add(1);
         if self.low == 0 {

@@ -139,7 +139,8 @@ impl Listening {
     /// A further line of a call is to be done. The documents stand so before it, and this is the stack of the active one.
     #[inline(always)]
     pub fn goes_on(&mut self, now: Standing, stack: Option<&Stack<Edit>>) {
-        if !self.is_many || !self.block.stays(&self.last, &now, self.pushed) {
+        let before = self.last;
+        if !self.is_many || !self.block.takes(&before, &now, self.pushed) {
             self.look_back(now, stack);
         }
         self.last = now;
