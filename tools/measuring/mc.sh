@@ -1,0 +1,1 @@
+for s in limit20 objects30 stamps30; do for m in r c s; do for c in c65ad8a5 63567113; do o=run/cgx_${c}_${m}_$s; nice -n 15 valgrind --tool=callgrind --callgrind-out-file=$o run/drive_$c $m bench/$s.txt 2>$o.err >/dev/null; echo $c $m $s $(grep -a '^totals:\|^summary:' $o | tail -1 | awk '{print $2}') $(wc -l < bench/$s.txt); done; done; done
