@@ -1,4 +1,5 @@
 //! A float with at most 15 digits, in the form that C's `%.15g` gives it.
+use crate::pushing::push_one;
 use std::alloc::{AllocError, Global};
 
 /// The most digits that are written so. One with more stays as it was: fewer digits would be another number.
@@ -82,23 +83,27 @@ fn push_zeros(out: &mut Vec<u8>, count: usize) -> Result<(), AllocError> {
     Ok(())
 }
 
-// As `1.5e-07`: the exponent has two digits at least.
-fn push_scientific(out: &mut Vec<u8>, decimal: &Decimal) -> Result<(), AllocError> {
-    for (at, digit) in decimal.digits.iter().enumerate() {
-        if at == 1 {
+// The digits, with a point behind so many.
+fn push_digits(out: &mut Vec<u8>, digits: &[u8], whole: usize) -> Result<(), AllocError> {
+    for (at, digit) in digits.iter().enumerate() {
+        if at == whole {
             out.push(b'.')?;
         }
         out.push(*digit)?;
     }
-    out.push(b'e')?;
-    out.push(if decimal.power < 0 { b'-' } else { b'+' })?;
+    Ok(())
+}
+
+// As `1.5e-07`: the exponent has two digits at least.
+fn push_scientific(out: &mut Vec<u8>, decimal: &Decimal) -> Result<(), AllocError> {
+    push_digits(out, &decimal.digits, 1)?;
+    let sign = if decimal.power < 0 { b'-' } else { b'+' };
+    out.extend_from_slice(&[b'e', sign])?;
     let size = decimal.power.unsigned_abs() % 1000;
     if size >= 100 {
-        out.push(b'0' + (size / 100) as u8)?;
+        push_one(out, b'0' + (size / 100) as u8)?;
     }
-    out.push(b'0' + (size / 10 % 10) as u8)?;
-    out.push(b'0' + (size % 10) as u8)?;
-    Ok(())
+    out.extend_from_slice(&[b'0' + (size / 10 % 10) as u8, b'0' + (size % 10) as u8])
 }
 
 // As `413.333`, `0.001` or `2.0`: a float without a point would be read as a whole number.
@@ -109,17 +114,12 @@ fn push_plain(out: &mut Vec<u8>, decimal: &Decimal) -> Result<(), AllocError> {
         return out.extend_from_slice(&decimal.digits);
     }
     let whole = (decimal.power as usize).saturating_add(1);
-    for (at, digit) in decimal.digits.iter().enumerate() {
-        if at == whole {
-            out.push(b'.')?;
-        }
-        out.push(*digit)?;
+    push_digits(out, &decimal.digits, whole)?;
+    if decimal.digits.len() > whole {
+        return Ok(());
     }
-    if decimal.digits.len() <= whole {
-        push_zeros(out, whole.saturating_sub(decimal.digits.len()))?;
-        out.extend_from_slice(b".0")?;
-    }
-    Ok(())
+    push_zeros(out, whole.saturating_sub(decimal.digits.len()))?;
+    out.extend_from_slice(b".0")
 }
 
 /// A float that is told by its shortest digits.

@@ -13,6 +13,7 @@ mod merge;
 mod number;
 mod parts;
 mod print;
+mod pushing;
 mod read;
 mod same;
 mod scan;

@@ -6,11 +6,10 @@ use crate::parts::{
     whole,
 };
 use crate::print::{
-    Spot, print, print_items, print_members, push_colon, push_comma, push_member_gap, row_of,
+    Spot, print, print_items, print_member, print_members, push_comma, push_member_gap, row_of,
 };
 use crate::same::{is_same, is_same_item};
 use crate::scan::is_flat;
-use crate::spelling::push_text;
 use crate::style::{Lines, Style};
 use serde_json::{Map, Value};
 use std::alloc::{AllocError, Global};
@@ -120,7 +119,7 @@ fn merge_sorted(
         let below = spot_of(style, spot, new, name);
         match place {
             Some(place) => merge_member(alloc, out, style, below, value, old, place)?,
-            None => push_new_member(alloc, out, style, below, name, value)?,
+            None => print_member(alloc, out, style, below, name, value)?,
         }
     }
     Ok(())
@@ -152,7 +151,7 @@ fn merge_unsorted(
             push_gap(out, style, spot, old, None, is_first)?;
             is_first = false;
             let below = spot_of(style, spot, new, name);
-            push_new_member(alloc, out, style, below, name, value)?;
+            print_member(alloc, out, style, below, name, value)?;
         }
     }
     Ok(())
@@ -199,20 +198,6 @@ fn merge_member(
             text,
         },
     )
-}
-
-// A member that the source does not have.
-fn push_new_member(
-    alloc: Global,
-    out: &mut Vec<u8>,
-    style: &Style,
-    spot: Spot,
-    name: &str,
-    value: &Value,
-) -> Result<(), AllocError> {
-    push_text(out, style, name)?;
-    push_colon(out, style)?;
-    print(alloc, out, style, spot, value)
 }
 
 // What stands in front of a member that is not the first: what stood there in the source, or what stood between the first two.

@@ -1,5 +1,6 @@
 //! Prints a tree in a style.
 use crate::layout::LineEnd;
+use crate::pushing::push_one;
 use crate::spelling::{push_scalar, push_text};
 use crate::style::{Lines, Style};
 use serde_json::{Map, Value};
@@ -50,13 +51,12 @@ fn push_line(out: &mut Vec<u8>, style: &Style, depth: u8) -> Result<(), AllocErr
     Ok(())
 }
 
-/// What stands between a name and its value.
-pub fn push_colon(out: &mut Vec<u8>, style: &Style) -> Result<(), AllocError> {
+// What stands between a name and its value.
+fn push_colon(out: &mut Vec<u8>, style: &Style) -> Result<(), AllocError> {
     if style.is_spaced {
         out.extend_from_slice(b": ")
     } else {
-        out.push(b':')?;
-        Ok(())
+        push_one(out, b':')
     }
 }
 
@@ -70,26 +70,38 @@ pub fn push_comma(out: &mut Vec<u8>, style: &Style) -> Result<(), AllocError> {
     if is_spaced {
         out.extend_from_slice(b", ")
     } else {
-        out.push(b',')?;
-        Ok(())
+        push_one(out, b',')
     }
 }
 
-// What stands in front of an item, behind its comma.
+// What stands in front of an item.
 fn push_item_gap(
     out: &mut Vec<u8>,
     style: &Style,
     spot: Spot,
     index: usize,
 ) -> Result<(), AllocError> {
-    match style.lines {
-        Lines::Tiled => if spot.row > 0 && index % spot.row == 0 {
-            push_line(out, style, spot.depth)?;
-        },
-        Lines::Indented => push_line(out, style, spot.depth.saturating_add(1))?,
-        Lines::None => {}
+    if index > 0 {
+        push_comma(out, style)?;
     }
-    Ok(())
+    match style.lines {
+        Lines::Tiled if spot.row > 0 && index % spot.row == 0 => push_line(out, style, spot.depth),
+        Lines::Indented => push_line(out, style, spot.depth.saturating_add(1)),
+        Lines::Tiled | Lines::None => Ok(()),
+    }
+}
+
+// What stands behind the last item.
+fn end_items(
+    out: &mut Vec<u8>,
+    style: &Style,
+    spot: Spot,
+    is_empty: bool,
+) -> Result<(), AllocError> {
+    if style.lines == Lines::Indented && !is_empty {
+        push_line(out, style, spot.depth)?;
+    }
+    push_one(out, b']')
 }
 
 /// What stands in front of a member of an object.
@@ -100,21 +112,19 @@ pub fn push_member_gap(
     is_first: bool,
 ) -> Result<(), AllocError> {
     if !is_first {
-        out.push(b',')?;
+        push_one(out, b',')?;
     }
     match style.lines {
         Lines::Tiled => {
             if depth > 0 || !is_first {
                 push_line(out, style, depth)?;
             }
-            out.push(b' ')?;
+            push_one(out, b' ')
         }
-        Lines::Indented => push_line(out, style, depth.saturating_add(1))?,
-        Lines::None => if style.is_spaced && !is_first {
-            out.push(b' ')?;
-        },
+        Lines::Indented => push_line(out, style, depth.saturating_add(1)),
+        Lines::None if style.is_spaced && !is_first => push_one(out, b' '),
+        Lines::None => Ok(()),
     }
-    Ok(())
 }
 
 /// How many cells a row of the layer has that an object is, if its rows begin lines; else 0.
@@ -158,19 +168,12 @@ pub fn print_items(
     spot: Spot,
     items: &Vec<Value>,
 ) -> Result<(), AllocError> {
-    out.push(b'[')?;
+    push_one(out, b'[')?;
     for (index, item) in items.iter().enumerate() {
-        if index > 0 {
-            push_comma(out, style)?;
-        }
         push_item_gap(out, style, spot, index)?;
         print(alloc, out, style, spot.below(), item)?;
     }
-    if style.lines == Lines::Indented && !items.is_empty() {
-        push_line(out, style, spot.depth)?;
-    }
-    out.push(b']')?;
-    Ok(())
+    end_items(out, style, spot, items.is_empty())
 }
 
 /// Prints an object.
@@ -188,15 +191,28 @@ pub fn print_members(
     for (name, member) in members.iter() {
         push_member_gap(out, style, spot.depth, is_first)?;
         is_first = false;
-        push_text(out, style, name.as_str())?;
-        push_colon(out, style)?;
         let below = Spot {
             row: if name.as_str() == "data" { row } else { 0 },
             ..spot.below()
         };
-        print(alloc, out, style, below, member)?;
+        print_member(alloc, out, style, below, name.as_str(), member)?;
     }
     end_members(out, style, spot, members.is_empty())
+}
+
+/// Prints a member of an object, without what stands around it.
+#[cycle(prints)]
+pub fn print_member(
+    alloc: Global,
+    out: &mut Vec<u8>,
+    style: &Style,
+    spot: Spot,
+    name: &str,
+    value: &Value,
+) -> Result<(), AllocError> {
+    push_text(out, style, name)?;
+    push_colon(out, style)?;
+    print(alloc, out, style, spot, value)
 }
 
 fn begin_members(
@@ -208,11 +224,12 @@ fn begin_members(
     if style.lines == Lines::Tiled && !spot.is_on_line {
         push_line(out, style, spot.depth)?;
     }
-    out.push(b'{')?;
+    push_one(out, b'{')?;
     if is_empty && style.lines == Lines::Tiled && spot.depth > 0 {
-        push_line(out, style, 0)?;
+        push_line(out, style, 0)
+    } else {
+        Ok(())
     }
-    Ok(())
 }
 
 fn end_members(
@@ -229,6 +246,5 @@ fn end_members(
     if begins_line {
         push_line(out, style, spot.depth)?;
     }
-    out.push(b'}')?;
-    Ok(())
+    push_one(out, b'}')
 }

@@ -1,5 +1,6 @@
 //! How texts and numbers are spelled.
 use crate::float::push_float;
+use crate::pushing::push_one;
 use crate::style::Style;
 use itoa::Buffer;
 use serde_json::{Number, Value};
@@ -7,14 +8,21 @@ use std::alloc::{AllocError, Global};
 
 const DIGITS: &[u8; 16] = b"0123456789abcdef";
 
+// The last hexadecimal digit of a number.
+fn last_digit(number: u32) -> u8 {
+    DIGITS[(number % 16) as usize]
+}
+
 // A UTF-16 unit as an escape.
 fn push_unit(out: &mut Vec<u8>, unit: u32) -> Result<(), AllocError> {
-    out.extend_from_slice(b"\\u")?;
-    out.push(DIGITS[(unit / 4096 % 16) as usize])?;
-    out.push(DIGITS[(unit / 256 % 16) as usize])?;
-    out.push(DIGITS[(unit / 16 % 16) as usize])?;
-    out.push(DIGITS[(unit % 16) as usize])?;
-    Ok(())
+    out.extend_from_slice(&[
+        b'\\',
+        b'u',
+        last_digit(unit / 4096),
+        last_digit(unit / 256),
+        last_digit(unit / 16),
+        last_digit(unit),
+    ])
 }
 
 // A letter beyond ASCII, as one unit or as two.
@@ -28,26 +36,32 @@ fn push_escaped(out: &mut Vec<u8>, code: u32) -> Result<(), AllocError> {
     }
 }
 
+// What stands behind the backslash of a short escape, if the byte has one.
+fn short_escape(style: &Style, byte: u8) -> Option<u8> {
+    match byte {
+        b'"' | b'\\' => Some(byte),
+        b'/' if style.escapes_slashes => Some(byte),
+        8 => Some(b'b'),
+        9 => Some(b't'),
+        10 => Some(b'n'),
+        12 => Some(b'f'),
+        13 => Some(b'r'),
+        _ => None,
+    }
+}
+
 // A byte of a text; those beyond ASCII stay.
 fn push_byte(out: &mut Vec<u8>, style: &Style, byte: u8) -> Result<(), AllocError> {
-    match byte {
-        b'"' => out.extend_from_slice(b"\\\"")?,
-        b'\\' => out.extend_from_slice(b"\\\\")?,
-        b'/' if style.escapes_slashes => out.extend_from_slice(b"\\/")?,
-        8 => out.extend_from_slice(b"\\b")?,
-        9 => out.extend_from_slice(b"\\t")?,
-        10 => out.extend_from_slice(b"\\n")?,
-        12 => out.extend_from_slice(b"\\f")?,
-        13 => out.extend_from_slice(b"\\r")?,
-        0..=31 => push_unit(out, byte as u32)?,
-        _ => out.push(byte)?,
+    match short_escape(style, byte) {
+        Some(escape) => out.extend_from_slice(&[b'\\', escape]),
+        None if byte < 32 => push_unit(out, byte as u32),
+        None => push_one(out, byte),
     }
-    Ok(())
 }
 
 /// A text in its quotes.
 pub fn push_text(out: &mut Vec<u8>, style: &Style, text: &str) -> Result<(), AllocError> {
-    out.push(b'"')?;
+    push_one(out, b'"')?;
     if style.escapes_letters {
         for letter in text.chars() {
             let code = letter as u32;
@@ -62,8 +76,7 @@ pub fn push_text(out: &mut Vec<u8>, style: &Style, text: &str) -> Result<(), All
             push_byte(out, style, *byte)?;
         }
     }
-    out.push(b'"')?;
-    Ok(())
+    push_one(out, b'"')
 }
 
 fn push_number(
