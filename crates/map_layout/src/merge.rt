@@ -83,21 +83,34 @@ fn merge_members(
     if members.len() != old.len() || new.is_empty() {
         return print_members(alloc, out, style, spot, new);
     }
-    let (Some(first), Some(last)) = (members.first(), members.last()) else {
-        return print_members(alloc, out, style, spot, new);
-    };
     let old = OldObject {
         values: old,
         members: &members,
         text,
     };
-    out.extend_from_slice(between(text, 0, first.start))?;
-    if are_sorted(&members) {
+    merge_placed(alloc, out, style, spot, new, old)
+}
+
+// Where each member of the source has a place.
+#[cycle(merges)]
+fn merge_placed(
+    alloc: Global,
+    out: &mut Vec<u8>,
+    style: &Style,
+    spot: Spot,
+    new: &Map<String, Value>,
+    old: OldObject<'_>,
+) -> Result<(), AllocError> {
+    let (Some(first), Some(last)) = (old.members.first(), old.members.last()) else {
+        return print_members(alloc, out, style, spot, new);
+    };
+    out.extend_from_slice(between(old.text, 0, first.start))?;
+    if are_sorted(old.members) {
         merge_sorted(alloc, out, style, spot, new, old)?;
     } else {
         merge_unsorted(alloc, out, style, spot, new, old)?;
     }
-    out.extend_from_slice(between(text, last.end, text.len()))
+    out.extend_from_slice(between(old.text, last.end, old.text.len()))
 }
 
 // By their names, where the source has them so.
@@ -145,6 +158,20 @@ fn merge_unsorted(
             merge_member(alloc, out, style, below, value, old, place)?;
         }
     }
+    print_added(alloc, out, style, spot, new, old, is_first)
+}
+
+// The members that the source does not have.
+fn print_added(
+    alloc: Global,
+    out: &mut Vec<u8>,
+    style: &Style,
+    spot: Spot,
+    new: &Map<String, Value>,
+    old: OldObject<'_>,
+    has_none_before: bool,
+) -> Result<(), AllocError> {
+    let mut is_first = has_none_before;
     for (name, value) in new.iter() {
         let name = name.as_str();
         if old.values.get(name).is_none() {
@@ -275,28 +302,42 @@ fn merge_items(
     if parts.len() != old.len() || new.is_empty() || !has_as_many && spot.row > 0 {
         return print_items(alloc, out, style, spot, new);
     }
-    let (Some(first), Some(last)) = (parts.first(), parts.last()) else {
-        return print_items(alloc, out, style, spot, new);
-    };
-    let has_places = has_as_many || keys.is_some();
     let old = OldArray {
         items: old,
         parts: &parts,
         text,
     };
+    merge_listed(alloc, out, style, spot, new, old, &keys)
+}
+
+// Each item at the place of the one with its key, or else at its own.
+#[cycle(merges)]
+fn merge_listed(
+    alloc: Global,
+    out: &mut Vec<u8>,
+    style: &Style,
+    spot: Spot,
+    new: &Vec<Value>,
+    old: OldArray<'_>,
+    keys: &Option<Keys>,
+) -> Result<(), AllocError> {
+    let (Some(first), Some(last)) = (old.parts.first(), old.parts.last()) else {
+        return print_items(alloc, out, style, spot, new);
+    };
+    let has_places = new.len() == old.items.len() || keys.is_some();
     let below = Spot {
         is_on_line: begins_with_object(old.items),
         ..spot.below()
     };
-    out.extend_from_slice(between(text, 0, first.start))?;
+    out.extend_from_slice(between(old.text, 0, first.start))?;
     for (index, item) in new.iter().enumerate() {
-        let place = old_place(alloc, &keys, index, item)?;
+        let place = old_place(alloc, keys, index, item)?;
         if index > 0 {
             push_item_gap_like(out, style, old, if has_places { place } else { None })?;
         }
         merge_item(alloc, out, style, below, item, old, place)?;
     }
-    out.extend_from_slice(between(text, last.end, text.len()))
+    out.extend_from_slice(between(old.text, last.end, old.text.len()))
 }
 
 // As many items as in the source, each at the place that it had: the source, but for what has changed. Their places are not listed, as
@@ -354,6 +395,22 @@ fn merge_cells(
     }
 }
 
+// What stands in front of a cell that is not the first: what stood between the first two, or a comma and what stood in front of the
+// only one.
+fn push_cell_gap_like(
+    out: &mut Vec<u8>,
+    style: &Style,
+    text: &[u8],
+    first: Part,
+    second: Option<Part>,
+) -> Result<(), AllocError> {
+    if let Some(second) = second {
+        return out.extend_from_slice(between(text, first.end, second.start));
+    }
+    push_comma(out, style)?;
+    out.extend_from_slice(between(text, 1, first.start))
+}
+
 // More cells than in the source, or fewer: what stood between its first two stands between all. A cell has but one spelling.
 fn print_cells_like(
     alloc: Global,
@@ -364,16 +421,17 @@ fn print_cells_like(
     text: &[u8],
 ) -> Result<(), AllocError> {
     let (first, edge) = next_part(text, 1);
-    let (second, _) = next_part(text, edge.saturating_add(1));
-    let has_second = text.get(edge) == Some(&b',');
+    let second = if text.get(edge) == Some(&b',') {
+        let (second, _) = next_part(text, edge.saturating_add(1));
+        Some(second)
+    } else {
+        None
+    };
     let cells = whole(between(text, 0, text.len().saturating_sub(1)));
     out.extend_from_slice(between(text, 0, first.start))?;
     for (index, item) in new.iter().enumerate() {
-        if index > 0 && has_second {
-            out.extend_from_slice(between(text, first.end, second.start))?;
-        } else if index > 0 {
-            push_comma(out, style)?;
-            out.extend_from_slice(between(text, 1, first.start))?;
+        if index > 0 {
+            push_cell_gap_like(out, style, text, first, second)?;
         }
         print(alloc, out, style, spot.below(), item)?;
     }
