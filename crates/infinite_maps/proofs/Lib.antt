@@ -1,7 +1,6 @@
 pub mod Walks
 pub mod Sizes
 pub mod Words
-pub mod Loops
 pub mod Places
 pub mod Covers
 pub mod Pieces

@@ -29,8 +29,9 @@ fn items_are_within(tiers: u8, items: &Vec<Value>) -> bool
     true
 }
 
+/// Whether the values of members nest no deeper than so many tiers. The object that has them is no tier of these.
 #[cycle(tiers)]
-fn members_are_within(tiers: u8, members: &Map<String, Value>) -> bool
+pub fn members_are_within(tiers: u8, members: &Map<String, Value>) -> bool
     ensures { result ≡ nat_le (members_depth (members_view members.now.entries)) tiers }
 {
     for (_key, member) in members.iter() {

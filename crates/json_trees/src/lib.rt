@@ -5,6 +5,6 @@ mod depth;
 mod names;
 mod same;
 
-pub use depth::is_within;
+pub use depth::{is_within, members_are_within};
 pub use names::{RESERVED_NAME, has_name};
 pub use same::{is_same, members_are_same};

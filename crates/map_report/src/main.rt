@@ -2,7 +2,7 @@
 #![tactic(auto)]
 
 mod files;
-mod fractions;
+mod fraction_places;
 mod json_lines;
 mod json_listing;
 mod json_refusal;

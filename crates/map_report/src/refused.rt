@@ -1,5 +1,5 @@
 // Why a map is refused: the code, its words, and the place of the fault.
-use crate::fractions::{Fractions, Owner, find_fractions, write_owner};
+use crate::fraction_places::{Fractions, Owner, find_fractions, write_owner};
 use map_faults::{Output, Place, TOO_LONG, place_of_fault};
 use map_json::{MapFault, read_map_along};
 use refusals::{MapRefusal, Refusal, StoreFault};

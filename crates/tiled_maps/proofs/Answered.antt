@@ -12,17 +12,17 @@ use Rattle.infinite_maps.specs.Sound.{has_bad_chunk}
 use Rattle.infinite_maps.specs.Survey.{is_too_large}
 use Rattle.tiled_maps.specs.declared.fault.Fault.{Fault}
 use Rattle.tiled_maps.specs.declared.fault.Fault.TheVariants.{Memory, NotJson, NameTaken, TooManyFractions, TooDeep, BadChunk, Overlap, TooLarge, Unlike}
-use Rattle.tiled_maps.specs.declared.place.Place.TheVariants.{Map}
+use Rattle.fractions.specs.declared.place.Place.TheVariants.{Map}
 use Rattle.json_trees.specs.Names.{has_name}
-use Rattle.tiled_maps.specs.Fractions.{has_fraction, fractions_in, most_fractions, HasFewFractions}
-use Rattle.tiled_maps.specs.Aside.{reserved_name, set_aside_of}
-use Rattle.tiled_maps.specs.Back.{back}
+use Rattle.fractions.specs.Fractions.{has_fraction, fractions_in, most_fractions, HasFewFractions}
+use Rattle.fractions.specs.Aside.{reserved_name, set_aside_of}
+use Rattle.fractions.specs.Back.{back}
 use Rattle.tiled_maps.specs.Trees.{put_back_of, HasNoFinite, IsFiniteOf, MakesFinite}
 use Rattle.json_trees.specs.Texts.{IsTreeOf}
 use Rattle.tiled_maps.specs.Texts.{IsSetAside, IsPutBack, IsNotFinite, SetsAside, text_or}
 use Rattle.tiled_maps.proofs.Meeting.{is_infinite-set_aside_of, put_back_of-plain, put_back_of-spread, put_back_of-free}
-use Rattle.tiled_maps.proofs.Whole.{has_fraction-aside, HasFewFractions-none, aside-unchanged, back-unchanged, depth-back}
-use Rattle.tiled_maps.proofs.ReadTrees.{IsReadTree-read}
+use Rattle.fractions.proofs.Whole.{has_fraction-aside, HasFewFractions-none, aside-unchanged, back-unchanged, depth-back}
+use Rattle.fractions.proofs.ReadTrees.{IsReadTree-read}
 
 or_false : (a b : Bool) → b ≡ false → (a || b) ≡ a
 or_false true b e = refl

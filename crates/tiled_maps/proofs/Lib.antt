@@ -1,8 +1,4 @@
-pub mod ReadTrees
-pub mod Walks
 pub mod Meeting
-pub mod Law
-pub mod Whole
 pub mod Answered
 pub mod LookTree
 pub mod LookTokens

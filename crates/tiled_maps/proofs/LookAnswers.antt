@@ -6,7 +6,7 @@ use Rattle.std.specs.Str.{is_utf8}
 use Rattle.serde_json.specs.Data.{Data}
 use Rattle.serde_json.specs.Read.{read}
 use Rattle.tiled_maps.specs.declared.fault.Fault.TheVariants.{NotJson}
-use Rattle.tiled_maps.specs.Aside.{set_aside_of}
+use Rattle.fractions.specs.Aside.{set_aside_of}
 use Rattle.tiled_maps.specs.Look.{NeedsNothing, TextNeedsNothing}
 use Rattle.json_trees.specs.Texts.{IsTreeOf}
 use Rattle.tiled_maps.specs.Texts.{SetsAside, PutsBack}

@@ -10,7 +10,7 @@ use Rattle.memchr.specs.Find.{Nowhere, Passes, is_byte2}
 use Rattle.json.specs.Text.{code_unit, short_escape, is_high_surrogate, is_low_surrogate, surrogate_pair, content, plain, after_high, prepend}
 use Rattle.json.specs.Word.{is_operator, is_space}
 use Rattle.json.specs.Lex.{Lexeme, token, operator, space, other, string_token, Mode, between, in_string, lex_byte, lex}
-use Rattle.tiled_maps.specs.Aside.{reserved_name}
+use Rattle.fractions.specs.Aside.{reserved_name}
 use Rattle.tiled_maps.specs.Lexemes.{infinite, IsPlainText, ArePlain, IsOther, BeginsOther, LeavesText, LeavesEscaped, Leads}
 use Rattle.tiled_maps.proofs.LookBytes.{ended_at}
 

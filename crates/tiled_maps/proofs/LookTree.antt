@@ -10,12 +10,12 @@ use Rattle.serde_json.specs.Data.{Num, Data, null, boolean, number, string, arra
 use Rattle.serde_json.specs.Find.{is_float, as_bool, get_member}
 use Rattle.serde_json.specs.Read.{number_of, of_json, of_items, of_members}
 use Rattle.infinite_maps.specs.Infinite.{is_true, is_infinite}
-use Rattle.tiled_maps.specs.declared.place.Place.{Place}
-use Rattle.tiled_maps.specs.declared.place.Place.TheVariants.{Map, Layer, Object, Coordinate, Version, Elsewhere}
-use Rattle.tiled_maps.specs.Places.{below, inside}
+use Rattle.fractions.specs.declared.place.Place.{Place}
+use Rattle.fractions.specs.declared.place.Place.TheVariants.{Map, Layer, Object, Coordinate, Version, Elsewhere}
+use Rattle.fractions.specs.Places.{below, inside}
 use Rattle.json_trees.specs.Names.{has_name, items_have_name, members_have_name}
-use Rattle.tiled_maps.specs.Fractions.{is_fraction, has_fraction, items_have_fraction, members_have_fraction}
-use Rattle.tiled_maps.specs.Aside.{reserved_name}
+use Rattle.fractions.specs.Fractions.{is_fraction, has_fraction, items_have_fraction, members_have_fraction}
+use Rattle.fractions.specs.Aside.{reserved_name}
 use Rattle.tiled_maps.specs.Look.{NeedsNothing}
 use Rattle.tiled_maps.specs.Lexemes.{infinite, IsWhole}
 use Rattle.json_members.proofs.MembersLemmas.{same_name}

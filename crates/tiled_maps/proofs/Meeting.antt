@@ -6,16 +6,16 @@ use Rattle.std.specs.Ordering.{match_ordering}
 use Rattle.serde_json.specs.Data.{unsigned, negative, float, Data, null, boolean, number, string, array, object, Members, no_members, member}
 use Rattle.serde_json.specs.Find.{get, get_member, as_bool}
 use Rattle.infinite_maps.specs.Infinite.{is_true, is_infinite, infinite_of, map_by}
-use Rattle.tiled_maps.specs.declared.place.Place.{Place}
-use Rattle.tiled_maps.specs.declared.place.Place.TheVariants.{Map, Layer, Object, Coordinate, Version, Elsewhere}
+use Rattle.fractions.specs.declared.place.Place.{Place}
+use Rattle.fractions.specs.declared.place.Place.TheVariants.{Map, Layer, Object, Coordinate, Version, Elsewhere}
 use Rattle.json_trees.specs.Names.{has_name}
-use Rattle.tiled_maps.specs.Places.{below}
-use Rattle.tiled_maps.specs.Aside.{reserved_name, stand_in, aside, members_aside, set_aside_of}
-use Rattle.tiled_maps.specs.Back.{back}
+use Rattle.fractions.specs.Places.{below}
+use Rattle.fractions.specs.Aside.{reserved_name, stand_in, aside, members_aside, set_aside_of}
+use Rattle.fractions.specs.Back.{back}
 use Rattle.tiled_maps.specs.Trees.{put_back_of}
 use Rattle.json_members.proofs.MembersLemmas.{same_name}
-use Rattle.tiled_maps.proofs.ReadTrees.{IsReadTree}
-use Rattle.tiled_maps.proofs.Law.{absent, back-set_aside_of}
+use Rattle.fractions.proofs.ReadTrees.{IsReadTree}
+use Rattle.fractions.proofs.Law.{absent, back-set_aside_of}
 
 -- ---- a member by its name
 get_aside_at : (o : Ordering) (p : Place) (k l : List ℕ) (x y : Option Data) (e : Data) → slice_cmp nat_cmp k l ≡ o

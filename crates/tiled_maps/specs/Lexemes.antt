@@ -7,7 +7,7 @@ use Rattle.json.specs.Lex.{Lexeme, token, comma, colon, lex, between, in_string}
 use Rattle.serde_json.specs.Data.{Num}
 use Rattle.serde_json.specs.Find.{is_float}
 use Rattle.serde_json.specs.Read.{number_of}
-use Rattle.tiled_maps.specs.Aside.{reserved_name}
+use Rattle.fractions.specs.Aside.{reserved_name}
 
 abbrev pub infinite : List ℕ
 infinite = codes "infinite"

@@ -3,10 +3,10 @@ use Rattle.std.specs.Prelude.{◌≡◌, ℕ, List, false, Some}
 use Rattle.serde_json.specs.Data.{Data}
 use Rattle.serde_json.specs.Read.{read}
 use Rattle.infinite_maps.specs.Infinite.{is_infinite}
-use Rattle.tiled_maps.specs.declared.place.Place.TheVariants.{Map}
+use Rattle.fractions.specs.declared.place.Place.TheVariants.{Map}
 use Rattle.json_trees.specs.Names.{has_name}
-use Rattle.tiled_maps.specs.Fractions.{has_fraction}
-use Rattle.tiled_maps.specs.Aside.{reserved_name}
+use Rattle.fractions.specs.Fractions.{has_fraction}
+use Rattle.fractions.specs.Aside.{reserved_name}
 
 -- a tree that has no fraction and no member of the reserved name, and that is no infinite map
 pub record NeedsNothing (d : Data) : Type 0 where

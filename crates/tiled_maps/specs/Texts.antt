@@ -12,10 +12,10 @@ use Rattle.infinite_maps.specs.Sound.{has_bad_chunk}
 use Rattle.infinite_maps.specs.Survey.{is_too_large}
 use Rattle.tiled_maps.specs.declared.fault.Fault.{Fault}
 use Rattle.tiled_maps.specs.declared.fault.Fault.TheVariants.{Memory, NotJson, NameTaken, TooManyFractions, TooDeep, BadChunk, Overlap, TooLarge, Unlike}
-use Rattle.tiled_maps.specs.declared.place.Place.TheVariants.{Map}
+use Rattle.fractions.specs.declared.place.Place.TheVariants.{Map}
 use Rattle.json_trees.specs.Names.{has_name}
-use Rattle.tiled_maps.specs.Fractions.{has_fraction, fractions_in, most_fractions, HasFewFractions}
-use Rattle.tiled_maps.specs.Aside.{reserved_name, set_aside_of}
+use Rattle.fractions.specs.Fractions.{has_fraction, fractions_in, most_fractions, HasFewFractions}
+use Rattle.fractions.specs.Aside.{reserved_name, set_aside_of}
 use Rattle.tiled_maps.specs.Trees.{HasNoFinite, IsAside, put_back_of, IsTooDeep}
 
 -- the text that is answered for bytes: the bytes themselves if there is no other

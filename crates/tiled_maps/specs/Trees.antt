@@ -13,10 +13,10 @@ use Rattle.infinite_maps.specs.declared.fault.Fault.{Fault as InfiniteFault}
 use Rattle.infinite_maps.specs.declared.fault.Fault.TheVariants as infinite
 use Rattle.tiled_maps.specs.declared.fault.Fault.{Fault}
 use Rattle.tiled_maps.specs.declared.fault.Fault.TheVariants.{Memory, NotJson, NameTaken, TooManyFractions, TooDeep, BadChunk, Overlap, TooLarge, Unlike}
-use Rattle.tiled_maps.specs.declared.place.Place.TheVariants.{Map}
-use Rattle.tiled_maps.specs.Fractions.{has_fraction}
-use Rattle.tiled_maps.specs.Aside.{set_aside_of}
-use Rattle.tiled_maps.specs.Back.{back}
+use Rattle.fractions.specs.declared.place.Place.TheVariants.{Map}
+use Rattle.fractions.specs.Fractions.{has_fraction}
+use Rattle.fractions.specs.Aside.{set_aside_of}
+use Rattle.fractions.specs.Back.{back}
 
 -- the fault of a map that is not made finite
 abbrev pub fault_of : InfiniteFault → Fault

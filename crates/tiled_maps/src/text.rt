@@ -4,13 +4,11 @@ ghost use Rattle.serde_json.specs.View.{view as data_of};
 ghost use Rattle.tiled_maps.specs.Likeness.{IsSource, PutsBackLike, PutsTreeBack};
 ghost use Rattle.tiled_maps.specs.Texts.{Reads, SetsAside, PutsBack};
 
-use crate::back::back;
 use crate::fault::Fault;
-use crate::fractions::{has_few_fractions, has_fraction};
-use crate::place::Place;
 use crate::shape::{has_name, is_within};
 use crate::sources::{as_in, is_map};
 use crate::tree::{MAX_DEPTH, finite, infinite, whole};
+use fractions::{Place, back, has_few_fractions, has_fraction};
 use json_trees::RESERVED_NAME;
 use map_layout::{LaidText, discard, read_tree, value_laid_out_like};
 use serde_json::Value;

@@ -2,15 +2,13 @@
 ghost use Rattle.std.specs.Prelude.{◌≡◌, IfOk, IfErr, not};
 ghost use Rattle.serde_json.specs.View.{view as data_of};
 ghost use Rattle.tiled_maps.specs.declared.fault.Fault.TheVariants.{Memory};
-ghost use Rattle.tiled_maps.specs.declared.place.Place.TheVariants as place;
-ghost use Rattle.tiled_maps.specs.Fractions.{has_fraction};
+ghost use Rattle.fractions.specs.declared.place.Place.TheVariants as place;
+ghost use Rattle.fractions.specs.Fractions.{has_fraction};
 ghost use Rattle.tiled_maps.specs.Trees.{MakesWhole, MakesFinite, spread_of};
 
-use crate::aside::aside;
 use crate::fault::Fault;
-use crate::fractions::has_fraction;
-use crate::place::Place;
 use crate::shape::is_within;
+use fractions::{Place, aside, has_fraction};
 use infinite_maps::{made_finite, made_infinite};
 use serde_json::Value;
 use std::alloc::Global;

@@ -1,6 +1,6 @@
 use Rattle.serde_json.specs.Data.{number, unsigned}
 use Rattle.serde_json.specs.View.{view}
-use Rattle.infinite_maps.proofs.Loops.{pushed}
+use Rattle.json_trees.proofs.Loops.{pushed}
 use Rattle.infinite_maps.proofs.cells.array_of.Goals as goal
 
 pub loop-cell-preserved : goal.loop-cell-preserved

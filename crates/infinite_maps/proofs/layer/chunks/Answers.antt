@@ -1,6 +1,6 @@
 use Rattle.serde_json.specs.View.{view}
 use Rattle.infinite_maps.specs.Layers.{chunk}
-use Rattle.infinite_maps.proofs.Loops.{pushed}
+use Rattle.json_trees.proofs.Loops.{pushed}
 use Rattle.infinite_maps.proofs.layer.chunks.Goals as goal
 
 pub loop-rectangle-preserved : goal.loop-rectangle-preserved

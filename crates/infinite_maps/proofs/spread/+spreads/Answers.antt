@@ -6,7 +6,7 @@ use Rattle.serde_json.specs.View.{view, members_view, items_of}
 use Rattle.serde_json.specs.declared.value.Value.{Value}
 use Rattle.serde_json.proofs.Views.{Entry, put_last}
 use Rattle.infinite_maps.specs.Infinite.{below, spread, items_spread, members_spread}
-use Rattle.infinite_maps.proofs.Loops.{pushed}
+use Rattle.json_trees.proofs.Loops.{pushed}
 use Rattle.infinite_maps.proofs.Walks.{members_spread-put, items_spread-items_of, map_whole}
 use Rattle.infinite_maps.proofs.spread.+spreads.Goals as goal
 

@@ -4,8 +4,8 @@ use Rattle.serde_json.specs.Read.{max_depth}
 use Rattle.serde_json.specs.View.{view}
 use Rattle.serde_json.proofs.Nesting.{depth-read}
 use Rattle.infinite_maps.specs.Infinite.{infinite_of}
-use Rattle.tiled_maps.specs.Aside.{reserved_name}
-use Rattle.tiled_maps.specs.Back.{back}
+use Rattle.fractions.specs.Aside.{reserved_name}
+use Rattle.fractions.specs.Back.{back}
 use Rattle.json_trees.specs.Names.{has_name}
 use Rattle.json_trees.specs.Texts.{IsTreeOf}
 use Rattle.tiled_maps.specs.Trees.{put_back_of}

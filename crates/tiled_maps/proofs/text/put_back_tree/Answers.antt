@@ -1,11 +1,11 @@
 use Rattle.std.proofs.Common.{◌≡◌, false, ◌∙◌, sym, ap}
 use Rattle.serde_json.specs.View.{view}
-use Rattle.tiled_maps.specs.Aside.{reserved_name}
-use Rattle.tiled_maps.specs.Back.{back}
+use Rattle.fractions.specs.Aside.{reserved_name}
+use Rattle.fractions.specs.Back.{back}
 use Rattle.json_trees.specs.Names.{has_name}
 use Rattle.json_trees.specs.Texts.{IsTreeOf}
 use Rattle.tiled_maps.proofs.Meeting.{put_back_of-free}
-use Rattle.tiled_maps.proofs.Whole.{back-unchanged}
+use Rattle.fractions.proofs.Whole.{back-unchanged}
 use Rattle.tiled_maps.proofs.text.put_back_tree.Goals as goal
 
 pub returns-then-not-has_name : goal.returns-then-not-has_name

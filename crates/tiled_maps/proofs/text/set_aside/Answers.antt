@@ -5,9 +5,9 @@ use Rattle.serde_json.specs.Read.{max_depth}
 use Rattle.serde_json.specs.View.{view}
 use Rattle.serde_json.proofs.Nesting.{depth-read}
 use Rattle.infinite_maps.specs.Infinite.{is_infinite}
-use Rattle.tiled_maps.specs.declared.place.Place.TheVariants.{Map}
-use Rattle.tiled_maps.specs.Aside.{reserved_name, set_aside_of}
-use Rattle.tiled_maps.specs.Fractions.{has_fraction, HasFewFractions}
+use Rattle.fractions.specs.declared.place.Place.TheVariants.{Map}
+use Rattle.fractions.specs.Aside.{reserved_name, set_aside_of}
+use Rattle.fractions.specs.Fractions.{has_fraction, HasFewFractions}
 use Rattle.json_trees.specs.Names.{has_name}
 use Rattle.json_trees.specs.Texts.{IsTreeOf}
 use Rattle.tiled_maps.specs.Trees.{MakesFinite}

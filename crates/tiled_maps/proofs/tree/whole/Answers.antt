@@ -1,9 +1,9 @@
 use Rattle.std.proofs.Common.{◌≡◌, false, sym, ◌∙◌}
 use Rattle.serde_json.specs.View.{view}
-use Rattle.tiled_maps.specs.declared.place.Place.TheVariants.{Map}
-use Rattle.tiled_maps.specs.Fractions.{has_fraction}
+use Rattle.fractions.specs.declared.place.Place.TheVariants.{Map}
+use Rattle.fractions.specs.Fractions.{has_fraction}
 use Rattle.tiled_maps.proofs.Answered.{if_not}
-use Rattle.tiled_maps.proofs.Whole.{aside-unchanged}
+use Rattle.fractions.proofs.Whole.{aside-unchanged}
 use Rattle.tiled_maps.proofs.tree.whole.Goals as goal
 
 pub returns-then-is_whole : goal.returns-then-is_whole

@@ -1,0 +1,4 @@
+pub mod ReadTrees
+pub mod Walks
+pub mod Law
+pub mod Whole

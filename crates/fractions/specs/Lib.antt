@@ -1,0 +1,4 @@
+pub mod Places
+pub mod Fractions
+pub mod Aside
+pub mod Back

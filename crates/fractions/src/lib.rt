@@ -1,0 +1,14 @@
+//! The fractions of a map's tree: set aside, so that all its numbers are whole, and put back.
+#![tactic(auto)]
+
+mod counting;
+mod fraction;
+mod members;
+mod place;
+mod putting_back;
+mod setting_aside;
+
+pub use counting::{has_few_fractions, has_fraction};
+pub use place::Place;
+pub use putting_back::{back, number_in};
+pub use setting_aside::aside;
