@@ -3,3 +3,4 @@ pub mod Offering
 pub mod Swaps
 pub mod Tags
 pub mod ShownHeads
+pub mod Moves

@@ -7,3 +7,4 @@ pub mod Link
 pub mod Heads
 pub mod Offers
 pub mod Names
+pub mod Move

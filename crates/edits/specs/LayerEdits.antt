@@ -1,5 +1,5 @@
 -- The document after an edit of its layers, or the edit's refusal.
-use Rattle.std.specs.Prelude.{ℕ, ◌+◌, ◌*◌, List, Bool, ◌&&◌, nat_lt, Option, Some, None, is_some, Result, Ok, length}
+use Rattle.std.specs.Prelude.{ℕ, ◌+◌, ◌*◌, List, Bool, ◌&&◌, not, nat_le, nat_lt, Option, Some, None, is_some, Result, Ok, length}
 use Rattle.std.specs.Option.{ok_or}
 use Rattle.map_model.specs.declared.limits.TheConstants.{MAX_LAYERS, MAX_NEXT_ID}
 use Rattle.map_model.specs.declared.parts.Layer.{Layer}
@@ -8,14 +8,15 @@ use Rattle.map_model.specs.declared.parts.MoreLayerKind.{MoreLayerKind}
 use Rattle.map_model.specs.declared.parts.MapParts.{MapParts}
 use Rattle.map_model.specs.declared.place.LayerPlace.{LayerPlace}
 use Rattle.map_model.specs.Document.{DocumentParts, with_map}
-use Rattle.map_model.specs.Groups.{all_drawn}
-use Rattle.map_model.specs.Layers.{layer_place, layer_at, last_place, sibling_count, sibling_place, with_layer_at, without_layer_at, layer_with_name}
+use Rattle.map_model.specs.Groups.{all_drawn, group_of}
+use Rattle.map_model.specs.Layers.{layer_place, layer_at, last_place, place_under, sibling_count, sibling_place, with_layer_at, without_layer_at, layer_with_name}
 use Rattle.map_model.specs.Layers.{layer_with_visible, with_next_ids}
+use Rattle.map_model.specs.Moving.{is_parent_in, layer_fits, other_layers, tier_in}
 use Rattle.map_model.specs.NewMap.{new_layer, new_more_layer}
 use Rattle.map_model.specs.Lookups.{layer_of, with_layer}
 use Rattle.map_model.specs.Refusing.{◌>>=◌, ◌>>◌, check}
 use Rattle.refusals.specs.declared.edit_fault.EditFault.{EditFault}
-use Rattle.refusals.specs.declared.edit_fault.EditFault.TheVariants.{NoSuchLayer, OutOfRange, TooMany}
+use Rattle.refusals.specs.declared.edit_fault.EditFault.TheVariants.{LayerOfAnotherKind, NoSuchLayer, OutOfRange, TooMany}
 
 -- ---- a layer more
 -- the layer goes last, and the next layer id is one higher
@@ -62,6 +63,26 @@ after_move d id to = do
   from ← ok_or (layer_place d.map id) NoSuchLayer
   check (nat_lt to (sibling_count d.map from)) OutOfRange
   Ok (with_map (with_layer_moved from (sibling_place from to)) d)
+
+-- ---- a layer in another group
+-- the layers of a parent: those of a group, or else the map's own
+abbrev pub siblings_or_fault : MapParts → Option ℕ → Result (List Layer) EditFault
+siblings_or_fault m None = Ok m.layers
+siblings_or_fault m (Some id) = do
+  l ← ok_or (layer_of m id) NoSuchLayer
+  ok_or (group_of l) LayerOfAnotherKind
+
+-- The layer goes, with all in it, to a place among the other layers of the parent, which may be its own. It may not go into itself.
+-- It may stand in too many groups there, or a layer in it, and what a file kept of them may nest too deep.
+abbrev pub after_layer_into : DocumentParts → ℕ → Option ℕ → ℕ → Result DocumentParts EditFault
+after_layer_into d id parent at = do
+  from ← ok_or (layer_place d.map id) NoSuchLayer
+  l ← ok_or (layer_at d.map from) NoSuchLayer
+  layers ← siblings_or_fault d.map parent
+  check (not (is_parent_in l parent)) OutOfRange
+  check (nat_le at (other_layers from parent layers)) OutOfRange
+  check (layer_fits (tier_in d.map parent) l) OutOfRange
+  Ok (with_map (with_layer_moved from (place_under parent at)) d)
 
 -- ---- a layer changed where it stands
 abbrev pub after_rename : DocumentParts → ℕ → List ℕ → Result DocumentParts EditFault

@@ -1,5 +1,5 @@
 -- The document after an edit of its objects, or the edit's refusal.
-use Rattle.std.specs.Prelude.{ℕ, ◌+◌, ℤ, pos, int_le, List, Bool, true, false, ◌&&◌, ◌||◌, nat_lt, if◌then◌else◌, Option, Some, Result, Ok, length}
+use Rattle.std.specs.Prelude.{ℕ, ◌+◌, ℤ, pos, int_le, List, Bool, true, false, ◌&&◌, ◌||◌, nat_le, nat_lt, if◌then◌else◌, Option, Some, Result, Ok, length}
 use Rattle.std.specs.List.{insert}
 use Rattle.std.specs.Option.{ok_or}
 use Rattle.map_model.specs.declared.limits.TheConstants.{MAX_OBJECTS, MAX_NEXT_ID, MAX_PIXELS}
@@ -10,8 +10,11 @@ use Rattle.map_model.specs.declared.parts.Placing.{Placing}
 use Rattle.map_model.specs.declared.place.ObjectPlace.{ObjectPlace}
 use Rattle.map_model.specs.Document.{DocumentParts, with_map}
 use Rattle.map_model.specs.Layers.{with_next_ids}
+use Rattle.map_model.specs.Keeping.{object_tier}
+use Rattle.map_model.specs.Moving.{object_fits, other_objects}
 use Rattle.map_model.specs.NewMap.{new_object}
-use Rattle.map_model.specs.Objects.{objects_of, object_place, object_with_placing, with_object, with_objects, without_object_at}
+use Rattle.map_model.specs.Objects.{objects_of, object_at, object_place, object_with_placing, with_object, with_object_at, with_objects, without_object_at}
+use Rattle.map_model.specs.Properties.{tier_of}
 use Rattle.map_model.specs.Lookups.{layer_of}
 use Rattle.map_model.specs.Refusing.{◌>>=◌, ◌>>◌, check}
 use Rattle.refusals.specs.declared.edit_fault.EditFault.{EditFault}
@@ -100,3 +103,16 @@ after_resize_object d id width height = do
   place ← ok_or (object_place d.map id) NoSuchObject
   check (is_object_size width height) OutOfRange
   Ok (with_map (with_placing place (resized width height)) d)
+
+-- ---- an object in another layer
+-- The object goes to a place among the other objects of the layer, which may be its own. What a file kept of it may nest too
+-- deep there.
+abbrev pub after_object_into : DocumentParts → ℕ → ℕ → ℕ → Result DocumentParts EditFault
+after_object_into d id layer at = do
+  from ← ok_or (object_place d.map id) NoSuchObject
+  o ← ok_or (object_at d.map from) NoSuchObject
+  objects ← objects_or_fault (layer_of d.map layer)
+  check (nat_le at (other_objects from layer objects)) OutOfRange
+  check (nat_lt (other_objects from layer objects) MAX_OBJECTS) TooMany
+  check (object_fits (object_tier (tier_of d.map layer)) o) OutOfRange
+  Ok (with_map (λ m. with_object_at (record { layer = layer; at = at }) o (without_object_at from m)) d)

@@ -28,7 +28,7 @@ slot-item place d = ap (option_and_then (λ ls. slice_get ls place.at)) (sibling
 pub slot-without : (place : LayerPlace) (d : DocumentParts) → with_map (without_layer_at place) d ≡ (layer_slot place).without_item d
 slot-without place d = siblings-with place.parent (λ ls. remove ls place.at) d
 
-slot-with : (place : LayerPlace) (l : Layer) (d : DocumentParts) → with_map (with_layer_at place l) d ≡ (layer_slot place).with_item l d
+pub slot-with : (place : LayerPlace) (l : Layer) (d : DocumentParts) → with_map (with_layer_at place l) d ≡ (layer_slot place).with_item l d
 slot-with place l d = siblings-with place.parent (λ ls. insert ls place.at l) d
 
 pub slot-given : (place : LayerPlace) (o : Option Layer) (d e : DocumentParts) → IsSomeAnd o (λ l. e ≡ with_map (with_layer_at place l) d)

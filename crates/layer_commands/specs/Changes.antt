@@ -1,16 +1,14 @@
 -- What each command is and does.
-use Rattle.std.specs.Prelude.{◌≡◌, false, None, IsSome}
-use Rattle.map_model.specs.declared.parts.MapParts.{MapParts}
+use Rattle.std.specs.Prelude.{false, None}
 use Rattle.map_model.specs.declared.place.LayerPlace.{LayerPlace}
 use Rattle.map_model.specs.Canvas.{with_canvas, IsCanvasOf}
-use Rattle.map_model.specs.Layers.{layer_at}
 use Rattle.map_model.specs.Lens.{of_layer, name, visible}
 use Rattle.map_model.specs.Slot.{layer_slot, next_layer_slot}
-use Rattle.map_model.specs.WellFormed.{IsWellFormed}
 use Rattle.command_api.specs.Law.{Change}
 use Rattle.command_api.specs.Exchange.{Exchange, change_of}
 use Rattle.command_api.specs.Swap.{swap}
 use Rattle.command_api.specs.Link.{link}
+use Rattle.command_api.specs.Move.{FitsMove}
 use Rattle.layer_commands.specs.declared.add.AddLayer.{AddLayer}
 use Rattle.layer_commands.specs.declared.remove.RemoveLayer.{RemoveLayer}
 use Rattle.layer_commands.specs.declared.move_layer.MoveLayer.{MoveLayer}
@@ -48,14 +46,6 @@ abbrev pub remove_change : RemoveLayer → Change
 remove_change c = change_of (remove_exchange c)
 
 -- ---- move
--- there are layers at both places, which are places among the same layers, and the map with the one moved is well formed
-pub record CanBeMoved (from to : LayerPlace) (m : MapParts) : Type 0 where
-  pub among : to.parent ≡ from.parent
-  pub there : IsSome (layer_at m from)
-  pub room : IsSome (layer_at m to)
-  pub before : IsWellFormed m
-  pub after : IsWellFormed (with_layer_moved from to m)
-
 -- the layer at a place goes to another one
 abbrev pub moving : LayerPlace → LayerPlace → Exchange
 moving from to = record {
@@ -63,7 +53,7 @@ moving from to = record {
   obsolete = false;
   made = None;
   exchanged = with_map (with_layer_moved from to);
-  fits = λ d. CanBeMoved from to d.map;
+  fits = FitsMove (layer_slot from) (layer_slot to);
 }
 
 -- the two places change places too

@@ -1,15 +1,17 @@
 ghost use Rattle.std.specs.Prelude.{◌≡◌, Err, IfOk, IfErr, refl};
 ghost use Rattle.command_api.specs.Making.{Makes};
-ghost use Rattle.edits.specs.LayerEdits.{after_move};
+ghost use Rattle.edits.specs.LayerEdits.{after_layer_into, after_move};
 ghost use Rattle.layer_commands.specs.Changes.{move_change, move_exchange};
 ghost use Rattle.layer_commands.specs.Names.{move_names};
 
+use crate::parent::{is_parent_in, other_layers, siblings};
 use command_api::{Exchange, Label, Lone};
 use edits::EditFault;
 use map_model::{Document, LayerPlace};
 use std::mem;
 
-/// A layer is moved to another place among its siblings: the layers of its group, or those that stand in no group.
+/// A layer is moved, with all that stand in it, to another place: among its siblings, which are the layers of its group or those
+/// that stand in no group, or into another group or out of its own.
 #[derive(Drop)]
 pub struct MoveLayer {
     from: LayerPlace,
@@ -39,6 +41,49 @@ impl MoveLayer {
         Ok(MoveLayer {
             from,
             to: from.sibling(at),
+            layer,
+        })
+    }
+
+    /// The command that takes the layer with an id out, with all that stand in it, and puts it in at a zero-based place among the
+    /// other layers of a parent: of a group, or those that stand in no group; not made yet. The document stays as it is.
+    ///
+    /// Refused, in this order: where there is no such layer; where there is no layer with the parent's id; where that is no
+    /// group; and where the parent is the layer or stands in it, where the place is above the number of other layers there,
+    /// where the layer or one in it would stand in more groups than a map may have in one another, or where what a file kept of
+    /// them nests too deep there.
+    pub fn reparent(
+        document: &Document,
+        layer: u32,
+        parent: Option<u32>,
+        place: u32,
+    ) -> Result<MoveLayer, EditFault>
+        ensures command { IfOk result (λ c. Makes move_names document.now (after_layer_into document.now layer parent place) (move_change c)) }
+        ensures refusal { IfErr result (λ fault. after_layer_into document.now layer parent place ≡ Err fault) }
+        ensures id { IfOk result (λ c. c.layer ≡ layer) }
+    {
+        let map = document.map();
+        let Some(from) = map.layer_place(layer) else {
+            return Err(EditFault::NoSuchLayer);
+        };
+        let Some(moved) = map.layer_at(from) else {
+            return Err(EditFault::NoSuchLayer);
+        };
+        let layers = siblings(map, parent)?;
+        let others = other_layers(from, parent, layers);
+        let at = place as usize;
+        if is_parent_in(moved, parent) {
+            return Err(EditFault::OutOfRange);
+        }
+        if at > others {
+            return Err(EditFault::OutOfRange);
+        }
+        if !map.layer_fits(parent, moved) {
+            return Err(EditFault::OutOfRange);
+        }
+        Ok(MoveLayer {
+            from,
+            to: LayerPlace { parent, at },
             layer,
         })
     }

@@ -33,3 +33,8 @@ pub mod PropertyKeeps
 pub mod PropertyLaws
 pub mod SideBySide
 pub mod HeadLaws
+pub mod Tiers
+pub mod OtherTiers
+pub mod Parents
+pub mod MovedLayers
+pub mod MovedObjects

@@ -27,3 +27,4 @@ pub mod Given
 pub mod Groups
 pub mod Ways
 pub mod Heads
+pub mod Moving

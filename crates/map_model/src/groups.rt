@@ -9,6 +9,7 @@
 // | find_way       | a list                | the way to the layer with an id           | yes            |
 // | find_way_here  | a list                | that way, if it leads by what stands here | no             |
 // | find_place     | a list and its parent | the parent and place of the layer         | yes            |
+// | find_tier      | a list and its tier   | the tier of the layer                     | yes            |
 // | own_place      | a list                | the place of the layer in that list       | the list alone |
 // | count_in       | a list                | how many layers, those in groups too      | all            |
 // | count_under    | a layer               | it, and how many stand in it              | all            |
@@ -23,7 +24,7 @@
 //
 // | find_here      | a list                | the layer with an id, if it stands here   | no             |
 // | innermost_here | a list                | the innermost layer that stands here      | no             |
-ghost use Rattle.std.specs.Prelude.{◌≡◌, ◌^◌, ◌<◌, ◌≤◌, ◌+◌, [], Some, IfSome, IsFalse, IsSome, IsSomeAnd, IsTrue, None, is_some, length, option_and_then, position, slice_get};
+ghost use Rattle.std.specs.Prelude.{◌≡◌, ◌^◌, ◌<◌, ◌≤◌, ◌+◌, ◌*◌, [], Some, IfSome, IsFalse, IsSome, IsSomeAnd, IsTrue, None, find, is_some, length, option_and_then, option_map, position, slice_get};
 ghost use Rattle.std.specs.Fn.{FnOnceReturnsAtMut, FnOnceTakesAtMut};
 ghost use Rattle.std.specs.Option.{option_copied};
 ghost use mathlib.Core.List.{reverse};
@@ -35,6 +36,7 @@ ghost use Rattle.map_model.specs.Groups.{drawn, find_one, group_in, has_id, hold
 ghost use Rattle.map_model.specs.Keeping.{layer_tier};
 ghost use Rattle.map_model.specs.Layers.{place_among, place_inside};
 ghost use Rattle.map_model.specs.Lists.{Distinct, first_some};
+ghost use Rattle.map_model.specs.Properties.{is_drawn_with};
 ghost use Rattle.map_model.specs.Ways.{IsWay, LeadsFrom, ArrivesIn};
 ghost use Rattle.map_model.specs.WellFormed.{layer_ids};
 
@@ -60,6 +62,21 @@ impl Body {
             Body::Tiles(_, _) => None,
             Body::Objects(_) => None,
             Body::Other => None,
+        }
+    }
+}
+
+impl Layer {
+    /// Whether this layer has the id, or one that stands in it.
+    pub fn holds(&self, id: u32) -> bool
+        ensures { result ≡ holds id MAX_GROUPS self.now }
+    {
+        if self.id == id {
+            return true;
+        }
+        match self.body.layers() {
+            Some(inside) => find_in(inside, id, MAX_GROUPS - 1).is_some(),
+            None => false,
         }
     }
 }
@@ -130,6 +147,27 @@ pub fn find_place(
         if let Some(inside) = layer.body.layers() {
             if let Some(place) = find_place(inside, id, Some(layer.id), groups - 1) {
                 return Some(place);
+            }
+        }
+    }
+    None
+}
+
+/// The tier of the layer with an id, in layers at a tier that may have so many groups in one another.
+pub fn find_tier(layers: &Chain<Layer>, id: u32, tier: usize, groups: usize) -> Option<usize>
+    requires { tier + 2 * groups < 2 ^ 32 }
+    ensures { result ≡ option_map (λ d. d.0) (find (is_drawn_with id) (drawn groups tier layers.now)) }
+{
+    for layer in layers.iter() {
+        if layer.id == id {
+            return Some(tier);
+        }
+        if groups == 0 {
+            continue;
+        }
+        if let Some(inside) = layer.body.layers() {
+            if let Some(found) = find_tier(inside, id, tier + 2, groups - 1) {
+                return Some(found);
             }
         }
     }

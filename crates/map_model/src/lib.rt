@@ -10,6 +10,7 @@ mod contents;
 mod create;
 mod document;
 mod edit;
+mod fits;
 mod groups;
 mod heads;
 mod here;

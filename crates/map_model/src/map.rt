@@ -7,6 +7,7 @@ ghost use Rattle.map_model.specs.Lookups.{layer_of, cell_of};
 ghost use Rattle.map_model.specs.Tilesets.{tileset_of, better, best_of, IsTilesetOf, HasNoTileset};
 ghost use Rattle.map_model.specs.WellFormed.{IsWellFormed, IsSize, IsTileSize};
 
+mod moving;
 mod objects;
 mod properties;
 

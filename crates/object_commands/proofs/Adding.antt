@@ -152,7 +152,7 @@ next_above-below id next l h = by_test (ltb id next)
     by_test false = l
 
 -- ---- an addition that is asked for
-listed : (o : Option Layer) (os : List Object) → objects_or_fault o ≡ Ok os → option_and_then objects_of o ≡ Some os
+pub listed : (o : Option Layer) (os : List Object) → objects_or_fault o ≡ Ok os → option_and_then objects_of o ≡ Some os
 listed None os e = cc
 listed (Some l) os e = by_objects (objects_of l) e
   where

@@ -1,2 +1,3 @@
 pub mod Adding
 pub mod Placements
+pub mod Reparenting

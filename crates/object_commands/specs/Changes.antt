@@ -13,12 +13,14 @@ use Rattle.command_api.specs.Offers.{Shown, Nothing, Place}
 use Rattle.command_api.specs.Exchange.{Exchange, change_of}
 use Rattle.command_api.specs.Swap.{swap_shown}
 use Rattle.command_api.specs.Link.{link}
+use Rattle.command_api.specs.Move.{move}
 use Rattle.object_commands.specs.declared.add.AddObject.{AddObject}
 use Rattle.object_commands.specs.declared.remove.RemoveObject.{RemoveObject}
+use Rattle.object_commands.specs.declared.reparent.ReparentObject.{ReparentObject}
 use Rattle.object_commands.specs.declared.place.PlacingKind.{PlacingKind}
 use Rattle.object_commands.specs.declared.place.PlacingKind.TheVariants.{Move, Resize}
 use Rattle.object_commands.specs.declared.place.PlaceObject.{PlaceObject}
-use Rattle.object_commands.specs.Names.{add_object_names, remove_object_names, move_object_names, resize_object_names}
+use Rattle.object_commands.specs.Names.{add_object_names, remove_object_names, move_object_names, reparent_object_names, resize_object_names}
 
 -- ---- objects that are put in and taken out
 abbrev pub add_object_exchange : AddObject → Exchange
@@ -32,6 +34,13 @@ remove_object_exchange c = link remove_object_names (object_slot c.place) c.obje
 
 abbrev pub remove_object_change : RemoveObject → Change
 remove_object_change c = change_of (remove_object_exchange c)
+
+-- ---- an object that goes to another place of a layer
+abbrev pub reparent_object_exchange : ReparentObject → Exchange
+reparent_object_exchange c = move reparent_object_names (object_slot c.from) (object_slot c.to)
+
+abbrev pub reparent_object_change : ReparentObject → Change
+reparent_object_change c = change_of (reparent_object_exchange c)
 
 -- ---- objects that are moved and resized
 -- a resize has no tag and follows nothing

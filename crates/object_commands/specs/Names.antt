@@ -10,6 +10,10 @@ add_object_names = untagged (codes "Add Object") (codes "add object") Never
 abbrev pub remove_object_names : Names
 remove_object_names = untagged (codes "Remove Object") (codes "remove object") Never
 
+-- what a move to another place of a layer is called
+abbrev pub reparent_object_names : Names
+reparent_object_names = untagged (codes "Move Object") (codes "move object") Never
+
 -- what a move of the object with an id is called
 abbrev pub move_object_names : ℕ → Bool → Names
 move_object_names id follows = record {
