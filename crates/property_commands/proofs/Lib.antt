@@ -2,3 +2,4 @@ pub mod PropertyMaking
 pub mod TilesetsAdded
 pub mod Settings
 mod Removed
+pub mod PropertyPuts

@@ -14,6 +14,10 @@ set_property_names owner name follows = record {
   follows = follows;
 }
 
+-- a property is set whole
+abbrev pub put_property_names : Names
+put_property_names = untagged (codes "Set Property") (codes "set property") WhenEqual
+
 abbrev pub remove_property_names : Names
 remove_property_names = untagged (codes "Remove Property") (codes "remove property") Never
 

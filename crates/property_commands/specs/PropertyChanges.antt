@@ -1,5 +1,5 @@
 -- What each command of properties is and does.
-use Rattle.std.specs.Prelude.{◌≡◌, ◌↔◌, ℕ, List, length, Bool, true, false, Option, Some, None, is_none, IsSomeAnd, IsTrue}
+use Rattle.std.specs.Prelude.{◌≡◌, ◌↔◌, ℕ, List, length, Bool, true, false, Option, Some, None, is_none, IsSomeAnd, IsTrue, refl}
 use Rattle.map_model.specs.declared.owner.Owner.{Owner}
 use Rattle.map_model.specs.declared.parts.Property.{Property}
 use Rattle.map_model.specs.declared.place.OwnerPlace.{OwnerPlace}
@@ -7,19 +7,23 @@ use Rattle.map_model.specs.declared.setting.Setting.{Setting}
 use Rattle.map_model.specs.Document.{DocumentParts, with_map}
 use Rattle.map_model.specs.Given.{given_setting}
 use Rattle.map_model.specs.Properties.{IsSetting, new_property, owner_place, properties_of, property_at, property_place, without_property_at}
-use Rattle.map_model.specs.PropertyLenses.{property_slot, setting_named, setting_place}
+use Rattle.map_model.specs.Lens.{Lens, inner, of_place, whole}
+use Rattle.map_model.specs.PropertyLenses.{properties, property_slot, setting_named, setting_place}
 use Rattle.command_api.specs.Law.{Change}
 use Rattle.command_api.specs.Names.{Names}
-use Rattle.command_api.specs.Offers.{Shown, Nothing, Value}
+use Rattle.command_api.specs.Offers.{IsAlone, Shown, Nothing, Value}
 use Rattle.command_api.specs.Exchange.{Exchange, change_of}
-use Rattle.command_api.specs.Swap.{swap_shown}
+use Rattle.command_api.specs.Swap.{swap_held, swap_shown}
 use Rattle.command_api.specs.Link.{link, linked, FitsLink}
+use Rattle.property_commands.specs.declared.put.PutKind.{PutKind}
+use Rattle.property_commands.specs.declared.put.PutKind.TheVariants as put_kinds
+use Rattle.property_commands.specs.declared.put.PutProperty.{PutProperty}
 use Rattle.property_commands.specs.declared.remove.RemoveProperty.{RemoveProperty}
 use Rattle.property_commands.specs.declared.set.PropertySet.{PropertySet}
 use Rattle.property_commands.specs.declared.set.SetProperty.{SetProperty}
 use Rattle.property_commands.specs.declared.set.SetKind.{SetKind}
 use Rattle.property_commands.specs.declared.set.SetKind.TheVariants.{Replace, Add}
-use Rattle.property_commands.specs.Names.{set_property_names, remove_property_names}
+use Rattle.property_commands.specs.Names.{put_property_names, set_property_names, remove_property_names}
 
 -- ---- set
 -- the owner's property with the name stands at the place, and may have the setting
@@ -97,3 +101,33 @@ remove_property_exchange c = link remove_property_names (property_slot c.owner c
 
 abbrev pub remove_property_change : RemoveProperty → Change
 remove_property_change c = change_of (remove_property_exchange c)
+
+-- ---- put
+-- the property at a place among its owner's
+abbrev pub property_in : OwnerPlace → ℕ → Lens DocumentParts Property
+property_in owner at = inner (properties owner) (of_place at (whole (λ p. p) (λ p own. p)))
+
+-- the property of a link, where one is held
+abbrev pub held_property : Option (Option Property) → Option Property
+held_property None = None
+held_property (Some loose) = loose
+
+-- a property and the one that is held change places, or a new property is put in and taken out
+abbrev pub put_kind_exchange : OwnerPlace → ℕ → PutKind → Exchange
+put_kind_exchange place at (put_kinds.Replace property is_made is_same) =
+    swap_held put_property_names (property_in place at) is_same is_made (held_property property)
+put_kind_exchange place at (put_kinds.Add property) = link put_property_names (property_slot place at) property
+
+abbrev pub put_property_exchange : PutProperty → Exchange
+put_property_exchange c = put_kind_exchange c.place c.at c.kind
+
+abbrev pub put_property_change : PutProperty → Change
+put_property_change c = change_of (put_property_exchange c)
+
+-- it has no tag
+pub put_property-alone : (c : PutProperty) → IsAlone (put_property_exchange c).names
+put_property-alone c = by_kind c.kind
+  where
+    by_kind : (k : PutKind) → IsAlone (put_kind_exchange c.place c.at k).names
+    by_kind (put_kinds.Replace property is_made is_same) = record { tag = refl; follows = refl; bound = refl }
+    by_kind (put_kinds.Add property) = record { tag = refl; follows = refl; bound = refl }

@@ -3,11 +3,14 @@
 
 mod link;
 mod owners;
+mod put;
 mod remove;
+mod same;
 mod set;
 mod tilesets;
 
 pub use owners::place_of;
+pub use put::PutProperty;
 pub use remove::RemoveProperty;
 pub use set::{PropertySet, SetProperty};
 pub use tilesets::{AddTileset, RemoveTileset};

@@ -1,10 +1,13 @@
 // What is held, or stands in its place.
-ghost use Rattle.std.specs.Prelude.{◌≡◌};
+ghost use Rattle.std.specs.Prelude.{◌≡◌, IsSomeAnd};
+ghost use Rattle.map_model.specs.Lens.{put};
 ghost use Rattle.map_model.specs.PropertyLenses.{property_slot};
 ghost use Rattle.map_model.specs.Slot.{tileset_slot};
 ghost use Rattle.command_api.specs.Exchange.{IsExchanged};
 ghost use Rattle.command_api.specs.Names.{Names};
 ghost use Rattle.command_api.specs.Link.{FitsLink, link, turned_link};
+ghost use Rattle.command_api.specs.Swap.{FitsBack};
+ghost use Rattle.property_commands.specs.PropertyChanges.{property_in};
 
 use link_chain::Loose;
 use map_model::{Document, OwnerPlace, Property, Tileset};
@@ -24,6 +27,22 @@ pub fn exchange_property(
         Some(property) => document.insert_property(owner, at, property),
         None => *held = Some(document.take_property(owner, at)),
     }
+}
+
+/// Puts a property in the place of the one at a place among its owner's, and hands that one back.
+pub fn replace_property(
+    document: &mut Document,
+    owner: OwnerPlace,
+    at: usize,
+    property: Loose<Property>,
+) -> Loose<Property>
+    requires { IsSomeAnd property (λ p. FitsBack (property_in owner at) p document.old) }
+    ensures own { (property_in owner at).get document.old ≡ result }
+    ensures document { IsSomeAnd property (λ p. document.new ≡ put (property_in owner at) p document.old) }
+{
+    let own = document.take_property(owner, at);
+    document.insert_property(owner, at, property);
+    own
 }
 
 /// Puts the held tileset in at a place, or, where none is held, takes the one there out.
