@@ -1,21 +1,18 @@
 -- Of the words at which a line leaves two tables, the later one is that at which it leaves both.
-use Rattle.std.proofs.Common.{◌≡◌, ℕ, ◌-◌, ◌<◌, ◌≤◌, ◌⊎◌, ◌&&◌, false, List, [], ◌∷◌, ◌++◌, take, Ok, Err, Result, refl, sym, ap, ◌∙◌, subst, arith, inl, inr}
+use Rattle.std.proofs.Common.{◌≡◌, ℕ, ◌-◌, ◌<◌, ◌≤◌, ◌⊎◌, ◌&&◌, false, List, sym, ap, ◌∙◌, subst, arith, inl, inr}
 use Rattle.std.specs.Prelude.{max}
-use Rattle.std.specs.Str.{IsUtf8, bytes_eq}
-use Rattle.std.proofs.lemmas.Bool.{cases_order, cond_both}
+use Rattle.std.specs.Str.{IsUtf8}
+use Rattle.std.proofs.lemmas.Bool.{cases_order}
 use Rattle.std.proofs.lemmas.List.Splits.{join_with_byte-slice_split}
-use Rattle.refusals.specs.declared.line_fault.LineFault.{LineFault}
 use Rattle.session.specs.Faults.{IsFaultAt, line_words}
 use Rattle.session.specs.Grammar.{line_of}
-use Rattle.session.specs.Left.{either}
 use Rattle.session.specs.MoreFaults.{HasLineBefore, HasMoreLineBefore, IsAnyFaultAt, IsMoreFaultAt, MoreWordsAreTheLine, OneIsAtAnyFault}
-use Rattle.session.specs.MoreFaults.{cut_by_more, more_field_size, more_line_words}
-use Rattle.session.specs.MoreGrammar.{MoreKind, MoreValue, MoreForm, Ends, Text, Json, Field, Word, Fails, more_field_at, more_form, more_line_of}
+use Rattle.session.specs.MoreFaults.{more_line_words}
+use Rattle.session.specs.MoreGrammar.{more_form, more_line_of}
 use Rattle.session.specs.WordFaults.{is_at_more_word, is_at_word_of_any}
 use Rattle.session.specs.Words.{words}
 use Rattle.session.proofs.FirstChecks.{unread}
-use Rattle.session.proofs.Joined.{SameText, behind_all, same_behind, shortened}
-use Rattle.session.proofs.MorePlaces.{reads_more_field}
+use Rattle.session.proofs.Joined.{joined, shortened}
 
 -- what is no text is refused as a whole
 pub unread_by_any : (bytes : List ℕ) → ¬ (IsUtf8 bytes) → is_at_word_of_any (line_of bytes) (more_line_of bytes) ≡ false
@@ -66,29 +63,6 @@ one_is_at_any_fault bytes place other f g = elim (cases_order place other) [
 ]
 
 -- ---- the words of a line for all edits
-field_joined : (kind : MoreKind) (form : MoreValue kind → MoreForm)
-    → ((value : MoreValue kind) (us : List (List ℕ)) → SameText (cut_by_more (form value) us) us)
-    → (ws : List (List ℕ)) (r : Result (MoreValue kind × List (List ℕ)) LineFault) → more_field_at kind ws ≡ r
-    → SameText (either (λ value. take (more_field_size kind) ws ++ cut_by_more (form value.0) value.1) ws r) ws
-field_joined kind form same ws (Ok x) e =
-    let front = take (more_field_size kind) ws in
-    subst (SameText (front ++ cut_by_more (form x.0) x.1)) ((reads_more_field kind).splits ws x e).0
-    (behind_all front (cut_by_more (form x.0) x.1) x.1 (same x.0 x.1))
-field_joined kind form same ws (Err f) e = record { text = refl; none = refl }
-
-joined : (form : MoreForm) (ws : List (List ℕ)) → SameText (cut_by_more form ws) ws
-joined (Ends line) ws = record { text = refl; none = refl }
-joined (Text line) [] = record { text = refl; none = refl }
-joined (Text line) (w ∷ ws) = record { text = refl; none = refl }
-joined (Json line) [] = record { text = refl; none = refl }
-joined (Json line) (w ∷ ws) = record { text = refl; none = refl }
-joined (Field kind form) ws = field_joined kind form (λ value us. joined (form value) us) ws (more_field_at kind ws) refl
-joined (Word word form other) [] = record { text = refl; none = refl }
-joined (Word word form other) (w ∷ ws) =
-    cond_both (bytes_eq w word) (w ∷ cut_by_more form ws) (cut_by_more other (w ∷ ws)) (λ us. SameText us (w ∷ ws))
-    (λ _. same_behind w (cut_by_more form ws) ws (joined form ws)) (λ _. joined other (w ∷ ws))
-joined (Fails fault) ws = record { text = refl; none = refl }
-
 -- with a space between each two, the words of a line for all edits are that line
 pub more_words_are_the_line : MoreWordsAreTheLine
 more_words_are_the_line bytes = (joined more_form (words bytes)).text ∙ join_with_byte-slice_split 32 bytes

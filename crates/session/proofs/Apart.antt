@@ -5,9 +5,11 @@ use Rattle.map_model.specs.declared.parts.MoreLayerKind.TheVariants.{Group, Imag
 use Rattle.refusals.specs.declared.line_fault.LineFault.{LineFault}
 use Rattle.session.specs.declared.line.Line.TheVariants.{Quiet}
 use Rattle.session.specs.declared.more_line.MoreLine.{MoreLine}
-use Rattle.session.specs.declared.more_line.MoreLine.TheVariants.{SetMember, PutMembers, RemoveMember, AddLayer, PutObject, TakeProperty, PutTileset}
+use Rattle.session.specs.declared.more_line.MoreLine.TheVariants.{SetMember, PutMembers, RemoveMember, AddLayer, PutObject}
+use Rattle.session.specs.declared.more_line.MoreLine.TheVariants.{ReparentObject, ReparentLayer, PutProperty, TakeProperty, PutTileset, Extend}
 use Rattle.session.specs.Grammar.{is_quiet, line_form, line_of, read, word_at}
-use Rattle.session.specs.MoreSpelling.{MoreIsNotALine, more_spelling, more_token_words, more_tokens}
+use Rattle.session.specs.MoreSpelling.{MoreIsNotALine, more_spelling, more_tokens}
+use Rattle.session.specs.Spelling.{token_words}
 use Rattle.session.specs.Words.{words}
 use Rattle.session.proofs.FirstChecks.{checked}
 use Rattle.session.proofs.MoreForms.{more_read_is_spelled, more_words}
@@ -15,7 +17,7 @@ use Rattle.session.proofs.MoreForms.{more_read_is_spelled, more_words}
 -- what is found of each line by computing: its words begin with a letter, and are no line
 record Refused (line : MoreLine) : Type 0 where
   fault : LineFault
-  are : read line_form (flat_map more_token_words (more_tokens line)) ≡ Err fault
+  are : read line_form (flat_map token_words (more_tokens line)) ≡ Err fault
   loud : is_quiet (more_spelling line) ≡ false
 
 refused : (line : MoreLine) → Refused line
@@ -26,8 +28,12 @@ refused (RemoveMember owner name) = record { fault = _; are = refl; loud = refl 
 refused (AddLayer Group name) = record { fault = _; are = refl; loud = refl }
 refused (AddLayer Image name) = record { fault = _; are = refl; loud = refl }
 refused (PutObject layer json) = record { fault = _; are = refl; loud = refl }
+refused (ReparentObject object layer place) = record { fault = _; are = refl; loud = refl }
+refused (ReparentLayer layer group place) = record { fault = _; are = refl; loud = refl }
+refused (PutProperty owner json) = record { fault = _; are = refl; loud = refl }
 refused (TakeProperty owner json) = record { fault = _; are = refl; loud = refl }
 refused (PutTileset json) = record { fault = _; are = refl; loud = refl }
+refused (Extend left top right bottom) = record { fault = _; are = refl; loud = refl }
 
 pub more_is_not_a_line : MoreIsNotALine
 more_is_not_a_line bytes line e =

@@ -6,9 +6,10 @@ use Rattle.std.proofs.lemmas.Bool.{and_parts, cond_both}
 use Rattle.refusals.specs.declared.line_fault.LineFault.{LineFault}
 use Rattle.refusals.specs.declared.line_fault.LineFault.TheVariants.{BadWord}
 use Rattle.session.specs.declared.limits.TheConstants.{MAX_DOCUMENT_NAME, MAX_FILE_NAME}
-use Rattle.session.specs.Words.{number_of, coordinate_of, numbers_of, is_name, are_rows, layer_kind_of, yes_no_of, truth_of, is_key, is_color, owner_of}
+use Rattle.session.specs.Words.{number_of, coordinate_of, numbers_of, is_name, are_rows, layer_kind_of, yes_no_of, truth_of}
+use Rattle.session.specs.Words.{is_key, is_color, owner_of, member_owner_of}
 use Rattle.session.specs.Words.{choice_of}
-use Rattle.session.specs.Grammar.{FieldKind, Number, Coordinate, Block, Name, File, Choice, LayerSort, YesNo, Truth, Key, Color, OwnerName}
+use Rattle.session.specs.Grammar.{FieldKind, Number, Coordinate, Block, Name, File, Choice, LayerSort, YesNo, Truth, Key, Color, OwnerName, OwnerOfMembers}
 use Rattle.session.specs.Grammar.{field_at, word_at, passing, rows_at, block_at, ◌>>=◌, word_is}
 use Rattle.session.specs.Left.{either, is_side}
 use Rattle.session.specs.Faults.{field_size}
@@ -174,3 +175,4 @@ reads_field Truth = reads_word truth_of
 reads_field Key = reads_word (passing is_key)
 reads_field Color = reads_word (passing is_color)
 reads_field OwnerName = reads_word owner_of
+reads_field OwnerOfMembers = reads_word member_owner_of

@@ -8,6 +8,7 @@ use Rattle.refusals.specs.declared.line_fault.LineFault.TheVariants.{NotUtf8, To
 use Rattle.session.specs.declared.line.Line.TheVariants.{Quiet}
 use Rattle.session.specs.Words.{words}
 use Rattle.session.specs.Grammar.{read, line_form, is_quiet, line_of}
+use Rattle.session.specs.MoreGrammar.{more_form, more_line_of}
 use Rattle.session.specs.WordFaults.{is_at_word}
 
 pub checked : (bytes : List ℕ) → length bytes ≤ MAX_LINE → IsUtf8 bytes → line_of bytes ≡ cond (is_quiet bytes) (Ok Quiet) (read line_form (words bytes))
@@ -18,6 +19,16 @@ pub refused : (bytes : List ℕ) → length bytes ≤ MAX_LINE → ¬ (IsUtf8 by
 unfolding line_of
 refused bytes l u = rw (false_from_ne_true (is_utf8 bytes) (λ t. u (IsUtf8-from_is_utf8 bytes t)), le-ltb MAX_LINE (length bytes) l) refl
 
+-- ---- a line for all edits
+pub more_checked : (bytes : List ℕ) → length bytes ≤ MAX_LINE → IsUtf8 bytes → more_line_of bytes ≡ read more_form (words bytes)
+unfolding more_line_of
+more_checked bytes l u = rw (is_utf8-from_IsUtf8 bytes u, le-ltb MAX_LINE (length bytes) l) refl
+
+pub more_refused : (bytes : List ℕ) → length bytes ≤ MAX_LINE → ¬ (IsUtf8 bytes) → more_line_of bytes ≡ Err NotUtf8
+unfolding more_line_of
+more_refused bytes l u = rw (false_from_ne_true (is_utf8 bytes) (λ t. u (IsUtf8-from_is_utf8 bytes t)), le-ltb MAX_LINE (length bytes) l) refl
+
+-- ---- what is no text
 as_a_whole : (b : Bool) → is_at_word (cond b (Err TooLong) (Err NotUtf8)) ≡ false
 as_a_whole true = refl
 as_a_whole false = refl

@@ -7,7 +7,7 @@ use Rattle.std.proofs.lemmas.List.{take-take}
 use Rattle.std.proofs.lemmas.List.Splits.{join_with_byte-slice_split}
 use Rattle.refusals.specs.declared.line_fault.LineFault.{LineFault}
 use Rattle.session.specs.Words.{words, cut_at_bars}
-use Rattle.session.specs.Grammar.{FieldKind, FieldValue, LineForm, Ends, Text, Texts, Field, Word, Fails, field_at, line_form}
+use Rattle.session.specs.Grammar.{FieldKind, FieldValue, LineForm, Ends, Text, Texts, Json, Field, Word, Fails, field_at, line_form}
 use Rattle.session.specs.Spelling.{spaced, joined_by_bars}
 use Rattle.session.specs.Left.{either}
 use Rattle.session.specs.Faults.{text_words, cut_by, field_size, line_words, IsFaultAt, WordsAreTheLine, OneIsAtFault}
@@ -41,14 +41,15 @@ some_words : (text : List ℕ) (action : Option (List ℕ)) → is_none (text_wo
 some_words text None = refl
 some_words text (Some action) = refl
 
-field_joined : (kind : FieldKind) (form : FieldValue kind → LineForm) → ((value : FieldValue kind) (us : List (List ℕ)) → SameText (cut_by (form value) us) us)
+field_joined : {A : Type 0} (kind : FieldKind) (form : FieldValue kind → LineForm A)
+    → ((value : FieldValue kind) (us : List (List ℕ)) → SameText (cut_by (form value) us) us)
     → (ws : List (List ℕ)) (r : Result (FieldValue kind × List (List ℕ)) LineFault) → field_at kind ws ≡ r
     → SameText (either (λ value. take (field_size kind) ws ++ cut_by (form value.0) value.1) ws r) ws
 field_joined kind form same ws (Ok x) e = subst (SameText (take (field_size kind) ws ++ cut_by (form x.0) x.1)) ((reads_field kind).splits ws x e).0
     (behind_all (take (field_size kind) ws) (cut_by (form x.0) x.1) x.1 (same x.0 x.1))
 field_joined kind form same ws (Err f) e = record { text = refl; none = refl }
 
-joined : (form : LineForm) (ws : List (List ℕ)) → SameText (cut_by form ws) ws
+pub joined : {A : Type 0} (form : LineForm A) (ws : List (List ℕ)) → SameText (cut_by form ws) ws
 joined (Ends line) ws = record { text = refl; none = refl }
 joined (Text line) [] = record { text = refl; none = refl }
 joined (Text line) (w ∷ ws) = record { text = refl; none = refl }
@@ -56,6 +57,8 @@ joined (Texts line) [] = record { text = refl; none = refl }
 joined (Texts line) (w ∷ ws) =
     let cut = cut_at_bars (spaced (w ∷ ws)) in
     record { text = texts_joined cut.0 cut.1 ∙ joined-cut_at_bars (spaced (w ∷ ws)); none = some_words cut.0 cut.1 }
+joined (Json line) [] = record { text = refl; none = refl }
+joined (Json line) (w ∷ ws) = record { text = refl; none = refl }
 joined (Field kind form) ws = field_joined kind form (λ value us. joined (form value) us) ws (field_at kind ws) refl
 joined (Word word form other) [] = record { text = refl; none = refl }
 joined (Word word form other) (w ∷ ws) = cond_both (bytes_eq w word) (w ∷ cut_by form ws) (cut_by other (w ∷ ws)) (λ us. SameText us (w ∷ ws))

@@ -15,7 +15,7 @@ use Rattle.map_model.specs.declared.selection.SelectionMode.TheVariants.{Replace
 use Rattle.refusals.specs.declared.line_fault.LineFault.{LineFault}
 use Rattle.session.specs.Words.{words}
 use Rattle.session.specs.Grammar.{Gives, read, line_form, is_quiet, line_of}
-use Rattle.session.specs.Spelling.{joined_by_bars, Token, Fixed, Given, Rest, RestTexts, tokens, has_block, token_words, spaced, spelling, IsToken, Says}
+use Rattle.session.specs.Spelling.{joined_by_bars, Token, Fixed, Given, Rest, RestTexts, RestJson, tokens, has_block, token_words, spaced, spelling, IsToken, Says}
 use Rattle.session.specs.Spelling.{CanBeSpelled, SpelledIsRead, ReadIsSpelled, QuietIsRead, LongIsNotRead}
 use Rattle.session.proofs.SpacedWords.{Clean, clean, clean_words, utf8-joined, plain_literal, words-spaced, utf8-spaced}
 use Rattle.session.proofs.SpelledFields.{clean_field}
@@ -25,7 +25,7 @@ use Rattle.session.proofs.Forms.{follow, followed_is_read, Agrees, Spells}
 use Rattle.session.proofs.Forms as forms
 
 -- the words that are written out in tokens are plain
-abbrev are_plain : List Token → Bool
+abbrev pub are_plain : List Token → Bool
 are_plain [] = true
 are_plain (Fixed word ∷ ts) = list_all (λ b. ltb 32 b && ltb b 128) word && are_plain ts
 are_plain (token ∷ ts) = are_plain ts
@@ -34,13 +34,14 @@ clean_append : (us ws : List (List ℕ)) → AllByRecursion Clean us → AllByRe
 clean_append [] ws h k = k
 clean_append (u ∷ us) ws h k = (h.0, clean_append us ws h.1 k)
 
-clean_tokens : (ts : List Token) → are_plain ts ≡ true → AllByRecursion IsToken ts → AllByRecursion Clean (flat_map token_words ts)
+pub clean_tokens : (ts : List Token) → are_plain ts ≡ true → AllByRecursion IsToken ts → AllByRecursion Clean (flat_map token_words ts)
 clean_tokens [] e h = tt
 clean_tokens (Fixed word ∷ ts) e h = let both = and_parts _ _ e in (clean word (plain_literal word both.0), clean_tokens ts both.1 h.1)
 clean_tokens (Given kind value ∷ ts) e h = clean_append _ (flat_map token_words ts) (clean_field kind value h.0) (clean_tokens ts e h.1)
 clean_tokens (Rest text ∷ ts) e h = clean_append _ (flat_map token_words ts) (clean_words text h.0.utf8) (clean_tokens ts e h.1)
 clean_tokens (RestTexts text action ∷ ts) e h = clean_append _ (flat_map token_words ts)
     (clean_words (joined_by_bars text action) (utf8-joined text action h.0)) (clean_tokens ts e h.1)
+clean_tokens (RestJson json ∷ ts) e h = clean_append _ (flat_map token_words ts) (clean_words json h.0.utf8) (clean_tokens ts e h.1)
 
 -- the tokens begin with a word that neither a blank line nor a comment begins with
 abbrev is_loud : List Token → Bool
@@ -58,6 +59,7 @@ loud (Fixed (b ∷ word) ∷ ts) h = not_quiet b word (flat_map token_words ts) 
 loud (Given kind value ∷ ts) h = absurd cc
 loud (Rest text ∷ ts) h = absurd cc
 loud (RestTexts text action ∷ ts) h = absurd cc
+loud (RestJson json ∷ ts) h = absurd cc
 
 -- what is found of each line by computing
 record LineFacts (line : Line) : Type 0 where
@@ -98,14 +100,14 @@ pub spelled_is_read : SpelledIsRead
 spelled_is_read Quiet h = checked [] (omega arith) IsUtf8-nil
 spelled_is_read line h = line_is_read line (facts line) h
 
-agrees : Agrees line_form (λ ts. ts)
+agrees : Agrees tokens line_form (λ ts. ts)
 agrees = search rules
 
 says : (bytes : List ℕ) (line : Line) → bytes ≡ spelling line → Says bytes line
 says bytes Quiet e = ap is_quiet e
 says bytes line e = e
 
-settled : (bytes : List ℕ) (r : Result Line LineFault) → length bytes ≤ MAX_LINE → IfOk r (Spells (λ ts. ts) (words bytes))
+settled : (bytes : List ℕ) (r : Result Line LineFault) → length bytes ≤ MAX_LINE → IfOk r (Spells tokens (λ ts. ts) (words bytes))
     → IfOk r (λ line. Says bytes line × CanBeSpelled line)
 settled bytes (Ok line) l h =
     let same : bytes ≡ spelling line = sym (join_with_byte-slice_split 32 bytes) ∙ ap spaced (h.words ∙ ap (flat_map token_words) (sym h.are)) in
@@ -120,7 +122,7 @@ line_says bytes =
     cond_both (not (is_utf8 bytes)) _ _ Q (λ _. tt) (λ utf8.
     cond_both (is_quiet bytes) _ _ Q (λ quiet. (quiet, (tt, λ _. omega arith))) (λ _.
     settled bytes (read line_form (words bytes)) (ltb-false _ _ small)
-    (forms.read_is_spelled line_form (λ ts. ts) (words bytes) agrees (clean_words bytes (IsUtf8-from_is_utf8 bytes (not-false _ utf8)))))))
+    (forms.read_is_spelled tokens line_form (λ ts. ts) (words bytes) agrees (clean_words bytes (IsUtf8-from_is_utf8 bytes (not-false _ utf8)))))))
 
 pub read_is_spelled : ReadIsSpelled
 read_is_spelled bytes line e = subst (λ r. IfOk r (λ l. Says bytes l × CanBeSpelled l)) e (line_says bytes)
@@ -146,10 +148,10 @@ line_loud : (line : Line) (ws : List (List ℕ)) → ws ≡ flat_map token_words
 line_loud Quiet ws e o = let none = subst (λ us. IsOk (read line_form us)) e o in absurd cc
 line_loud line ws e o = ap (λ us. is_quiet (spaced us)) e ∙ loud (tokens line) (facts line).loud
 
-loud_by : (ws : List (List ℕ)) (r : Result Line LineFault) → read line_form ws ≡ r → IfOk r (Spells (λ ts. ts) ws) → is_ok r ≡ true
+loud_by : (ws : List (List ℕ)) (r : Result Line LineFault) → read line_form ws ≡ r → IfOk r (Spells tokens (λ ts. ts) ws) → is_ok r ≡ true
     → is_quiet (spaced ws) ≡ false
 loud_by ws (Ok line) e s o = line_loud line ws (s.words ∙ ap (flat_map token_words) (sym s.are)) (ap is_ok e)
 loud_by ws (Err f) e s o = absurd cc
 
 pub read_is_loud : (ws : List (List ℕ)) → AllByRecursion Clean ws → IsOk (read line_form ws) → is_quiet (spaced ws) ≡ false
-read_is_loud ws c o = loud_by ws (read line_form ws) refl (forms.read_is_spelled line_form (λ ts. ts) ws agrees c) o
+read_is_loud ws c o = loud_by ws (read line_form ws) refl (forms.read_is_spelled tokens line_form (λ ts. ts) ws agrees c) o

@@ -10,13 +10,17 @@ use Rattle.std.proofs.lemmas.List.Splits.{length-slice_split, join_with_byte-sli
 use Rattle.std.proofs.lemmas.Bool.{leb-true, eqb-true, and_parts, or_cases}
 use Rattle.map_model.specs.declared.parts.LayerKind.{LayerKind}
 use Rattle.map_model.specs.declared.parts.LayerKind.TheVariants as kinds
+use Rattle.map_model.specs.declared.owner.MemberOwner.{MemberOwner}
+use Rattle.map_model.specs.declared.owner.MemberOwner.TheVariants as members
 use Rattle.map_model.specs.declared.owner.Owner.{Owner}
 use Rattle.map_model.specs.declared.owner.Owner.TheVariants as owners
 use Rattle.session.specs.declared.limits.TheConstants.{MAX_LINE, MAX_DOCUMENT_NAME, MAX_FILE_NAME, MAX_TEXT, MAX_KEY}
 use Rattle.session.specs.Words.{words, bars, is_color, is_color_digit}
-use Rattle.session.specs.Grammar.{FieldKind, Number, Coordinate, Block, Name, File, Choice, LayerSort, YesNo, Truth, Key, Color, OwnerName, FieldValue}
-use Rattle.session.specs.Spelling.{Token, Fixed, Given, Rest, RestTexts, token_words, field_words, has_block, layer_kind_word, yes_no_word, truth_word}
-use Rattle.session.specs.Spelling.{owner_word, spaced, joined_by_bars, AreTexts, IsNumber, IsOwner, IsCoordinate, IsField, IsToken}
+use Rattle.session.specs.Grammar.{FieldKind, Number, Coordinate, Block, Name, File, Choice, LayerSort, YesNo, Truth, Key}
+use Rattle.session.specs.Grammar.{Color, OwnerName, OwnerOfMembers, FieldValue}
+use Rattle.session.specs.Spelling.{Token, Fixed, Given, Rest, RestTexts, RestJson, token_words, field_words, has_block, layer_kind_word, yes_no_word, truth_word}
+use Rattle.session.specs.Spelling.{owner_word, spaced, joined_by_bars, AreTexts, IsMemberOwner, IsNumber, IsOwner}
+use Rattle.session.specs.Spelling.{IsCoordinate, IsField, IsToken, member_owner_word}
 
 -- no fewer than the bytes of a field's words
 abbrev pub field_room : FieldKind → ℕ
@@ -32,6 +36,7 @@ field_room Truth = 5
 field_room Key = MAX_KEY
 field_room Color = 9
 field_room OwnerName = 17
+field_room OwnerOfMembers = 18
 
 -- no fewer than the bytes of tokens, each with a space behind it
 abbrev pub room : List Token → ℕ
@@ -40,6 +45,7 @@ room (Fixed word ∷ ts) = length word + 1 + room ts
 room (Given kind value ∷ ts) = field_room kind + 1 + room ts
 room (Rest text ∷ ts) = MAX_TEXT + 1 + room ts
 room (RestTexts text action ∷ ts) = MAX_TEXT + length bars + MAX_TEXT + 1 + room ts
+room (RestJson json ∷ ts) = MAX_LINE + 1 + room ts
 
 -- the bytes of words, each with a space behind it
 unfoldable pub total : List (List ℕ) → ℕ
@@ -107,6 +113,12 @@ owner_within owners.Map h = omega arith
 owner_within (owners.Layer id) h = omega (arith, number_within id h)
 owner_within (owners.Object id) h = omega (arith, number_within id h)
 
+member_owner_within : (owner : MemberOwner) → IsMemberOwner owner → length (member_owner_word owner) ≤ 18
+member_owner_within members.Map h = omega arith
+member_owner_within (members.Layer id) h = omega (arith, number_within id h)
+member_owner_within (members.Object id) h = omega (arith, number_within id h)
+member_owner_within (members.Tileset id) h = omega (arith, number_within id h)
+
 pub field_within : (kind : FieldKind) (value : FieldValue kind) → IsField kind value → field_room kind ≤ MAX_LINE
     → total (field_words kind value) ≤ field_room kind + 1
 unfolding total
@@ -123,6 +135,7 @@ field_within Truth truth h r = omega (arith, truth_within truth)
 field_within Key name h r = omega (arith, h.short)
 field_within Color color h r = omega (arith, color_within color h)
 field_within OwnerName owner h r = omega (arith, owner_within owner h)
+field_within OwnerOfMembers owner h r = omega (arith, member_owner_within owner h)
 
 joined_within : (text : List ℕ) (action : Option (List ℕ)) → AreTexts text action → length (joined_by_bars text action) ≤ MAX_TEXT + length bars + MAX_TEXT
 joined_within text None h = omega (arith, h.first.short)
@@ -155,6 +168,7 @@ tokens_within (RestTexts text action ∷ ts) h r = omega (
   joined_within text action h.0,
   tokens_within ts h.1 (omega (arith, r)),
 )
+tokens_within (RestJson json ∷ ts) h r = absurd (omega (arith, r))
 
 -- tokens without a block are short, and with one they have to be
 pub is_short : (ts : List Token) → (has_block ts || leb (room ts) MAX_LINE) ≡ true → AllByRecursion IsToken ts

@@ -22,10 +22,7 @@ pub mod Others
 pub mod Faults
 pub mod Joined
 pub mod MoreOwners
-pub mod MoreCutting
 pub mod MoreForms
-pub mod MorePlaces
-pub mod MoreOthers
 pub mod MoreFaults
 pub mod AnyFaults
 pub mod Apart

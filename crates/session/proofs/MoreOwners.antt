@@ -12,9 +12,8 @@ use Rattle.map_model.specs.declared.owner.MemberOwner.TheVariants as members
 use Rattle.map_model.specs.declared.owner.Owner.{Owner}
 use Rattle.map_model.specs.declared.owner.Owner.TheVariants as owners
 use Rattle.session.specs.Words.{number_of, owner_with, owner_of_pieces, owner_of, IsFirst}
-use Rattle.session.specs.MoreGrammar.{either_owner, member_owner_of, owner_of_members, tileset_of, tileset_of_pieces}
-use Rattle.session.specs.MoreSpelling.{IsMemberOwner, member_owner_word}
-use Rattle.session.specs.Spelling.{IsNumber, IsOwner, colons, owner_word}
+use Rattle.session.specs.Words.{either_owner, member_owner_of, owner_of_members, tileset_of, tileset_of_pieces}
+use Rattle.session.specs.Spelling.{IsMemberOwner, IsNumber, IsOwner, colons, member_owner_word, owner_word}
 use Rattle.session.proofs.Decimals.{number_of-decimal, decimal_from}
 use Rattle.session.proofs.FirstNumbers.{any_pieces}
 use Rattle.session.proofs.Owners.{colon_pieces, owner_from, owner_of-word, plain_append, plain_owner}

@@ -15,16 +15,17 @@ use Rattle.std.proofs.Math.Nat.{mod_self}
 use Rattle.std.proofs.Math.Seq.{take-append_seam}
 use Rattle.std.proofs.lemmas.Slice.Eq.{bytes_eq-Decides}
 use Rattle.refusals.specs.declared.line_fault.LineFault.{LineFault}
-use Rattle.session.specs.declared.line.Line.{Line}
 use Rattle.session.specs.declared.limits.TheConstants.{MAX_DOCUMENT_NAME, MAX_FILE_NAME}
 use Rattle.refusals.specs.declared.line_fault.LineFault.TheVariants.{BadWord}
 use Rattle.map_model.specs.declared.limits.TheConstants.{MAX_SIDE}
 use Rattle.map_model.specs.declared.parts.LayerKind.TheVariants as kinds
+use Rattle.map_model.specs.declared.owner.MemberOwner.TheVariants as members
 use Rattle.map_model.specs.declared.owner.Owner.TheVariants as owners
 use Rattle.session.specs.Words.{words, number_of, is_text, are_texts, cut_at_bars, bars}
-use Rattle.session.specs.Grammar.{FieldKind, Number, Coordinate, Block, Name, File, Choice, LayerSort, YesNo, Truth, Key, Color, OwnerName, FieldValue}
-use Rattle.session.specs.Grammar.{LineForm, Ends, Text, Texts, Field, Word, Fails, word_at, field_at, read, ends_at, last_text_at, last_texts_at, block_at}
-use Rattle.session.specs.Grammar.{word_is, ◌>>=◌}
+use Rattle.session.specs.Grammar.{FieldKind, Number, Coordinate, Block, Name, File, Choice, LayerSort, YesNo, Truth, Key}
+use Rattle.session.specs.Grammar.{Color, OwnerName, OwnerOfMembers, FieldValue}
+use Rattle.session.specs.Grammar.{LineForm, Ends, Text, Texts, Json, Field, Word, Fails, word_at, field_at, read, ends_at, block_at}
+use Rattle.session.specs.Grammar.{last_json_at, last_text_at, last_texts_at, word_is, ◌>>=◌}
 use Rattle.session.specs.Spelling.{field_words, commas, AreRows, IsField, IsNumber, joined_by_bars, HasNoBars}
 use Rattle.session.specs.Left.{either, is_side}
 use Rattle.session.specs.Faults.{text_words, cut_by, field_size}
@@ -55,6 +56,7 @@ sample Truth = true
 sample Key = codes "x"
 sample Color = codes "#000000"
 sample OwnerName = owners.Map
+sample OwnerOfMembers = members.Map
 
 pub sample_fits : (kind : FieldKind) → IsField kind (sample kind)
 sample_fits Number = lit< tt
@@ -80,30 +82,32 @@ sample_fits Key = record {
 }
 sample_fits Color = refl
 sample_fits OwnerName = tt
+sample_fits OwnerOfMembers = tt
 
 -- a form that some words are read by, along the values above
-abbrev pub IsOpen : LineForm → Type 0
+abbrev pub IsOpen : {A : Type 0} → LineForm A → Type 0
 IsOpen (Field kind form) = IsOpen (form (sample kind))
 IsOpen (Word word form other) = IsOpen form
 IsOpen (Fails fault) = ⊥
 IsOpen form = Unit {0}
 
 -- the words that it looks for are plain, and behind each of them and each field it can go on
-abbrev pub GoesOn : LineForm → Type 0
+abbrev pub GoesOn : {A : Type 0} → LineForm A → Type 0
 GoesOn (Field kind form) = (value : FieldValue kind) → IsOpen (form value) × GoesOn (form value)
 GoesOn (Word word form other) = IsTrue (list_all (λ b. ltb 32 b && ltb b 128) word) × IsOpen form × GoesOn form × GoesOn other
 GoesOn form = Unit {0}
 
 -- no word follows
-abbrev pub IsLast : LineForm → Type 0
+abbrev pub IsLast : {A : Type 0} → LineForm A → Type 0
 IsLast (Ends line) = Unit {0}
 IsLast form = ⊥
 
 -- there is room for as many bytes of words: any fields but a block, behind which no word follows, and the shortest texts and blocks
-abbrev pub HasRoom : ℕ → LineForm → Type 0
+abbrev pub HasRoom : {A : Type 0} → ℕ → LineForm A → Type 0
 HasRoom k (Ends line) = Unit {0}
 HasRoom k (Text line) = IsTrue (leb 2 k)
 HasRoom k (Texts line) = IsTrue (leb 300 k)
+HasRoom k (Json line) = IsTrue (leb 2 k)
 HasRoom k (Field Block form) = IsTrue (leb 50000 k) × ((value : FieldValue Block) → IsLast (form value))
 HasRoom k (Field kind form) = IsTrue (leb (field_room kind + 1) k) × ((value : FieldValue kind) → HasRoom (k - (field_room kind + 1)) (form value))
 HasRoom k (Word word form other) = IsTrue (leb (length word + 1) k) × HasRoom (k - (length word + 1)) form × HasRoom k other
@@ -114,28 +118,29 @@ abbrev room_behind : FieldKind → ℕ → ℕ
 room_behind Block k = 0
 room_behind kind k = k - (field_room kind + 1)
 
-last_room : (form : LineForm) (k : ℕ) → IsLast form → HasRoom k form
+last_room : {A : Type 0} (form : LineForm A) (k : ℕ) → IsLast form → HasRoom k form
 last_room (Ends line) k h = tt
 last_room (Text line) k h = absurd h
 last_room (Texts line) k h = absurd h
+last_room (Json line) k h = absurd h
 last_room (Field kind form) k h = absurd h
 last_room (Word word form other) k h = absurd h
 last_room (Fails fault) k h = absurd h
 
 -- behind a field there is the room that is left
-behind_has_room : (kind : FieldKind) (form : FieldValue kind → LineForm) (k : ℕ) → HasRoom k (Field kind form) → (value : FieldValue kind)
+behind_has_room : {A : Type 0} (kind : FieldKind) (form : FieldValue kind → LineForm A) (k : ℕ) → HasRoom k (Field kind form) → (value : FieldValue kind)
     → HasRoom (room_behind kind k) (form value)
 behind_has_room Block form k h value = last_room (form value) 0 (h.1 value)
 behind_has_room kind form k h value = h.1 value
 
 -- words that a form reads, within that room
-record Example (form : LineForm) (k : ℕ) : Type 0 where
+record Example {A : Type 0} (form : LineForm A) (k : ℕ) : Type 0 where
   ws : List (List ℕ)
   is_read : IsOk (read form ws)
   clean : AllByRecursion Clean ws
   short : total ws ≤ k
 
-sample_room : (kind : FieldKind) (form : FieldValue kind → LineForm) (k : ℕ) → HasRoom k (Field kind form)
+sample_room : {A : Type 0} (kind : FieldKind) (form : FieldValue kind → LineForm A) (k : ℕ) → HasRoom k (Field kind form)
     → total (field_words kind (sample kind)) + room_behind kind k ≤ k
 unfolding total
 sample_room Block form k h =
@@ -160,11 +165,12 @@ clean_behind (u ∷ us) ws h = clean_behind us ws h.1
 pub same_word : (word : List ℕ) → bytes_eq word word ≡ true
 same_word word = (bytes_eq-Decides word word).1 refl
 
-example : (form : LineForm) (k : ℕ) → HasRoom k form → IsOpen form → GoesOn form → Example form k
-unfolding ends_at last_text_at last_texts_at total
+example : {A : Type 0} (form : LineForm A) (k : ℕ) → HasRoom k form → IsOpen form → GoesOn form → Example form k
+unfolding ends_at last_text_at last_texts_at last_json_at total
 example (Ends line) k r o g = record { ws = []; is_read = refl; clean = tt; short = omega arith }
 example (Text line) k r o g = record { ws = codes "x" ∷ []; is_read = refl; clean = (literal (codes "x") refl, tt); short = omega (arith, leb-true 2 k r) }
 example (Texts line) k r o g = record { ws = codes "x" ∷ []; is_read = refl; clean = (literal (codes "x") refl, tt); short = omega (arith, leb-true 300 k r) }
+example (Json line) k r o g = record { ws = codes "x" ∷ []; is_read = refl; clean = (literal (codes "x") refl, tt); short = omega (arith, leb-true 2 k r) }
 example (Field kind form) k r o g =
     let more = example (form (sample kind)) (room_behind kind k) (behind_has_room kind form k r (sample kind)) o (g (sample kind)).1 in
     record {
@@ -184,7 +190,7 @@ example (Word word form other) k r o g =
 example (Fails fault) k r o g = absurd o
 
 -- other words that are read, which are the same so far, and no longer than the first or within that room
-pub record Other (form : LineForm) (ws : List (List ℕ)) (k n : ℕ) : Type 0 where
+pub record Other {A : Type 0} (form : LineForm A) (ws : List (List ℕ)) (k n : ℕ) : Type 0 where
   pub other : List (List ℕ)
   pub is_read : IsOk (read form other)
   pub same : take n (cut_by form other) ≡ take n (cut_by form ws)
@@ -192,11 +198,12 @@ pub record Other (form : LineForm) (ws : List (List ℕ)) (k n : ℕ) : Type 0 w
   pub short : (total other ≤ total ws) ⊎ (total other ≤ k)
 
 -- nothing so far, or other words
-abbrev pub Found : LineForm → List (List ℕ) → ℕ → ℕ → Type 0
+abbrev pub Found : {A : Type 0} → LineForm A → List (List ℕ) → ℕ → ℕ → Type 0
 Found form ws k n = (n ≡ 0) ⊎ Other form ws k n
 
 -- where a form can go on, there are other words
-pub settled : (form : LineForm) (k : ℕ) → HasRoom k form → IsOpen form → GoesOn form → (ws : List (List ℕ)) (n : ℕ) → Found form ws k n → Other form ws k n
+pub settled : {A : Type 0} (form : LineForm A) (k : ℕ) → HasRoom k form → IsOpen form → GoesOn form → (ws : List (List ℕ)) (n : ℕ)
+    → Found form ws k n → Other form ws k n
 settled form k r o g ws n (inl none) =
     let some = example form k r o g in
     subst (Other form ws k) (sym none) (record { other = some.ws; is_read = some.is_read; same = refl; clean = some.clean; short = inr some.short })
@@ -230,7 +237,7 @@ unfolding total
 zeros_room width h = omega (arith, h.narrow, zeros_short width, number_within width (omega (arith, h.narrow)))
 
 -- the width alone is what it is to be
-block_other : (form : FieldValue Block → LineForm) (k : ℕ) → HasRoom k (Field Block form)
+block_other : {A : Type 0} (form : FieldValue Block → LineForm A) (k : ℕ) → HasRoom k (Field Block form)
     → ((value : FieldValue Block) → IsOpen (form value) × GoesOn (form value))
     → (w : List ℕ) (ws : List (List ℕ)) (width : ℕ) (e : LineFault) → number_of w ≡ Some width → is_side width ≡ true
     → block_at (w ∷ ws) ≡ Err e → Other (Field Block form) (w ∷ ws) k 1
@@ -249,7 +256,7 @@ block_other form k r g w ws width e is side err =
       short = inr (omega (arith, total-append (field_words Block value) more.ws, zeros_room width fits, leb-true 50000 k r.0, more.short));
     }
 
-block_found : (form : FieldValue Block → LineForm) (k : ℕ) → HasRoom k (Field Block form)
+block_found : {A : Type 0} (form : FieldValue Block → LineForm A) (k : ℕ) → HasRoom k (Field Block form)
     → ((value : FieldValue Block) → IsOpen (form value) × GoesOn (form value))
     → (ws : List (List ℕ)) (e : LineFault) → block_at ws ≡ Err e → Found (Field Block form) ws k (side_passed ws)
 unfolding word_at
@@ -266,14 +273,14 @@ block_found form k r g (w ∷ ws) e err = by_width (number_of w) refl
     by_width (Some width) is = by_side width is (is_side width) refl
 
 -- a field that is refused
-refused_found : (kind : FieldKind) (form : FieldValue kind → LineForm) (k : ℕ) → HasRoom k (Field kind form)
+refused_found : {A : Type 0} (kind : FieldKind) (form : FieldValue kind → LineForm A) (k : ℕ) → HasRoom k (Field kind form)
     → ((value : FieldValue kind) → IsOpen (form value) × GoesOn (form value))
     → (ws : List (List ℕ)) (e : LineFault) → field_at kind ws ≡ Err e → Found (Field kind form) ws k (field_passed kind ws)
 refused_found Block form k r g ws e err = block_found form k r g ws e err
 refused_found kind form k r g ws e err = inl refl
 
 -- the words of a field that is read leave the room behind it, or no word follows
-front_room : (kind : FieldKind) (form : FieldValue kind → LineForm) (k : ℕ) → HasRoom k (Field kind form) → (ws : List (List ℕ))
+front_room : {A : Type 0} (kind : FieldKind) (form : FieldValue kind → LineForm A) (k : ℕ) → HasRoom k (Field kind form) → (ws : List (List ℕ))
     → (x : FieldValue kind × List (List ℕ)) → field_at kind ws ≡ Ok x → AllByRecursion Clean ws
     → (room_behind kind k ≡ 0) ⊎ (total (take (field_size kind) ws) + room_behind kind k ≤ k)
 front_room Block form k r ws x e c = inl refl
@@ -290,7 +297,7 @@ short_behind front a b k j (inl none) (inr less) = inl (omega arith)
 short_behind front a b k j (inr room) (inr less) = inr (omega arith)
 
 -- a field that is read, and words behind it
-field_other : (kind : FieldKind) (form : FieldValue kind → LineForm) (k : ℕ) → HasRoom k (Field kind form) → (ws : List (List ℕ))
+field_other : {A : Type 0} (kind : FieldKind) (form : FieldValue kind → LineForm A) (k : ℕ) → HasRoom k (Field kind form) → (ws : List (List ℕ))
     → (x : FieldValue kind × List (List ℕ)) → field_at kind ws ≡ Ok x → AllByRecursion Clean ws → (n : ℕ) → Other (form x.0) x.1 (room_behind kind k) n
     → Other (Field kind form) ws k (field_size kind + n)
 field_other kind form room r ws x e c n o =
@@ -312,7 +319,7 @@ field_other kind form room r ws x e c n o =
       short = lengths (short_behind (total k) (total o.other) (total x.1) room (room_behind kind room) (front_room kind form room r ws x e c) o.short);
     }
 
-field_found : (kind : FieldKind) (form : FieldValue kind → LineForm) (k : ℕ) → HasRoom k (Field kind form)
+field_found : {A : Type 0} (kind : FieldKind) (form : FieldValue kind → LineForm A) (k : ℕ) → HasRoom k (Field kind form)
     → ((value : FieldValue kind) → IsOpen (form value) × GoesOn (form value))
     → (ws : List (List ℕ)) → AllByRecursion Clean ws
     → ((value : FieldValue kind) (us : List (List ℕ)) → AllByRecursion Clean us → Found (form value) us (room_behind kind k) (passed (form value) us))
@@ -327,15 +334,16 @@ field_found kind form k r g ws c found (Ok x) e =
 field_found kind form k r g ws c found (Err f) e = refused_found kind form k r g ws f e
 
 -- the same first word leads to the other form again
-branch_other : (word : List ℕ) (form other : LineForm) (k : ℕ) → IsBranch other → HasBranches other → (w : List ℕ) (ws : List (List ℕ))
+branch_other : {A : Type 0} (word : List ℕ) (form other : LineForm A) (k : ℕ) → IsBranch other → HasBranches other → (w : List ℕ) (ws : List (List ℕ))
     → bytes_eq w word ≡ false → (n : ℕ) (vs : List (List ℕ)) → IsOk (read other vs) → take (suc n) (cut_by other vs) ≡ take (suc n) (cut_by other (w ∷ ws))
     → AllByRecursion Clean vs → (total vs ≤ total (w ∷ ws)) ⊎ (total vs ≤ k) → Other (Word word form other) (w ∷ ws) k (suc n)
 branch_other word form other k b h w ws is n [] o same c short = absurd (none_empty other b o)
   where
-    none_empty : (f : LineForm) → IsBranch f → IsOk (read f []) → ⊥
+    none_empty : {A : Type 0} (f : LineForm A) → IsBranch f → IsOk (read f []) → ⊥
     none_empty (Ends line) i r = absurd i
     none_empty (Text line) i r = absurd i
     none_empty (Texts line) i r = absurd i
+    none_empty (Json line) i r = absurd i
     none_empty (Field kind f) i r = absurd i
     none_empty (Word v f g) i r = absurd cc
     none_empty (Fails fault) i r = absurd cc
@@ -347,25 +355,25 @@ branch_other word form other k b h w ws is n (v ∷ vs) o same c short =
     let not : bytes_eq v word ≡ false = ap (λ u. bytes_eq u word) first ∙ is in
     record { other = v ∷ vs; is_read = rw not o; same = rw (not, is) same; clean = c; short = short }
 
-branch_found : (word : List ℕ) (form other : LineForm) (k : ℕ) → IsBranch other → HasBranches other → (w : List ℕ) (ws : List (List ℕ))
+branch_found : {A : Type 0} (word : List ℕ) (form other : LineForm A) (k : ℕ) → IsBranch other → HasBranches other → (w : List ℕ) (ws : List (List ℕ))
     → bytes_eq w word ≡ false → (n : ℕ) → Found other (w ∷ ws) k n → Found (Word word form other) (w ∷ ws) k n
 branch_found word form other k b h w ws is n (inl none) = inl none
 branch_found word form other k b h w ws is zero (inr o) = inl refl
 branch_found word form other k b h w ws is (suc n) (inr o) = inr (branch_other word form other k b h w ws is n o.other o.is_read o.same o.clean o.short)
 
-texts_cut : (line : List ℕ → Option (List ℕ) → Line) (ws : List (List ℕ)) → ends_at ws ≡ Err BadWord
+texts_cut : {A : Type 0} (line : List ℕ → Option (List ℕ) → A) (ws : List (List ℕ)) → ends_at ws ≡ Err BadWord
     → cut_by (Texts line) ws ≡ text_words (cut_at_bars (join_with_byte 32 ws))
 unfolding ends_at
 texts_cut line [] h = absurd cc
 texts_cut line (w ∷ ws) h = refl
 
 -- the words of a text are cut as the text is
-words_cut : (line : List ℕ → Option (List ℕ) → Line) (bytes : List ℕ) → cut_by (Texts line) (words bytes) ≡ text_words (cut_at_bars bytes)
+words_cut : {A : Type 0} (line : List ℕ → Option (List ℕ) → A) (bytes : List ℕ) → cut_by (Texts line) (words bytes) ≡ text_words (cut_at_bars bytes)
 words_cut line bytes = texts_cut line (words bytes) (goes_on (λ b. eqb b 32) bytes)
     ∙ ap (λ bs. text_words (cut_at_bars bs)) (join_with_byte-slice_split 32 bytes)
 
 -- the texts of a macro, the first of which is one, and another action
-action_other : (line : List ℕ → Option (List ℕ) → Line) (k : ℕ) → 300 ≤ k → (w : List ℕ) (ws : List (List ℕ)) → AllByRecursion Clean (w ∷ ws)
+action_other : {A : Type 0} (line : List ℕ → Option (List ℕ) → A) (k : ℕ) → 300 ≤ k → (w : List ℕ) (ws : List (List ℕ)) → AllByRecursion Clean (w ∷ ws)
     → (cut : List ℕ × Option (List ℕ)) → cut_at_bars (join_with_byte 32 (w ∷ ws)) ≡ cut → is_text cut.0 ≡ true → Other (Texts line) (w ∷ ws) k 2
 unfolding last_texts_at
 action_other line k r w ws c (text, None) e is = record { other = w ∷ ws; is_read = rw (e, is) refl; same = refl; clean = c; short = inl (omega arith) }
@@ -391,7 +399,7 @@ action_other line k r w ws c (text, Some action) e is =
       short = inr (omega (arith, r, total-words bytes, length-append text (bars ++ x), is_short));
     }
 
-texts_found : (line : List ℕ → Option (List ℕ) → Line) (k : ℕ) → 300 ≤ k → (ws : List (List ℕ)) → AllByRecursion Clean ws
+texts_found : {A : Type 0} (line : List ℕ → Option (List ℕ) → A) (k : ℕ) → 300 ≤ k → (ws : List (List ℕ)) → AllByRecursion Clean ws
     → Found (Texts line) ws k (passed (Texts line) ws)
 texts_found line k r [] c = inl refl
 texts_found line k r (w ∷ ws) c =
@@ -400,7 +408,7 @@ texts_found line k r (w ∷ ws) c =
     (λ _. inl refl)
 
 -- a word that is looked for, and words behind it
-word_other : (word : List ℕ) (form other : LineForm) (k : ℕ) → IsTrue (leb (length word + 1) k) → (w : List ℕ) (ws : List (List ℕ)) → Clean w
+word_other : {A : Type 0} (word : List ℕ) (form other : LineForm A) (k : ℕ) → IsTrue (leb (length word + 1) k) → (w : List ℕ) (ws : List (List ℕ)) → Clean w
     → bytes_eq w word ≡ true → (n : ℕ) → Other form ws (k - (length word + 1)) n → Other (Word word form other) (w ∷ ws) k (suc n)
 unfolding total
 word_other word form other k r w ws c is n o =
@@ -416,11 +424,12 @@ word_other word form other k r w ws c is n o =
     }
 
 -- words that are read are the same in front of the word at fault, if there is one in front of it
-pub found : (form : LineForm) (k : ℕ) → HasRoom k form → HasBranches form → GoesOn form → (ws : List (List ℕ)) → AllByRecursion Clean ws
+pub found : {A : Type 0} (form : LineForm A) (k : ℕ) → HasRoom k form → HasBranches form → GoesOn form → (ws : List (List ℕ)) → AllByRecursion Clean ws
     → Found form ws k (passed form ws)
 found (Ends line) k r h g ws c = inl refl
 found (Text line) k r h g ws c = inl refl
 found (Texts line) k r h g ws c = texts_found line k (leb-true 300 k r) ws c
+found (Json line) k r h g ws c = inl refl
 found (Field kind form) k r h g ws c = field_found kind form k r g ws c
     (λ value us d. found (form value) (room_behind kind k) (behind_has_room kind form k r value) (h value) (g value).1 us d) (field_at kind ws) refl
 found (Word word form other) k r h g [] c = inl refl

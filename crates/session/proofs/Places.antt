@@ -1,6 +1,6 @@
 -- Where words leave a form, none that are read are the same up to that place.
 use Rattle.std.proofs.Common.{◌≡◌, ℕ, zero, suc, ◌+◌, ◌<◌, ◌≤◌, true, false, cond, List, [], ◌∷◌, ◌++◌, length, take, Ok, Err, Result, Option, Some}
-use Rattle.std.proofs.Common.{None, refl}
+use Rattle.std.proofs.Common.{None, refl, eqb}
 use Rattle.std.proofs.Common.{sym, ap, ◌∙◌, subst, subst₂, arith, IsOk, IsErr}
 use Rattle.std.specs.List.{join_with_byte, AllByRecursion}
 use Rattle.std.specs.Str.{bytes_eq}
@@ -9,16 +9,16 @@ use Rattle.std.proofs.lemmas.List.{length-append, take-append-le}
 use Rattle.std.proofs.Math.Seq.{take-append-add}
 use Rattle.refusals.specs.declared.line_fault.LineFault.{LineFault}
 use Rattle.refusals.specs.declared.line_fault.LineFault.TheVariants.{BadWord}
-use Rattle.session.specs.declared.line.Line.{Line}
 use Rattle.session.specs.Words.{number_of, is_text, are_texts, cut_at_bars}
 use Rattle.session.specs.Grammar.{FieldKind, Block, FieldValue}
-use Rattle.session.specs.Grammar.{LineForm, Ends, Text, Texts, Field, Word, Fails, choose, word_at, field_at, read, ends_at, last_text_at, last_texts_at, ◌>>=◌}
+use Rattle.session.specs.Grammar.{LineForm, Ends, Text, Texts, Json, Field, Word, Fails, choose, word_at, field_at, read}
+use Rattle.session.specs.Grammar.{ends_at, last_json_at, last_text_at, last_texts_at, ◌>>=◌}
 use Rattle.session.specs.Left.{next, either, is_side, field_fault, behind_field, fault_at}
 use Rattle.session.specs.Faults.{text_words, cut_by, field_size}
 use Rattle.session.proofs.FieldWords.{field_passed, reads_field}
 
 -- how many words of a form stand in front of the one at fault
-abbrev pub passed : LineForm → List (List ℕ) → ℕ
+abbrev pub passed : {A : Type 0} → LineForm A → List (List ℕ) → ℕ
 passed (Texts line) ws = cond (is_text (cut_at_bars (join_with_byte 32 ws)).0) 2 0
 passed (Field kind form) ws = either (λ value. field_size kind + passed (form value.0) value.1) (field_passed kind ws) (field_at kind ws)
 passed (Word word form other) (w ∷ ws) = cond (bytes_eq w word) (suc (passed form ws)) (passed other (w ∷ ws))
@@ -53,9 +53,10 @@ refused Block place ws =
 refused kind place ws = refl
 
 -- the place of a fault is that of the first word, and one more for each word in front of it
-pub fault_passed : (form : LineForm) (place : ℕ) (ws : List (List ℕ)) → fault_at form place ws ≡ nexts (passed form ws) place
+pub fault_passed : {A : Type 0} (form : LineForm A) (place : ℕ) (ws : List (List ℕ)) → fault_at form place ws ≡ nexts (passed form ws) place
 fault_passed (Ends line) place ws = refl
 fault_passed (Text line) place ws = refl
+fault_passed (Json line) place ws = refl
 fault_passed (Texts line) place ws =
     elim (is_text (cut_at_bars (join_with_byte 32 ws)).0) as (λ b. cond b (next (next place)) place ≡ nexts (cond b 2 0) place) [ true ↦ refl | false ↦ refl ]
 fault_passed (Field kind form) place ws =
@@ -75,7 +76,7 @@ pub size_within : (kind : FieldKind) → field_size kind ≤ 2
 size_within Block = omega arith
 size_within kind = omega arith
 
-field_within : (kind : FieldKind) (form : FieldValue kind → LineForm) (ws : List (List ℕ))
+field_within : {A : Type 0} (kind : FieldKind) (form : FieldValue kind → LineForm A) (ws : List (List ℕ))
     → ((value : FieldValue kind) (us : List (List ℕ)) → passed (form value) us ≤ length us + 2)
     → (r : Result (FieldValue kind × List (List ℕ)) LineFault) → field_at kind ws ≡ r
     → either (λ value. field_size kind + passed (form value.0) value.1) (field_passed kind ws) r ≤ length ws + 2
@@ -85,9 +86,10 @@ field_within kind form ws more (Ok x) e =
 field_within kind form ws more (Err f) e = omega (arith, (reads_field kind).few ws, size_within kind)
 
 -- no more words stand in front of a fault than the line has, but for the two that a macro's texts and bars may make of one
-pub passed_within : (form : LineForm) (ws : List (List ℕ)) → passed form ws ≤ length ws + 2
+pub passed_within : {A : Type 0} (form : LineForm A) (ws : List (List ℕ)) → passed form ws ≤ length ws + 2
 passed_within (Ends line) ws = omega arith
 passed_within (Text line) ws = omega arith
+passed_within (Json line) ws = omega arith
 passed_within (Texts line) ws = cond_both (is_text (cut_at_bars (join_with_byte 32 ws)).0) 2 0 (λ n. n ≤ length ws + 2) (λ _. omega arith) (λ _. omega arith)
 passed_within (Field kind form) ws = field_within kind form ws (λ value us. passed_within (form value) us) (field_at kind ws) refl
 passed_within (Word word form other) [] = omega arith
@@ -96,13 +98,13 @@ passed_within (Word word form other) (w ∷ ws) = cond_both (bytes_eq w word) (s
 passed_within (Fails fault) ws = omega arith
 
 -- a form that looks at its first word alone, and at no other but behind that one
-abbrev pub IsBranch : LineForm → Type 0
+abbrev pub IsBranch : {A : Type 0} → LineForm A → Type 0
 IsBranch (Word word form other) = Unit {0}
 IsBranch (Fails fault) = Unit {0}
 IsBranch form = ⊥
 
 -- where a form looks at a word, its other form looks at the same one
-abbrev pub HasBranches : LineForm → Type 0
+abbrev pub HasBranches : {A : Type 0} → LineForm A → Type 0
 HasBranches (Field kind form) = (value : FieldValue kind) → HasBranches (form value)
 HasBranches (Word word form other) = HasBranches form × IsBranch other × HasBranches other
 HasBranches form = Unit {0}
@@ -112,10 +114,11 @@ pub record Begins (w : List ℕ) (ws : List (List ℕ)) : Type 0 where
   pub rest : List (List ℕ)
   pub is : ws ≡ w ∷ rest
 
-pub begins : (form : LineForm) → IsBranch form → HasBranches form → (w : List ℕ) (ws : List (List ℕ)) → Begins w (cut_by form (w ∷ ws))
+pub begins : {A : Type 0} (form : LineForm A) → IsBranch form → HasBranches form → (w : List ℕ) (ws : List (List ℕ)) → Begins w (cut_by form (w ∷ ws))
 begins (Ends line) b g w ws = absurd b
 begins (Text line) b g w ws = absurd b
 begins (Texts line) b g w ws = absurd b
+begins (Json line) b g w ws = absurd b
 begins (Field kind form) b g w ws = absurd b
 begins (Word word form other) b g w ws = cond_both (bytes_eq w word) (w ∷ cut_by form ws) (cut_by other (w ∷ ws)) (Begins w)
     (λ _. record { rest = cut_by form ws; is = refl }) (λ _. begins other g.1 g.2 w ws)
@@ -147,7 +150,7 @@ fronts k n xs us ys vs l m e =
     let whole : take (k + suc n) (xs ++ ys) ≡ take (k + suc n) (us ++ vs) = subst (λ i. take i (xs ++ ys) ≡ take i (us ++ vs)) moved e in
     parts xs us (take (suc n) ys) (take (suc n) vs) (l ∙ sym m) (sym (behind_front k (suc n) xs ys l) ∙ whole ∙ behind_front k (suc n) us vs m)
 
-abbrev NoneFurther : LineForm → Type 0
+abbrev NoneFurther : {A : Type 0} → LineForm A → Type 0
 NoneFurther form = (ws others : List (List ℕ)) → IsErr (read form ws) → IsOk (read form others)
     → take (suc (passed form ws)) (cut_by form others) ≡ take (suc (passed form ws)) (cut_by form ws) → ⊥
 
@@ -161,7 +164,8 @@ same_field kind ws others x y e f same =
     let pair : ◌≡◌ {A = FieldValue kind × List (List ℕ)} (x.0, y.1) y = cc in
     ap (λ (z : FieldValue kind × List (List ℕ)). z.0) pair
 
-field_further : (kind : FieldKind) (form : FieldValue kind → LineForm) → ((value : FieldValue kind) → NoneFurther (form value)) → (ws others : List (List ℕ))
+field_further : {A : Type 0} (kind : FieldKind) (form : FieldValue kind → LineForm A) → ((value : FieldValue kind) → NoneFurther (form value))
+    → (ws others : List (List ℕ))
     → (a : Result (FieldValue kind × List (List ℕ)) LineFault) → field_at kind ws ≡ a
     → (b : Result (FieldValue kind × List (List ℕ)) LineFault) → field_at kind others ≡ b
     → IsErr (a >>= λ value. read (form value.0) value.1) → IsOk (b >>= λ value. read (form value.0) value.1)
@@ -192,12 +196,12 @@ field_further kind form none ws others (Err g) e (Ok y) f r o same =
 abbrev texts_or_not : List ℕ × Option (List ℕ) → Result (List ℕ × Option (List ℕ)) LineFault
 texts_or_not c = cond (are_texts c.0 c.1) (Ok c) (Err BadWord)
 
-are_ok : (c : List ℕ × Option (List ℕ)) (line : List ℕ → Option (List ℕ) → Line) → IsOk (texts_or_not c >>= λ texts. Ok (line texts.0 texts.1))
+are_ok : {A : Type 0} (c : List ℕ × Option (List ℕ)) (line : List ℕ → Option (List ℕ) → A) → IsOk (texts_or_not c >>= λ texts. Ok (line texts.0 texts.1))
     → are_texts c.0 c.1 ≡ true
 are_ok c line = elim (are_texts c.0 c.1) as (λ b. IsOk (cond b (Ok c) (Err BadWord) >>= λ texts. Ok (line texts.0 texts.1)) → b ≡ true)
     [ true ↦ λ _. refl | false ↦ λ o. absurd cc ]
 
-not_texts : (c : List ℕ × Option (List ℕ)) (line : List ℕ → Option (List ℕ) → Line) → IsErr (texts_or_not c >>= λ texts. Ok (line texts.0 texts.1))
+not_texts : {A : Type 0} (c : List ℕ × Option (List ℕ)) (line : List ℕ → Option (List ℕ) → A) → IsErr (texts_or_not c >>= λ texts. Ok (line texts.0 texts.1))
     → are_texts c.0 c.1 ≡ false
 not_texts c line = elim (are_texts c.0 c.1) as (λ b. IsErr (cond b (Ok c) (Err BadWord) >>= λ texts. Ok (line texts.0 texts.1)) → b ≡ false)
     [ true ↦ λ o. absurd cc | false ↦ λ _. refl ]
@@ -237,7 +241,7 @@ some_text : (c : List ℕ × Option (List ℕ)) → take 1 (text_words c) ≡ []
 some_text (text, None) e = absurd cc
 some_text (text, Some action) e = absurd cc
 
-texts_further : (line : List ℕ → Option (List ℕ) → Line) → NoneFurther (Texts line)
+texts_further : {A : Type 0} (line : List ℕ → Option (List ℕ) → A) → NoneFurther (Texts line)
 unfolding last_texts_at
 texts_further line ws [] r o same = absurd cc
 texts_further line [] (v ∷ vs) r o same = some_text (cut_at_bars (join_with_byte 32 (v ∷ vs))) same
@@ -246,7 +250,7 @@ texts_further line (w ∷ ws) (v ∷ vs) r o same =
     let d = cut_at_bars (join_with_byte 32 (v ∷ vs)) in
     texts_by c.0 c.1 d.0 d.1 _ (not_texts c line r) (are_ok d line o) refl same
 
-text_further : (line : List ℕ → Line) → NoneFurther (Text line)
+text_further : {A : Type 0} (line : List ℕ → A) → NoneFurther (Text line)
 unfolding last_text_at
 text_further line [] [] r o same = absurd cc
 text_further line [] (v ∷ vs) r o same = absurd cc
@@ -255,14 +259,23 @@ text_further line (w ∷ ws) (v ∷ vs) r o same =
     let text : join_with_byte 32 (v ∷ vs) ≡ join_with_byte 32 (w ∷ ws) = cc in
     not_both _ r (subst (λ t. IsOk (cond (is_text t) (Ok t) (Err BadWord) >>= λ x. Ok (line x))) text o)
 
-ends_further : (line : Line) → NoneFurther (Ends line)
+json_further : {A : Type 0} (line : List ℕ → A) → NoneFurther (Json line)
+unfolding last_json_at
+json_further line [] [] r o same = absurd cc
+json_further line [] (v ∷ vs) r o same = absurd cc
+json_further line (w ∷ ws) [] r o same = absurd cc
+json_further line (w ∷ ws) (v ∷ vs) r o same =
+    let text : join_with_byte 32 (v ∷ vs) ≡ join_with_byte 32 (w ∷ ws) = cc in
+    not_both _ r (subst (λ t. IsOk (cond (eqb (length t) 0) (Err BadWord) (Ok t) >>= λ x. Ok (line x))) text o)
+
+ends_further : {A : Type 0} (line : A) → NoneFurther (Ends line)
 unfolding ends_at
 ends_further line [] others r o same = absurd cc
 ends_further line (w ∷ ws) [] r o same = absurd cc
 ends_further line (w ∷ ws) (v ∷ vs) r o same = absurd cc
 
 -- with the same first word
-word_further : (word : List ℕ) (form other : LineForm) → NoneFurther form → NoneFurther other → (w : List ℕ) (ws vs : List (List ℕ))
+word_further : {A : Type 0} (word : List ℕ) (form other : LineForm A) → NoneFurther form → NoneFurther other → (w : List ℕ) (ws vs : List (List ℕ))
     → IsErr (read (Word word form other) (w ∷ ws)) → IsOk (read (Word word form other) (w ∷ vs))
     → take (suc (passed (Word word form other) (w ∷ ws))) (cut_by (Word word form other) (w ∷ vs))
     ≡ take (suc (passed (Word word form other) (w ∷ ws))) (cut_by (Word word form other) (w ∷ ws)) → ⊥
@@ -275,10 +288,11 @@ word_further word form other none none_other w ws vs =
     ]
 
 -- words that are read are not the same up to the word at fault
-pub none_further : (form : LineForm) → HasBranches form → NoneFurther form
+pub none_further : {A : Type 0} (form : LineForm A) → HasBranches form → NoneFurther form
 none_further (Ends line) g ws others r o same = ends_further line ws others r o same
 none_further (Text line) g ws others r o same = text_further line ws others r o same
 none_further (Texts line) g ws others r o same = texts_further line ws others r o same
+none_further (Json line) g ws others r o same = json_further line ws others r o same
 none_further (Field kind form) g ws others r o same = field_further kind form (λ value. none_further (form value) (g value)) ws others
     (field_at kind ws) refl (field_at kind others) refl r o same
 none_further (Word word form other) g [] [] r o same = absurd cc
@@ -298,13 +312,13 @@ none_further (Word word form other) g (w ∷ ws) (v ∷ vs) r o same =
 none_further (Fails fault) g ws others r o same = absurd cc
 
 -- a word that is none of the pairs' is itself at fault
-pub fault_none : (pairs : List (List ℕ × LineForm)) (fault : LineFault) (place : ℕ) (w : List ℕ) (ws : List (List ℕ))
+pub fault_none : {A : Type 0} (pairs : List (List ℕ × LineForm A)) (fault : LineFault) (place : ℕ) (w : List ℕ) (ws : List (List ℕ))
     → AllByRecursion (λ pair. bytes_eq w pair.0 ≡ false) pairs → fault_at (choose pairs fault) place (w ∷ ws) ≡ place
 fault_none [] fault place w ws h = refl
 fault_none (pair ∷ pairs) fault place w ws h = rw h.0 (fault_none pairs fault place w ws h.1)
 
 -- one that is none of the first pairs' is at fault where it is so by the others
-pub fault_append : (first later : List (List ℕ × LineForm)) (fault : LineFault) (place : ℕ) (w : List ℕ) (ws : List (List ℕ))
+pub fault_append : {A : Type 0} (first later : List (List ℕ × LineForm A)) (fault : LineFault) (place : ℕ) (w : List ℕ) (ws : List (List ℕ))
     → AllByRecursion (λ pair. bytes_eq w pair.0 ≡ false) first
     → fault_at (choose (first ++ later) fault) place (w ∷ ws) ≡ fault_at (choose later fault) place (w ∷ ws)
 fault_append [] later fault place w ws h = refl

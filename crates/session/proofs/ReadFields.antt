@@ -1,5 +1,6 @@
 -- A field that is read from words is spelled by those words.
-use Rattle.std.proofs.Common.{◌≡◌, ◌≢◌, ℕ, Bool, true, false, cond, eqb, not, List, [], ◌∷◌, ◌++◌, length, Ok, Err, Result, Option, Some, None, refl, sym, ap}
+use Rattle.std.proofs.Common.{◌≡◌, ◌≢◌, ◌≤◌, ℕ, arith, Bool, true, false, cond, eqb, not, List, [], ◌∷◌, ◌++◌, length, Ok, Err, Result, Option}
+use Rattle.std.proofs.Common.{Some, None, refl, sym, ap}
 use Rattle.std.proofs.Common.{◌∙◌, subst}
 use Rattle.std.specs.Prelude.{codes, IfOk}
 use Rattle.std.specs.Fmt.{decimal}
@@ -12,15 +13,17 @@ use Rattle.session.specs.declared.limits.TheConstants.{MAX_DOCUMENT_NAME, MAX_FI
 use Rattle.refusals.specs.declared.line_fault.LineFault.{LineFault}
 use Rattle.refusals.specs.declared.line_fault.LineFault.TheVariants.{BadWord}
 use Rattle.session.specs.Words.{words, number_of, coordinate_of, numbers_of, is_name, is_name_byte, is_text, is_text_byte, cut_at_bars, are_texts, are_rows}
-use Rattle.session.specs.Words.{layer_kind_of, yes_no_of, truth_of, is_key, is_key_byte, is_color, owner_of, choice_of}
-use Rattle.session.specs.Grammar.{FieldKind, Number, Coordinate, Block, Name, File, Choice, LayerSort, YesNo, Truth, Key, Color, OwnerName, FieldValue}
-use Rattle.session.specs.Grammar.{field_at, word_at, passing, rows_at, block_at, last_text_at, last_texts_at, ends_at, ◌>>=◌, word_is}
+use Rattle.session.specs.Words.{layer_kind_of, yes_no_of, truth_of, is_key, is_key_byte, is_color, member_owner_of, owner_of, choice_of}
+use Rattle.session.specs.Grammar.{FieldKind, Number, Coordinate, Block, Name, File, Choice, LayerSort, YesNo, Truth, Key}
+use Rattle.session.specs.Grammar.{Color, OwnerName, OwnerOfMembers, FieldValue}
+use Rattle.session.specs.Grammar.{field_at, word_at, passing, rows_at, block_at, last_json_at, last_text_at, last_texts_at, ends_at, ◌>>=◌, word_is}
 use Rattle.session.specs.Spelling.{joined_by_bars, HasNoBars, AreTexts, spaced, commas, layer_kind_word, yes_no_word, truth_word, field_words, IsField, IsName}
-use Rattle.session.specs.Spelling.{IsChoice, IsText, IsKey, AreRows, choice_word}
+use Rattle.session.specs.Spelling.{IsChoice, IsJsonText, IsText, IsKey, AreRows, choice_word}
 use Rattle.session.proofs.Decimals.{decimal_from}
 use Rattle.session.proofs.Coordinates.{signed_from}
 use Rattle.session.proofs.Commas.{commas_from}
 use Rattle.session.proofs.Owners.{owner_from}
+use Rattle.session.proofs.MoreOwners.{member_owner_from}
 use Rattle.session.proofs.SpacedWords.{Clean, words-spaced, utf8-spaced, utf8_before, utf8_after}
 use Rattle.session.proofs.Bars.{joined-cut_at_bars, no_bars_cut}
 use Rattle.std.specs.List.{AllByRecursion}
@@ -151,6 +154,8 @@ field_is_read Key ws = word_is_read Key (passing is_key) ws (λ w x c e.
     let at = passed is_key w x e in (is_key_from x at.0 (subst IsUtf8 (sym at.1) c.utf8), alone at.1))
 field_is_read Color ws = word_is_read Color (passing is_color) ws (λ w x c e. let at = passed is_color w x e in (at.0, alone at.1))
 field_is_read OwnerName ws = word_is_read OwnerName owner_of ws (λ w o c e. let at = owner_from w o e in (at.1, alone at.0))
+field_is_read OwnerOfMembers ws =
+    word_is_read OwnerOfMembers member_owner_of ws (λ w o c e. let at = member_owner_from w o e in (at.1, alone at.0))
 field_is_read Name ws = word_is_read Name (passing (is_name MAX_DOCUMENT_NAME)) ws (λ w x c e.
     let at = passed (is_name MAX_DOCUMENT_NAME) w x e in (is_name_from MAX_DOCUMENT_NAME x at.0, alone at.1))
 field_is_read File ws = word_is_read File (passing (is_name MAX_FILE_NAME)) ws (λ w x c e.
@@ -182,6 +187,23 @@ unfolding last_text_at
 text_is_read [] h = tt
 text_is_read (w ∷ ws) h = cond_both (is_text (spaced (w ∷ ws))) (Ok (spaced (w ∷ ws))) (Err BadWord) (λ r. IfOk r (ReadText (w ∷ ws)))
     (λ is. record { fits = is_text_from (spaced (w ∷ ws)) is (utf8-spaced (w ∷ ws) h); words = sym (words-spaced w ws h) }) (λ is. tt)
+
+-- the words are those of a JSON text
+pub record ReadJson (ws : List (List ℕ)) (json : List ℕ) : Type 0 where
+  pub fits : IsJsonText json
+  pub words : ws ≡ words json
+
+some_size : (xs : List ℕ) → eqb (length xs) 0 ≡ false → 1 ≤ length xs
+some_size [] e = absurd cc
+some_size (x ∷ xs) e = omega arith
+
+pub json_is_read : (ws : List (List ℕ)) → AllByRecursion Clean ws → IfOk (last_json_at ws) (ReadJson ws)
+unfolding last_json_at
+json_is_read [] h = tt
+json_is_read (w ∷ ws) h =
+    cond_both (eqb (length (spaced (w ∷ ws))) 0) (Err BadWord) (Ok (spaced (w ∷ ws))) (λ r. IfOk r (ReadJson (w ∷ ws)))
+    (λ is. tt)
+    (λ is. record { fits = record { some = some_size (spaced (w ∷ ws)) is; utf8 = utf8-spaced (w ∷ ws) h }; words = sym (words-spaced w ws h) })
 
 texts_from : (text : List ℕ) (action : Option (List ℕ)) → are_texts text action ≡ true → HasNoBars text action → IsUtf8 (joined_by_bars text action)
     → AreTexts text action

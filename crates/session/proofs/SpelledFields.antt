@@ -1,5 +1,5 @@
 -- What each kind of field reads of its words.
-use Rattle.std.proofs.Common.{◌≡◌, ℕ, Bool, true, false, not, List, [], ◌∷◌, ◌++◌, length, Ok, Option, None, Some, refl, ap, arith}
+use Rattle.std.proofs.Common.{◌≡◌, ℕ, Bool, eqb, true, false, not, List, [], ◌∷◌, ◌++◌, length, Ok, Option, None, Some, refl, ap, arith}
 use Rattle.std.specs.Prelude.{codes}
 use Rattle.std.specs.List.{AllByRecursion}
 use Rattle.std.specs.Fmt.{decimal, signed_decimal}
@@ -13,19 +13,22 @@ use Rattle.map_model.specs.declared.parts.LayerKind.{LayerKind}
 use Rattle.map_model.specs.declared.parts.LayerKind.TheVariants as kinds
 use Rattle.session.specs.declared.limits.TheConstants.{MAX_DOCUMENT_NAME, MAX_FILE_NAME, MAX_TEXT, MAX_KEY}
 use Rattle.map_model.specs.declared.limits.TheConstants.{MAX_SIDE}
-use Rattle.session.specs.Words.{words, number_of, coordinate_of, owner_of, choice_of, is_name, is_name_byte, is_text, is_text_byte, are_texts, are_rows}
+use Rattle.session.specs.Words.{words, number_of, coordinate_of, member_owner_of, owner_of, choice_of, is_name, is_name_byte}
+use Rattle.session.specs.Words.{is_text, is_text_byte, are_texts, are_rows}
 use Rattle.session.specs.Words.{layer_kind_of, yes_no_of, truth_of, is_key, is_key_byte, is_color, is_color_digit}
-use Rattle.session.specs.Grammar.{word_at, passing, rows_at, block_at, last_text_at, last_texts_at, field_at, FieldKind, Number, Coordinate, Block, Name, File}
-use Rattle.session.specs.Grammar.{Choice, LayerSort, YesNo, Truth, Key, Color, OwnerName, FieldValue}
+use Rattle.session.specs.Grammar.{word_at, passing, rows_at, block_at, last_json_at, last_text_at, last_texts_at, field_at, FieldKind}
+use Rattle.session.specs.Grammar.{Number, Coordinate, Block, Name, File}
+use Rattle.session.specs.Grammar.{Choice, LayerSort, YesNo, Truth, Key, Color, OwnerName, OwnerOfMembers, FieldValue}
 use Rattle.session.specs.Spelling.{joined_by_bars, AreTexts, commas, choice_word, layer_kind_word, yes_no_word, truth_word, owner_word, field_words, IsField}
-use Rattle.session.specs.Spelling.{IsName, IsChoice, IsText, IsKey, AreRows}
+use Rattle.session.specs.Spelling.{IsName, IsChoice, IsJsonText, IsText, IsKey, AreRows, member_owner_word}
 use Rattle.session.proofs.Decimals.{number_of-decimal}
 use Rattle.session.proofs.Coordinates.{coordinate_of-signed}
 use Rattle.session.proofs.Commas.{numbers_of-commas, plain_commas}
 use Rattle.session.proofs.SpacedWords.{IsPlain, Plain, Clean, clean, plain_literal, plain_number, plain_coordinate, plain_name}
-use Rattle.session.proofs.Cutting.{text_of_words, texts_of_words}
+use Rattle.session.proofs.Cutting.{json_of_words, text_of_words, texts_of_words}
 use Rattle.session.proofs.Bars.{cut_at_bars-joined}
 use Rattle.session.proofs.Owners.{owner_of-word, plain_owner}
+use Rattle.session.proofs.MoreOwners.{member_owner_of-word, plain_member_owner}
 
 -- the word of a value is read as that value
 pub word_at-word : {A : Type 0} (value_of : List ℕ → Option A) (w : List ℕ) (x : A) (ws : List (List ℕ)) → value_of w ≡ Some x
@@ -81,6 +84,12 @@ texts first (Some action) h = and_from _ _ (text first h.first) (text action h.s
 pub last_texts_at-words : (first : List ℕ) (action : Option (List ℕ)) → AreTexts first action
     → last_texts_at (words (joined_by_bars first action)) ≡ Ok (first, action)
 last_texts_at-words first action h = rw (texts_of_words (joined_by_bars first action), cut_at_bars-joined first action h.no_bars, texts first action h) refl
+
+no_size : (json : List ℕ) → IsJsonText json → eqb (length json) 0 ≡ false
+no_size json h = ne_eqb (length json) 0 (λ e. omega (arith, h.some, e))
+
+pub last_json_at-words : (json : List ℕ) → IsJsonText json → last_json_at (words json) ≡ Ok json
+last_json_at-words json h = rw (json_of_words json, no_size json h) refl
 
 layer_kind_of-word : (kind : LayerKind) → layer_kind_of (layer_kind_word kind) ≡ Some kind
 layer_kind_of-word kinds.Tile = refl
@@ -152,6 +161,7 @@ field_at-words Truth truth ws h = word_at-word truth_of (truth_word truth) truth
 field_at-words Key bytes ws h = word_at-word (passing is_key) bytes bytes ws (passing-itself is_key bytes (key bytes h))
 field_at-words Color bytes ws h = word_at-word (passing is_color) bytes bytes ws (passing-itself is_color bytes h)
 field_at-words OwnerName owner ws h = word_at-word owner_of (owner_word owner) owner ws (owner_of-word owner h)
+field_at-words OwnerOfMembers owner ws h = word_at-word member_owner_of (member_owner_word owner) owner ws (member_owner_of-word owner h)
 
 pub clean_field : (kind : FieldKind) (value : FieldValue kind) → IsField kind value → AllByRecursion Clean (field_words kind value)
 clean_field Number n h = (clean _ (plain_number n h), tt)
@@ -166,3 +176,4 @@ clean_field Truth truth h = (clean _ (plain_truth truth), tt)
 clean_field Key bytes h = (clean_key bytes h, tt)
 clean_field Color bytes h = (clean _ (plain_color bytes h), tt)
 clean_field OwnerName owner h = (clean _ (plain_owner owner h), tt)
+clean_field OwnerOfMembers owner h = (clean _ (plain_member_owner owner h), tt)

@@ -5,7 +5,7 @@ use Rattle.std.specs.List.{join_with_byte}
 use Rattle.std.specs.Str.{bytes_eq}
 use Rattle.session.specs.Words.{words, cut_at_bars}
 use Rattle.session.specs.Grammar.{FieldKind, Block}
-use Rattle.session.specs.Grammar.{LineForm, Text, Texts, Field, Word, field_at, line_form, is_quiet, line_of}
+use Rattle.session.specs.Grammar.{LineForm, Text, Texts, Json, Field, Word, field_at, line_form, is_quiet, line_of}
 use Rattle.session.specs.Left.{either}
 
 -- how many words a field has
@@ -18,10 +18,11 @@ abbrev pub text_words : List ℕ × Option (List ℕ) → List (List ℕ)
 text_words (text, None) = text ∷ []
 text_words (text, Some action) = text ∷ codes "||" ∷ action ∷ []
 
--- the words as a form has them: a text is one word
-abbrev pub cut_by : LineForm → List (List ℕ) → List (List ℕ)
+-- the words as a form has them: a text and a JSON text are one word
+abbrev pub cut_by : {A : Type 0} → LineForm A → List (List ℕ) → List (List ℕ)
 cut_by (Text line) (w ∷ ws) = join_with_byte 32 (w ∷ ws) ∷ []
 cut_by (Texts line) (w ∷ ws) = text_words (cut_at_bars (join_with_byte 32 (w ∷ ws)))
+cut_by (Json line) (w ∷ ws) = join_with_byte 32 (w ∷ ws) ∷ []
 cut_by (Field kind form) ws = either (λ value. take (field_size kind) ws ++ cut_by (form value.0) value.1) ws (field_at kind ws)
 cut_by (Word word form other) (w ∷ ws) = if bytes_eq w word then w ∷ cut_by form ws else cut_by other (w ∷ ws)
 cut_by form ws = ws

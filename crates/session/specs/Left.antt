@@ -8,7 +8,7 @@ use Rattle.map_model.specs.declared.limits.TheConstants.{MAX_SIDE}
 use Rattle.refusals.specs.declared.line_fault.LineFault.{LineFault}
 use Rattle.session.specs.Words.{number_of, is_text, cut_at_bars}
 use Rattle.session.specs.Grammar.{FieldKind, Block}
-use Rattle.session.specs.Grammar.{LineForm, Ends, Text, Texts, Field, Word, Fails, word_at, field_at}
+use Rattle.session.specs.Grammar.{LineForm, Ends, Text, Texts, Json, Field, Word, Fails, word_at, field_at}
 
 -- the words that are left, and the place of the word that was wanted last
 pub record Left : Type 0 where
@@ -49,10 +49,11 @@ abbrev pub texts_fault : ℕ → List (List ℕ) → ℕ
 texts_fault place ws = if is_text (cut_at_bars (join_with_byte 32 ws)).0 then next (next place) else place
 
 -- the place of the word at which words leave a form, where the first of them is to stand at a place
-abbrev pub fault_at : LineForm → ℕ → List (List ℕ) → ℕ
+abbrev pub fault_at : {A : Type 0} → LineForm A → ℕ → List (List ℕ) → ℕ
 fault_at (Ends line) place ws = place
 fault_at (Text line) place ws = place
 fault_at (Texts line) place ws = texts_fault place ws
+fault_at (Json line) place ws = place
 fault_at (Field kind form) place ws =
     either (λ value. fault_at (form value.0) (behind_field kind place) value.1) (field_fault kind place ws) (field_at kind ws)
 fault_at (Word word form other) place [] = place

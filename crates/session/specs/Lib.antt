@@ -8,5 +8,4 @@ pub mod Left
 pub mod Faults
 pub mod MoreGrammar
 pub mod MoreSpelling
-pub mod MoreLeft
 pub mod MoreFaults

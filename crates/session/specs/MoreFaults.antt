@@ -1,31 +1,14 @@
 -- Which word of a line that is refused for all edits is at fault.
-use Rattle.std.specs.Prelude.{◌≡◌, ℕ, ◌-◌, List, [], ◌∷◌, ◌++◌, take, IsOk}
+use Rattle.std.specs.Prelude.{◌≡◌, ℕ, ◌-◌, List, take, IsOk}
 use Rattle.std.specs.Prelude.{◌⊎◌}
-use Rattle.std.specs.Prelude.{if◌then◌else◌}
 use Rattle.std.specs.List.{join_with_byte}
-use Rattle.std.specs.Str.{bytes_eq}
 use Rattle.session.specs.Words.{words}
-use Rattle.session.specs.Faults.{IsLine, field_size, line_words}
-use Rattle.session.specs.Left.{either}
-use Rattle.session.specs.MoreGrammar.{MoreKind, Common, OwnerOfMembers, MoreForm, Text, Json, Field, Word, more_field_at, more_form, more_line_of}
-
--- how many words a field has
-abbrev pub more_field_size : MoreKind → ℕ
-more_field_size (Common kind) = field_size kind
-more_field_size OwnerOfMembers = 1
-
--- the words as a form has them: a text and a JSON text are one word
-abbrev pub cut_by_more : MoreForm → List (List ℕ) → List (List ℕ)
-cut_by_more (Text line) (w ∷ ws) = join_with_byte 32 (w ∷ ws) ∷ []
-cut_by_more (Json line) (w ∷ ws) = join_with_byte 32 (w ∷ ws) ∷ []
-cut_by_more (Field kind form) ws =
-    either (λ value. take (more_field_size kind) ws ++ cut_by_more (form value.0) value.1) ws (more_field_at kind ws)
-cut_by_more (Word word form other) (w ∷ ws) = if bytes_eq w word then w ∷ cut_by_more form ws else cut_by_more other (w ∷ ws)
-cut_by_more form ws = ws
+use Rattle.session.specs.Faults.{IsLine, cut_by, line_words}
+use Rattle.session.specs.MoreGrammar.{more_form, more_line_of}
 
 -- the words of a line for all edits, where a text and a JSON text are one word
 abbrev pub more_line_words : List ℕ → List (List ℕ)
-more_line_words bytes = cut_by_more more_form (words bytes)
+more_line_words bytes = cut_by more_form (words bytes)
 
 -- the word at that place, counted from 1, is the first at which the bytes are no line for all edits: some such line has the same
 -- words in front of it, and none has the same words up to it

@@ -16,12 +16,15 @@ use Rattle.map_model.specs.declared.parts.LayerKind.{LayerKind}
 use Rattle.map_model.specs.declared.parts.LayerKind.TheVariants as kinds
 use Rattle.map_model.specs.declared.selection.SelectionMode.{SelectionMode}
 use Rattle.map_model.specs.declared.selection.SelectionMode.TheVariants.{Replace, Add, Subtract, Intersect}
+use Rattle.map_model.specs.declared.owner.MemberOwner.{MemberOwner}
+use Rattle.map_model.specs.declared.owner.MemberOwner.TheVariants as members
 use Rattle.map_model.specs.declared.owner.Owner.{Owner}
 use Rattle.map_model.specs.declared.owner.Owner.TheVariants as owners
 use Rattle.session.specs.declared.typed_value.TypedValue.{TypedValue}
 use Rattle.session.specs.declared.typed_value.TypedValue.TheVariants as typed
 use Rattle.session.specs.Words.{words, bars, is_name_byte, is_color}
-use Rattle.session.specs.Grammar.{FieldKind, Number, Coordinate, Block, Name, File, Choice, LayerSort, YesNo, Truth, Key, Color, OwnerName, FieldValue}
+use Rattle.session.specs.Grammar.{FieldKind, Number, Coordinate, Block, Name, File, Choice, LayerSort, YesNo, Truth, Key}
+use Rattle.session.specs.Grammar.{Color, OwnerName, OwnerOfMembers, FieldValue}
 use Rattle.session.specs.Grammar.{is_quiet, line_of}
 
 -- words with one space between each two
@@ -57,18 +60,26 @@ owner_word owners.Map = codes "map"
 owner_word (owners.Layer id) = colons (codes "layer" ∷ decimal id ∷ [])
 owner_word (owners.Object id) = colons (codes "object" ∷ decimal id ∷ [])
 
+-- the word of an owner of members
+abbrev pub member_owner_word : MemberOwner → List ℕ
+member_owner_word members.Map = owner_word owners.Map
+member_owner_word (members.Layer id) = owner_word (owners.Layer id)
+member_owner_word (members.Object id) = owner_word (owners.Object id)
+member_owner_word (members.Tileset id) = colons (codes "tileset" ∷ decimal id ∷ [])
+
 -- the text of a macro, and the text of its action behind bars, where it is given
 abbrev pub joined_by_bars : List ℕ → Option (List ℕ) → List ℕ
 joined_by_bars text None = text
 joined_by_bars text (Some action) = text ++ (bars ++ action)
 
 -- a token of a spelled line: a word that is written out, a field with its value, a text that goes to the end, or the texts
--- of a macro, which go there too
+-- of a macro or a JSON text, which go there too
 pub data Token : Type 0 where
   Fixed : List ℕ → Token
   Given : (kind : FieldKind) → FieldValue kind → Token
   Rest : List ℕ → Token
   RestTexts : List ℕ → Option (List ℕ) → Token
+  RestJson : List ℕ → Token
 
 -- the word of a line that may follow the step before it: a `+` says that it does
 abbrev pub leading : List ℕ → Bool → List ℕ
@@ -174,6 +185,7 @@ field_words Truth truth = truth_word truth ∷ []
 field_words Key name = name ∷ []
 field_words Color color = color ∷ []
 field_words OwnerName owner = owner_word owner ∷ []
+field_words OwnerOfMembers owner = member_owner_word owner ∷ []
 
 -- the words of a token
 abbrev pub token_words : Token → List (List ℕ)
@@ -181,6 +193,7 @@ token_words (Fixed word) = word ∷ []
 token_words (Given kind value) = field_words kind value
 token_words (Rest text) = words text
 token_words (RestTexts text action) = words (joined_by_bars text action)
+token_words (RestJson json) = words json
 
 -- the spelling of a line; a quiet one has others too
 abbrev pub spelling : Line → List ℕ
@@ -254,6 +267,18 @@ IsOwner owners.Map = ⊤
 IsOwner (owners.Layer id) = IsNumber id
 IsOwner (owners.Object id) = IsNumber id
 
+-- an owner of members whose id a word can be
+abbrev pub IsMemberOwner : MemberOwner → Type 0
+IsMemberOwner members.Map = IsOwner owners.Map
+IsMemberOwner (members.Layer id) = IsOwner (owners.Layer id)
+IsMemberOwner (members.Object id) = IsOwner (owners.Object id)
+IsMemberOwner (members.Tileset id) = IsNumber id
+
+-- a JSON text of a line; what it says is not looked at
+pub record IsJsonText (json : List ℕ) : Type 0 where
+  pub some : 1 ≤ length json
+  pub utf8 : IsUtf8 json
+
 -- a value that a field can be
 abbrev pub IsField : (kind : FieldKind) → FieldValue kind → Type 0
 IsField Number n = IsNumber n
@@ -268,6 +293,7 @@ IsField Truth truth = ⊤
 IsField Key name = IsKey name
 IsField Color color = IsTrue (is_color color)
 IsField OwnerName owner = IsOwner owner
+IsField OwnerOfMembers owner = IsMemberOwner owner
 
 -- a token that can be spelled
 abbrev pub IsToken : Token → Type 0
@@ -275,6 +301,7 @@ IsToken (Fixed word) = ⊤
 IsToken (Given kind value) = IsField kind value
 IsToken (Rest text) = IsText text
 IsToken (RestTexts text action) = AreTexts text action
+IsToken (RestJson json) = IsJsonText json
 
 -- whether a token is a block
 abbrev pub is_block_token : Token → Bool

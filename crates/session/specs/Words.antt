@@ -9,6 +9,8 @@ use Rattle.std.specs.Str.{bytes_eq}
 use Rattle.std.specs.Str.Parse.{digits_value}
 use Rattle.map_model.specs.declared.parts.LayerKind.{LayerKind}
 use Rattle.map_model.specs.declared.parts.LayerKind.TheVariants as kinds
+use Rattle.map_model.specs.declared.owner.MemberOwner.{MemberOwner}
+use Rattle.map_model.specs.declared.owner.MemberOwner.TheVariants as members
 use Rattle.map_model.specs.declared.owner.Owner.{Owner}
 use Rattle.map_model.specs.declared.owner.Owner.TheVariants as owners
 use Rattle.session.specs.declared.limits.TheConstants.{MAX_TEXT, MAX_KEY, MAX_COORDINATE, MAX_DOCUMENT_NAME}
@@ -180,6 +182,33 @@ owner_of_pieces (kind ∷ id ∷ piece ∷ pieces) = None
 -- the owner that a word is: `map`, or `layer` or `object`, a colon and an id
 abbrev pub owner_of : List ℕ → Option Owner
 owner_of word = owner_of_pieces (slice_split (λ b. b == 58) word)
+
+-- what has properties has own members
+abbrev pub owner_of_members : Owner → MemberOwner
+owner_of_members owners.Map = members.Map
+owner_of_members (owners.Layer id) = members.Layer id
+owner_of_members (owners.Object id) = members.Object id
+
+-- the first id that pieces name: `tileset` and an id
+abbrev pub tileset_of_pieces : List (List ℕ) → Option ℕ
+tileset_of_pieces [] = None
+tileset_of_pieces (kind ∷ []) = None
+tileset_of_pieces (kind ∷ id ∷ []) = if bytes_eq kind (codes "tileset") then number_of id else None
+tileset_of_pieces (kind ∷ id ∷ piece ∷ pieces) = None
+
+-- the first id of the tileset that a word is: `tileset`, a colon and an id
+abbrev pub tileset_of : List ℕ → Option ℕ
+tileset_of word = tileset_of_pieces (slice_split (λ b. b == 58) word)
+
+-- what has properties, or else a tileset
+abbrev pub either_owner : Option Owner → Option ℕ → Option MemberOwner
+either_owner (Some owner) tileset = Some (owner_of_members owner)
+either_owner None (Some first_id) = Some (members.Tileset first_id)
+either_owner None None = None
+
+-- the owner of members that a word is
+abbrev pub member_owner_of : List ℕ → Option MemberOwner
+member_owner_of word = either_owner (owner_of word) (tileset_of word)
 
 -- the words of what is left of a line
 abbrev pub words_left : Option (Bor (List ℕ)) → List (List ℕ)

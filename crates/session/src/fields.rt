@@ -1,10 +1,9 @@
 ghost use Rattle.session.specs.declared.limits.TheConstants.{MAX_DOCUMENT_NAME, MAX_FILE_NAME};
-ghost use Rattle.session.specs.Grammar.{Gives, word_at, passing, rows_at, block_at, word_is, last_text_at, last_texts_at, ends_at};
+ghost use Rattle.session.specs.Grammar.{Gives, word_at, passing, rows_at, block_at, word_is, last_json_at, last_text_at, last_texts_at, ends_at};
 ghost use Rattle.refusals.specs.declared.line_fault.LineFault.TheVariants.{BadWord};
 ghost use Rattle.std.specs.Prelude.{◌≡◌, ◌∷◌, [], IfOk, IfErr, if◌then◌else◌};
 ghost use Rattle.session.specs.Words.{words_left, are_rows, choice_of, coordinate_of, is_name, is_text, number_of};
 ghost use Rattle.session.specs.Grammar.{Block};
-ghost use Rattle.session.specs.MoreGrammar.{last_json_at};
 ghost use Rattle.session.specs.Left.{field_fault, is_side, next, texts_fault};
 
 use crate::gids::Gids;

@@ -1,9 +1,9 @@
 ghost use Rattle.std.specs.Prelude.{◌≡◌, IfErr};
 ghost use Rattle.refusals.specs.declared.line_fault.LineFault.TheVariants.{BadWord};
-ghost use Rattle.session.specs.Grammar.{Gives};
-ghost use Rattle.session.specs.Left.{next};
-ghost use Rattle.session.specs.MoreGrammar.{choose_more, member_lines, member_owner_of, owner_of_members, put_members_form, read_more, remove_member_form, set_member_form, tileset_of};
-ghost use Rattle.session.specs.MoreLeft.{more_fault_at};
+ghost use Rattle.session.specs.Grammar.{Gives, choose, read};
+ghost use Rattle.session.specs.Left.{fault_at, next};
+ghost use Rattle.session.specs.MoreGrammar.{member_lines, put_members_form, remove_member_form, set_member_form};
+ghost use Rattle.session.specs.Words.{member_owner_of, owner_of_members, tileset_of};
 
 use crate::fields::{Fields, known};
 use crate::more_line::MoreLine;
@@ -57,8 +57,8 @@ fn set_member<'a, T: Trail + Copy>(
     follows: bool,
     fields: &mut Fields<'a, T>,
 ) -> Result<MoreLine<'a>, LineFault>
-    ensures value { Gives (λ x. x) result (read_more (set_member_form follows) fields.old.words) }
-    ensures place { IfErr result (λ _. fields.new.place ≡ more_fault_at (set_member_form follows) (next fields.old.place) fields.old.words) }
+    ensures value { Gives (λ x. x) result (read (set_member_form follows) fields.old.words) }
+    ensures place { IfErr result (λ _. fields.new.place ≡ fault_at (set_member_form follows) (next fields.old.place) fields.old.words) }
 {
     let owner = known(member_owner(fields.word(Expected::MemberOwner)?))?;
     let name = known(key(fields.word(Expected::Key)?))?;
@@ -76,8 +76,8 @@ fn put_members<'a, T: Trail + Copy>(
     follows: bool,
     fields: &mut Fields<'a, T>,
 ) -> Result<MoreLine<'a>, LineFault>
-    ensures value { Gives (λ x. x) result (read_more (put_members_form follows) fields.old.words) }
-    ensures place { IfErr result (λ _. fields.new.place ≡ more_fault_at (put_members_form follows) (next fields.old.place) fields.old.words) }
+    ensures value { Gives (λ x. x) result (read (put_members_form follows) fields.old.words) }
+    ensures place { IfErr result (λ _. fields.new.place ≡ fault_at (put_members_form follows) (next fields.old.place) fields.old.words) }
 {
     let owner = known(member_owner(fields.word(Expected::MemberOwner)?))?;
     let json = fields.json()?;
@@ -90,8 +90,8 @@ fn put_members<'a, T: Trail + Copy>(
 
 #[tactic(auto, unfolding(crate::specs::Grammar::word_at))]
 fn remove_member<'a, T: Trail + Copy>(fields: &mut Fields<'a, T>) -> Result<MoreLine<'a>, LineFault>
-    ensures value { Gives (λ x. x) result (read_more remove_member_form fields.old.words) }
-    ensures place { IfErr result (λ _. fields.new.place ≡ more_fault_at remove_member_form (next fields.old.place) fields.old.words) }
+    ensures value { Gives (λ x. x) result (read remove_member_form fields.old.words) }
+    ensures place { IfErr result (λ _. fields.new.place ≡ fault_at remove_member_form (next fields.old.place) fields.old.words) }
 {
     let owner = known(member_owner(fields.word(Expected::MemberOwner)?))?;
     let name = known(key(fields.word(Expected::Key)?))?;
@@ -101,8 +101,8 @@ fn remove_member<'a, T: Trail + Copy>(fields: &mut Fields<'a, T>) -> Result<More
 
 /// The line of own members that the words behind `member` are.
 pub fn member<'a, T: Trail + Copy>(fields: &mut Fields<'a, T>) -> Result<MoreLine<'a>, LineFault>
-    ensures value { Gives (λ x. x) result (read_more (choose_more member_lines BadWord) fields.old.words) }
-    ensures place { IfErr result (λ _. fields.new.place ≡ more_fault_at (choose_more member_lines BadWord) (next fields.old.place) fields.old.words) }
+    ensures value { Gives (λ x. x) result (read (choose member_lines BadWord) fields.old.words) }
+    ensures place { IfErr result (λ _. fields.new.place ≡ fault_at (choose member_lines BadWord) (next fields.old.place) fields.old.words) }
 {
     let action = fields.word(Expected::Action)?;
     match action {

@@ -34,6 +34,24 @@ pub enum MoreLine<'a> {
         layer: u32,
         json: Text<'a>,
     },
+    /// The object goes into the layer, which may be its own, to that place among its other objects, where the first one is at 0.
+    ReparentObject {
+        object: u32,
+        layer: u32,
+        place: u32,
+    },
+    /// The layer, with all in it, goes into the group, or out of all groups where that is 0, to that place among the other layers
+    /// there, where the first one is at 0.
+    ReparentLayer {
+        layer: u32,
+        group: u32,
+        place: u32,
+    },
+    /// The property that a JSON text says is put in, or takes the place of the one of its name.
+    PutProperty {
+        owner: Owner,
+        json: Text<'a>,
+    },
     /// The property whose name a JSON text says is taken out.
     TakeProperty {
         owner: Owner,
@@ -42,5 +60,12 @@ pub enum MoreLine<'a> {
     /// The tileset that a JSON text says goes into the map.
     PutTileset {
         json: Text<'a>,
+    },
+    /// The map gets so many columns more on its left and right, and so many rows more at its top and bottom.
+    Extend {
+        left: u32,
+        top: u32,
+        right: u32,
+        bottom: u32,
     },
 }

@@ -1,11 +1,10 @@
 // The lines for all edits.
 ghost use Rattle.std.specs.Prelude.{◌≡◌, ◌∷◌, IfErr, IfOk, true};
 ghost use Rattle.refusals.specs.declared.line_fault.LineFault.TheVariants.{BadWord, UnknownCommand};
-ghost use Rattle.session.specs.Grammar.{Gives};
-ghost use Rattle.session.specs.Left.{next};
-ghost use Rattle.session.specs.MoreGrammar.{choose_more, more_form, more_layer_kinds, more_layer_lines, more_line_of, more_object_lines, more_property_lines, more_tileset_lines, put_object_form, put_tileset_form, read_more, take_property_form};
+ghost use Rattle.session.specs.Grammar.{Gives, choose, read};
+ghost use Rattle.session.specs.Left.{fault_at, next};
+ghost use Rattle.session.specs.MoreGrammar.{extend_form, more_form, more_layer_kinds, more_layer_lines, more_line_of, more_object_lines, more_property_lines, more_tileset_lines, put_object_form, put_property_form, put_tileset_form, reparent_layer_form, reparent_object_form, take_property_form};
 ghost use Rattle.session.specs.MoreFaults.{IsMoreFaultAt};
-ghost use Rattle.session.specs.MoreLeft.{more_fault_at};
 ghost use Rattle.session.specs.MoreSpelling.{CanBeSpelledMore, more_spelling};
 ghost use Rattle.session.specs.WordFaults.{is_at_more_word};
 
@@ -21,8 +20,8 @@ use map_model::MoreLayerKind;
 use refusals::LineFault;
 
 fn add_layer<'a, T: Trail + Copy>(fields: &mut Fields<'a, T>) -> Result<MoreLine<'a>, LineFault>
-    ensures value { Gives (λ x. x) result (read_more (choose_more more_layer_kinds BadWord) fields.old.words) }
-    ensures place { IfErr result (λ _. fields.new.place ≡ more_fault_at (choose_more more_layer_kinds BadWord) (next fields.old.place) fields.old.words) }
+    ensures value { Gives (λ x. x) result (read (choose more_layer_kinds BadWord) fields.old.words) }
+    ensures place { IfErr result (λ _. fields.new.place ≡ fault_at (choose more_layer_kinds BadWord) (next fields.old.place) fields.old.words) }
 {
     let kind = match fields.word(Expected::AnyKind)? {
         "group" => MoreLayerKind::Group,
@@ -33,61 +32,108 @@ fn add_layer<'a, T: Trail + Copy>(fields: &mut Fields<'a, T>) -> Result<MoreLine
     Ok(MoreLine::AddLayer { kind, name })
 }
 
+fn reparent_layer<'a, T: Trail + Copy>(
+    fields: &mut Fields<'a, T>,
+) -> Result<MoreLine<'a>, LineFault>
+    ensures value { Gives (λ x. x) result (read reparent_layer_form fields.old.words) }
+    ensures place { IfErr result (λ _. fields.new.place ≡ fault_at reparent_layer_form (next fields.old.place) fields.old.words) }
+{
+    let layer = fields.number()?;
+    let group = fields.number()?;
+    let place = fields.number()?;
+    fields.end()?;
+    Ok(MoreLine::ReparentLayer {
+        layer,
+        group,
+        place,
+    })
+}
+
 // The line of layers that the words behind `layer` are.
 fn layer<'a, T: Trail + Copy>(fields: &mut Fields<'a, T>) -> Result<MoreLine<'a>, LineFault>
-    ensures value { Gives (λ x. x) result (read_more (choose_more more_layer_lines BadWord) fields.old.words) }
-    ensures place { IfErr result (λ _. fields.new.place ≡ more_fault_at (choose_more more_layer_lines BadWord) (next fields.old.place) fields.old.words) }
+    ensures value { Gives (λ x. x) result (read (choose more_layer_lines BadWord) fields.old.words) }
+    ensures place { IfErr result (λ _. fields.new.place ≡ fault_at (choose more_layer_lines BadWord) (next fields.old.place) fields.old.words) }
 {
     match fields.word(Expected::Action)? {
         "add" => add_layer(fields),
+        "into" => reparent_layer(fields),
         _ => Err(LineFault::BadWord),
     }
 }
 
 fn put_object<'a, T: Trail + Copy>(fields: &mut Fields<'a, T>) -> Result<MoreLine<'a>, LineFault>
-    ensures value { Gives (λ x. x) result (read_more put_object_form fields.old.words) }
-    ensures place { IfErr result (λ _. fields.new.place ≡ more_fault_at put_object_form (next fields.old.place) fields.old.words) }
+    ensures value { Gives (λ x. x) result (read put_object_form fields.old.words) }
+    ensures place { IfErr result (λ _. fields.new.place ≡ fault_at put_object_form (next fields.old.place) fields.old.words) }
 {
     let layer = fields.number()?;
     let json = fields.json()?;
     Ok(MoreLine::PutObject { layer, json })
 }
 
+fn reparent_object<'a, T: Trail + Copy>(
+    fields: &mut Fields<'a, T>,
+) -> Result<MoreLine<'a>, LineFault>
+    ensures value { Gives (λ x. x) result (read reparent_object_form fields.old.words) }
+    ensures place { IfErr result (λ _. fields.new.place ≡ fault_at reparent_object_form (next fields.old.place) fields.old.words) }
+{
+    let object = fields.number()?;
+    let layer = fields.number()?;
+    let place = fields.number()?;
+    fields.end()?;
+    Ok(MoreLine::ReparentObject {
+        object,
+        layer,
+        place,
+    })
+}
+
 // The line of objects that the words behind `object` are.
 fn object<'a, T: Trail + Copy>(fields: &mut Fields<'a, T>) -> Result<MoreLine<'a>, LineFault>
-    ensures value { Gives (λ x. x) result (read_more (choose_more more_object_lines BadWord) fields.old.words) }
-    ensures place { IfErr result (λ _. fields.new.place ≡ more_fault_at (choose_more more_object_lines BadWord) (next fields.old.place) fields.old.words) }
+    ensures value { Gives (λ x. x) result (read (choose more_object_lines BadWord) fields.old.words) }
+    ensures place { IfErr result (λ _. fields.new.place ≡ fault_at (choose more_object_lines BadWord) (next fields.old.place) fields.old.words) }
 {
     match fields.word(Expected::Action)? {
         "put" => put_object(fields),
+        "into" => reparent_object(fields),
         _ => Err(LineFault::BadWord),
     }
 }
 
 #[tactic(auto, unfolding(crate::specs::Grammar::word_at))]
 fn take_property<'a, T: Trail + Copy>(fields: &mut Fields<'a, T>) -> Result<MoreLine<'a>, LineFault>
-    ensures value { Gives (λ x. x) result (read_more take_property_form fields.old.words) }
-    ensures place { IfErr result (λ _. fields.new.place ≡ more_fault_at take_property_form (next fields.old.place) fields.old.words) }
+    ensures value { Gives (λ x. x) result (read take_property_form fields.old.words) }
+    ensures place { IfErr result (λ _. fields.new.place ≡ fault_at take_property_form (next fields.old.place) fields.old.words) }
 {
     let owner = known(owner(fields.word(Expected::Owner)?))?;
     let json = fields.json()?;
     Ok(MoreLine::TakeProperty { owner, json })
 }
 
+#[tactic(auto, unfolding(crate::specs::Grammar::word_at))]
+fn put_property<'a, T: Trail + Copy>(fields: &mut Fields<'a, T>) -> Result<MoreLine<'a>, LineFault>
+    ensures value { Gives (λ x. x) result (read put_property_form fields.old.words) }
+    ensures place { IfErr result (λ _. fields.new.place ≡ fault_at put_property_form (next fields.old.place) fields.old.words) }
+{
+    let owner = known(owner(fields.word(Expected::Owner)?))?;
+    let json = fields.json()?;
+    Ok(MoreLine::PutProperty { owner, json })
+}
+
 // The line of properties that the words behind `prop` are.
 fn property<'a, T: Trail + Copy>(fields: &mut Fields<'a, T>) -> Result<MoreLine<'a>, LineFault>
-    ensures value { Gives (λ x. x) result (read_more (choose_more more_property_lines BadWord) fields.old.words) }
-    ensures place { IfErr result (λ _. fields.new.place ≡ more_fault_at (choose_more more_property_lines BadWord) (next fields.old.place) fields.old.words) }
+    ensures value { Gives (λ x. x) result (read (choose more_property_lines BadWord) fields.old.words) }
+    ensures place { IfErr result (λ _. fields.new.place ≡ fault_at (choose more_property_lines BadWord) (next fields.old.place) fields.old.words) }
 {
     match fields.word(Expected::Action)? {
         "take" => take_property(fields),
+        "put" => put_property(fields),
         _ => Err(LineFault::BadWord),
     }
 }
 
 fn put_tileset<'a, T: Trail + Copy>(fields: &mut Fields<'a, T>) -> Result<MoreLine<'a>, LineFault>
-    ensures value { Gives (λ x. x) result (read_more put_tileset_form fields.old.words) }
-    ensures place { IfErr result (λ _. fields.new.place ≡ more_fault_at put_tileset_form (next fields.old.place) fields.old.words) }
+    ensures value { Gives (λ x. x) result (read put_tileset_form fields.old.words) }
+    ensures place { IfErr result (λ _. fields.new.place ≡ fault_at put_tileset_form (next fields.old.place) fields.old.words) }
 {
     let json = fields.json()?;
     Ok(MoreLine::PutTileset { json })
@@ -95,8 +141,8 @@ fn put_tileset<'a, T: Trail + Copy>(fields: &mut Fields<'a, T>) -> Result<MoreLi
 
 // The line of tilesets that the words behind `tileset` are.
 fn tileset<'a, T: Trail + Copy>(fields: &mut Fields<'a, T>) -> Result<MoreLine<'a>, LineFault>
-    ensures value { Gives (λ x. x) result (read_more (choose_more more_tileset_lines BadWord) fields.old.words) }
-    ensures place { IfErr result (λ _. fields.new.place ≡ more_fault_at (choose_more more_tileset_lines BadWord) (next fields.old.place) fields.old.words) }
+    ensures value { Gives (λ x. x) result (read (choose more_tileset_lines BadWord) fields.old.words) }
+    ensures place { IfErr result (λ _. fields.new.place ≡ fault_at (choose more_tileset_lines BadWord) (next fields.old.place) fields.old.words) }
 {
     match fields.word(Expected::Action)? {
         "put" => put_tileset(fields),
@@ -104,12 +150,29 @@ fn tileset<'a, T: Trail + Copy>(fields: &mut Fields<'a, T>) -> Result<MoreLine<'
     }
 }
 
+fn extend<'a, T: Trail + Copy>(fields: &mut Fields<'a, T>) -> Result<MoreLine<'a>, LineFault>
+    ensures value { Gives (λ x. x) result (read extend_form fields.old.words) }
+    ensures place { IfErr result (λ _. fields.new.place ≡ fault_at extend_form (next fields.old.place) fields.old.words) }
+{
+    let left = fields.number()?;
+    let top = fields.number()?;
+    let right = fields.number()?;
+    let bottom = fields.number()?;
+    fields.end()?;
+    Ok(MoreLine::Extend {
+        left,
+        top,
+        right,
+        bottom,
+    })
+}
+
 fn more<'a, T: Trail + Copy>(
     name: &str,
     fields: &mut Fields<'a, T>,
 ) -> Result<MoreLine<'a>, LineFault>
-    ensures value { Gives (λ x. x) result (read_more more_form (name.now ∷ fields.old.words)) }
-    ensures place { IfErr result (λ _. fields.new.place ≡ more_fault_at more_form fields.old.place (name.now ∷ fields.old.words)) }
+    ensures value { Gives (λ x. x) result (read more_form (name.now ∷ fields.old.words)) }
+    ensures place { IfErr result (λ _. fields.new.place ≡ fault_at more_form fields.old.place (name.now ∷ fields.old.words)) }
 {
     match name {
         "member" => member(fields),
@@ -117,6 +180,7 @@ fn more<'a, T: Trail + Copy>(
         "object" => object(fields),
         "prop" => property(fields),
         "tileset" => tileset(fields),
+        "extend" => extend(fields),
         _ => Err(LineFault::UnknownCommand),
     }
 }

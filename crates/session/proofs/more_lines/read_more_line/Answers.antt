@@ -1,11 +1,12 @@
 use Rattle.std.proofs.Common.{◌≡◌, ◌≤◌, ◌∷◌, true, false, length, sym, ap, ◌∙◌, arith}
 use Rattle.session.specs.declared.limits.TheConstants.{MAX_LINE}
+use Rattle.session.specs.Grammar.{read}
 use Rattle.session.specs.Left.{next}
-use Rattle.session.specs.MoreGrammar.{more_form, read_more}
+use Rattle.session.specs.MoreGrammar.{more_form}
 use Rattle.session.specs.WordFaults.{is_at_more_word}
 use Rattle.session.specs.Words.{words}
 use Rattle.session.proofs.Faults.{next_first}
-use Rattle.session.proofs.MoreCutting.{more_checked, more_refused}
+use Rattle.session.proofs.FirstChecks.{more_checked, more_refused}
 use Rattle.session.proofs.MoreFaults.{more_told}
 use Rattle.session.proofs.MoreForms.{given_more_spelled}
 use Rattle.session.proofs.more_lines.read_more_line.Goals as goal
@@ -20,8 +21,8 @@ returns-clause-value g c =
     let bytes = c.args.bytes.now in
     let short : length bytes ≤ MAX_LINE = omega (arith, c.if-bytes-gt-MAX_LINE.false) in
     let e = more_checked bytes short c.in-Some.ensures.some.1
-    ∙ ap (read_more more_form) (ap words (sym c.in-Some.ensures.some.0) ∙ c.cut.ensures.pieces)
-    ∙ ap (λ left. read_more more_form (c.cut.result.0.now ∷ left)) (sym c.begin.ensures.words) in
+    ∙ ap (read more_form) (ap words (sym c.in-Some.ensures.some.0) ∙ c.cut.ensures.pieces)
+    ∙ ap (λ left. read more_form (c.cut.result.0.now ∷ left)) (sym c.begin.ensures.words) in
     rw e c.more.ensures.value
 
 pub returns-clause-spelled : goal.returns-clause-spelled

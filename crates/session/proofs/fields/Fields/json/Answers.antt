@@ -2,9 +2,9 @@ use Rattle.std.proofs.Common.{Ok, Err, cond, length, sym, ap, ◌∙◌}
 use Rattle.std.proofs.lemmas.Bool.{eq-eqb, ne_eqb}
 use Rattle.refusals.specs.declared.line_fault.LineFault.TheVariants.{BadWord}
 use Rattle.session.specs.Left.{Left}
-use Rattle.session.specs.MoreGrammar.{last_json_at}
+use Rattle.session.specs.Grammar.{last_json_at}
 use Rattle.session.specs.Words.{words_left}
-use Rattle.session.proofs.MoreCutting.{json_of_words}
+use Rattle.session.proofs.Cutting.{json_of_words}
 use Rattle.session.proofs.fields.Fields.json.Goals as goal
 
 pub returns-in_default-clause-value : goal.returns-in_default-clause-value
