@@ -24,10 +24,11 @@ use Rattle.map_model.specs.Lookups.{cell_of, with_layer}
 use Rattle.map_model.specs.Objects.{layer_with_objects, object_place}
 use Rattle.map_model.specs.Properties.{layer_with_properties, object_with_properties}
 use Rattle.map_model.specs.PropertyLenses.{properties, setting, setting_at, setting_named, setting_place}
-use Rattle.map_model.specs.Slot.{Slot, layer_slot, next_layer_slot, next_slot_in, slot_in}
+use Rattle.map_model.specs.Slot.{Slot, layer_slot, next_layer_slot, next_slot_in, object_slot, slot_in}
 use Rattle.map_model.proofs.ObjectKeeps.{group_in-objects}
 use Rattle.command_api.specs.Exchange.{Exchange, change_of}
 use Rattle.command_api.specs.Link.{linked}
+use Rattle.command_api.specs.Move.{moved, with_some}
 use Rattle.command_api.specs.Names.{Names}
 use Rattle.command_api.specs.Swap.{put_held}
 use Rattle.layer_commands.specs.declared.add.AddLayer.{AddLayer}
@@ -46,10 +47,14 @@ use Rattle.member_commands.specs.Objects.{object_heads}
 use Rattle.object_commands.specs.declared.add.AddObject.{AddObject}
 use Rattle.object_commands.specs.declared.place.PlaceObject.{PlaceObject}
 use Rattle.object_commands.specs.declared.remove.RemoveObject.{RemoveObject}
+use Rattle.object_commands.specs.declared.reparent.ReparentObject.{ReparentObject}
 use Rattle.object_commands.specs.Changes.{add_object_change, add_object_exchange, place_object_change, place_object_exchange, remove_object_change}
-use Rattle.object_commands.specs.Changes.{remove_object_exchange}
+use Rattle.object_commands.specs.Changes.{remove_object_exchange, reparent_object_change, reparent_object_exchange}
 use Rattle.paint_commands.specs.declared.select.SelectCommand.{SelectCommand}
 use Rattle.paint_commands.specs.Selection.{select_change, select_exchange}
+use Rattle.property_commands.specs.declared.put.PutKind.{PutKind}
+use Rattle.property_commands.specs.declared.put.PutKind.TheVariants as put_kinds
+use Rattle.property_commands.specs.declared.put.PutProperty.{PutProperty}
 use Rattle.property_commands.specs.declared.remove.RemoveProperty.{RemoveProperty}
 use Rattle.property_commands.specs.declared.set.SetKind.{SetKind}
 use Rattle.property_commands.specs.declared.set.SetKind.TheVariants.{Replace, Add}
@@ -57,6 +62,7 @@ use Rattle.property_commands.specs.declared.set.SetProperty.{SetProperty}
 use Rattle.property_commands.specs.declared.tilesets.AddTileset.{AddTileset}
 use Rattle.property_commands.specs.declared.tilesets.RemoveTileset.{RemoveTileset}
 use Rattle.property_commands.specs.PropertyChanges.{property_set_exchange, remove_property_change, remove_property_exchange, set_kind_exchange}
+use Rattle.property_commands.specs.PropertyChanges.{held_property, property_in, put_kind_exchange, put_property_change, put_property_exchange}
 use Rattle.property_commands.specs.PropertyChanges.{set_property_change}
 use Rattle.property_commands.specs.Names.{set_property_names}
 use Rattle.property_commands.specs.TilesetChanges.{add_tileset_change, add_tileset_exchange, remove_tileset_change, remove_tileset_exchange}
@@ -189,6 +195,18 @@ linked-keeps s None puts takes = takes
 linked-keeps s (Some None) puts takes = same-keeps
 linked-keeps s (Some (Some x)) puts takes = puts x
 
+some-keeps : {X : Type 0} (s : Slot X) (o : Option X) → ((x : X) → KeepsCells (s.with_item x)) → KeepsCells (with_some s o)
+some-keeps s None puts = same-keeps
+some-keeps s (Some x) puts = puts x
+
+-- what is taken out of one slot goes into another
+moved-keeps : {X : Type 0} (s t : Slot X) → ((x : X) → KeepsCells (t.with_item x)) → KeepsCells s.without_item → KeepsCells (moved s t)
+moved-keeps s t puts takes = record {
+  selection = λ d. (twice-keeps _ _ (some-keeps t (s.item d) puts) takes).selection d;
+  layers = λ d. (twice-keeps _ _ (some-keeps t (s.item d) puts) takes).layers d;
+  cells = λ d. (twice-keeps _ _ (some-keeps t (s.item d) puts) takes).cells d;
+}
+
 slot-keeps : {X : Type 0} (p : Lens DocumentParts (List X)) (at : ℕ) (held : Option (Option X)) → KeepsCellsAt p → KeepsCells (linked (slot_in p at) held)
 slot-keeps p at held keeps = linked-keeps (slot_in p at) held (λ x. keeps (λ xs. insert xs at x)) (keeps (λ xs. remove xs at))
 
@@ -213,6 +231,11 @@ remove_object-covers : (c : RemoveObject) → Covers outline_differs (remove_obj
 remove_object-covers c = outline-covers (remove_object_exchange c)
     (slot-keeps (layer_objects c.place.layer) c.place.at c.object (layer_objects-keeps c.place.layer))
 
+reparent_object-covers : (c : ReparentObject) → Covers outline_differs (reparent_object_change c)
+reparent_object-covers c = outline-covers (reparent_object_exchange c)
+    (moved-keeps (object_slot c.from) (object_slot c.to) (λ o. layer_objects-keeps c.to.layer (λ os. insert os c.to.at o))
+    (layer_objects-keeps c.from.layer (λ os. remove os c.from.at)))
+
 place_object-covers : (c : PlaceObject) → Covers outline_differs (place_object_change c)
 place_object-covers c = outline-covers (place_object_exchange c) (placing-keeps c.object (λ own. c.placing))
 
@@ -235,6 +258,14 @@ set_property-covers c =
     let set = c.set.value in
     outline-covers (property_set_exchange set)
     (set-keeps (set_property_names set.owner set.name set.follows) set.owner set.name set.place set.at (given_setting set.shown) set.kind)
+
+put-keeps : (place : OwnerPlace) (at : ℕ) (kind : PutKind) → KeepsCells (put_kind_exchange place at kind).exchanged
+put-keeps place at (put_kinds.Replace held is_made is_same) =
+    held-keeps (property_in place at) (held_property held) (λ f. properties-keeps place (change_at at f))
+put-keeps place at (put_kinds.Add new) = slot-keeps (properties place) at new (properties-keeps place)
+
+put_property-covers : (c : PutProperty) → Covers outline_differs (put_property_change c)
+put_property-covers c = outline-covers (put_property_exchange c) (put-keeps c.place c.at c.kind)
 
 remove_property-covers : (c : RemoveProperty) → Covers outline_differs (remove_property_change c)
 remove_property-covers c = outline-covers (remove_property_exchange c) (slot-keeps (properties c.owner) c.at c.property (properties-keeps c.owner))
@@ -302,7 +333,8 @@ IsOf {C = C} kind e = (command : C) × (e ≡ kind command)
 pub outline_edit-covers : (e : Edit)
     → IsOf edits.RenameLayer e ⊎ (IsOf edits.ShowLayer e ⊎ (IsOf edits.AddObject e ⊎ (IsOf edits.RemoveObject e ⊎ (IsOf edits.PlaceObject e
     ⊎ (IsOf edits.SetProperty e ⊎ (IsOf edits.RemoveProperty e ⊎ (IsOf edits.AddTileset e
-    ⊎ (IsOf edits.RemoveTileset e ⊎ (IsOf edits.SetObjectHead e ⊎ (IsOf edits.SetLayerHead e ⊎ IsOf edits.SetMapHead e))))))))))
+    ⊎ (IsOf edits.RemoveTileset e ⊎ (IsOf edits.SetObjectHead e ⊎ (IsOf edits.SetLayerHead e ⊎ (IsOf edits.SetMapHead e
+    ⊎ (IsOf edits.ReparentObject e ⊎ IsOf edits.PutProperty e))))))))))))
     → Covers outline_differs (edit_change e)
 outline_edit-covers e (inl h) = rw h.1 (rename-covers h.0)
 outline_edit-covers e (inr (inl h)) = rw h.1 (show-covers h.0)
@@ -315,7 +347,9 @@ outline_edit-covers e (inr (inr (inr (inr (inr (inr (inr (inl h)))))))) = rw h.1
 outline_edit-covers e (inr (inr (inr (inr (inr (inr (inr (inr (inl h))))))))) = rw h.1 (remove_tileset-covers h.0)
 outline_edit-covers e (inr (inr (inr (inr (inr (inr (inr (inr (inr (inl h)))))))))) = rw h.1 (set_object_head-covers h.0.value)
 outline_edit-covers e (inr (inr (inr (inr (inr (inr (inr (inr (inr (inr (inl h))))))))))) = rw h.1 (set_layer_head-covers h.0.value)
-outline_edit-covers e (inr (inr (inr (inr (inr (inr (inr (inr (inr (inr (inr h))))))))))) = rw h.1 (set_map_head-covers h.0.value)
+outline_edit-covers e (inr (inr (inr (inr (inr (inr (inr (inr (inr (inr (inr (inl h)))))))))))) = rw h.1 (set_map_head-covers h.0.value)
+outline_edit-covers e (inr (inr (inr (inr (inr (inr (inr (inr (inr (inr (inr (inr (inl h))))))))))))) = rw h.1 (reparent_object-covers h.0)
+outline_edit-covers e (inr (inr (inr (inr (inr (inr (inr (inr (inr (inr (inr (inr (inr h))))))))))))) = rw h.1 (put_property-covers h.0)
 
 pub layer_edit-covers : (e : Edit) → IsOf edits.AddLayer e ⊎ (IsOf edits.RemoveLayer e ⊎ IsOf edits.MoveLayer e) → Covers layers_differ (edit_change e)
 layer_edit-covers e (inl h) = rw h.1 (add_layer-covers h.0)

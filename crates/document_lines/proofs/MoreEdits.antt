@@ -2,6 +2,7 @@
 use Rattle.std.proofs.Common.{◌≡◌, Result, Ok, Err, Bool, inl, inr, refl, sym, ap, ◌∙◌, subst}
 use Rattle.std.specs.Prelude.{IfOk, IfErr, IsOkAnd, MatchResult}
 use Rattle.map_model.specs.Document.{DocumentParts}
+use Rattle.refusals.specs.declared.edit_fault.EditFault.{EditFault}
 use Rattle.refusals.specs.declared.edit_fault.EditFault.TheVariants.{NoMemory}
 use Rattle.refusals.specs.declared.more_fault.MoreFault.{MoreFault}
 use Rattle.refusals.specs.declared.more_fault.MoreFault.TheVariants as faults
@@ -15,6 +16,8 @@ use Rattle.undo_stack.specs.History.{step_named}
 use Rattle.document_lines.specs.declared.planned.Edit.{Edit}
 use Rattle.document_lines.specs.declared.planned.Planned.{Planned}
 use Rattle.document_lines.specs.declared.planned.Planned.TheVariants as planned
+use Rattle.document_lines.specs.Acts.{answer_of}
+use Rattle.document_lines.specs.GivenEdits.{made}
 use Rattle.document_lines.specs.MoreRules.{more_answer_of}
 use Rattle.document_lines.specs.Planning.{PlansCommand, PlansEdit, PlansMade, edit_change, more_plan_of, refused}
 use Rattle.document_lines.proofs.SameChanges.{same-IsSame}
@@ -59,3 +62,8 @@ mapped-PlansEdit wrap names d early after (Ok k) (Err e) is r m = absurd m
 mapped-PlansEdit wrap names d early after (Err fault) edit is r m =
     let P : Result Edit MoreFault → Type 0 = λ x. PlansEdit (more_answer_of names after) d (more_plan_of x) in
     subst P (sym m) (refused-PlansEdit names d early after fault r)
+
+-- the answer of an edit that no text of the line refuses
+pub edit-answer : (names : Names) (after : Result DocumentParts EditFault) → more_answer_of names (made after) ≡ answer_of names after
+edit-answer names (Ok d) = refl
+edit-answer names (Err fault) = refl

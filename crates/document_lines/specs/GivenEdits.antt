@@ -7,10 +7,11 @@ use Rattle.map_model.specs.Document.{DocumentParts}
 use Rattle.map_model.specs.Lookups.{layer_of}
 use Rattle.map_model.specs.Objects.{object_place}
 use Rattle.map_json.specs.declared.given.GivenObject.{GivenObject}
-use Rattle.map_json.specs.Given.{given_object_at, given_text_at, given_tileset_at}
+use Rattle.map_json.specs.Given.{given_object_at, given_property_at, given_text_at, given_tileset_at}
 use Rattle.edits.specs.ObjectEdits.{after_put_object, objects_or_fault}
 use Rattle.edits.specs.PropertyEdits.{after_remove_property, owner_or_fault}
 use Rattle.edits.specs.TilesetEdits.{after_put_tileset}
+use Rattle.property_commands.specs.PutEdits.{after_put_property}
 use Rattle.member_commands.specs.Edits.{◌>>=◌, check, said}
 use Rattle.refusals.specs.declared.edit_fault.EditFault.{EditFault}
 use Rattle.refusals.specs.declared.map_refusal.MapRefusal.TheVariants.{IdUsedTwice}
@@ -39,6 +40,13 @@ abbrev pub after_tileset_text : DocumentParts → List ℕ → Result DocumentPa
 after_tileset_text d json =
     said (given_tileset_at json) >>= λ tileset.
     made (after_put_tileset d tileset)
+
+-- a property takes the place of the one with its name, or goes last
+abbrev pub after_property_text : DocumentParts → Owner → List ℕ → Result DocumentParts MoreFault
+after_property_text d owner json =
+    made (owner_or_fault d.map owner) >>= λ place.
+    said (given_property_at json) >>= λ property.
+    made (after_put_property d owner property)
 
 -- the property whose name a JSON text says is taken out
 abbrev pub after_take_property : DocumentParts → Owner → List ℕ → Result DocumentParts MoreFault

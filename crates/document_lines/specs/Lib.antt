@@ -4,6 +4,7 @@ pub mod Acts
 pub mod Rules
 pub mod EditLines
 pub mod GivenEdits
+pub mod PlaceEdits
 pub mod Planning
 pub mod Turns
 pub mod Kinds

@@ -3,10 +3,11 @@ use Rattle.std.specs.Prelude.{List, ℕ, Result, Ok, Err}
 use Rattle.map_model.specs.declared.owner.MemberOwner.TheVariants as owners
 use Rattle.map_model.specs.Document.{DocumentParts}
 use Rattle.command_api.specs.Names.{Names}
-use Rattle.edits.specs.LayerEdits.{after_add_more}
-use Rattle.layer_commands.specs.Names.{add_names}
-use Rattle.object_commands.specs.Names.{add_object_names}
-use Rattle.property_commands.specs.Names.{add_tileset_names, remove_property_names}
+use Rattle.edits.specs.LayerEdits.{after_add_more, after_layer_into}
+use Rattle.edits.specs.ObjectEdits.{after_object_into}
+use Rattle.layer_commands.specs.Names.{add_names, move_names, resize_names}
+use Rattle.object_commands.specs.Names.{add_object_names, reparent_object_names}
+use Rattle.property_commands.specs.Names.{add_tileset_names, put_property_names, remove_property_names}
 use Rattle.member_commands.specs.Edits.{after_put_members, after_remove_member, after_set_member}
 use Rattle.member_commands.specs.Names.{put_members_names, remove_member_names, set_member_names}
 use Rattle.member_commands.specs.Layers.{layer_heads}
@@ -23,11 +24,13 @@ use Rattle.refusals.specs.Layers.{refusal_of_more}
 use Rattle.session.specs.declared.line.Line.{Line}
 use Rattle.session.specs.declared.more_line.MoreLine.{MoreLine}
 use Rattle.session.specs.declared.more_line.MoreLine.TheVariants.{SetMember, PutMembers, RemoveMember, AddLayer, PutObject, TakeProperty, PutTileset}
+use Rattle.session.specs.declared.more_line.MoreLine.TheVariants.{ReparentObject, ReparentLayer, PutProperty, Extend}
 use Rattle.session.specs.Grammar.{line_of}
 use Rattle.session.specs.MoreGrammar.{more_line_of}
 use Rattle.document_lines.specs.Acts.{Act, Alone, OrNoMemory, Pushes, Refuses, WithActive}
-use Rattle.document_lines.specs.GivenEdits.{after_object_text, after_take_property, after_tileset_text, made}
+use Rattle.document_lines.specs.GivenEdits.{after_object_text, after_property_text, after_take_property, after_tileset_text, made}
 use Rattle.document_lines.specs.Machine.{Workspace, active_of}
+use Rattle.document_lines.specs.PlaceEdits.{after_extend, parent_of}
 use Rattle.document_lines.specs.Rules.{MachineStep, MachineStepIn}
 use Rattle.document_lines.specs.declared.dialect.Dialect.{Dialect}
 use Rattle.document_lines.specs.declared.dialect.Dialect.TheVariants.{Plain, AllEdits}
@@ -39,8 +42,12 @@ more_names_of (PutMembers owner json follows) = put_members_names owner follows
 more_names_of (RemoveMember owner name) = remove_member_names
 more_names_of (AddLayer kind name) = add_names
 more_names_of (PutObject layer json) = add_object_names
+more_names_of (ReparentObject object layer place) = reparent_object_names
+more_names_of (ReparentLayer layer group place) = move_names
+more_names_of (PutProperty owner json) = put_property_names
 more_names_of (TakeProperty owner json) = remove_property_names
 more_names_of (PutTileset json) = add_tileset_names
+more_names_of (Extend left top right bottom) = resize_names
 
 -- the document after it, or its refusal; members of tilesets have no edit yet
 abbrev pub after_more : MoreLine → DocumentParts → Result DocumentParts MoreFault
@@ -55,8 +62,12 @@ after_more (PutMembers owners.Map json follows) d = after_put_members map_heads 
 after_more (RemoveMember owners.Map name) d = after_remove_member map_heads d 0 name
 after_more (AddLayer kind name) d = made (after_add_more d kind name)
 after_more (PutObject layer json) d = after_object_text d layer json
+after_more (ReparentObject object layer place) d = made (after_object_into d object layer place)
+after_more (ReparentLayer layer group place) d = made (after_layer_into d layer (parent_of group) place)
+after_more (PutProperty owner json) d = after_property_text d owner json
 after_more (TakeProperty owner json) d = after_take_property d owner json
 after_more (PutTileset json) d = after_tileset_text d json
+after_more (Extend left top right bottom) d = made (after_extend d left top right bottom)
 after_more line d = Err MemberOfOtherLines
 
 -- the step of an edit with these names, or the edit's refusal

@@ -237,7 +237,9 @@ impl Edit {
             | Edit::RemoveTileset(_)
             | Edit::SetObjectHead(_)
             | Edit::SetLayerHead(_)
-            | Edit::SetMapHead(_) => Differences::of_outline(),
+            | Edit::SetMapHead(_)
+            | Edit::ReparentObject(_)
+            | Edit::PutProperty(_) => Differences::of_outline(),
         }
     }
 }

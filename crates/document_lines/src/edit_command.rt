@@ -29,6 +29,8 @@ macro_rules! with_command {
             Edit::SetObjectHead($command) => $call,
             Edit::SetLayerHead($command) => $call,
             Edit::SetMapHead($command) => $call,
+            Edit::ReparentObject($command) => $call,
+            Edit::PutProperty($command) => $call,
         }
     };
 }

@@ -1,9 +1,9 @@
 use layer_commands::{AddLayer, MoveLayer, RemoveLayer, RenameLayer, ResizeMap, ShowLayer};
 use map_model::{LayerHead, MapHead, ObjectHead};
 use member_commands::SetHead;
-use object_commands::{AddObject, PlaceObject, RemoveObject};
+use object_commands::{AddObject, PlaceObject, RemoveObject, ReparentObject};
 use paint_commands::{PaintCommand, SelectCommand};
-use property_commands::{AddTileset, RemoveProperty, RemoveTileset, SetProperty};
+use property_commands::{AddTileset, PutProperty, RemoveProperty, RemoveTileset, SetProperty};
 use session::Reply;
 
 /// An edit that is to be committed, as a command that fits the open document.
@@ -27,6 +27,8 @@ pub enum Edit {
     SetObjectHead(Box<SetHead<ObjectHead>>),
     SetLayerHead(Box<SetHead<LayerHead>>),
     SetMapHead(Box<SetHead<MapHead>>),
+    ReparentObject(ReparentObject),
+    PutProperty(PutProperty),
 }
 
 /// What is to be done for a line.

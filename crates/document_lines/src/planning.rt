@@ -13,6 +13,7 @@ mod edit_plans;
 mod edited_head;
 mod given_plans;
 mod member_plans;
+mod place_plans;
 
 use crate::planned::{Edit, Planned};
 use crate::planning::edit_plans::{
@@ -22,9 +23,10 @@ use crate::planning::edit_plans::{
     plan_set_property, plan_show_layer, plan_stamp,
 };
 use crate::planning::given_plans::{
-    plan_add_more_layer, plan_put_object, plan_put_tileset, plan_take_property,
+    plan_add_more_layer, plan_put_object, plan_put_property, plan_put_tileset, plan_take_property,
 };
 use crate::planning::member_plans::on_members;
+use crate::planning::place_plans::{plan_extend, plan_reparent_layer, plan_reparent_object};
 use crate::steps::{plan_answered, plan_begin, plan_limit, plan_show, plan_step_text, state_of};
 use crate::tile;
 use command_api::Command;
@@ -387,10 +389,33 @@ pub fn on_more_line<C: Command>(alloc: Global, stack: &mut Stack<C>, line: &More
             stack.seek_layer(*layer);
             plan_put_object(alloc, stack.document(), *layer, json)
         }
+        MoreLine::ReparentObject {
+            object,
+            layer,
+            place,
+        } => {
+            stack.seek_object(*object);
+            plan_reparent_object(stack.document(), *object, *layer, *place)
+        }
+        MoreLine::ReparentLayer {
+            layer,
+            group,
+            place,
+        } => plan_reparent_layer(stack.document(), *layer, *group, *place),
+        MoreLine::PutProperty { owner, json } => {
+            seek_owner(stack, *owner);
+            plan_put_property(alloc, stack.document(), *owner, json)
+        }
         MoreLine::TakeProperty { owner, json } => {
             seek_owner(stack, *owner);
             plan_take_property(alloc, stack.document(), *owner, json)
         }
         MoreLine::PutTileset { json } => plan_put_tileset(alloc, stack.document(), json),
+        MoreLine::Extend {
+            left,
+            top,
+            right,
+            bottom,
+        } => plan_extend(alloc, stack.document(), *left, *top, *right, *bottom),
     }
 }

@@ -60,6 +60,8 @@ impl Edit {
             Edit::SetObjectHead(command) => Subject::of_members(command.owner()),
             Edit::SetLayerHead(command) => Subject::of_members(command.owner()),
             Edit::SetMapHead(command) => Subject::of_members(command.owner()),
+            Edit::ReparentObject(command) => Subject::Object(command.object()),
+            Edit::PutProperty(command) => Subject::of_owner(command.owner()),
         }
     }
 }

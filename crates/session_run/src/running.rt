@@ -357,6 +357,8 @@ pub fn run_lines<R: Read, W: Write, S: MapStore>(
             Edit::SetObjectHead(command) => Some(command),
             Edit::SetLayerHead(command) => Some(command),
             Edit::SetMapHead(command) => Some(command),
+            Edit::ReparentObject(command) => Some(boxed(alloc, command)?),
+            Edit::PutProperty(command) => Some(boxed(alloc, command)?),
         }
     };
     let stopped = match step_all(

@@ -7,7 +7,7 @@ type Case = (&'static str, usize, usize, &'static str);
 
 const OWNER: &str = "word 3 is not map, or layer: or object: or tileset: and an id";
 
-const AT_FAULT: [Case; 31] = [
+const AT_FAULT: [Case; 36] = [
     ("frob 1", 0, 4, "word 1 is not a command"),
     ("layers add group a", 0, 6, "word 1 is not a command"),
     (
@@ -92,9 +92,29 @@ const AT_FAULT: [Case; 31] = [
     ("object put 2", 12, 0, "word 4 is missing: a JSON text"),
     ("object put 2 ", 13, 0, "word 4 is not a JSON text"),
     (
-        "prop put map {}",
+        "object into 1 2 x",
+        16,
+        1,
+        "word 5 is not a whole number from 0 to 4294967295, with no zero in front",
+    ),
+    (
+        "layer into 1 0",
+        14,
+        0,
+        "word 5 is missing: a whole number from 0 to 4294967295, with no zero in front",
+    ),
+    ("extend 0 0 1 1 1", 15, 1, "word 6 is one too many"),
+    (
+        "extend 0 0 1 -1",
+        13,
+        2,
+        "word 5 is not a whole number from 0 to 4294967295, with no zero in front",
+    ),
+    ("prop put map", 12, 0, "word 4 is missing: a JSON text"),
+    (
+        "prop frob map {}",
         5,
-        3,
+        4,
         "word 2 is not a word that a form has there",
     ),
     (
@@ -132,7 +152,7 @@ const AT_FAULT: [Case; 31] = [
 ];
 
 // They are read by one of both, or refused as a whole.
-const WITHOUT: [&str; 16] = [
+const WITHOUT: [&str; 20] = [
     "",
     "# layer add",
     "undo",
@@ -144,6 +164,10 @@ const WITHOUT: [&str; 16] = [
     "prop take object:1 \"two words\"",
     "prop take map x",
     "prop set map a int 1",
+    "prop put map {}",
+    "object into 1 2 0",
+    "layer into 1 0 0",
+    "extend 0 0 1 1",
     "tileset put [",
     "tileset add 1 a",
     "member set tileset:1 name  1",

@@ -79,9 +79,13 @@ Further lines, with --all-edits:
   member remove OWNER KEY
   layer add group NAME
   layer add image NAME
+  layer into LAYER GROUP PLACE
   object put LAYER JSON
+  object into OBJECT LAYER PLACE
+  prop put OWNER JSON
   prop take OWNER JSON
   tileset put JSON
+  extend LEFT TOP RIGHT BOTTOM
 
 Exit status:
   0  the input has ended, or help or the version was asked for

@@ -6,21 +6,21 @@ ghost use Rattle.layer_commands.specs.Names.{add_names};
 ghost use Rattle.member_commands.specs.Edits.{IsMoreRefusalOf};
 ghost use Rattle.object_commands.specs.Changes.{add_object_change};
 ghost use Rattle.object_commands.specs.Names.{add_object_names};
-ghost use Rattle.property_commands.specs.Names.{add_tileset_names, remove_property_names};
-ghost use Rattle.property_commands.specs.PropertyChanges.{remove_property_change};
+ghost use Rattle.property_commands.specs.Names.{add_tileset_names, put_property_names, remove_property_names};
+ghost use Rattle.property_commands.specs.PropertyChanges.{put_property_change, remove_property_change};
 ghost use Rattle.property_commands.specs.TilesetChanges.{add_tileset_change};
-ghost use Rattle.document_lines.specs.GivenEdits.{after_object_text, after_take_property, after_tileset_text, made};
+ghost use Rattle.document_lines.specs.GivenEdits.{after_object_text, after_property_text, after_take_property, after_tileset_text, made};
 ghost use Rattle.document_lines.specs.MoreRules.{more_answer_of};
 ghost use Rattle.document_lines.specs.Planning.{PlansEdit, more_plan_of};
 
 use crate::planned::{Edit, Planned};
 use crate::planning::{planned, refused};
 use layer_commands::AddLayer;
-use map_json::{given_object, given_text, given_tileset};
+use map_json::{given_object, given_property, given_text, given_tileset};
 use map_model::{Document, MoreLayerKind, Owner};
 use member_commands::more_fault;
 use object_commands::{AddObject, objects_of_layer};
-use property_commands::{AddTileset, RemoveProperty, place_of};
+use property_commands::{AddTileset, PutProperty, RemoveProperty, place_of};
 use refusals::{MapRefusal, MoreFault, Refusal};
 use session::Text;
 use std::alloc::Global;
@@ -101,6 +101,41 @@ pub fn plan_put_tileset(alloc: Global, document: &Document, json: &Text<'_>) -> 
     ensures { PlansEdit (more_answer_of add_tileset_names (after_tileset_text document.now json.now)) document.now result }
 {
     planned_more(put_tileset(alloc, document, json.as_str()).map(Edit::AddTileset))
+}
+
+// The command that puts in the property that a JSON text says.
+fn put_property(
+    alloc: Global,
+    document: &Document,
+    owner: Owner,
+    json: &str,
+) -> Result<PutProperty, MoreFault>
+    ensures command { IfOk result (λ c. Makes put_property_names document.now (after_property_text document.now owner json.now) (put_property_change c)) }
+    ensures refusal { IfErr result (IsMoreRefusalOf (λ fault. false) (after_property_text document.now owner json.now)) }
+{
+    if let Err(fault) = place_of(document.map(), owner) {
+        return Err(MoreFault::Edit(fault));
+    }
+    let property = match given_property(alloc, json) {
+        Ok(property) => property,
+        Err(fault) => return Err(more_fault(fault)),
+    };
+    match PutProperty::new(alloc, document, owner, property) {
+        Ok(command) => Ok(command),
+        Err(fault) => Err(MoreFault::Edit(fault)),
+    }
+}
+
+#[inline(never)]
+pub fn plan_put_property(
+    alloc: Global,
+    document: &Document,
+    owner: Owner,
+    json: &Text<'_>,
+) -> Planned
+    ensures { PlansEdit (more_answer_of put_property_names (after_property_text document.now owner json.now)) document.now result }
+{
+    planned_more(put_property(alloc, document, owner, json.as_str()).map(Edit::PutProperty))
 }
 
 // The command that takes out the property whose name a JSON text says.

@@ -224,25 +224,47 @@ impl Random {
         Ok(Spoken::other(text))
     }
 
-    // A line that adds a whole thing, or takes a property out.
+    // A line that adds a whole thing, or that sets a property or takes it out.
     fn put(&mut self, alloc: Global) -> Result<Spoken, AllocError> {
         let value = self.below(9);
-        let text = match self.below(6) {
+        let text = match self.below(7) {
             0 => format!(in alloc; "layer add group g{value}")?,
             1 => format!(in alloc; "layer add image i{value}")?,
             2 => format!(in alloc; "object put 3 {{\"x\":{value},\"ellipse\":true}}")?,
             3 => format!(in alloc; "object put 3 {{\"id\":{value}}}")?,
             4 => format!(in alloc; "prop take object:1 \"k\"")?,
+            5 => format!(in alloc; "prop put object:1 {{\"name\":\"k\",\"value\":\"v{value}\"}}")?,
             _ => format!(in alloc; "tileset put {{\"firstgid\":9{value}}}")?,
         };
         Ok(Spoken::other(text))
     }
 
+    // A line that gives an object or a layer another place, or the map more room.
+    fn into(&mut self, alloc: Global) -> Result<Spoken, AllocError> {
+        let (layer, place, group) = (self.layer(), self.below(3), self.below(8));
+        let (text, subject) = match self.below(4) {
+            0 => (
+                format!(in alloc; "object into 1 {layer} {place}")?,
+                Subject::Object(1),
+            ),
+            1 => (
+                format!(in alloc; "layer into {layer} 0 {place}")?,
+                Subject::Layer(layer),
+            ),
+            2 => (
+                format!(in alloc; "layer into {layer} {group} 0")?,
+                Subject::Layer(layer),
+            ),
+            _ => (format!(in alloc; "extend 0 {place} 1 0")?, Subject::Map),
+        };
+        Ok(Spoken::edit(text, Kind::Other, subject))
+    }
+
     fn for_all_edits(&mut self, alloc: Global) -> Result<Spoken, AllocError> {
-        if self.below(3) == 0 {
-            self.put(alloc)
-        } else {
-            self.member(alloc)
+        match self.below(4) {
+            0 => self.put(alloc),
+            1 => self.into(alloc),
+            _ => self.member(alloc),
         }
     }
 

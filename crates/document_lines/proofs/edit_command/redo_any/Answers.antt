@@ -90,3 +90,15 @@ redo-requires-in-RemoveTileset c = rw c.in-RemoveTileset.is at c.requires
 
 pub returns-in-RemoveTileset : goal.returns-in-RemoveTileset
 returns-in-RemoveTileset c = rw c.in-RemoveTileset.is c.redo-in-RemoveTileset.ensures
+
+pub redo-requires-in-ReparentObject : goal.redo-requires-in-ReparentObject
+redo-requires-in-ReparentObject c = rw c.in-ReparentObject.is at c.requires
+
+pub returns-in-ReparentObject : goal.returns-in-ReparentObject
+returns-in-ReparentObject c = rw c.in-ReparentObject.is c.redo-in-ReparentObject.ensures
+
+pub redo-requires-in-PutProperty : goal.redo-requires-in-PutProperty
+redo-requires-in-PutProperty c = rw c.in-PutProperty.is at c.requires
+
+pub returns-in-PutProperty : goal.returns-in-PutProperty
+returns-in-PutProperty c = rw c.in-PutProperty.is c.redo-in-PutProperty.ensures

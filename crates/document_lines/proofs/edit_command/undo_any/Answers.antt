@@ -90,3 +90,15 @@ undo-requires-in-RemoveTileset c = rw c.in-RemoveTileset.is at c.requires
 
 pub returns-in-RemoveTileset : goal.returns-in-RemoveTileset
 returns-in-RemoveTileset c = rw c.in-RemoveTileset.is c.undo-in-RemoveTileset.ensures
+
+pub undo-requires-in-ReparentObject : goal.undo-requires-in-ReparentObject
+undo-requires-in-ReparentObject c = rw c.in-ReparentObject.is at c.requires
+
+pub returns-in-ReparentObject : goal.returns-in-ReparentObject
+returns-in-ReparentObject c = rw c.in-ReparentObject.is c.undo-in-ReparentObject.ensures
+
+pub undo-requires-in-PutProperty : goal.undo-requires-in-PutProperty
+undo-requires-in-PutProperty c = rw c.in-PutProperty.is at c.requires
+
+pub returns-in-PutProperty : goal.returns-in-PutProperty
+returns-in-PutProperty c = rw c.in-PutProperty.is c.undo-in-PutProperty.ensures

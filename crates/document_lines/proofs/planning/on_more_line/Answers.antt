@@ -9,5 +9,15 @@ returns-in-PutObject-clause-plans g c =
 
 pub returns-in-TakeProperty-clause-plans : goal.returns-in-TakeProperty-clause-plans
 returns-in-TakeProperty-clause-plans g c =
-    let is = c.document-in-TakeProperty.ensures ∙ ap current c.seek_owner.ensures.same in
-    rw (c.in-TakeProperty.is, sym is) (c.plan_take_property.ensures, c.seek_owner.ensures.same)
+    let is = c.document-in-TakeProperty.ensures ∙ ap current c.seek_owner-in-TakeProperty.ensures.same in
+    rw (c.in-TakeProperty.is, sym is) (c.plan_take_property.ensures, c.seek_owner-in-TakeProperty.ensures.same)
+
+pub returns-in-PutProperty-clause-plans : goal.returns-in-PutProperty-clause-plans
+returns-in-PutProperty-clause-plans g c =
+    let is = c.document-in-PutProperty.ensures ∙ ap current c.seek_owner.ensures.same in
+    rw (c.in-PutProperty.is, sym is) (c.plan_put_property.ensures, c.seek_owner.ensures.same)
+
+pub returns-in-ReparentObject-clause-plans : goal.returns-in-ReparentObject-clause-plans
+returns-in-ReparentObject-clause-plans g c =
+    let is = c.document-in-ReparentObject.ensures ∙ ap current c.seek_object.ensures.same in
+    rw (c.in-ReparentObject.is, sym is) (c.plan_reparent_object.ensures, c.seek_object.ensures.same)

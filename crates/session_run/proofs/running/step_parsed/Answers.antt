@@ -48,6 +48,17 @@ returns-in-Some-clause-kinds g c =
     (c.requires.same m.edit (Some c.in-Some.command) c.in-Some.ensures) (machine_of change c.args.editor.now) (machine_of change m.editor) _ _ _ _
     kinds c.commit_told.ensures.kinds
 
+pub returns-in-Some-clause-sound : goal.returns-in-Some-clause-sound
+returns-in-Some-clause-sound g c =
+    let change = g.C.Command.change in
+    let m = c.match-parse_line in
+    let sound : IsSound change m.editor = elim m.branch [
+      | in-Ok+in-Push w ↦ rw w.editor-is (w.in-Push.ensures.sound c.requires.sound)
+      | in-Err+in-Ok-plan_refused w ↦ rw w.editor-is w.in-Ok-plan_refused.ensures.sound
+    ] in
+    let same = c.requires.same m.edit (Some c.in-Some.command) c.in-Some.ensures in
+    c.commit_told.ensures.sound sound (same-bound m.edit (change c.in-Some.command) same)
+
 pub returns-in-None-clause-sound : goal.returns-in-None-clause-sound
 returns-in-None-clause-sound g c =
     elim c.match-parse_line.branch [

@@ -36,3 +36,9 @@ returns-in-SetLayerHead-clause-unchanged c = rw (c.in-SetLayerHead.is, sym c.der
 
 pub returns-in-SetMapHead-clause-unchanged : goal.returns-in-SetMapHead-clause-unchanged
 returns-in-SetMapHead-clause-unchanged c = rw (c.in-SetMapHead.is, sym c.deref_mut-in-SetMapHead.ensures.value) c.merge-in-SetMapHead.ensures.unchanged
+
+pub returns-in-ReparentObject-clause-unchanged : goal.returns-in-ReparentObject-clause-unchanged
+returns-in-ReparentObject-clause-unchanged c = rw c.in-ReparentObject.is c.merge-in-ReparentObject.ensures.unchanged
+
+pub returns-in-PutProperty-clause-unchanged : goal.returns-in-PutProperty-clause-unchanged
+returns-in-PutProperty-clause-unchanged c = rw c.in-PutProperty.is c.merge-in-PutProperty.ensures.unchanged
