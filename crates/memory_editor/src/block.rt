@@ -4,6 +4,7 @@
 // undone may be cut by an edit, and what a step below that index took in can't be told from what it was. So the first are looked at
 // when they are undone, the second when it is merged, and the rest when it is asked for.
 
+use crate::edited::Edited;
 use crate::seen::{Seen, count_of, open_seen, steps_seen};
 use crate::standing::Standing;
 use editor::Edit;
@@ -19,7 +20,7 @@ pub struct LineDone<'a> {
     /// What became of its edit, where it was pushed.
     pub pushed: Option<Pushed>,
     /// What its edit changes, where that was merged into a step that stood there before the lines.
-    pub edited: &'a Seen,
+    pub edited: &'a Edited,
 }
 
 /// The lines of one call that were done.
@@ -60,13 +61,6 @@ impl Block {
         }
     }
 
-    /// The first line of a call is to be done, which may be its only one.
-    #[inline(always)]
-    pub fn awaits(&mut self, before: Standing) {
-        self.low = before.index;
-        self.is_lost = false;
-    }
-
     /// How it was before this line, which is the first one. The stack is the active one's behind the line.
     pub fn before(line: &LineDone<'_>, stack: Option<&Stack<Edit>>) -> Block {
         let entries = match stack {
@@ -104,9 +98,10 @@ impl Block {
         self.is_turn = false;
     }
 
-    /// Whether a line adds nothing that is to be kept: what it did lies in the steps above the lowest index, or it did nothing to them.
+    /// Takes a line in, where all that it did lies in the steps above the lowest index, or it did nothing to them, or it dropped the
+    /// first step. Says whether it is such a line: any other is to be added.
     #[inline(always)]
-    pub fn stays(&self, before: &Standing, now: &Standing, pushed: Option<Pushed>) -> bool {
+    pub fn takes(&mut self, before: &Standing, now: &Standing, pushed: Option<Pushed>) -> bool {
         if !before.has_documents_of(*now) || before.depth != 0 || now.depth != 0 {
             return false;
         }
@@ -114,7 +109,10 @@ impl Block {
             None => now.index == before.index || now.index > self.low,
             Some(Pushed::Added) => true,
             Some(Pushed::Nothing) => true,
-            Some(Pushed::AddedAndDropped) => false,
+            Some(Pushed::AddedAndDropped) => {
+                self.drop_first();
+                true
+            }
             Some(Pushed::Merged) => before.index > self.low,
             Some(Pushed::Gone) => now.index > self.low,
         }
@@ -127,6 +125,7 @@ impl Block {
     }
 
     // The first step is gone.
+    #[inline(always)]
     fn drop_first(&mut self) {
         self.dropped = self.dropped.saturating_add(1);
         if self.low == 0 {
@@ -144,7 +143,7 @@ impl Block {
             Pushed::AddedAndDropped => self.drop_first(),
             Pushed::Merged | Pushed::Gone => {
                 if !self.knows_last(&line.before) {
-                    self.below = self.below.joined(line.edited);
+                    self.below = self.below.joined(&line.edited.seen());
                 }
                 self.low = self.low.min(line.now.index);
             }

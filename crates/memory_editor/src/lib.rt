@@ -2,6 +2,7 @@
 #![tactic(auto)]
 
 mod block;
+mod edited;
 mod lines_done;
 mod listening;
 mod lookups;

@@ -2,10 +2,10 @@
 // rest is read from the steps that stand there when it is asked for.
 
 use crate::block::{Block, LineDone};
+use crate::edited::Edited;
 use crate::seen::{Seen, all_differences, last_seen, steps_seen};
 use crate::standing::Standing;
 use crate::told::Became;
-use command_api::{Command, Offer};
 use document_lines::{Differences, Subject};
 use editor::{Edit, Tell};
 use undo_stack::{Pushed, Stack};
@@ -99,8 +99,8 @@ pub struct Listening {
     last: Standing,
     /// What became of the last line's edit, where it was pushed.
     pushed: Option<Pushed>,
-    /// What the last line's edit changes, where it may be merged: the step that takes it in changes more.
-    edited: Seen,
+    /// The last line's edit, where it may be merged.
+    edited: Edited,
     /// Whether the call has done several lines.
     is_many: bool,
     /// Then, what the lines before the last one did.
@@ -115,7 +115,7 @@ impl Listening {
         Listening {
             last: Standing::empty(),
             pushed: None,
-            edited: Seen::nothing(),
+            edited: Edited::nothing(),
             is_many: false,
             block: Block::new(),
             word: None,
@@ -128,7 +128,6 @@ impl Listening {
         self.last = before;
         self.pushed = None;
         self.is_many = false;
-        self.block.awaits(before);
     }
 
     /// Whether no further line of the call changes what is told of its lines: they were about the documents.
@@ -140,11 +139,18 @@ impl Listening {
     /// A further line of a call is to be done. The documents stand so before it, and this is the stack of the active one.
     #[inline(always)]
     pub fn goes_on(&mut self, now: Standing, stack: Option<&Stack<Edit>>) {
-        if !self.is_many || !self.block.stays(&self.last, &now, self.pushed) {
+        let before = self.last;
+        if !self.is_many || !self.block.takes(&before, &now, self.pushed) {
             self.look_back(now, stack);
         }
         self.last = now;
         self.pushed = None;
+    }
+
+    // Whether what was done last before this line is of the lines of the call.
+    #[inline(always)]
+    fn knows_last(&self) -> bool {
+        self.is_many && self.block.knows_last(&self.last)
     }
 
     // What the line before did is added to what those before it did.
@@ -188,8 +194,8 @@ impl Listening {
             Some(Pushed::AddedAndDropped) => {
                 Done::of_entries(last_seen(stack), Became::Added).dropping()
             }
-            Some(Pushed::Merged) => Done::of_entries(self.edited, Became::Merged),
-            Some(Pushed::Gone) => Done::of_entries(self.edited, Became::Gone),
+            Some(Pushed::Merged) => Done::of_entries(self.edited.seen(), Became::Merged),
+            Some(Pushed::Gone) => Done::of_entries(self.edited.seen(), Became::Gone),
             Some(Pushed::Nothing) => Done::nothing(),
             None => Done::of_turn(stack, self.last, now),
         }
@@ -234,23 +240,12 @@ impl Listening {
     }
 }
 
-// Whether an edit may be merged: it offers something to the step below it. Most edits are paints, which say so at less cost.
-#[inline(always)]
-fn may_be_merged(edit: &Edit) -> bool {
-    if let Edit::Paint(paint) = edit {
-        return paint.follows();
-    }
-    match edit.offer() {
-        Offer::Nothing => false,
-        _ => true,
-    }
-}
-
 impl Tell for Listening {
+    #[inline(always)]
     fn edit(&mut self, edit: &Edit) {
         // What a step takes in that the lines made is read from that step.
-        if !self.block.knows_last(&self.last) && may_be_merged(edit) {
-            self.edited = Seen::of_edit(edit);
+        if Edited::may_be_merged(edit) && !self.knows_last() {
+            self.edited.keep(edit);
         }
     }
 

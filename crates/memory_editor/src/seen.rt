@@ -69,11 +69,11 @@ impl Seen {
         }
     }
 
-    /// One edit.
-    pub fn of_edit(edit: &Edit) -> Seen {
+    /// One edit, which changes this.
+    pub fn of(differences: Differences, subject: Subject) -> Seen {
         Seen {
-            differences: edit.differs(),
-            subject: Some(edit.subject()),
+            differences,
+            subject: Some(subject),
             left: MOST_ENTRIES,
         }
     }
