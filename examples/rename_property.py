@@ -3,45 +3,51 @@
 
     python3 examples/rename_property.py FOLDER OLD NEW
 
-The type and the value stay; the property goes last. A map is one step, and is saved if all of it is done. It stays as it is, and the exit
-status is 1, where it is refused, where something has a property NEW already, and where the editor does not set the value: a float, a
-class, an empty text, one with a newline or of more than 200 bytes, or a name with a space in it.
+Its place, its type, its value and all else of it stay, whatever they are, and the names may be any texts. A map is one step, and is saved if
+all of it is done. It stays as it is, and the exit status is 1, where it is refused, where something has a property NEW already, and where
+the property, or one behind it, has a fraction, which no edit can say yet.
 """
 import sys
 from pathlib import Path
-from typing import Iterator
+from typing import Any, Iterator
 
 TOP = Path(__file__).resolve().parent.parent
 sys.path.insert(0, str(TOP / 'python'))
 
 from roskevad import Document, Editor, Error, Properties  # noqa: E402
 
+# A property as a file has it: its name, its value, perhaps its type, and more.
+Listed = list[dict[str, Any]]
 
-def owners(document: Document) -> Iterator[tuple[str, Properties]]:
-    """All that has properties, each with its name."""
-    yield 'the map', document.properties
+
+def owners(document: Document) -> Iterator[tuple[str, Properties, Listed]]:
+    """All that has properties, each with its name, and with them as its file has them."""
+    yield 'the map', document.properties, document.outline().get('properties', [])
     for layer in document.layers.walk():
-        yield f'layer {layer.id} {layer.name!r}', layer.properties
+        yield f'layer {layer.id} {layer.name!r}', layer.properties, layer.members.get('properties', [])
     for each in document.objects:
-        yield f'object {each.id} {each.name!r}', each.properties
+        yield f'object {each.id} {each.name!r}', each.properties, each.members.get('properties', [])
+
+
+def put_anew(properties: Properties, listed: Listed, old: str, new: str) -> None:
+    """Takes out a property and those behind it, and puts them in again, the first one with another name."""
+    names = [each['name'] for each in listed]
+    behind = listed[names.index(old):]
+    for each in behind:
+        del properties[each['name']]
+    for each in behind:
+        properties.put({**each, 'name': new if each['name'] == old else each['name']})
 
 
 def rename(document: Document, old: str, new: str) -> int:
-    """Renames a property, as one step; how many there were. Raises ValueError where one can't be renamed: then none is."""
+    """Renames a property, as one step; how many there were. Raises ValueError where one can't be renamed, and Error: then none is."""
     count = 0
-    with document.macro('Rename property', action=f'rename {old} to {new}'):
-        for owner, properties in owners(document):
+    with document.macro('Rename property'):
+        for owner, properties, listed in owners(document):
             if old in properties:
                 if new in properties:
-                    raise ValueError(f'{owner} has a property {new}, too')
-                kind, value = properties.type_of(old), properties[old]
-                if kind == 'float' or kind == 'class':
-                    raise ValueError(f'{owner}: the property {old} is a {kind}')
-                try:
-                    properties.set(new, value, type=kind)
-                    del properties[old]
-                except ValueError as fault:
-                    raise ValueError(f'{owner}: {fault}') from fault
+                    raise ValueError(f'{owner} has a property {new!r}, too')
+                put_anew(properties, listed, old, new)
                 count += 1
     return count
 

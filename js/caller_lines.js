@@ -2,7 +2,7 @@
 // What is read of lines that a caller has written himself, before they are done.
 
 // A line that is an edit, or begins or ends a macro; and one that is refused while a macro is open.
-const EDIT = /^(?:stamp|erase|fill|select|layer|resize|object|prop|tileset|member|begin|end)\+?(?: |$)/;
+const EDIT = /^(?:stamp|erase|fill|select|layer|resize|extend|object|prop|tileset|member|begin|end)\+?(?: |$)/;
 const NOT_IN_MACROS = /^(?:undo|redo|goto|clean|save)(?: |$)/;
 // The characters of lines that are handed on at once.
 const PART = 20_000;

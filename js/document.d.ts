@@ -19,15 +19,16 @@ export type Layout = "tiled" | "rows" | "compact";
 /** The kinds of layers, and those that are added, which are all. */
 export type LayerKind = "tile" | "object" | "group" | "image";
 export type AddedLayerKind = LayerKind;
-/** The types of properties, and those that are set. */
-export type PropertyType = SetPropertyType | "float" | "class";
-export type SetPropertyType = "string" | "int" | "bool" | "color" | "file" | "object";
+/** The types of properties, and those that are set, which are all. */
+export type PropertyType = "string" | "int" | "float" | "bool" | "color" | "file" | "object" | "class" | "list";
+export type SetPropertyType = PropertyType;
 /** The members of a map, a layer, an object or a tileset, as its file has them. */
 export type Members = Record<string, unknown>;
 /** Corners of a polygon or of a line of an object, from its place: pairs of numbers, or as a file has them. */
 export type Corners = Iterable<Iterable<number> | { readonly x: number; readonly y: number }>;
-/** The value of a property. */
-export type PropertyValue = string | number | boolean | Members;
+/** The value of a property, and what it is set to. */
+export type PropertyValue = string | number | boolean | Members | unknown[];
+export type SetPropertyValue = string | number | boolean | MapObject | Members | readonly unknown[];
 
 export interface Status {
   /** How many steps are done. */
@@ -230,6 +231,11 @@ export class Document {
    * TypeError, RangeError, Refused (39).
    */
   resize(width: number, height: number, x?: number, y?: number): void;
+  /**
+   * Adds so many columns and rows at the sides of the map, and moves all in it along. Throws
+   * TypeError, RangeError, Refused (39).
+   */
+  extend(left?: number, top?: number, right?: number, bottom?: number): void;
   /** The selected cells. */
   readonly selection: Selection;
   /**
@@ -425,6 +431,12 @@ export class Layer {
    * (39).
    */
   move(place: number): void;
+  /**
+   * Moves it, with all in it, into a group, or, if that is null, out of all groups: to that place
+   * among the other layers there, from 0, or last. Throws TypeError, RangeError, NotFound, Refused
+   * (30, 31, 39).
+   */
+  moveInto(group: LayerLike | null, place?: number | null): void;
   /** Removes it, and a group with all in it. */
   remove(): void;
   /** What JSON has of it: `layer.members`. */
@@ -461,7 +473,7 @@ export class Objects {
       className?: string;
       rotation?: number;
       visible?: boolean;
-      properties?: Record<string, string | number | boolean | MapObject> | null;
+      properties?: Record<string, SetPropertyValue> | null;
     },
   ): MapObject;
   /**
@@ -537,6 +549,12 @@ export class MapObject {
   move(x: number, y: number, options?: { merge?: boolean }): void;
   /** Gives it a size, in whole pixels. Throws TypeError, RangeError, Refused (39). */
   resize(width: number, height: number): void;
+  /**
+   * Moves it into an object layer, which may be its own: to that place among the other objects
+   * there, from 0, or last. Its id and all that it has stay. Throws TypeError, RangeError,
+   * NotFound, Refused (30, 31, 39, 40).
+   */
+  moveInto(layer: LayerLike, place?: number | null): void;
   /** Removes it. */
   remove(): void;
   /** What JSON has of it: `object.members`. */
@@ -558,16 +576,24 @@ export class Properties {
   /** The names, in order. */
   keys(): IterableIterator<string>;
   /**
-   * The type of a name: string, int, float, bool, color, file, object or class. Throws NotFound.
+   * The type of a name: string, int, float, bool, color, file, object, class or list. Throws
+   * NotFound.
    */
   typeOf(key: string): PropertyType;
   /**
-   * Sets one: of a named type, else of the type that is there, else of the value's own. Throws
-   * TypeError, OtherType, RangeError, Refused (40).
+   * Sets one: of a named type, else of the type that is there, else of the value's own.
+   * `propertyType` names its class or enum; an empty one takes that name away. Throws TypeError,
+   * OtherType, RangeError, Refused (40, 61).
    */
   set(
-    key: string, value: string | number | boolean | MapObject, options?: { type?: SetPropertyType | null; merge?: boolean },
+    key: string, value: SetPropertyValue, options?: { type?: SetPropertyType | null; merge?: boolean; propertyType?: string | null },
   ): void;
+  /**
+   * Sets one as a file has it, of any name and type: with `name`, `value`, and perhaps `type` and
+   * more. One that is there keeps its place, and nothing else. Throws TypeError, RangeError,
+   * Refused (40, 61, 62, 63).
+   */
+  put(members: Record<string, unknown>): void;
   /** Removes one, whatever characters its name has. */
   delete(key: string): boolean;
   /**

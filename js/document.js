@@ -691,6 +691,11 @@ export class Document extends WithOwnMembers {
     this._edit(`resize ${size} ${words.coordinate(x, "x")} ${words.coordinate(y, "y")}`);
   }
 
+  extend(left = 0, top = 0, right = 0, bottom = 0) {
+    const sides = Object.entries({ left, top, right, bottom }).map(([what, count]) => words.number(count, what));
+    this._edit(`extend ${sides.join(" ")}`);
+  }
+
   // ---- what lines did to it
 
   on(name, callback) {

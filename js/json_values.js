@@ -1,18 +1,9 @@
 // SPDX-License-Identifier: MIT OR Apache-2.0
 // Values as the JSON that a line has. What JSON has not is told with the caller's own words, and nothing is sent.
-import { quoted, wholeText } from "./words.js";
+import { isPlain, quoted, wholeText } from "./words.js";
 
 // What nests deeper is refused by every editor, or nests without an end.
 const DEEPEST = 1000;
-
-/** Whether a value is an object that is nothing else, as `{ x: 5 }`: of this page, or of another one. */
-export function isPlain(value) {
-  if (typeof value !== "object" || value === null) {
-    return false;
-  }
-  const prototype = Object.getPrototypeOf(value);
-  return prototype === null || (Object.getPrototypeOf(prototype) === null && !Array.isArray(value));
-}
 
 /**
  * A value as JSON in one line. Throws TypeError for what JSON has not, RangeError for half of a character and for what nests

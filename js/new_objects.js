@@ -47,7 +47,7 @@ export function looksOf({ point, ellipse, polygon, polyline, text, tile }) {
     ellipse: ellipse ? true : null,
     polygon: polygon === null ? null : corners(polygon),
     polyline: polyline === null ? null : corners(polyline),
-    text: text === null || json.isPlain(text) ? text : { text: json.text(text, "the text of an object") },
+    text: text === null || words.isPlain(text) ? text : { text: json.text(text, "the text of an object") },
     tile: value === 0 ? null : value,
   };
   const looks = Object.entries(all).filter(([, each]) => each !== null);
@@ -64,7 +64,7 @@ function corners(all) {
     throw new TypeError(`corners of an object are pairs of numbers, from its place: ${words.quoted(all)}`);
   }
   return Array.from(all, (each) => {
-    const [x, y, ...more] = json.isPlain(each) ? [each.x, each.y] : pairOf(each);
+    const [x, y, ...more] = words.isPlain(each) ? [each.x, each.y] : pairOf(each);
     if (more.length > 0) {
       throw new TypeError(`a corner of an object is a pair of numbers, and this one has ${more.length + 2}`);
     }
@@ -84,7 +84,7 @@ function pairOf(corner) {
  * TypeError, RangeError.
  */
 export function given({ className, rotation, visible, properties }) {
-  if (properties !== null && !json.isPlain(properties)) {
+  if (properties !== null && !words.isPlain(properties)) {
     throw new TypeError(`the properties of an object are a plain object: ${words.quoted(properties)}`);
   }
   const turn = json.number(rotation, "the rotation of an object");
@@ -99,5 +99,6 @@ export function given({ className, rotation, visible, properties }) {
 
 // A property as a file has it, of the value's own type.
 function propertyOf(name, value) {
-  return { name, type: words.typeOf(name, value), value: value?.[words.OBJECT] ?? value };
+  const type = words.typeOf(name, value);
+  return { name, type, value: words.setting(name, value, type) };
 }

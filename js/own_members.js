@@ -1,7 +1,7 @@
 // SPDX-License-Identifier: MIT OR Apache-2.0
 // The own members of an object, a layer or the map: what stands for it in the map's file, but for what other lines change.
 // Each line of them is said here.
-import { isPlain, membersSaid, said } from "./json_values.js";
+import { membersSaid, said } from "./json_values.js";
 import * as words from "./words.js";
 
 const NAME = "the name of a member";
@@ -119,7 +119,7 @@ function differ(held, news) {
 // A value as a text that is the same for the same value.
 function sorted(value) {
   const inOrder = (each) => Object.fromEntries(Object.entries(each).sort(([one], [other]) => (one < other ? -1 : 1)));
-  return JSON.stringify(value, (_, each) => (isPlain(each) ? inOrder(each) : each));
+  return JSON.stringify(value, (_, each) => (words.isPlain(each) ? inOrder(each) : each));
 }
 
 /** Has settings of values throw that are set by a call, or by another name: which, for whoever sets them as a value. */

@@ -1,15 +1,19 @@
 // SPDX-License-Identifier: MIT OR Apache-2.0
 // The properties of a map, a layer or an object.
 import { NotFound, OtherType } from "./faults.js";
-import { said } from "./json_values.js";
+import * as json from "./json_values.js";
 import { OWNERS } from "./module.js";
 import { WithOwnNames } from "./own_names.js";
 import * as words from "./words.js";
 
+const NAME = "the name of a property";
+// The member that names the class or the enum of a property.
+const CLASS = "propertytype";
+
 /**
  * The properties of a map, a layer or an object, by their names, as a Map has them. A value that is set
- * keeps the type of the one that is there; the first value of a name sets a string, an int, a bool or, for
- * a MapObject, an object.
+ * keeps the type of the one that is there; the first value of a name has a type of its own: a string, an
+ * int, a bool, a float for a fraction, an object for a MapObject, a class for a plain object, or a list.
  */
 export class Properties extends WithOwnNames {
   #document;
@@ -83,35 +87,61 @@ export class Properties extends WithOwnNames {
     return members.type ?? "string";
   }
 
-  /** Sets a property: of this type, or else of the type that is there, or else of the value's own. */
-  set(key, value, { type = null, merge = false } = {}) {
-    const name = words.key(key);
-    const setting = type === null
+  /**
+   * Sets a property: of this type, or else of the type that is there, or else of the value's own.
+   * `propertyType` names the class or the enum of Tiled's project, and "" takes that name away.
+   */
+  set(key, value, { type = null, merge = false, propertyType = null } = {}) {
+    const name = words.wholeText(json.text(key, NAME), NAME);
+    const named = type === null ? null : words.oneOf(type, words.TYPES, "the type of a property");
+    const className = propertyType === null ? null : json.text(propertyType, "the type of a property in a project");
+    const setting = named === null
       ? this._settingFor(name, value)
-      : words.setting(name, value, words.oneOf(type, words.TYPES, "the type of a property"));
-    this.#document._edit(`prop set${merge ? "+" : ""} ${this.#owner} ${name} ${setting}`);
+      : { type: named, value: words.setting(name, value, named) };
+    this.#document._edit(this._lineFor({ name, ...setting }, merge, className));
   }
 
-  // The type and the value that a line has where no type is named. Throws OtherType where the property has a type that
-  // does not take the value.
+  /** Sets a property as a file has it, of any name and type. One of its name that is there keeps its place. */
+  put(members) {
+    this.#document._edit(`prop put ${this.#owner} ${json.membersSaid(members, "the members of a property")}`);
+  }
+
+  // The type and the value where no type is named. Throws OtherType where the property has a type that does not take
+  // the value.
   _settingFor(name, value) {
-    const members = this._named(name);
-    if (members === null) {
-      return words.setting(name, value, words.typeOf(name, value));
+    const there = this._named(name);
+    if (there === null) {
+      const type = words.typeOf(name, value);
+      return { type, value: words.setting(name, value, type) };
     }
-    const kind = members.type ?? "string";
-    if (!words.TYPES.includes(kind)) {
-      const front = `the property ${words.quoted(name)} has the type ${kind} in this map, which the editor does not set`;
-      throw new OtherType(`${front}: set(.., .., { type }) changes it`);
+    const type = there.type ?? "string";
+    if (!words.TYPES.includes(type)) {
+      const front = `the property ${words.quoted(name)} has the type ${type} in this map, which set(..) does not know`;
+      throw new OtherType(`${front}: put(..) sets it as a file has it`);
     }
     try {
-      return words.setting(name, value, kind);
+      return { type, value: words.setting(name, value, type) };
     } catch (fault) {
-      if (fault instanceof RangeError && kind !== "color") {
+      if (fault instanceof RangeError && type !== "color") {
         throw fault;
       }
       throw new OtherType(`${fault.message}; set(.., .., { type }) gives it another type`);
     }
+  }
+
+  // The line that sets a property: `prop set` where that can say it, or else one that says all of it, with what else is
+  // there of it.
+  _lineFor(members, merge, className) {
+    const { name, type, value } = members;
+    const plain = className === null && words.isKey(name) ? words.plainSetting(value, type) : null;
+    if (plain !== null) {
+      return `prop set${merge ? "+" : ""} ${this.#owner} ${name} ${plain}`;
+    }
+    const whole = { ...this._named(name), ...members, ...(className === null ? {} : { [CLASS]: className }) };
+    if (className === "") {
+      delete whole[CLASS];
+    }
+    return `prop put ${this.#owner} ${json.said(whole, `the property ${words.quoted(name)}`)}`;
   }
 
   /** Removes the property of a name, whatever characters that has, and says whether there was one. */
@@ -120,7 +150,7 @@ export class Properties extends WithOwnNames {
       return false;
     }
     const isKey = words.isKey(key);
-    const name = isKey ? key : said(key, "the name of a property");
+    const name = isKey ? key : json.said(key, NAME);
     this.#document._edit(`prop ${isKey ? "remove" : "take"} ${this.#owner} ${name}`);
     return true;
   }

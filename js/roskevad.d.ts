@@ -4,7 +4,7 @@ import type { Document, Layer, Rows, StepRow, Told } from "./document.js";
 export { Document, Layer, Layers, MapObject, Objects, Properties, Selection, Tileset, Tilesets } from "./document.js";
 export type {
   AddedLayerKind, CellArea, Corners, LayerKind, LayerLike, Layout, Members, ObjectLike, PropertyType, PropertyValue, Rows, Run,
-  SelectionMode, SetPropertyType, Status, Step, StepRow, Subject, Tile, TilesetLike, TilesetTile, Told, Work,
+  SelectionMode, SetPropertyType, SetPropertyValue, Status, Step, StepRow, Subject, Tile, TilesetLike, TilesetTile, Told, Work,
 } from "./document.js";
 
 /** The version of this package. */

@@ -176,6 +176,18 @@ export class MapObject extends View {
     this.document._edit(`object resize ${this.id} ${size}`);
   }
 
+  moveInto(layer, place = null) {
+    const at = place === null ? null : words.number(place, "a place");
+    const goal = this.document._idOf(layer);
+    this.document._edit(`object into ${this.id} ${goal} ${at ?? this._othersIn(goal)}`);
+  }
+
+  // How many other objects a layer has.
+  _othersIn(layer) {
+    const isThere = this.document._number("object_layer", this.id) === layer;
+    return (this.document._count("object_ids", layer) ?? 0) - (isThere ? 1 : 0);
+  }
+
   remove() {
     this.document._edit(`object remove ${this.id}`);
   }
@@ -450,6 +462,22 @@ export class Layer extends View {
     this.document._edit(`layer move ${this.id} ${words.number(place, "a place")}`);
   }
 
+  moveInto(group, place = null) {
+    const at = place === null ? null : words.number(place, "a place");
+    const goal = group === null ? 0 : this._groupOf(group);
+    const others = () => this.document._layerRows.filter(({ id, parent }) => parent === goal && id !== this.id);
+    this.document._edit(`layer into ${this.id} ${goal} ${at ?? others().length}`);
+  }
+
+  // The id of a group. Throws as `moveInto` does.
+  _groupOf(group) {
+    const id = this.document._idOf(group);
+    if (id === 0) {
+      throw new RangeError("0 is the id of no layer: null stands for no group");
+    }
+    return id;
+  }
+
   remove() {
     this.document._edit(`layer remove ${this.id}`);
   }
@@ -572,7 +600,8 @@ export class Layers {
 
   add(kind, name) {
     if (this.#group !== null) {
-      throw new RangeError("a layer is not added to a group, but over all others: document.layers.add(..)");
+      const then = "moveInto(group) moves it then";
+      throw new RangeError(`a layer is not added to a group, but over all others: document.layers.add(..); ${then}`);
     }
     const said = words.oneOf(kind, ALL_KINDS, "the kind of a layer that is added");
     const id = this.#document._add("layer", `layer add ${said} ${words.text(name, "the name of a layer")}`);

@@ -7,7 +7,7 @@ const encoder = new TextEncoder();
 // What stands between the two texts of a macro.
 const DIVIDER = " || ";
 const DOCUMENT = new RegExp(`^[A-Za-z0-9_][A-Za-z0-9_.-]{0,${MAX_DOCUMENT_NAME - 1}}$`);
-const COLOUR = /^#([0-9a-f]{6}|[0-9a-f]{8})$/;
+const COLOUR = /^#([0-9a-fA-F]{6}|[0-9a-fA-F]{8})$/;
 // eslint-disable-next-line no-control-regex
 const CONTROL = /[\u0000-\u001f\u007f]/;
 const HALF = /\p{Surrogate}/u;
@@ -30,6 +30,15 @@ export function quoted(value) {
 export function listed(ids) {
   const more = ids.length > MOST_LISTED ? ` and ${ids.length - MOST_LISTED} more` : "";
   return ids.slice(0, MOST_LISTED).join(", ") + more;
+}
+
+/** Whether a value is an object that is nothing else, as `{ x: 5 }`: of this page, or of another one. */
+export function isPlain(value) {
+  if (typeof value !== "object" || value === null) {
+    return false;
+  }
+  const prototype = Object.getPrototypeOf(value);
+  return prototype === null || (Object.getPrototypeOf(prototype) === null && !Array.isArray(value));
 }
 
 /** Whether a value is a text without half of a character: what has a name in a map may have it. */
@@ -162,55 +171,63 @@ export function oneOf(word, words, what) {
 
 // ---- properties
 
-/** The types of properties that a line can set. */
-export const TYPES = ["string", "file", "int", "bool", "color", "object"];
+/** The types of properties that are set: those that the line `prop set` says, and the others. */
+const PLAIN_TYPES = ["string", "file", "int", "bool", "color", "object"];
+export const TYPES = [...PLAIN_TYPES, "float", "class", "list"];
+// Whether a type takes a value.
+const TAKES = {
+  string: (value) => typeof value === "string",
+  file: (value) => typeof value === "string",
+  color: (value) => typeof value === "string",
+  int: (value) => Number.isInteger(value),
+  bool: (value) => typeof value === "boolean",
+  float: (value) => Number.isFinite(value),
+  class: (value) => isPlain(value),
+  list: (value) => Array.isArray(value),
+};
 
 /**
- * The type and the value of a property, as the line `prop set` has them. Throws TypeError where the type
- * takes no such value, RangeError where no line can say it.
+ * The value of a property of a type, as a file has it. Throws TypeError where the type takes no such value,
+ * RangeError where it is no id or no colour.
  */
 export function setting(name, value, kind) {
   const what = `the property ${shown(name)}`;
   if (kind === "object") {
-    return `object ${number(value?.[OBJECT] ?? value, what)}`;
+    return number(value?.[OBJECT] ?? value, what);
   }
-  const wanted = { int: "number", bool: "boolean" }[kind] ?? "string";
-  if (typeof value !== wanted || (kind === "int" && !Number.isInteger(value))) {
+  if (!TAKES[kind](value)) {
     throw new TypeError(`${what} has the type ${kind}, and takes no such value: ${quoted(value)}`);
   }
-  if (kind === "int") {
-    return `int ${coordinate(value, what)}`;
+  if (kind === "color" && value !== "" && !COLOUR.test(value)) {
+    throw new RangeError(`${what} is a color: # and 6 or 8 digits of 0-9a-f, or nothing, and not ${shown(value)}`);
   }
-  if (kind === "bool") {
-    return `bool ${value}`;
-  }
-  if (kind === "color" && !COLOUR.test(value)) {
-    throw new RangeError(`${what} is a color: # and 6 or 8 digits of 0-9a-f, and not ${shown(value)}`);
-  }
-  return `${kind} ${text(value, what)}`;
+  return value;
 }
 
-/**
- * The type of a property that is set for the first time. Throws RangeError for a fraction, TypeError for
- * what no line can say.
- */
+/** The type and the value of a property, as the line `prop set` has them; null where that can't say them. */
+export function plainSetting(value, kind) {
+  if (kind === "int") {
+    return Math.abs(value) <= MAX_COORDINATE ? `int ${value + 0}` : null;
+  }
+  if (kind === "bool" || kind === "object") {
+    return `${kind} ${value}`;
+  }
+  const isSaid = PLAIN_TYPES.includes(kind) && isText(value) && (kind !== "color" || value === value.toLowerCase());
+  return isSaid ? `${kind} ${value}` : null;
+}
+
+// The types of first values, the first that takes one.
+const FIRST_TYPES = ["string", "bool", "int", "float", "list", "class"];
+
+/** The type of a property that is set for the first time. Throws TypeError where there is none for the value. */
 export function typeOf(name, value) {
-  if (typeof value === "string") {
-    return "string";
-  }
-  if (typeof value === "boolean") {
-    return "bool";
-  }
-  if (typeof value === "number") {
-    if (!Number.isInteger(value)) {
-      throw new RangeError(`the property ${shown(name)} is given a fraction, and the editor sets whole numbers: ${value}`);
-    }
-    return "int";
-  }
   if (value?.[OBJECT] !== undefined) {
     return "object";
   }
-  throw new TypeError(
-    `the property ${shown(name)} is a string, a whole number, a boolean or a MapObject: ${quoted(value)}`,
-  );
+  const kind = FIRST_TYPES.find((each) => TAKES[each](value));
+  if (kind === undefined) {
+    const kinds = "a string, a boolean, a finite number, a MapObject, a plain object or an array";
+    throw new TypeError(`the property ${shown(name)} is ${kinds}: ${quoted(value)}`);
+  }
+  return kind;
 }

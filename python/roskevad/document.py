@@ -691,6 +691,12 @@ class Document:
         size = f'{words.number(width, "a width")} {words.number(height, "a height")}'
         self._edit(f'resize {size} {words.coordinate(x, "x")} {words.coordinate(y, "y")}')
 
+    def extend(self, left: int = 0, top: int = 0, right: int = 0, bottom: int = 0) -> None:
+        """Adds so many columns and rows at the sides of the map; all in it moves along. Raises TypeError, ValueError; Refused: 39 for a size
+        beyond the limits."""
+        sides = words.number(left, 'left'), words.number(top, 'top'), words.number(right, 'right'), words.number(bottom, 'bottom')
+        self._edit(f'extend {" ".join(map(str, sides))}')
+
     # ---- what lines did to it
     def watch(self, callback: Callable[[Told], object]) -> Watch:
         """Has a function called behind each line that changes the map, its selection or how the document stands, with what the line did;

@@ -19,17 +19,17 @@ FORMS: dict[str, tuple[str, ...]] = {
     'select': ('select replace|add|subtract|intersect X Y WIDTH HEIGHT', 'select none'),
     'layer': (
         'layer add tile|object NAME', 'layer remove LAYER', 'layer rename LAYER NAME', 'layer show LAYER yes|no', 'layer move LAYER PLACE',
-        'layer add group|image NAME',
+        'layer add group|image NAME', 'layer into LAYER GROUP PLACE',
     ),
     'resize': ('resize WIDTH HEIGHT X Y',),
     'object': (
         'object add LAYER X Y WIDTH HEIGHT NAME', 'object move OBJECT X Y', 'object move+ OBJECT X Y', 'object resize OBJECT WIDTH HEIGHT',
-        'object remove OBJECT', 'object put LAYER JSON',
+        'object remove OBJECT', 'object put LAYER JSON', 'object into OBJECT LAYER PLACE',
     ),
     'prop': (
         'prop set OWNER KEY string|file TEXT', 'prop set OWNER KEY int NUMBER', 'prop set OWNER KEY bool true|false',
         'prop set OWNER KEY color COLOUR', 'prop set OWNER KEY object OBJECT', 'prop set+ OWNER KEY TYPE VALUE', 'prop remove OWNER KEY',
-        'prop take OWNER JSON',
+        'prop put OWNER JSON', 'prop take OWNER JSON',
     ),
     'tileset': ('tileset add FIRST SOURCE', 'tileset remove FIRST', 'tileset put JSON'),
     'undo': ('undo',),
@@ -48,6 +48,7 @@ FORMS: dict[str, tuple[str, ...]] = {
         'member set OWNER KEY JSON', 'member set+ OWNER KEY JSON', 'member put OWNER JSON', 'member put+ OWNER JSON',
         'member remove OWNER KEY',
     ),
+    'extend': ('extend LEFT TOP RIGHT BOTTOM',),
 }
 
 

@@ -9,9 +9,9 @@ AddedLayerKind = LayerKind
 SelectionMode = Literal['replace', 'add', 'subtract', 'intersect']
 #: How the text of a map is laid out.
 Layout = Literal['tiled', 'rows', 'compact']
-#: The types of properties, and those that are set.
-PropertyType = Literal['string', 'int', 'float', 'bool', 'color', 'file', 'object', 'class']
-SetPropertyType = Literal['string', 'int', 'bool', 'color', 'file', 'object']
+#: The types of properties, and those that are set, which are all.
+PropertyType = Literal['string', 'int', 'float', 'bool', 'color', 'file', 'object', 'class', 'list']
+SetPropertyType = PropertyType
 
 
 class _Listed(Protocol):

@@ -6,7 +6,7 @@ if TYPE_CHECKING:
     from _typeshed import ReadableBuffer
 
 # The words of lines that are edits, or begin or end a macro; and of those that are refused while one is open.
-_EDITS = frozenset(b'stamp erase fill select layer resize object prop tileset member begin end'.split())
+_EDITS = frozenset(b'stamp erase fill select layer resize extend object prop tileset member begin end'.split())
 _NOT_IN_MACROS = frozenset(b'undo redo goto clean save'.split())
 
 

@@ -106,4 +106,5 @@ def given(class_name: str, rotation: float, visible: bool, properties: Optional[
 def _property(name: str, value: Any) -> Members:
     """A property as a file has it, of the value's own type."""
     said = json_values.text(name, 'the name of a property')
-    return {'name': said, 'type': words.type_of(said, value), 'value': getattr(value, words.OBJECT, value)}
+    kind = words.type_of(said, value)
+    return {'name': said, 'type': kind, 'value': words.setting(said, value, kind)}

@@ -1,6 +1,6 @@
 # SPDX-License-Identifier: MIT OR Apache-2.0
 """The properties of a map, a layer or an object."""
-from typing import TYPE_CHECKING, Any, Iterator, MutableMapping, Optional, Union, cast
+from typing import TYPE_CHECKING, Any, Iterator, Mapping, MutableMapping, Optional, Union, cast
 
 from . import json_values, words
 from .faults import NotFound, OtherType
@@ -12,11 +12,15 @@ if TYPE_CHECKING:
     from .document import Document
     from .views import Layer, MapObject
 
+_NAME = 'the name of a property'
+# The member that names the class or the enum of a property.
+_CLASS = 'propertytype'
+
 
 class Properties(MutableMapping[str, Any]):
     """The properties of a map, a layer or an object, by their names: a mapping. A value that is set keeps the type of the one
-    that is there; the first value of a name sets a string, an int, a bool or, for a MapObject, an object. `set` names another
-    type."""
+    that is there; the first value of a name has a type of its own: a string, an int, a bool, a float, for a MapObject an object, for a dict
+    a class, for a list a list. `set` names another type."""
 
     __slots__ = '_document', '_thing', '_owner', '_place'
 
@@ -68,7 +72,7 @@ class Properties(MutableMapping[str, Any]):
         """Removes the property of a name, whatever characters that has. Raises NotFound where there is none."""
         self._there(key)
         is_key = words.is_key(key)
-        name = key if is_key else json_values.said(key, 'the name of a property')
+        name = key if is_key else json_values.said(key, _NAME)
         self._document._edit(f'prop {"remove" if is_key else "take"} {self._owner} {name}')
 
     def __iter__(self) -> Iterator[str]:
@@ -81,38 +85,61 @@ class Properties(MutableMapping[str, Any]):
         return self._one(key) is not None
 
     def type_of(self, key: str) -> PropertyType:
-        """The type of the property of a name, as Tiled has it: string, int, float, bool, color, file, object or class. Raises
+        """The type of the property of a name, as Tiled has it: string, int, float, bool, color, file, object, class or list. Raises
         NotFound where there is none."""
         return cast(PropertyType, self._there(key).get('type', 'string'))
 
-    def set(self, key: str, value: Any, type: Optional[SetPropertyType] = None, merge: bool = False) -> None:
-        """Sets a property: of this type, or else of the type that is there, or else of the value's own. With `merge` it is one
-        step with a setting of the same property before it. Raises OtherType where the type that is there takes no such value, TypeError
-        where the named one does not; ValueError for a float, an empty text or a name with a space; Refused."""
-        name = words.key(key)
+    def set(
+        self, key: str, value: Any, type: Optional[SetPropertyType] = None, merge: bool = False, property_type: Optional[str] = None,
+    ) -> None:
+        """Sets a property: of this type, or else of the type that is there, or else of the value's own. `property_type` names the class or
+        the enum of Tiled's project, and '' takes that name away. With `merge` it is one step with a setting of the same property before it,
+        where `prop set` can say both. Raises OtherType where the type that is there takes no such value, TypeError where the named one does
+        not, or there is none for the value; ValueError; Refused: 61 for a fraction."""
+        name = words.whole_text(json_values.text(key, _NAME), _NAME)
         named = None if type is None else words.one_of(type, words.TYPES, 'the type of a property')
+        class_name = None if property_type is None else json_values.text(property_type, 'the type of a property in a project')
 
         def work() -> None:
-            said = words.setting(name, value, named) if named else self._setting_for(name, value)
-            self._document._say_edit(f'prop set{"+" if merge else ""} {self._owner} {name} {said}')
+            kind, said = (named, words.setting(name, value, named)) if named else self._setting_for(name, value)
+            self._document._say_edit(self._line_for({'name': name, 'type': kind, 'value': said}, merge, class_name))
 
         self._document._do(work)
 
-    def _setting_for(self, name: str, value: Any) -> str:
-        """The type and the value that a line has where no type is named, in a turn. Raises OtherType where the property has a type that
-        does not take the value."""
+    def put(self, members: Mapping[str, Any]) -> None:
+        """Sets a property as a file has it, of any name and type: with its `name`, its `value`, and perhaps its `type` and what is kept of
+        it. One of its name that is there has nothing else then, and keeps its place. Raises TypeError, ValueError; Refused: 61 for a
+        fraction, 62 and 63 for a member that is missing or of another kind, 40 where there are 256."""
+        self._document._edit(f'prop put {self._owner} {json_values.members_said(members, "the members of a property")}')
+
+    def _setting_for(self, name: str, value: Any) -> tuple[str, Any]:
+        """The type and the value where no type is named, in a turn. Raises OtherType where the property has a type that does not take the
+        value."""
         there = self._one_now(name)
         if there is None:
-            return words.setting(name, value, words.type_of(name, value))
+            kind = words.type_of(name, value)
+            return kind, words.setting(name, value, kind)
         kind = str(there.get('type', 'string'))
         if kind not in words.TYPES:
-            raise OtherType(f'the property {name!r} has the type {kind} in this map, which the editor does not set: set(.., type=..) changes it')
+            raise OtherType(f'the property {name!r} has the type {kind} in this map, which set(..) does not know: put(..) sets it as a file has it')
         try:
-            return words.setting(name, value, kind)
+            return kind, words.setting(name, value, kind)
         except (TypeError, ValueError) as fault:
             if isinstance(fault, ValueError) and kind != 'color':
                 raise
             raise OtherType(f'{fault}; set(.., type=..) gives it another type') from None
+
+    def _line_for(self, members: Members, merge: bool, class_name: Optional[str]) -> str:
+        """The line that sets a property, in a turn: `prop set` where that can say it, or else one that says all of it, with what else is there
+        of it."""
+        name, kind, value = members.values()
+        plain = words.plain_setting(value, kind) if class_name is None and words.is_key(name) else None
+        if plain is not None:
+            return f'prop set{"+" if merge else ""} {self._owner} {name} {plain}'
+        whole = {**(self._one_now(name) or {}), **members, **({} if class_name is None else {_CLASS: class_name})}
+        if class_name == '':
+            del whole[_CLASS]
+        return f'prop put {self._owner} {json_values.said(whole, f"the property {name!r}")}'
 
     def __repr__(self) -> str:
         all_ = self._document._peek(lambda: {each['name']: _value_of(each) for each in self._now()})

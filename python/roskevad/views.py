@@ -14,7 +14,7 @@ from .rows import BASE, replaced, tile_value
 from .tilesets import Tile, absent, is_id, tile_of
 
 if TYPE_CHECKING:
-    from .document import Document
+    from .document import Document, LayerLike
 
 _Answer = TypeVar('_Answer')
 _Default = TypeVar('_Default')
@@ -205,6 +205,23 @@ class MapObject(_View):
         """Gives it a size in pixels. Raises TypeError, ValueError; Refused."""
         size = f'{words.number(width, "a width")} {words.number(height, "a height")}'
         self._document._edit(f'object resize {self.id} {size}')
+
+    def move_into(self, layer: 'LayerLike', place: Optional[int] = None) -> None:
+        """Moves it into an object layer, which may be its own: to a place among the other objects there, from 0, or last. Its id and all that
+        it has stay. Raises TypeError, ValueError, NotFound; Refused: 30 where there is no such layer, 31 where it is no object layer, 39 for a
+        place past the last one, 40 where it is full."""
+        at = None if place is None else words.number(place, 'a place')
+
+        def work() -> None:
+            goal = self._document._id_of(layer)
+            self._document._say_edit(f'object into {self.id} {goal} {self._others_in(goal) if at is None else at}')
+
+        self._document._do(work)
+
+    def _others_in(self, layer: int) -> int:
+        """How many other objects a layer has, in a turn."""
+        editor = self._document._editor
+        return (editor._count('object_ids', layer) or 0) - (editor._number('object_layer', self.id) == layer)
 
     def remove(self) -> None:
         """Removes it. Raises Refused."""
@@ -466,6 +483,26 @@ class Layer(_View):
         """Moves it to a place among the layers beside it, from 0, which is drawn first. Raises TypeError, ValueError; Refused."""
         self._document._edit(f'layer move {self.id} {words.number(place, "a place")}')
 
+    def move_into(self, group: 'Optional[LayerLike]', place: Optional[int] = None) -> None:
+        """Moves it, with all in it, into a group, or out of all groups where that is None: to a place among the other layers there, from 0, or
+        last. Raises TypeError, ValueError, NotFound; Refused: 30 where there is no such group, 31 where it is none, 39 where it is this layer
+        or stands in it, where there would be too many groups around it, and for a place past the last one."""
+        at = None if place is None else words.number(place, 'a place')
+
+        def work() -> None:
+            goal = 0 if group is None else self._group_of(group)
+            last = sum(row.parent == goal and row.id != self.id for row in self._document._layer_rows()) if at is None else at
+            self._document._say_edit(f'layer into {self.id} {goal} {last}')
+
+        self._document._do(work)
+
+    def _group_of(self, group: 'LayerLike') -> int:
+        """The id of a group, in a turn. Raises as `move_into` does."""
+        id = self._document._id_of(group)
+        if id == 0:
+            raise ValueError('0 is the id of no layer: None stands for no group')
+        return id
+
     def remove(self) -> None:
         """Removes it, and a group with all in it. Raises Refused."""
         self._document._edit(f'layer remove {self.id}')
@@ -583,7 +620,7 @@ class Layers:
         """Adds a layer, tile, object, group or image, in no group, last, which is drawn over the others, and gives it. Raises TypeError;
         ValueError, also for the layers of a group; Refused."""
         if self._group is not None:
-            raise ValueError('a layer is not added to a group, but over all others: document.layers.add(..)')
+            raise ValueError('a layer is not added to a group, but over all others: document.layers.add(..); move_into(group) moves it then')
         said = words.one_of(kind, ALL_KINDS, 'the kind of a layer that is added')
         return Layer(self._document, self._document._add('layer', f'layer add {said} {words.text(name, "the name of a layer")}'))
 

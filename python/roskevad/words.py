@@ -2,7 +2,7 @@
 """Checks words before they become a line: what no line can say is told with the caller's own words, and nothing is sent."""
 import operator
 import re
-from typing import Any, Callable, Optional
+from typing import Any, Callable, Mapping, Optional
 
 from .layouts import LAYOUTS
 from .limits import MAX_COORDINATE, MAX_NUMBER, MAX_TEXT
@@ -12,7 +12,7 @@ from .names import is_document_name
 DIVIDER = ' || '
 #: What a MapObject has its id under, so that it can be the value of a property.
 OBJECT = '_object_id'
-_COLOUR = re.compile('#([0-9a-f]{6}|[0-9a-f]{8})')
+_COLOUR = re.compile('#([0-9a-fA-F]{6}|[0-9a-fA-F]{8})')
 _SHOWN = 60
 # How many ids are listed.
 _MOST_LISTED = 12
@@ -138,28 +138,39 @@ def layout(word: object) -> Optional[str]:
 
 # ---- properties
 
-#: The types of properties that a line can set.
-TYPES = ('string', 'file', 'int', 'bool', 'color', 'object')
-_TAKES: dict[str, type] = {'string': str, 'file': str, 'int': int, 'bool': bool, 'color': str}
+#: The types of properties that the line `prop set` says, and all that are set.
+PLAIN_TYPES = ('string', 'file', 'int', 'bool', 'color', 'object')
+TYPES = (*PLAIN_TYPES, 'float', 'class', 'list')
+_TAKES: dict[str, Any] = {
+    'string': str, 'file': str, 'int': int, 'bool': bool, 'color': str, 'float': (int, float), 'class': Mapping, 'list': (list, tuple),
+}
+_NUMBERS = ('int', 'float')
 
 
-def setting(name: str, value: Any, kind: str) -> str:
-    """The type and the value of a property, as the line `prop set` has them. Raises TypeError where the type takes no such
-    value, and ValueError where no line can say it."""
+def setting(name: str, value: Any, kind: str) -> Any:
+    """The value of a property of a type, as a file has it. Raises TypeError where the type takes no such value, and ValueError where it is
+    no id or no colour."""
     what = f'the property {name!r}'
     if kind == 'object':
-        return f'object {number(getattr(value, OBJECT, value), what)}'
-    whole = _as_whole(value) if kind == 'int' else value
-    takes: Any = _TAKES[kind]
-    if not isinstance(whole, takes) or kind == 'int' and isinstance(whole, bool):
+        return number(getattr(value, OBJECT, value), what)
+    whole = _as_whole(value) if kind in _NUMBERS else value
+    if not isinstance(whole, _TAKES[kind]) or kind in _NUMBERS and isinstance(whole, bool):
         raise TypeError(f'{what} has the type {kind}, which takes no {type(value).__name__}: {value!r}')
-    if kind == 'int':
-        return f'int {coordinate(whole, what)}'
+    if kind == 'color' and whole and not _COLOUR.fullmatch(whole):
+        raise ValueError(f'{what} is a color: # and 6 or 8 digits of 0-9a-f, or nothing, and not {_shown(whole)}')
+    return whole
+
+
+def plain_setting(value: Any, kind: str) -> Optional[str]:
+    """The type and the value of a property, as the line `prop set` has them; None where that can't say them."""
     if kind == 'bool':
-        return f'bool {"true" if whole else "false"}'
-    if kind == 'color' and not _COLOUR.fullmatch(whole):
-        raise ValueError(f'{what} is a color: # and 6 or 8 digits of 0-9a-f, and not {_shown(whole)}')
-    return f'{kind} {text(whole, what)}'
+        return f'bool {"true" if value else "false"}'
+    if kind == 'int':
+        return f'int {value}' if abs(value) <= MAX_COORDINATE else None
+    if kind == 'object':
+        return f'object {value}'
+    is_said = kind in PLAIN_TYPES and is_text(value) and (kind != 'color' or value == value.lower())
+    return f'{kind} {value}' if is_said else None
 
 
 def is_whole(value: object) -> bool:
@@ -177,16 +188,15 @@ def _as_whole(value: Any) -> Any:
 
 
 def type_of(name: str, value: Any) -> str:
-    """The type of a property that is set for the first time. Raises ValueError for a float, and TypeError for what no line can
-    say."""
-    if isinstance(value, str):
-        return 'string'
+    """The type of a property that is set for the first time. Raises TypeError where there is none for the value."""
     if isinstance(value, bool):
         return 'bool'
     if is_whole(value):
         return 'int'
-    if isinstance(value, float):
-        raise ValueError(f'the property {name!r} is given a float, and the editor sets whole numbers: {value!r}')
     if hasattr(value, OBJECT):
         return 'object'
-    raise TypeError(f'the property {name!r} is a str, an int, a bool or a MapObject: {type(value).__name__}')
+    kinds: tuple[tuple[str, Any], ...] = ('string', str), ('float', float), ('class', Mapping), ('list', (list, tuple))
+    kind = next((kind for kind, takes in kinds if isinstance(value, takes)), None)
+    if kind is None:
+        raise TypeError(f'the property {name!r} is a str, a bool, a number, a MapObject, a dict or a list: {type(value).__name__}')
+    return kind

@@ -1,5 +1,6 @@
 # SPDX-License-Identifier: MIT OR Apache-2.0
 """What a JSON text of a line says, or its first fault, by the rules of docs/session-lines.md."""
+import itertools
 import json
 import re
 
@@ -33,11 +34,8 @@ def no_constant(name):
 
 def nesting(text):
     """How deep the arrays and objects of a text stand in one another."""
-    deepest = depth = 0
-    for sign in re.sub(r'"(?:[^"\\]|\\.)*"', '', text):
-        depth += (sign in '[{') - (sign in ']}')
-        deepest = max(deepest, depth)
-    return deepest
+    signs = re.findall(r'[][{}]', re.sub(r'"(?:[^"\\]|\\.)*"', '', text))
+    return max(itertools.accumulate(1 if sign in '[{' else -1 for sign in signs), default=0)
 
 
 def parts(tree):

@@ -258,20 +258,22 @@ def fault_of_run(run, env=None):
     )
 
 
-def replies_together(runs, options):
-    """The replies to each of some runs that the program hears as one session. It leaves no files."""
-    done, files = heard(b''.join(run.session for run in runs), options=options)
+def replies_together(runs, options, before):
+    """The replies to each of some runs that the program hears as one session. It leaves the files as they were before."""
+    done, files = heard(b''.join(run.session for run in runs), before, options)
     came = (done.returncode, done.stderr[:300], sorted(files))
-    assert came == (0, b'', []), f'wanted status 0, no errors and no files, came {came}'
+    assert came == (0, b'', sorted(before)), f'wanted status 0, no errors and the files {sorted(before)}, came {came}'
+    fault = fault_of_files(dict(before), files)
+    assert not fault, fault
     replies = iter(done.stdout.splitlines(keepends=True))
     for run in runs:
         yield b''.join(next(replies, b'') for _ in range(run.replies.count(b'\n')))
 
 
-def check_together(runs, at_once=None, options=()):
-    """The program, made with these options, hears some runs as one session, or so many at once; each
-    of them is a case."""
+def check_together(runs, at_once=None, options=(), before=()):
+    """The program, made with these options, hears some runs as one session over these files, or so many at
+    once; each of them is a case."""
     step = at_once or len(runs)
     parts = [runs[first : first + step] for first in range(0, len(runs), step)]
-    came = iter([replies for part in parts for replies in replies_together(part, options)])
+    came = iter([replies for part in parts for replies in replies_together(part, options, before)])
     check_each(runs, lambda run: fault_of_replies(run.session, run.replies, next(came)))

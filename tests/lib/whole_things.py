@@ -1,6 +1,6 @@
 # SPDX-License-Identifier: MIT OR Apache-2.0
-"""What each line for all edits does to a map, plainly, that adds a whole thing or takes one out: on the
-tree of its JSON text, by the rules of docs/session-lines.md."""
+"""What each line for all edits does to a map, plainly, that adds a whole thing, takes one out or moves
+one, or gives the map more room: on the tree of its JSON text, by the rules of docs/session-lines.md."""
 from lib.edits import (
     EDITS,
     LAST_FIRST_ID,
@@ -10,12 +10,16 @@ from lib.edits import (
     Edit,
     add_layer,
     find_layer,
+    find_object,
     find_owner,
+    remove_object,
     remove_property,
+    resize,
     see,
+    siblings_of,
 )
-from lib.json_words import is_whole, json_word, object_word
-from lib.maps import MOST_LAYERS, group, layer_of, layers_in, objects_in
+from lib.json_words import MOST_READ, is_whole, json_word, nesting, object_word
+from lib.maps import MOST_INSIDE, MOST_LAYERS, group, layer_of, layers_in, objects_in, text_of
 from lib.members import see_object
 
 
@@ -38,6 +42,31 @@ def add_any_layer(draft, kind, name):
     made = group(number, name=name) if kind == 'group' else layer_of(number, 'imagelayer', name=name, image='')
     tree['layers'].append(made)
     tree['nextlayerid'] += 1
+
+
+def stands_right(layers, around=0):
+    """Whether each of these layers, and each within its groups, stands in no more groups than it may."""
+    return all(
+        around < MOST_INSIDE and stands_right(layer['layers'], around + 1) if layer['type'] == 'group' else around <= MOST_INSIDE
+        for layer in layers
+    )
+
+
+def see_depth(tree):
+    """What a file had in a thing nests with it, which may be too deep at its new place."""
+    see(nesting(text_of(tree).decode()) <= MOST_READ, 39)
+
+
+def move_layer_into(draft, number, parent, place):
+    tree = draft.tree
+    old, at = siblings_of(tree, number)
+    new = find_layer(tree, parent, 'group')['layers'] if parent else tree['layers']
+    see(all(inner['id'] != parent for inner in layers_in([old[at]])), 39)
+    layer = old.pop(at)
+    see(place <= len(new), 39)
+    new.insert(place, layer)
+    see(stands_right(tree['layers']), 39)
+    see_depth(tree)
 
 
 # ---- objects
@@ -81,7 +110,28 @@ def put_object(draft, number, text):
     tree['nextobjectid'] = max(next_id, item['id'] + 1)
 
 
-# ---- properties and tilesets
+def move_object_into(draft, number, layer_number, place):
+    tree = draft.tree
+    item, layer = find_object(tree, number), find_layer(tree, layer_number, 'objectgroup')
+    remove_object(draft, number)
+    others = layer['objects']
+    see(place <= len(others), 39)
+    see(len(others) < MOST_OBJECTS, 40)
+    others.insert(place, item)
+    see_depth(tree)
+
+
+# ---- properties, tilesets and the map's size
+
+
+def put_property(draft, owner, text):
+    found = find_owner(draft.tree, owner)
+    entry = object_word(text)
+    read_property(entry)
+    listed = found.get('properties', [])
+    at = next((at for at, other in enumerate(listed) if other['name'] == entry['name']), len(listed))
+    see(at < MOST_ENTRIES, 40)
+    found['properties'] = [*listed[:at], entry, *listed[at + 1 :]]
 
 
 def take_property(draft, owner, text):
@@ -100,11 +150,20 @@ def put_tileset(draft, text):
     tilesets.append(item)
 
 
+def extend(draft, left, top, right, bottom):
+    tree = draft.tree
+    resize(draft, tree['width'] + left + right, tree['height'] + top + bottom, left, top)
+
+
 WHOLE_EDITS = {
     'layer add': Edit(add_any_layer, (str, str), 'Add Layer'),
+    'layer into': Edit(move_layer_into, (int,) * 3, 'Move Layer'),
     'object put': Edit(put_object, (int, str), 'Add Object'),
+    'object into': Edit(move_object_into, (int,) * 3, 'Move Object'),
+    'prop put': Edit(put_property, (str, str), 'Set Property', True),
     'prop take': Edit(take_property, (str, str), 'Remove Property'),
     'tileset put': Edit(put_tileset, (str,), 'Add Tileset'),
+    'extend': Edit(extend, (int,) * 4, 'Resize Map'),
 }
 
 

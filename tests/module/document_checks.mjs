@@ -93,11 +93,21 @@ async function savedDocuments() {
 async function propertiesOfOtherTypes() {
   const editor = await Editor.create();
   const made = editor.new("made", 4, 3, 16, 16, "town.tsj");
-  const properties = [{ name: "c", type: "class", propertytype: "Door", value: { a: 1 } }];
+  const properties = [
+    { name: "c", propertytype: "Door", type: "class", value: { a: 1 } }, { name: "f", type: "float", value: 1 },
+  ];
   const document = await editor.open(JSON.stringify({ ...made.map(), properties }));
   document.properties.get("c").a = 2;
-  same([...document.properties], [["c", { a: 1 }]]);
-  thrown(OtherType, () => document.properties.set("c", { a: 2 }));
+  same([...document.properties], [["c", { a: 1 }], ["f", 1]]);
+  for (const [key, value] of [["c", 5], ["c", [1]], ["f", "2"], ["f", true], ["f", {}]]) {
+    thrown(OtherType, () => document.properties.set(key, value));
+  }
+  same(thrown(Refused, () => document.properties.set("f", 2.5)).code, 61);
+  same(document.map().properties, properties);
+  document.properties.set("c", { a: 2 });
+  document.properties.set("f", 3);
+  same(document.map().properties.map(({ value }) => value), [{ a: 2 }, 3]);
+  same(document.map().properties[0].propertytype, "Door");
   editor.close();
 }
 
@@ -283,7 +293,7 @@ async function thingsThatAreNotAdded() {
     [TypeError, { polygon: 5 }], [TypeError, { polygon: [5] }], [TypeError, { polygon: [[1, 2, 3]] }], [TypeError, { polyline: [[1]] }],
     [TypeError, { polyline: ["ab"] }], [TypeError, { polyline: [{ x: 1 }] }], [TypeError, { polygon: "ab" }], [TypeError, { polygon: [[0, Infinity]] }],
     [TypeError, { text: 5 }], [TypeError, { tile: "a" }], [TypeError, { className: null }], [TypeError, { rotation: "90" }],
-    [TypeError, { properties: ["a"] }], [TypeError, { properties: { a: null } }], [RangeError, { properties: { a: 0.5 } }], [RangeError, { tile: -1 }],
+    [TypeError, { properties: ["a"] }], [TypeError, { properties: { a: null } }], [RangeError, { tile: -1 }],
     [RangeError, { properties: { "\ud800": 1 } }],
   ];
   const shapes = Object.entries({ point: true, ellipse: true, polygon: [], polyline: [], text: "a", tile: 5 });
@@ -309,6 +319,7 @@ async function thingsThatAreNotAdded() {
   same(calls.step ?? 0, 0);
   const refused = [
     [61, () => objects.add("a", 0.5, 0)], [61, () => objects.add("a", 0, 0, 0, 0, { rotation: 22.5 })], [61, () => objects.put({ x: 0.5 })],
+    [61, () => objects.add("a", 0, 0, 0, 0, { properties: { a: 0.5 } })],
     [61, () => objects.add("a", 0, 0, 0, 0, { polygon: [[0, 0], [0.5, 1]] })], [63, () => objects.put({ x: "a" })], [67, () => objects.put({ id: 1 })],
     [63, () => objects.put({ roskevad: [] })], [68, () => objects.put({ y: 1e9 + 1 })], [31, () => town.layers.get(1).objects.put({})],
     [39, () => objects.add("a", 0, 0, 2e9)], [68, () => objects.add("", 0, 0, 2e9)], [62, () => town.tilesets.put({})],

@@ -2,7 +2,7 @@
 // What the declarations must take, and what they must not. It is checked, and never run.
 import {
   BadModule, BadTileset, Broken, CellArea, Closed, Corners, Document, Editor, Error as MapError, FORMS, InCallback, Layer, MapObject, Module, NoMemory,
-  NotFound, OtherType, Refused, Report, ReportedObject, Run, Status, StepRow, Subject, Tile, Told, VERSION, documentName, formsOf, report,
+  NotFound, OtherType, PropertyType, Refused, Report, ReportedObject, Run, Status, StepRow, Subject, Tile, Told, VERSION, documentName, formsOf, report,
 } from "../../js/roskevad.js";
 
 async function used(bytes: Uint8Array): Promise<void> {
@@ -89,6 +89,18 @@ async function used(bytes: Uint8Array): Promise<void> {
   const art = town.tilesets.put({ firstgid: 100, source: "art.tsj" }, { renumbers: true });
   const sets: number[] = [art.firstId, town.tilesets.addFromImage(200, "art", "art.png", 128, 128, 16, 16, { margin: 1, spacing: 1 }).firstId];
   void [copies, houses, sets];
+  ground.moveInto(houses);
+  ground.moveInto("Houses", 0);
+  ground.moveInto(null);
+  lake.moveInto(ground, 1);
+  town.extend(1);
+  town.extend(0, 0, 0, 2);
+  town.properties.set("shop", { open: true }, { propertyType: "Shop", merge: true });
+  town.properties.set("speed", 3, { type: "float" });
+  town.properties.set("many", [1, "b"] as const, { type: "list" });
+  town.properties.put({ name: "two words", value: door.id });
+  const kind: PropertyType = town.properties.typeOf("shop");
+  void kind;
   [ground.className, ground.opacity, ground.tint, ground.locked] = ["floor", 1, ground.tint ?? "#ff8800", !ground.locked];
   ground.tint = null;
   ground.setMember("parallaxx", 2, { merge: true });
@@ -116,6 +128,12 @@ async function used(bytes: Uint8Array): Promise<void> {
   town.layers.add("wall", "a");
   // @ts-expect-error: a tileset as a file has it is an object
   town.tilesets.put("art.tsj");
+  // @ts-expect-error: a property has a value
+  town.properties.set("a", null);
+  // @ts-expect-error: a type of properties is one of nine
+  town.properties.set("a", 1, { type: "matrix" });
+  // @ts-expect-error: an object goes into a layer
+  door.moveInto(null);
   // @ts-expect-error: a rotation is a number
   door.rotation = "90";
   // @ts-expect-error: a tint is a text, or null

@@ -293,6 +293,24 @@ static void check_all_edits(void)
     WANT(told.refusal == 0 && told.became == ROSKEVAD_BECAME_ADDED && told.differs == ROSKEVAD_DIFFERS_OUTLINE && told.subject == ROSKEVAD_OBJECT && told.id == 7);
     told = told_of(&editor, "prop take map \"a b\"");
     WANT(told.refusal == 35 && told.differs == 0 && told.word == 0);
+    told = told_of(&editor, "prop put object:7 {\"name\":\"a b\",\"value\":\"c\"}");
+    WANT(told.refusal == 0 && told.became == ROSKEVAD_BECAME_ADDED && told.differs == ROSKEVAD_DIFFERS_OUTLINE && told.index == 8);
+    WANT(told.subject == ROSKEVAD_OBJECT && told.id == 7);
+    told = told_of(&editor, "prop put object:7 {\"name\":\"a b\",\"value\":\"c\"}");
+    WANT(told.refusal == 0 && told.became == ROSKEVAD_BECAME_NOTHING && told.index == 8);
+    told = told_of(&editor, "object into 7 2 0");
+    WANT(told.refusal == 0 && told.became == ROSKEVAD_BECAME_ADDED && told.differs == ROSKEVAD_DIFFERS_OUTLINE && told.index == 9);
+    WANT(told.subject == ROSKEVAD_OBJECT && told.id == 7 && roskevad_editor_object_layer(&editor, 7) == 2);
+    told = told_of(&editor, "object into 7 2 9");
+    WANT(told.refusal == 39 && told.differs == 0 && told.word == 0);
+    told = told_of(&editor, "layer into 2 3 0");
+    WANT(told.refusal == 0 && told.became == ROSKEVAD_BECAME_ADDED && (told.differs & ROSKEVAD_DIFFERS_ALL_CELLS) != 0 && told.index == 10);
+    WANT(told.subject == ROSKEVAD_LAYER && told.id == 2 && roskevad_editor_object_layer(&editor, 7) == 2);
+    told = told_of(&editor, "extend 1 2 0 1");
+    WANT(told.refusal == 0 && told.became == ROSKEVAD_BECAME_ADDED && (told.differs & ROSKEVAD_DIFFERS_ALL_CELLS) != 0 && told.index == 11);
+    WANT(told.subject == ROSKEVAD_MAP && told.id == 0);
+    told = told_of(&editor, "extend 1 2 0");
+    WANT(told.refusal == 4 && told.word == 5);
     roskevad_editor_close(&editor);
 }
 
