@@ -125,7 +125,7 @@ def test_what_no_object_is():
         (TypeError, ('a', 0, 0), {'polyline': ['ab']}), (TypeError, ('a', 0, 0), {'polyline': [{'x': 1}]}), (TypeError, ('a', 0, 0), {'text': 5}),
         (TypeError, ('a', 0, 0), {'tile': 'a'}), (TypeError, ('a', 0, 0), {'class_name': None}), (TypeError, ('a', 0, 0), {'rotation': '90'}),
         (TypeError, ('a', 0, 0), {'properties': ['a']}), (TypeError, ('a', 0, 0), {'properties': {5: 'a'}}),
-        (TypeError, ('a', 0, 0), {'properties': {'a': None}}), (ValueError, ('a', 0, 0), {'properties': {'a': 0.5}}), (ValueError, ('a', float('nan'), 0), {}),
+        (TypeError, ('a', 0, 0), {'properties': {'a': None}}), (ValueError, ('a', float('nan'), 0), {}),
         (ValueError, ('a', 0, float('-inf')), {}), (ValueError, ('a', 1_000_000_001, 0), {}), (ValueError, ('a', 1e12, 0), {}), (ValueError, ('a', 0, 0, -1), {}),
         (ValueError, ('\ud800', 0, 0), {}), (ValueError, ('a', 0, 0), {'polygon': [(0, float('inf'))]}), (ValueError, ('a', 0, 0), {'tile': -1}),
     ]
@@ -152,7 +152,8 @@ def test_what_is_refused_of_objects():
     """Nothing is done then. A fraction is refused, and not rounded."""
     rows = [
         (61, lambda things: things.add('a', 0.5, 0)), (61, lambda things: things.add('', 0, 0, 1.5, 1)), (61, lambda things: things.add('a', 0, 0, rotation=22.5)),
-        (61, lambda things: things.add('a', 0, 0, polygon=[(0, 0), (0.5, 1)])), (68, lambda things: things.add('', 0, 0, 2_000_000_000)),
+        (61, lambda things: things.add('a', 0, 0, polygon=[(0, 0), (0.5, 1)])), (61, lambda things: things.add('a', 0, 0, properties={'a': 0.5})),
+        (61, lambda things: things.add('a', 0, 0, properties={'a': {'b': [0.5]}})), (68, lambda things: things.add('', 0, 0, 2_000_000_000)),
         (39, lambda things: things.add('a', 0, 0, 2_000_000_000)), (61, lambda things: things.put({'x': 0.5})), (63, lambda things: things.put({'x': 'a'})),
         (63, lambda things: things.put({'roskevad': []})), (63, lambda things: things.put({'a': [{'roskevad': 1}]})), (67, lambda things: things.put({'id': 1})),
         (68, lambda things: things.put({'y': 1_000_000_001})), (63, lambda things: things.put({'id': '7'})),

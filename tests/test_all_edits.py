@@ -7,7 +7,7 @@ import json
 from lib.asides import OPTION as ALL_MAPS
 from lib.cases import CORES, Case, check_each, unlike
 from lib.forms import FURTHER, OF_MEMBERS
-from lib.maps import map_of, text_of, thing, things
+from lib.maps import group, map_of, text_of, thing, things
 from lib.refusals import refusal
 from lib.sessions import ALL_EDITS, Run, fault_of_replies, fault_of_run, heard, joined
 
@@ -60,6 +60,10 @@ def test_a_limit():
         ('layer add group Houses', 'ok 2/2 dirty 0'),
         ('object put 2 {"point":true}', 'ok 2/2 dirty 0'),
         ('tileset put {"firstgid":100}', 'ok 2/2 dirty 0'),
+        ('object into 1 2 1', 'ok 2/2 dirty 0'),
+        ('layer into 1 3 0', 'ok 2/2 dirty 0'),
+        ('prop put map {"name":"two words","value":1}', 'ok 2/2 dirty 0'),
+        ('extend 1 0 0 0', 'ok 2/2 dirty 0'),
         ('goto 0', 'ok 0/2 dirty 0'),
     ]
     fault = fault_of_run(run_of('with a limit', rows, ALL_EDITS, '--limit', '2'))
@@ -67,18 +71,22 @@ def test_a_limit():
 
 
 def test_all_maps():
-    """A map with fractions is opened, and has them back when it is saved. A fraction in a line is
-    refused."""
-    row = things(1, thing(1, x=1.5, y=2))
-    text = text_of(map_of(row, width=1, height=1, nextlayerid=2, nextobjectid=2))
+    """A map with fractions is opened, and has them back when it is saved, wherever an object or a layer was
+    moved to. A fraction in a line is refused."""
+    rows = things(1, thing(1, x=1.5, y=2), thing(2, x=0.25, y=3)), things(2), group(3)
+    text = text_of(map_of(*rows, width=1, height=1, nextlayerid=4, nextobjectid=3))
     rows = [
         ('open a a.tmj', 'ok 0/0 clean 0'),
         ('member set object:1 rotation 0.5', refusal(61)),
         ('member put object:1 {"rotation":0.5}', refusal(61)),
         ('object put 1 {"x":1.5}', refusal(61)),
         ('tileset put {"firstgid":100,"tileoffset":{"x":0.5,"y":0}}', refusal(61)),
+        ('prop put object:1 {"name":"speed","type":"float","value":0.5}', refusal(61)),
         ('member set object:1 rotation 90', 'ok 1/1 dirty 0'),
         ('object put 1 {"x":7,"y":8}', 'ok 2/2 dirty 0'),
+        ('object into 2 2 0', 'ok 3/3 dirty 0'),
+        ('layer into 2 3 0', 'ok 4/4 dirty 0'),
+        ('layer into 1 3 1', 'ok 5/5 dirty 0'),
         ('save a.tmj', None),
     ]
     session = joined(line.encode() for line, _ in rows)
@@ -88,8 +96,10 @@ def test_all_maps():
     fault = fault_of_replies(session, joined(wanted), joined(replies[:-1]))
     assert not fault, fault
     assert len(replies) == len(rows) and replies[-1].startswith(b'saved a.tmj '), replies
-    saved, put = json.loads(files['a.tmj'])['layers'][0]['objects']
-    fault = unlike((1.5, 2, 90, 2, 7, 8), (saved['x'], saved['y'], saved['rotation'], put['id'], put['x'], put['y']))
+    moved, row = json.loads(files['a.tmj'])['layers'][0]['layers']
+    saved, put = row['objects']
+    fault = unlike((1.5, 2, 90, 3, 7, 8), (saved['x'], saved['y'], saved['rotation'], put['id'], put['x'], put['y']))
+    fault = fault or unlike([(2, 0.25, 3)], [(item['id'], item['x'], item['y']) for item in moved['objects']])
     assert not fault, fault
 
 
@@ -98,6 +108,7 @@ def test_all_maps():
 
 OWNERS = 'map, or layer: or object: or tileset: and an id'
 NUMBER = 'a whole number from 0 to 4294967295, with no zero in front'
+EXTEND = ['extend LEFT TOP RIGHT BOTTOM']
 LAYERS = ['layer add tile NAME', 'layer add object NAME', 'layer add group NAME', 'layer add image NAME']
 
 
@@ -122,10 +133,19 @@ def strict_cases():
         'members': forms_behind(f'{unknown}: word 1 is not a command', OF_MEMBERS),
         'object put door {}': forms_behind(f'{bad}: word 3 is not {NUMBER}', ['object put LAYER JSON']),
         'tileset put': forms_behind(f'{bad}: word 3 is missing: a JSON text', ['tileset put JSON']),
+        'object into 1 2': forms_behind(f'{bad}: word 5 is missing: {NUMBER}', ['object into OBJECT LAYER PLACE']),
+        'layer into 1 none 0': forms_behind(f'{bad}: word 4 is not {NUMBER}', ['layer into LAYER GROUP PLACE']),
+        'extend 1 2 0 1 1': forms_behind(f'{bad}: word 6 is one too many', EXTEND),
+        'extend+ 1 2 0 1': forms_behind(f'{unknown}: word 1 is not a command', EXTEND),
+        'prop put tileset:1 {}': forms_behind(f'{bad}: word 3 is not map, or layer: or object: and an id', ['prop put OWNER JSON']),
         'layer add groups x': forms_behind(f'{bad}: word 3 is not tile, object, group or image', LAYERS),
         'object put 2 {}}': refusal(60),
         'prop take map {}': refusal(63),
         'tileset put {}': refusal(62),
+        'prop put map {}': refusal(62),
+        'object into 1 2 1': refusal(39),
+        'layer into 1 2 0': refusal(31),
+        'extend 4096 0 0 0': refusal(39),
         'member+ set object:1 a 1': forms_behind(f'{unknown}: word 1 is not a command', OF_MEMBERS),
         'frob': f'{unknown}: word 1 is not a command\n  fill LAYER X Y TILE',
         'undo x': f'{bad}: word 2 is one too many\n  undo',

@@ -1,7 +1,7 @@
 # SPDX-License-Identifier: MIT OR Apache-2.0
 """Does calls of documents in both packages, and beside them the lines that they stand for: documents,
 maps, steps and selections are the same then. So it tries stamps of any size, macros that fail,
-strokes, properties of each type, and what the views tell."""
+strokes, properties of each type, things that are added and moved, and what the views tell."""
 import json
 import re
 import subprocess
@@ -593,6 +593,106 @@ editor.active = document;""", []),
               r'"value":"n"},{"name":"last","value":"last"}]}', 'prop take object:2 "two words"', r'prop take object:2 "a\nb"', 'prop take object:2 ""',
               'prop remove object:2 n'],
              [('dict(document.objects[2].properties)', 'Object.fromEntries(document.objects.get(2).properties)', {'last': 'last'})]),
+    # ---- things that are moved into others, and room around the map
+    Scenario('objects into other layers', 'document.layers.add("object", "Doors")\ndoor = document.objects["door"]\ndoor.move_into("Doors")\n'
+             'key = document.layers["Things"].objects.add("key", 0, 0)\nkey.move_into(document.layers["Doors"], 0)\nkey.move_into(4)\n'
+             'door.move_into("Things", place=0)\ndoor.move_into(2)',
+             'document.layers.add("object", "Doors"); const door = document.objects.get("door"); door.moveInto("Doors");'
+             'const key = document.layers.get("Things").objects.add("key", 0, 0); key.moveInto(document.layers.get("Doors"), 0); key.moveInto(4);'
+             'door.moveInto("Things", 0); door.moveInto(2)',
+             ['layer add object Doors', 'object into 1 4 0', 'object add 2 0 0 0 0 key', 'object into 2 4 0', 'object into 2 4 1', 'object into 1 2 0',
+              'object into 1 2 0'],
+             [('[[each.id, each.layer.id, dict(each.properties)] for each in document.objects]',
+               '[...document.objects].map((each) => [each.id, each.layer.id, Object.fromEntries(each.properties)])', [[1, 2, {'locked': True}], [2, 4, {}]])]),
+    Scenario('layers into groups, and out of them', 'at = document.layers\nat.add("group", "Houses")\nat.add("group", "Inn").move_into("Houses")\n'
+             'at["Walls"].move_into("Houses/Inn")\nat["Things"].move_into(4, 0)\nat[1].move_into(at["Inn"])\nat["Things"].move_into(at["Houses"])\n'
+             'at["Walls"].move_into(None)\nat["Walls"].move_into(None, place=0)',
+             'const at = document.layers; at.add("group", "Houses"); at.add("group", "Inn").moveInto("Houses"); at.get("Walls").moveInto("Houses/Inn");'
+             'at.get("Things").moveInto(4, 0); at.get(1).moveInto(at.get("Inn")); at.get("Things").moveInto(at.get("Houses"));'
+             'at.get("Walls").moveInto(null); at.get("Walls").moveInto(null, 0)',
+             ['layer add group Houses', 'layer add group Inn', 'layer into 5 4 0', 'layer into 3 5 0', 'layer into 2 4 0', 'layer into 1 5 1', 'layer into 2 4 1',
+              'layer into 3 0 1', 'layer into 3 0 0'],
+             [('[[each.id, each.parent.id if each.parent else 0] for each in document.layers.walk()]',
+               '[...document.layers.walk()].map((each) => [each.id, each.parent?.id ?? 0])', [[3, 0], [4, 0], [5, 4], [1, 5], [2, 4]])]),
+    plain('room around the map', 'document.extend(1, 2, 0, 1); document.extend(0, 1); document.extend(2); document.extend()',
+          ['extend 1 2 0 1', 'extend 0 1 0 0', 'extend 2 0 0 0', 'extend 0 0 0 0'],
+          values=[('[document.width, document.height, document.objects[1].x, document.objects[1].y]',
+                   '[document.width, document.height, document.objects.get(1).x, document.objects.get(1).y]', [7, 7, 64, 48])]),
+    Scenario('what moves things in macros and strokes', 'with document.macro("A"):\n  document.layers[1].parent, len(document.objects)\n'
+             'with document.macro("B"):\n  document.layers["Walls"].move_into(document.layers.add("group", "G"))\n  document.objects[1].move_into("Things")\n'
+             'try:\n  with document.macro("C"):\n    document.extend(1)\n    document.layers["G"].move_into("G")\nexcept roskevad.Refused as refusal:\n'
+             '  assert refusal.code == 39\nwith document.stroke():\n  document.stamp(1, 0, 0, [[5]])\n  document.extend(right=1)\n'
+             '  document.stamp(1, 1, 0, [[6]])\nwith document.macro("D"):\n  editor.step("extend 0 0 0 1")\n'
+             'with document.macro("E"):\n  editor.run_lines(["object into 1 2 0", "layer into 1 0 0"])',
+             'document.macro("A", () => [document.layers.get(1).parent, document.objects.size]); document.macro("B", () => {'
+             ' document.layers.get("Walls").moveInto(document.layers.add("group", "G")); document.objects.get(1).moveInto("Things"); });'
+             'try { document.macro("C", () => { document.extend(1); document.layers.get("G").moveInto("G"); }); } catch (fault) {'
+             ' if (fault.code !== 39) throw fault; } document.stroke(() => { document.stamp(1, 0, 0, [[5]]); document.extend(0, 0, 1);'
+             ' document.stamp(1, 1, 0, [[6]]); }); document.macro("D", () => editor.step("extend 0 0 0 1"));'
+             'document.macro("E", () => editor.runLines(["object into 1 2 0", "layer into 1 0 0"]))',
+             ['begin B', 'layer add group G', 'layer into 3 4 0', 'object into 1 2 0', 'end', 'begin C', 'extend 1 0 0 0', 'end', 'undo', 'stamp 1 0 0 1 5',
+              'extend 0 0 1 0', 'stamp+ 1 1 0 1 6', 'begin D', 'extend 0 0 0 1', 'end', 'begin E', 'object into 1 2 0', 'layer into 1 0 0', 'end']),
+    Scenario('what is moved and is gone', 'layer, thing = document.layers[3], document.objects[1]\nlayer.remove()\nthing.remove()\ncodes = []\n'
+             'for work in (lambda: layer.move_into(None), lambda: thing.move_into(2), lambda: document.layers[1].move_into(3),\n'
+             '             lambda: thing.properties.put({"name": "a", "value": 1})):\n'
+             '  try:\n    work()\n  except roskevad.Refused as refusal:\n    codes.append(refusal.code)\nassert codes == [30, 34, 30, 34], codes',
+             'const [layer, thing] = [document.layers.get(3), document.objects.get(1)]; layer.remove(); thing.remove(); const codes = [];'
+             'for (const work of [() => layer.moveInto(null), () => thing.moveInto(2), () => document.layers.get(1).moveInto(3),'
+             ' () => thing.properties.put({ name: "a", value: 1 })]) { try { work(); } catch (fault) { codes.push(fault.code); } }'
+             'if (String(codes) !== "30,34,30,34") throw new Error(codes)',
+             ['layer remove 3', 'object remove 1']),
+    # ---- properties of any kind
+    Scenario('properties that no plain line says', 'p = document.properties\np["two words"] = "a"\np["note"] = "two\\nlines"\np["empty"] = ""\n'
+             'p["people"] = 10000000000\np["long"] = "x" * 201\np[""] = True\np["to open"] = document.objects["door"]\np.set("two words", 5, type="int")\n'
+             'p.set("sky", "", type="color")\np["sky"] = "#FFAA00"\np["sky"] = "#ffaa00"\np.set("tune", "", type="file")\ndel p["two words"]\n'
+             'p.set("note", "one", merge=True)\np.set("note", "", merge=True)',
+             'const p = document.properties; p.set("two words", "a"); p.set("note", "two\\nlines"); p.set("empty", ""); p.set("people", 1e10);'
+             'p.set("long", "x".repeat(201)); p.set("", true); p.set("to open", document.objects.get("door")); p.set("two words", 5, { type: "int" });'
+             'p.set("sky", "", { type: "color" }); p.set("sky", "#FFAA00"); p.set("sky", "#ffaa00"); p.set("tune", "", { type: "file" });'
+             'p.delete("two words"); p.set("note", "one", { merge: true }); p.set("note", "", { merge: true })',
+             ['prop put map {"name":"two words","type":"string","value":"a"}', r'prop put map {"name":"note","type":"string","value":"two\nlines"}',
+              'prop put map {"name":"empty","type":"string","value":""}', 'prop put map {"name":"people","type":"int","value":10000000000}',
+              f'prop put map {{"name":"long","type":"string","value":"{"x" * 201}"}}', 'prop put map {"name":"","type":"bool","value":true}',
+              'prop put map {"name":"to open","type":"object","value":1}', 'prop put map {"name":"two words","type":"int","value":5}',
+              'prop put map {"name":"sky","type":"color","value":""}', 'prop put map {"name":"sky","type":"color","value":"#FFAA00"}',
+              'prop set map sky color #ffaa00', 'prop put map {"name":"tune","type":"file","value":""}', 'prop take map "two words"',
+              'prop set+ map note string one', 'prop put map {"name":"note","type":"string","value":""}'],
+             [('[[key, p_type] for key in document.properties for p_type in [document.properties.type_of(key)]][2:]',
+               '[...document.properties.keys()].map((key) => [key, document.properties.typeOf(key)]).slice(2)',
+               [['note', 'string'], ['empty', 'string'], ['long', 'string'], ['', 'bool'], ['to open', 'object'], ['sky', 'color'], ['tune', 'file']])]),
+    Scenario('floats, classes and lists', 'p = document.objects[1].properties\np.set("speed", 3, type="float")\np["speed"] = 4.0\n'
+             'p["house"] = {"rooms": 2, "open": [True, None]}\np.set("house", {"rooms": 3}, property_type="House")\np["house"] = {"rooms": 4}\n'
+             'p.set("house", {}, property_type="")\np["many"] = [1, "b"]\np.set("facing", 2, type="int", property_type="Direction")\np["facing"] = 3\n'
+             'p.set("house", {"rooms": 5}, type="class", property_type="House")',
+             'const p = document.objects.get(1).properties; p.set("speed", 3, { type: "float" }); p.set("speed", 4);'
+             'p.set("house", { rooms: 2, open: [true, null] }); p.set("house", { rooms: 3 }, { propertyType: "House" }); p.set("house", { rooms: 4 });'
+             'p.set("house", {}, { propertyType: "" }); p.set("many", [1, "b"]); p.set("facing", 2, { type: "int", propertyType: "Direction" });'
+             'p.set("facing", 3); p.set("house", { rooms: 5 }, { type: "class", propertyType: "House" })',
+             ['prop put object:1 {"name":"speed","type":"float","value":3}', 'prop put object:1 {"name":"speed","type":"float","value":4}',
+              'prop put object:1 {"name":"house","type":"class","value":{"rooms":2,"open":[true,null]}}',
+              'prop put object:1 {"name":"house","type":"class","value":{"rooms":3},"propertytype":"House"}',
+              'prop put object:1 {"name":"house","type":"class","value":{"rooms":4},"propertytype":"House"}',
+              'prop put object:1 {"name":"house","type":"class","value":{}}', 'prop put object:1 {"name":"many","type":"list","value":[1,"b"]}',
+              'prop put object:1 {"name":"facing","type":"int","value":2,"propertytype":"Direction"}', 'prop set object:1 facing int 3',
+              'prop put object:1 {"name":"house","type":"class","value":{"rooms":5},"propertytype":"House"}'],
+             [('document.objects[1].members["properties"][1:]', 'document.objects.get(1).members.properties.slice(1)', [
+                 {'name': 'speed', 'type': 'float', 'value': 4}, {'name': 'house', 'propertytype': 'House', 'type': 'class', 'value': {'rooms': 5}},
+                 {'name': 'many', 'type': 'list', 'value': [1, 'b']}, {'name': 'facing', 'propertytype': 'Direction', 'type': 'int', 'value': 3}])]),
+    Scenario('properties as a file has them', 'document.layers[2].properties.put({"name": "a b", "value": 7})\n'
+             'document.layers[2].properties.put({"name": "a b", "value": "c", "kept": [{}]})\n'
+             'document.properties.put({"name": "people", "type": "odd", "value": None})\n'
+             'try:\n  document.properties["people"] = 5\nexcept roskevad.OtherType:\n  document.properties.set("people", 5, type="int")',
+             'const things = document.layers.get(2).properties; things.put({ name: "a b", value: 7 }); things.put({ name: "a b", value: "c", kept: [{}] });'
+             'document.properties.put({ name: "people", type: "odd", value: null }); try { document.properties.set("people", 5); } catch (fault) {'
+             ' if (!(fault instanceof roskevad.OtherType)) throw fault; document.properties.set("people", 5, { type: "int" }); }',
+             ['prop put layer:2 {"name":"a b","value":7}', 'prop put layer:2 {"name":"a b","value":"c","kept":[{}]}',
+              'prop put map {"name":"people","type":"odd","value":null}', 'prop set map people int 5'],
+             [('dict(document.layers[2].properties)', 'Object.fromEntries(document.layers.get(2).properties)', {'a b': 'c'})]),
+    Scenario('an object with a class and a list',
+             'document.layers["Things"].objects.add("key", 0, 0, properties={"house": {"a": 1}, "many": [1], "to open": True})',
+             'document.layers.get("Things").objects.add("key", 0, 0, 0, 0, { properties: { house: { a: 1 }, many: [1], "to open": true } })',
+             ['object put 2 {"name":"key","type":"","x":0,"y":0,"width":0,"height":0,"rotation":0,"visible":true,"properties":['
+              '{"name":"house","type":"class","value":{"a":1}},{"name":"many","type":"list","value":[1]},{"name":"to open","type":"bool","value":true}]}']),
     # ---- documents
     Scenario('a document that is not active', 'other = editor.new("b", 2, 2, 8, 8, "b.tsj")\ndocument.stamp(1, 0, 0, [[5]])',
              'editor.new("b", 2, 2, 8, 8, "b.tsj"); document.stamp(1, 0, 0, [[5]])', ['new b 2 2 8 8 b.tsj', 'use town', 'stamp 1 0 0 1 5'],

@@ -76,6 +76,16 @@ SCENARIOS = [
               row('turned', (8, 9, 0), outline=True, about=['map', 0])]),
     Scenario('a property of the map', 'document.properties["people"] = 4', 'document.properties.set("people", 4)',
              [row('added', (8, 8, 0), outline=True, about=['map', 0])]),
+    plain('a property as a file has it', 'document.properties.put({"name": "two words", "value": 4}); document.properties.put({"name": "two words", "value": 4})',
+          row('added', (8, 8, 0), outline=True, about=['map', 0])),
+    Scenario('an object in another place', 'door = document.objects["door"]\ndoor.move_into("Things")\ndocument.undo()',
+             'const door = document.objects.get("door"); door.moveInto("Things"); document.undo()',
+             [row('added', (8, 8, 0), outline=True, about=['object', 1]), row('turned', (7, 8, 0), outline=True, about=['object', 1])]),
+    Scenario('a layer in a group', 'houses = document.layers.add("group", "Houses")\ndocument.layers["Walls"].move_into(houses)\ndocument.undo()',
+             'const houses = document.layers.add("group", "Houses"); document.layers.get("Walls").moveInto(houses); document.undo()',
+             [row('added', (8, 8, 0), outline=True, cells='all', about=['layer', 4]), row('added', (9, 9, 0), outline=True, cells='all', about=['layer', 3]),
+              row('turned', (8, 9, 0), outline=True, cells='all', about=['layer', 3])]),
+    plain('room around the map', 'document.extend(1, 0, 0, 2)', row('added', (8, 8, 0), outline=True, selection=True, cells='all', about=['map', 0])),
     plain('a tileset', 'document.tilesets.add(33, "b.tsj")', row('added', (8, 8, 0), outline=True, about=['tileset', 33])),
     plain('marks', 'document.clear(); document.limit(2)', row('nothing', (0, 0, 0, True))),
     plain('steps that are dropped', 'document.clear(); document.limit(1); document.fill(1, 3, 2, 4); document.erase(1, 0, 0, 1, 1)',
@@ -337,6 +347,8 @@ def test_refusals():
 FORMS = """stamp 1 # # 2 5,6,7,8;stamp+ 1 # # 1 #;erase 1 # # 2 #;fill 1 # # #;select add # # 2 2;select none;layer add tile L;layer add object O
 layer rename # N;layer show # no;layer move # 0;layer remove #;resize 3# 30 # 0;object add 5 1 1 2 2 o;object move # 5 #;object move+ # 6 #
 object remove #;member set object:# rotation #;member put object:# {"name":"n#","x":#};member remove object:# rotation
+layer add group G;layer into # # 0;layer into # 0 #;object put 5 {"x":#};object into # 5 #;object into # # 0;extend # 0 1 0
+prop put map {"name":"k #","value":#};prop put object:# {"name":"k","value":{"a":#}};prop take map "k #"
 prop set map k# int 1;prop remove map k#;tileset add 10#0 t.tsj;undo;undo;redo;goto #;clean;dirty;clear;begin A;end;end;status
 use other;use town;limit #"""
 
@@ -347,12 +359,15 @@ class Copy:
     def __init__(self, document):
         self.document = document
         self.outline, self.selection, self.cells = document.outline(), document.selection, self.all_cells()
-        self.steps, self.standing = document.steps_since(0), self.standing_now()
+        self.steps, self.standing, self.size = document.steps_since(0), self.standing_now(), self.size_now()
         document.watch(self.take)
 
     def standing_now(self):
         status = self.document.status
         return status.index, status.count, status.clean, status.depth
+
+    def size_now(self):
+        return self.document.width, self.document.height
 
     def all_cells(self):
         return {layer.id: layer.rows() for layer in self.document.layers.walk() if layer.kind == 'tile'}
@@ -369,7 +384,9 @@ class Copy:
             layer, x, y, width, height = told.cells
             for at, values in enumerate(self.document.layers[layer].rows(x, y, width, height), y):
                 self.cells[layer][at][x:x + width] = values
-        place = 0 if told.dropped else max(min(told.before, told.index) - 1, 0)
+        size, self.size = self.size, self.size_now()
+        # The cells of steps are told as far as they lie in the map as it is.
+        place = 0 if told.dropped or size != self.size else max(min(told.before, told.index) - 1, 0)
         self.steps[place:] = self.document.steps_since(place)
         self.standing = told.index, told.count, told.is_clean, told.depth
 

@@ -22,7 +22,7 @@ from lib.maps import compact, group, map_of, packed, text_of, things, tiles
 from lib.places import EXAMPLE_MAPS, TOP
 
 sys.path.insert(0, str(TOP / 'python'))
-from roskevad import Closed, Editor, Refused, Status, library, saving  # noqa: E402
+from roskevad import Closed, Editor, OtherType, Refused, Status, library, saving  # noqa: E402
 from roskevad import editor as editor_module  # noqa: E402
 from roskevad.forms import FORMS  # noqa: E402
 from roskevad.library import LIBRARY  # noqa: E402
@@ -157,7 +157,7 @@ def test_tiles_of_files():
 
 
 def test_properties_of_other_types():
-    """A class and a float are read; what is read of a class is a copy."""
+    """A class and a float are read and set; what is read of a class is a copy. A fraction is refused."""
     with Editor() as editor:
         made(editor)
         properties = [
@@ -169,8 +169,12 @@ def test_properties_of_other_types():
         document.properties['c']['a'] = 2
         see({'c': {'a': 1}, 'f': 1.0}, dict(document.properties))
         see((float, 'class', 'float'), (type(document.properties['f']), *map(document.properties.type_of, 'cf')))
-        for key, value in (('c', {'a': 2}), ('f', 2.5), ('f', 2)):
-            raised(ValueError, document.properties.__setitem__, key, value)
+        for key, value in (('c', 5), ('c', [1]), ('f', '2'), ('f', True), ('f', {})):
+            raised(OtherType, document.properties.__setitem__, key, value)
+        see(61, raised(Refused, document.properties.__setitem__, 'f', 2.5).code)
+        see(editor.map()['properties'], properties)
+        document.properties.update(c={'a': 2}, f=3)
+        properties[0]['value'], properties[1]['value'] = {'a': 2}, 3
         see(editor.map()['properties'], properties)
 
 
@@ -493,7 +497,9 @@ prop remove map k#;tileset add 10# t.tsj;tileset remove 10#;undo;redo;goto #;cle
 redotext;text #;list;use other;use town;use -;save s.tmj;new n# 2 2 8 8 n.tsj;close n#;discard n#;open o# s.tmj;discard o#;# a comment;
 member set object:# rotation #;member set+ object:# rotation 1;member put object:# {"name":"m#","x":#};member remove object:# rotation
 member set layer:# class "c#";member put layer:# {"name":"m#","opacity":#};member remove layer:# class;member set map class "c#";member remove map class
-layer add group G;layer add image I;object put # {"x":#,"point":true};object put # {"id":1#};prop take map "k#";tileset put {"firstgid":10#,"name":"t"}"""
+layer add group G;layer add image I;object put # {"x":#,"point":true};object put # {"id":1#};prop take map "k#";tileset put {"firstgid":10#,"name":"t"}
+layer into # 6 0;layer into # 4 1;layer into # 0 1;object into # 2 0;object into # 5 1;prop put map {"name":"k#","value":{"a":#}};extend 0 0 # 1
+prop put object:# {"name":"k #","type":"float","value":#}"""
 
 
 def test_what_is_read_is_what_is_there():

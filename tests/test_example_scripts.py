@@ -18,7 +18,7 @@ from lib.cases import Case, check_each, see, unlike
 from lib.places import EXAMPLES, EXAMPLE_MAPS, TOP
 
 sys.path[:0] = [str(TOP / 'python'), str(EXAMPLES)]
-from roskevad import Editor  # noqa: E402
+from roskevad import Editor, Refused  # noqa: E402
 
 FLAGS = 0xF0000000
 # A time of files long ago, in nanoseconds.
@@ -377,39 +377,45 @@ def test_text_map():
 
 
 def renamed(tree, old, new):
-    """A tree in which a property of the map, of layers and of objects has another name, and goes last."""
+    """A tree in which a property of the map, of layers and of objects has another name."""
     for owner in (tree, *maps.layers_in(tree['layers']), *maps.objects_in(tree)):
-        listed = owner.get('properties', [])
-        found = [each for each in listed if each['name'] == old]
-        if found:
-            owner['properties'] = [each for each in listed if each['name'] != old] + [{**each, 'name': new} for each in found]
+        for each in owner.get('properties', []):
+            if each['name'] == old:
+                each['name'] = new
     return tree
 
 
 def test_rename_property():
-    for old, files in (('truth', ['image_layer.tmj', 'properties.tmj']), ('object', ['image_layer.tmj', 'properties.tmj']), ('locked', ['house.tmj', 'town.tmj'])):
+    both = ['image_layer.tmj', 'properties.tmj']
+    for old, new, files in (('truth', 'other', both), ('object', 'other', both), ('lines', 'two words', both), ('float one', '', both),
+                            ('file', 'a\nb', both), ('locked', 'other', ['house.tmj', 'town.tmj'])):
         with folder_of() as folder:
             before = trees_in(folder)
-            status, told, errors = run('rename_property', folder, old, 'other')
+            status, told, errors = run('rename_property', folder, old, new)
             see((0, files, ''), (status, [line.partition(':')[0] for line in told.splitlines()], errors))
             see(files, written_in(folder))
-            see({name: renamed(tree, old, 'other') for name, tree in before.items()}, trees_in(folder))
-    for words in (('lines', 'other'), ('float one', 'other'), ('truth', 'an other'), ('truth', 'int')):
-        with folder_of() as folder:
-            (folder / 'cut.tmj').write_bytes(CUT)
-            age(folder)
-            status, told, errors = run('rename_property', folder, *words)
-            stays = [line.partition(' ')[0] for line in errors.splitlines() if 'stays as it is' in line]
-            see((1, '', ['cut.tmj', 'image_layer.tmj', 'properties.tmj'], []), (status, told, stays, written_in(folder)))
-            assert CUT_PLACE in errors, errors
+            see({name: renamed(tree, old, new) for name, tree in before.items()}, trees_in(folder))
+    with folder_of() as folder:
+        (folder / 'cut.tmj').write_bytes(CUT)
+        age(folder)
+        status, told, errors = run('rename_property', folder, 'truth', 'int')
+        stays = [line.partition(' ')[0] for line in errors.splitlines() if 'stays as it is' in line]
+        see((1, '', ['cut.tmj', *both], []), (status, told, stays, written_in(folder)))
+        assert CUT_PLACE in errors, errors
     rename = script('rename_property').rename
     see_undo(EXAMPLE_MAPS / 'properties.tmj', lambda document: see(4, rename(document, 'truth', 'veritas')))
+    listed = [maps.property_of('a', 'int', 1), {**maps.property_of('b', 'class', {'c': [1]}), 'propertytype': 'T'}, maps.property_of('d', 'float', 1.5)]
     with Editor() as editor:
-        document = editor.open(EXAMPLE_MAPS / 'properties.tmj')
+        document = editor.open(maps.text_of(maps.map_of(maps.tiles(1), properties=listed)))
         before = document.map()
-        with contextlib.suppress(ValueError):
-            rename(document, 'lines', 'other')
+        for old, fault in (('d', Refused), ('a', Refused), ('b', Refused), ('a', ValueError)):
+            with contextlib.suppress(fault):
+                rename(document, old, 'b' if fault is ValueError else 'e')
+                raise AssertionError(old)
         see((before, 0), (document.map(), document.status.index))
+        del document.properties['d']
+        rename(document, 'b', 'e')
+        see([listed[0], {**listed[1], 'name': 'e'}], document.map()['properties'])
 
 
 # ---- watch_folder
@@ -546,8 +552,8 @@ def test_beside():
         [[1], [flipped + 34], [0]], tilesets=[{'firstgid': 1, 'source': 'b.tsj'}, {'firstgid': 33, 'source': 'a.tsj'}],
         more=[maps.things(5, point, sign, name='Things'), over], properties=[maps.property_of('author', 'string', 'me')])
     inner = maps.tiles(2, name='Ground', data=[1, 1], properties=[maps.property_of('a', 'float', 1)])
-    sky = maps.layer_of(3, 'imagelayer', name='Sky', image='a.png')
-    group = maps.map_of(maps.group(1, inner, name='Group'), sky, tilesets=[{'firstgid': 1, 'source': 'a.tsj'}])
+    sky = maps.layer_of(3, 'imagelayer', name='Sky', image='a.png', offsetx=8)
+    group = maps.map_of(maps.group(1, inner, name='Group', opacity=0), sky, tilesets=[{'firstgid': 1, 'source': 'a.tsj'}])
     with folder_of(left=left, right=right, group=group) as folder:
         paths = [folder / f'{name}.tmj' for name in ('left', 'right', 'both')]
         see((0, '', ''), run('beside', *paths))
@@ -560,15 +566,44 @@ def test_beside():
         see((wanted, {**sign, 'id': second['id'], 'x': 40, 'gid': 33 + flipped}), (first, second))
         see(maps.tiles(new['id'], 3, 3, name='Over', data=[0] * 8 + [34], opacity=0, **{'class': 'sky'}), new)
         see((right['properties'], left['tilesets']), (both['properties'], both['tilesets']))
-        status, _, told = run('beside', paths[0], folder / 'group.tmj', paths[2])
-        see((1, ["not carried: the group 'Group'", "not carried: layer 'Ground': property 'a'", "not carried: the image 'Sky'"]),
-            (status, [': '.join(line.split(': ')[:3]) for line in told.splitlines()]))
+        # A group, and what stands in it; and a tileset that the left map has not.
+        see((0, '', ''), run('beside', paths[0], folder / 'group.tmj', paths[2]))
         both = tree_in(paths[2])
-        see(([0, 0, 1, 1, 0, 0, 0, 0], 3), (both['layers'][2]['data'], len(both['layers'])))
-        status, _, told = run('beside', folder / 'group.tmj', paths[1], folder / 'none.tmj')
-        see((1, True, False), (status, 'no tileset b.tsj' in told, (folder / 'none.tmj').exists()))
+        wanted = {**inner, 'id': 9002, 'data': [0, 0, 1, 1, 0, 0, 0, 0], 'width': 4, 'height': 2}
+        see([maps.group(9001, wanted, name='Group', opacity=0), {**sky, 'id': 9003, 'offsetx': 40}], both['layers'][2:])
+        see((0, '', ''), run('beside', folder / 'group.tmj', paths[1], paths[2]))
+        both = tree_in(paths[2])
+        see([{'firstgid': 1, 'source': 'a.tsj'}, {'firstgid': 2, 'source': 'b.tsj'}], both['tilesets'])
+        see(([0, 0, 2, 0, 0, flipped + 2, 0, 0, 0], flipped + 2), (both['layers'][2]['data'], both['layers'][3]['objects'][1]['gid']))
     joining = script('beside').Joining
     with Editor() as other:
         right_map = other.open(maps.text_of(right))
         see_undo(maps.text_of(left), lambda document: joining(document, right_map).join())
         see((0, True), (right_map.status.count, right_map.status.clean))
+
+
+def test_beside_of_other_folders_and_fractions():
+    """Paths lead from the folder of the left map; what has a fraction is named, and all else is carried."""
+    listed = [maps.property_of('speed', 'float', 1.5), maps.property_of('tune', 'file', 'a.ogg'),
+              {**maps.property_of('shop', 'class', {'open': True}), 'propertytype': 'Shop'}, maps.property_of('two words', 'string', 'a\nb')]
+    door = maps.thing(1, x=1.5, y=2, width=8, template='door.tx', properties=listed, polygon=[{'x': 0, 'y': 0}, {'x': 0.5, 'y': 8}])
+    art = {'firstgid': 1, 'name': 'art', 'image': 'art.png', 'imagewidth': 32, 'imageheight': 16, 'tilewidth': 16, 'tileheight': 16, 'tilecount': 2,
+           'columns': 2, 'margin': 0, 'spacing': 0}
+    right = drawn([[2]], tilesets=[art, {'firstgid': 3, 'source': '../b.tsx'}], more=[maps.things(2, door, name='Things')], properties=listed[1:3])
+    left = drawn([[7]], tilesets=[{'firstgid': 1, 'source': 'c.tsx'}])
+    with tempfile.TemporaryDirectory() as top:
+        folder = Path(top)
+        (folder / 'maps').mkdir()
+        (folder / 'maps' / 'right.tmj').write_bytes(maps.text_of(right))
+        (folder / 'left.tmj').write_bytes(maps.text_of(left))
+        (folder / 'c.tsx').write_text('<tileset name="c" tilecount="40"/>')
+        status, _, told = run('beside', folder / 'left.tmj', folder / 'maps' / 'right.tmj', folder / 'both.tmj')
+        see((1, ["not carried: object 1: polygon: a fraction", "not carried: object 1: x: a fraction", "not carried: object 1: property 'speed': fraction"]),
+            (status, told.splitlines()))
+        both = tree_in(folder / 'both.tmj')
+        see([{'firstgid': 1, 'source': 'c.tsx'}, {**art, 'firstgid': 41, 'image': 'maps/art.png'}, {'firstgid': 43, 'source': 'b.tsx'}], both['tilesets'])
+        item = both['layers'][1]['objects'][0]
+        carried = [{**listed[1], 'value': 'maps/a.ogg'}, *listed[2:]]
+        see(({'x': 17, 'y': 2, 'template': 'maps/door.tx', 'properties': carried}, carried[:2], [7, 42]),
+            ({name: item[name] for name in ('x', 'y', 'template', 'properties')}, both['properties'], both['layers'][0]['data']))
+        see(False, 'polygon' in item)

@@ -21,7 +21,7 @@ ZLIB = TOP / 'examples' / 'maps' / 'zlib.tmj'
 # A map whose properties have all kinds of types, and which has a tileset that does not say how many tiles it has.
 PROPERTIES = [
     {'name': 'people', 'type': 'int', 'value': 12}, {'name': 'speed', 'type': 'float', 'value': 1.5},
-    {'name': 'sky', 'type': 'color', 'value': '#88ccff'},
+    {'name': 'sky', 'type': 'color', 'value': '#88ccff'}, {'name': 'odd', 'type': 'matrix', 'value': []},
 ]
 TREE = {
     'type': 'map', 'version': '1.10', 'orientation': 'orthogonal', 'infinite': False, 'width': 1, 'height': 1, 'tilewidth': 16, 'tileheight': 16,
@@ -40,18 +40,26 @@ TRIALS = [
     ('document.properties.type_of("a")', 'document.properties.typeOf("a")', NONE, 'map has no property'),
     ('editor.layer_id("Roof")', 'editor.layerId("Roof")', NONE, 'the map has no layer'),
     ('document.properties.set("people", "many")', 'document.properties.set("people", "many")', TYPES, OTHER.format('int')),
-    ('document.properties.set("speed", 2)', 'document.properties.set("speed", 2)', TYPES, OTHER.format('float')),
+    ('document.properties.set("speed", "fast")', 'document.properties.set("speed", "fast")', TYPES, OTHER.format('float')),
+    ('document.properties.set("odd", [])', 'document.properties.set("odd", [])', TYPES, OTHER.format('matrix')),
+    ('document.properties.set("speed", 2.5)', 'document.properties.set("speed", 2.5)', ['Refused', 'Error'], '61 fraction'),
+    ('document.properties.put({"name": "a"})', 'document.properties.put({ name: "a" })', ['Refused', 'Error'], '62 member missing'),
     ('document.properties.set("sky", "blue")', 'document.properties.set("sky", "blue")', TYPES, 'is a color'),
     ('document.tilesets[1].tiles', 'document.tilesets.get(1).tiles', ['BadTileset', 'Error', 'ValueError'], 'and this one says: -1'),
     ('document.stamp(9, 0, 0, [[1]])', 'document.stamp(9, 0, 0, [[1]])', ['Refused', 'Error'], '30 no such layer'),
     ('editor.open(b"{")', 'await editor.open("{")', ['Refused', 'Error'], '60 not JSON'),
     # What is wrong whatever the map is.
-    ('document.properties.set("a b", 1)', 'document.properties.set("a b", 1)', ['ValueError'], 'has a space in it, which it may not have'),
-    ('document.properties.set("a", "")', 'document.properties.set("a", "")', ['ValueError'], 'is empty: give it one character or more'),
-    ('document.properties.set("people", 10**10)', 'document.properties.set("people", 1e10)', ['ValueError'], 'from -1,000,000,000'),
-    ('document.properties.set("a", "b\\n")', 'document.properties.set("a", "b\\n")', ['ValueError'], 'has a newline, a tab or another'),
-    ('document.properties.set("a", "b" * 201)', 'document.properties.set("a", "b".repeat(201))', ['ValueError'], '201 bytes in UTF-8, and may have 200'),
-    ('document.properties.set("a", 1.5)', 'document.properties.set("a", 1.5)', ['ValueError'], 'and the editor sets whole numbers'),
+    ('document.properties.set("\\ud800", 1)', 'document.properties.set("\\ud800", 1)', ['ValueError'], 'has half of a character in it'),
+    ('document.properties.set("a", "\\ud800")', 'document.properties.set("a", "\\ud800")', ['ValueError'], 'has half of a character in it'),
+    ('document.properties.set("a", "blue", type="color")', 'document.properties.set("a", "blue", { type: "color" })', ['ValueError'], 'is a color'),
+    ('document.properties.set("a", 1, type="matrix")', 'document.properties.set("a", 1, { type: "matrix" })', ['ValueError'], 'is one of string'),
+    ('document.properties.set("a", None)', 'document.properties.set("a", null)', ['TypeError'], 'a MapObject'),
+    ('document.layers[1].members.set("a b", 1)', 'document.layers.get(1).setMember("a b", 1)', ['ValueError'], 'has a space in it, which it may not'),
+    ('document.layers[1].members.set("", 1)', 'document.layers.get(1).setMember("", 1)', ['ValueError'], 'is empty: give it one character or more'),
+    ('setattr(document.layers[1], "name", "b\\n")', 'Reflect.set(document.layers.get(1), "name", "b\\n")', ['ValueError'], 'has a newline, a tab or another'),
+    ('setattr(document.layers[1], "name", "b" * 201)', 'Reflect.set(document.layers.get(1), "name", "b".repeat(201))', ['ValueError'],
+     '201 bytes in UTF-8, and may have 200'),
+    ('document.layers[1].move_into(0)', 'document.layers.get(1).moveInto(0)', ['ValueError'], 'is the id of no layer'),
     ('document.properties.set("a", "b", type="int")', 'document.properties.set("a", "b", { type: "int" })', ['TypeError'], OTHER.format('int')),
     ('editor.put_file("a b", b"")', 'editor.putFile("a b", "")', ['ValueError'], 'the name of a file is 1 to 100 of'),
 ]

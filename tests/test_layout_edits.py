@@ -24,6 +24,7 @@ from lib.maps import compact, map_of, text_of, tiles
 from lib.members import MEMBER_EDITS, read_members
 from lib.places import EXAMPLE_MAPS, TOP
 from lib.sessions import ALL_EDITS, heard
+from lib.whole_things import WHOLE_EDITS, read_whole_things
 
 sys.path.insert(0, str(TOP / 'python'))
 from roskevad import Editor  # noqa: E402
@@ -102,6 +103,12 @@ MEMBER_ROWS = [
     ('member remove layer:3 draworder', (1, 0), (1, 0)),
     ('member remove map compressionlevel', (2, 1), (1, 0)),
 ]
+# Lines that move things, set properties whole and give the map room. As many lines go and come as in what the printer makes of the map.
+PLACE_LINES = [
+    'object into 1 4 0', 'object into 2 3 2', 'object into 1 3 2', 'layer into 2 5 1', 'layer into 6 0 0', 'layer into 3 5 0', 'layer into 5 0 0',
+    'prop put map {"name":"people","type":"int","value":13}', 'prop put object:2 {"name":"two words","propertytype":"T","type":"class","value":{"a":[1]}}',
+    'extend 1 0 0 0', 'extend 0 2 1 1',
+]
 # The edits of a map in Base64, where the cells of a layer are one text. A new layer is CSV.
 CELL_WORDS = ('stamp', 'erase', 'fill', 'resize')
 BASE64_ROWS = [
@@ -168,7 +175,7 @@ def fault_of_edit(case):
     source = printer(tree)
     came = saved(source, line)
     changed = lines_changed(source, came)
-    if changed != case.wanted:
+    if case.wanted and changed != case.wanted:
         return f'wanted {case.wanted} lines to go and come, went and came {changed}'
     fault = unlike(printer(tree_behind(tree, line)), came)
     fault = fault or unlike(saved(source, line, options=()), compact(came))
@@ -190,8 +197,16 @@ def check_rows(rows, form):
 
 def test_edits():
     kinds = {read_edit(row[0]).words for row in EDIT_ROWS}
-    assert kinds == set(EDITS) - {'select', 'select none', *MEMBER_EDITS} and len(kinds) == 17, kinds
+    plain = set(EDITS) - {'select', 'select none', *MEMBER_EDITS, *WHOLE_EDITS} | {'layer add'}
+    assert kinds == plain and len(kinds) == 17, kinds
     check_rows(EDIT_ROWS, in_csv)
+
+
+def test_edits_of_places():
+    read_whole_things()
+    tree = map_for_edits(in_csv)
+    cases = [Case(f'{line}, {layout}', (tree, layout, line), None) for line in PLACE_LINES for layout in printers()]
+    check_each(cases, fault_of_edit, CORES)
 
 
 def test_edits_of_own_members():

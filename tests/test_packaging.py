@@ -33,7 +33,7 @@ SCRIPT = '''
 from pathlib import Path
 from typing import Any, Optional
 from roskevad import Closed, Document, Editor, Layer, LayerKind, MapObject, Refused, Rows, Run, SelectionMode, Status, Tile, TilesetTile
-from roskevad import BadTileset, Corners, Error, NotFound, OtherType, OwnMembers, Tileset, document_name, report, turned_right
+from roskevad import BadTileset, Corners, Error, NotFound, OtherType, OwnMembers, PropertyType, Tileset, document_name, report, turned_right
 def run(path: Path) -> Optional[int]:
     with Editor(limit=5, folder='.') as editor:
         reply: str = editor.open_file(path)
@@ -68,6 +68,16 @@ def drawn(editor: Editor, path: Path) -> Status:
     art: Tileset = document.tilesets.put({'firstgid': 100, 'source': 'art.tsj'}, renumbers=True)
     art = document.tilesets.add_from_image(200, 'art', 'art.png', 128, 128, 16, 16, margin=1, spacing=1)
     print(copies, houses, art)
+    layer.move_into(houses)
+    layer.move_into('Houses', place=0)
+    layer.move_into(None)
+    key.move_into(layer, 1)
+    document.extend(left=1, bottom=2)
+    document.properties.set('shop', {'open': True}, property_type='Shop', merge=True)
+    document.properties['many'] = [1, 'b']
+    document.properties.put({'name': 'two words', 'value': key.id})
+    shop: PropertyType = document.properties.type_of('shop')
+    print(shop)
     number: int = int(key) + int(document.objects[key]) + document.layers[layer].id
     tile: Optional[Tile] = layer.tile(0, 0)
     runs: tuple[Run, ...] = document.selection.runs

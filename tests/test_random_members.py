@@ -1,18 +1,27 @@
 # SPDX-License-Identifier: MIT OR Apache-2.0
 """Makes 20,000 sessions by chance of the lines for all edits: they set, put and remove own members of objects, layers and
-the map, put objects and tilesets, take properties out, and add groups and image layers. Other edits, clean marks, undos, limits
-and macros stand between them. It compares the replies of the program with those of the plain model of tests/lib/model.py."""
+the map, put objects, properties and tilesets, take properties out, add groups and image layers, move layers and objects into
+other ones, and give the map more room. Other edits, clean marks, undos, limits and macros stand between them. Some begin with
+groups in groups, up to as many as there may be, with a full owner of properties, or with a map that has a full layer or things
+that nest too deep for others. It compares the replies of the program with those of the plain model of tests/lib/model.py."""
+import functools
 import random
+from copy import deepcopy
 
 from lib.cases import in_processes
+from lib.edits import MOST_ENTRIES, MOST_OBJECTS
+from lib.maps import MOST_INSIDE, group, layers_in, map_of, objects_in, text_of, thing, things, tiles
 from lib.members import read_members
 from lib.model import Play
 from lib.sessions import ALL_EDITS, check_together
 from lib.whole_things import read_whole_things
 
-SEED, RUNS, LINES = 20261129, 20_000, 14
+SEED, RUNS, LINES = 20261130, 20_000, 14
+# So many sessions begin with a map with a full layer, for which the model is slow, and so many with one of deep things.
+FULL_RUNS, DEEP_RUNS = 60, 1500
 # How many sessions the program hears in one run.
 AT_ONCE = 2500
+KINDS = ('group', 'objectgroup', 'tilelayer', 'imagelayer')
 OWN = (
     'name', 'type', 'rotation', 'visible', 'x', 'y', 'width', 'gid', 'point', 'polygon', 'kept',
     'opacity', 'tilewidth', 'tileheight', 'nextlayerid', 'nextobjectid',
@@ -49,6 +58,29 @@ BEFORE = (
     'prop set map b string two words',
     'clear',
 )
+# What some sessions begin with beside it: groups in groups, with the object layer 2 in one of them and another one beside.
+GROUPS = (
+    *('layer add group G',) * 3,
+    'layer into 4 3 0',
+    'layer into 2 4 0',
+    'layer add object More',
+    'object add 6 0 0 8 8 c',
+    'clear',
+)
+# As many groups in one another as there may be, from the layer 3 on, and two more groups and an object layer that stand in none.
+DEEP_GROUPS = (
+    *('layer add group G',) * MOST_INSIDE,
+    *(f'layer into {inner} {inner - 1} 0' for inner in range(4, 3 + MOST_INSIDE)),
+    *('layer add group H',) * 2,
+    'layer into 20 19 0',
+    'layer add object More',
+    'clear',
+)
+# An owner that has room for one more property.
+FULL_OWNER = (
+    'object put 2 {"properties":[' + ','.join(f'{{"name":"p{at}","value":1}}' for at in range(MOST_ENTRIES - 1)) + ']}',
+    'clear',
+)
 # What an object is put with, by the name of each member.
 GIVEN = {
     **{name: VALUES[name] for name in ('name', 'type', 'rotation', 'visible', 'x', 'y', 'width', 'gid', 'polygon')},
@@ -68,6 +100,49 @@ TILESETS = (
     '{"firstgid":0}', '{"firstgid":268435455}', '{"firstgid":268435456}', '{"firstgid":"5"}', '{"firstgid":60,"source":7}', '[]',
     '{"firstgid":70,"tiles":[{"id":0,"probability":0.5}]}', '{"firstgid":80,"tiles":[{"id":0,"properties":[]}]}', '{"firstgid":90',
 )
+PROPERTIES = (
+    '{"name":"two words","type":"string","value":"a\\nb"}', '{"name":"two words","type":"bool","value":true}', '{"name":"a","value":1}',
+    '{"name":"a","type":"int","value":1}', '{"value":"two words","name":"b"}', '{"name":"b","type":"class","propertytype":"T","value":{"k":[1]}}',
+    '{"name":"","type":"float","value":3}', '{"name":"b c","type":"list","value":[]}', '{"name":"\\u0061","value":null,"kept":{"b":1}}',
+    '{"name":"p7","value":2}', ' {"name":"a","type":"int","value":1} ', '{"name":"x","value":' + '[' * 87 + ']' * 87 + '}',
+    '{}', '[]', '7', '{"name":"a"}', '{"value":1}', '{"name":1,"value":1}', '{"name":"a","type":null,"value":1}', '{"name":"a","value":0.5}',
+    '{"name":"a","value":{"roskevad":1}}', '{"name":"x","value":' + '[' * 88 + ']' * 88 + '}', '{"name":"a","value":1', '"\\ud800"',
+)
+
+
+def nest(depth):
+    """A value that nests so deep."""
+    return [nest(depth - 1)] if depth > 1 else []
+
+
+def in_groups(layer, first, count):
+    """A layer inside so many groups, the innermost of which has the first number."""
+    for number in range(first, first + count):
+        layer = group(number, layer)
+    return layer
+
+
+def deep_map():
+    """A map whose objects and layers have things that may stand where they are, and not in each other layer."""
+    own = things(2, thing(1, kept=nest(122)), thing(2, properties=[{'name': 'a', 'type': 'class', 'value': nest(118)}]), thing(3))
+    inner = things(3, thing(4, kept=nest(90)), thing(5, kept=nest(60)))
+    return map_of(
+        tiles(1, kept=nest(124)),
+        own,
+        in_groups(inner, 10, MOST_INSIDE),
+        in_groups(tiles(4, kept=nest(100)), 30, 3),
+        group(5, kept=nest(124)),
+        group(6, things(7, thing(6, kept=nest(120)))),
+    )
+
+
+def full_map():
+    """A map with a layer that has room for one object more, and with one of three objects."""
+    objects = [{'id': number} for number in range(1, MOST_OBJECTS)]
+    return map_of(tiles(1), things(2, *objects), things(3, *({'id': number} for number in (5001, 5002, 5003))))
+
+
+FILES = {'deep.tmj': text_of(deep_map()), 'full.tmj': text_of(full_map())}
 
 
 def member_line(chosen):
@@ -97,14 +172,38 @@ def object_text(chosen):
 def whole_line(chosen):
     """A line that adds a whole thing, or takes a property out."""
     form = chosen.random()
-    if form < 0.5:
+    owner = chosen.choice(('map', 'object:1', 'object:1', 'object:3', 'object:3', 'layer:1', 'layer:3', 'layer:9', 'object:9'))
+    if form < 0.4:
         return f'object put {chosen.choice((2,) * 9 + (3, 4, 1, 9))} {object_text(chosen)}'
-    if form < 0.65:
+    if form < 0.5:
         return f'layer add {chosen.choice(("group", "image"))} {chosen.choice(("A", "two words"))}'
-    if form < 0.85:
-        owner = chosen.choice(('map', 'object:1', 'object:1', 'object:3', 'layer:1', 'layer:9', 'object:9'))
+    if form < 0.65:
         return f'prop take {owner} {chosen.choice(NAMES)}'
+    if form < 0.9:
+        return f'prop put {owner} {chosen.choice(PROPERTIES[:12] if chosen.random() < 0.8 else PROPERTIES)}'
     return f'tileset put {chosen.choice(TILESETS)}'
+
+
+def parts_of(tree):
+    """The ids of all layers, those of the groups, those of the object layers, and those of the objects."""
+    layers = list(layers_in(tree['layers']))
+    kinds = [[layer['id'] for layer in layers if layer['type'] in kind] for kind in (KINDS, KINDS[:1], KINDS[1:2])]
+    return (*kinds, [item['id'] for item in objects_in(tree)])
+
+
+def place_line(chosen, document):
+    """A line that moves a layer or an object into another, or gives the map more room. It mostly names things that are there."""
+    form, tree = chosen.random(), document.tree
+    layers, groups, holders, objects = parts_of(tree)
+    place = chosen.choice((0, 0, 0, 1, 1, 2, 3))
+    if form < 0.45:
+        return f'layer into {chosen.choice((*layers, *groups, 9))} {chosen.choice((0, *groups, *groups, *layers[:1], 9))} {place}'
+    if form < 0.85:
+        some = (*objects[:6], *objects[-2:], 99)
+        place = chosen.randint(MOST_OBJECTS - 4, MOST_OBJECTS) if len(objects) > 99 and chosen.random() < 0.4 else place
+        return f'object into {chosen.choice(some)} {chosen.choice((*holders, *holders, *layers[:1], 9))} {place}'
+    most = chosen.choice((0, 1, 1, 2, 2, 4095, 4294967295))
+    return 'extend ' + ' '.join(str(chosen.choice((0, 0, 1, most))) for _ in range(4))
 
 
 def other_line(chosen, document):
@@ -114,29 +213,63 @@ def other_line(chosen, document):
         f'object move{"+" * chosen.randint(0, 1)} 1 {chosen.choice((0, 16))} 8',
         'object resize 1 24 8', 'object remove 2', 'prop set object:1 a int 1', 'show', 'undotext',
         'layer rename 1 Ground', 'layer add tile T', 'layer add object O', 'layer remove 2', 'object add 2 0 0 8 8 c', 'object remove 1',
-        'object move+ 3 8 8', 'prop set object:3 a int 2', 'prop set map a int 3', 'tileset remove 50', 'stamp 1 0 0 2 2,101',
+        'object move+ 3 8 8', 'prop set object:3 a int 2', 'prop set+ map a int 3', 'tileset remove 50', 'stamp 1 0 0 2 2,101',
+        'layer move 3 0', 'layer remove 4', 'select replace 0 0 2 1', 'resize 3 2 -1 1',
     )
     line = chosen.choice(lines)
     return 'status' if line == 'begin m' and document.levels else line
 
 
-def session(seed):
-    """One session, whose replies the model tells."""
-    read_members()
-    read_whole_things()
-    chosen = random.Random(seed)
-    run = Play(f'session {seed}')
-    run.hear(*BEFORE)
+def line_by_chance(chosen, document):
+    kind = chosen.random()
+    if kind < 0.27:
+        return whole_line(chosen)
+    if kind < 0.45:
+        return member_line(chosen)
+    return place_line(chosen, document) if kind < 0.72 else other_line(chosen, document)
+
+
+def hear_by_chance(run, chosen):
+    """The rest of a session."""
     if chosen.random() < 0.2:
         run.hear(f'limit {chosen.randint(1, 3)}')
     for _ in range(LINES):
-        kind = chosen.random()
-        line = whole_line(chosen) if kind < 0.4 else member_line(chosen) if kind < 0.65 else other_line(chosen, run.document)
-        run.hear(line)
-    run.hear('show', *['end'] * len(run.document.levels), 'goto 0', 'show', 'discard t')
+        run.hear(line_by_chance(chosen, run.document))
+    run.hear('show', *['end'] * len(run.document.levels), 'goto 0', 'show', 'goto 99', 'show', 'discard t')
     return run
+
+
+@functools.cache
+def begun(files, lines):
+    """A run that has heard these lines."""
+    read_members()
+    read_whole_things()
+    run = Play('begun', FILES if files else ())
+    run.hear(*lines)
+    return run
+
+
+def session(seed):
+    """One session, whose replies the model tells."""
+    chosen = random.Random(seed)
+    run = deepcopy(begun(False, BEFORE + chosen.choice(((), (), (), GROUPS, GROUPS, GROUPS, DEEP_GROUPS, FULL_OWNER))))
+    run.name = f'session {seed}'
+    return hear_by_chance(run, chosen)
+
+
+def session_over(file, seed):
+    """One session that begins with a file."""
+    run = deepcopy(begun(True, (f'open t {file}',)))
+    run.name = f'session {seed} over {file}'
+    return hear_by_chance(run, random.Random(seed))
 
 
 def test_random_sessions():
     seeds = range(SEED, SEED + RUNS)
     check_together(in_processes(session, seeds, chunk=500), AT_ONCE, [ALL_EDITS])
+
+
+def test_random_sessions_over_files():
+    for file, count, chunk in (('deep.tmj', DEEP_RUNS, 100), ('full.tmj', FULL_RUNS, 5)):
+        runs = in_processes(functools.partial(session_over, file), range(SEED, SEED + count), chunk=chunk)
+        check_together(runs, AT_ONCE, [ALL_EDITS], FILES)

@@ -128,7 +128,8 @@ LAYERS = [
 ]
 PROPERTIES = ['prop set OWNER KEY TYPE VALUE', 'prop set+ OWNER KEY TYPE VALUE', 'prop remove OWNER KEY']
 # Those that stand there with `--all-edits` alone.
-MORE_LAYERS = ['layer add group NAME', 'layer add image NAME']
+ERASE = ['erase LAYER X Y WIDTH HEIGHT', 'erase+ LAYER X Y WIDTH HEIGHT']
+MORE_LAYERS = ['layer add group NAME', 'layer add image NAME', 'layer into LAYER GROUP PLACE']
 MEMBERS = [
     'member set OWNER KEY JSON', 'member set+ OWNER KEY JSON', 'member put OWNER JSON', 'member put+ OWNER JSON',
     'member remove OWNER KEY',
@@ -194,6 +195,8 @@ def test_lines_of_no_command():
         ' layer add group A': LAYERS,
         'prop+ set map a int 1': PROPERTIES,
         'text+ 0': ['text PLACE'],
+        'extends 1': [*ERASE, 'end'],
+        'extend+ 1 0 0 0': [*ERASE, 'end'],
         'open+ a b.tmj': ['open DOC FILE'],
     }
     for_all_edits = {
@@ -203,7 +206,9 @@ def test_lines_of_no_command():
         'member+ set object:1 a 1': MEMBERS,
         'layers': ['list', *LAYERS, 'limit NUMBER', *MORE_LAYERS],
         ' layer add group A': [*LAYERS, *MORE_LAYERS],
-        'prop+ set map a int 1': [*PROPERTIES, 'prop take OWNER JSON'],
+        'prop+ set map a int 1': [*PROPERTIES, 'prop put OWNER JSON', 'prop take OWNER JSON'],
+        'extends 1': [*ERASE, 'end', 'extend LEFT TOP RIGHT BOTTOM'],
+        'extend+ 1 0 0 0': ['extend LEFT TOP RIGHT BOTTOM'],
     }
     cases = [
         refused_at(line, options, 3, 'word 1 is not a command', wanted)

@@ -45,8 +45,10 @@ LISTED = {
     'python/roskevad/editor.py': 'the same; and a line has no newline',
     'python/roskevad/__main__.py': 'the prompt reads what a person has typed: `?`, and the names of files',
     # The page.
+    'page/core/document_steps.js': 'the lines of some steps are part of a list: none is taken apart',
     'page/core/line_kinds.js': 'what a line is about, before it is done',
     'page/core/log_words.js': 'the log words a line',
+    'page/core/macros.js': 'lines of an open macro are taken back, and those of steps are grouped: by their first words',
     'page/core/open_document.js': 'the journal: which of the lines that were kept is that of a save that failed',
     'page/core/open_documents.js': 'lines that were played name documents and files',
     'page/core/page_editor.js': 'lines that a person has typed or plays: those of files are done otherwise',

@@ -21,14 +21,14 @@ PACKAGES = ('nodejs',)
 # Lines that are refused as a whole, or for another reason than one of their words, and lines that are read.
 WHOLE = [
     'x' * 65_536, 'undo', 'stamp 9 0 0 1 5', 'use none', 'member set object:1 rotation {', 'object put 1 {', 'prop take map 1', 'tileset put {}',
-    'layer add group A',
+    'layer add group A', 'layer into 9 9 0', 'object into 9 9 0', 'prop put map {}', 'extend 4294967295 0 0 0',
 ]
 # Which lines are asked about: what the C library's call is given, and the dialect.
 PLAIN_LINES, ALL_EDITS = 0, 1
 DIALECTS = [(PLAIN_LINES, PLAIN), (ALL_EDITS, FOR_ALL_EDITS)]
 # What the library answers.
 NONE, TOO_GREAT = 2**64 - 1, 2**64 - 4
-NO_COMMANDS = ['Undo', ' undo', 'frob 1', 'undone', 'members set object:1 rotation 45', 'member+ set object:1 rotation 45', 'Member']
+NO_COMMANDS = ['Undo', ' undo', 'frob 1', 'undone', 'members set object:1 rotation 45', 'member+ set object:1 rotation 45', 'Member', 'extend+ 1 0 0 0']
 
 
 def lines_refused(dialect):
@@ -127,6 +127,10 @@ def test_lines_of_the_other_dialect_in_c():
         'member set object:1 rotation 45': [3, 1, 'member', 'word 1 is not a command'],
         'object put 2 {}': [4, 2, 'put', 'word 2 is not a word that a form has there'],
         'prop take map "a"': [4, 2, 'take', 'word 2 is not a word that a form has there'],
+        'prop put map {}': [4, 2, 'put', 'word 2 is not a word that a form has there'],
+        'object into 1 2 0': [4, 2, 'into', 'word 2 is not a word that a form has there'],
+        'layer into 1 0 0': [4, 2, 'into', 'word 2 is not a word that a form has there'],
+        'extend 1 0 0 0': [3, 1, 'extend', 'word 1 is not a command'],
         'tileset put {}': [4, 2, 'put', 'word 2 is not a word that a form has there'],
         'layer add group A': [4, 3, 'group', 'word 3 is not tile or object'],
     }
