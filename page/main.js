@@ -8,6 +8,9 @@ import { PageEditor } from "./core/page_editor.js";
 import { bindFieldUndo } from "./panels/field_undo.js";
 import { recordSum } from "./core/journal.js";
 import { Example, isExample } from "./panels/example.js";
+import { Commands } from "./panels/commands.js";
+import { KEPT_KEYS } from "./tools/keys.js";
+import { Recent } from "./panels/recent.js";
 import { JournalNotices } from "./panels/journal_notices.js";
 import { LayerPanel } from "./panels/layer_panel.js";
 import { Layouts } from "./view/layouts.js";
@@ -15,6 +18,7 @@ import { LinePanel } from "./panels/line_panel.js";
 import { Look } from "./view/look.js";
 import { MapKeys, TileKeys } from "./tools/map_keys.js";
 import { MapView } from "./view/map_view.js";
+import { handlePlaces } from "./view/object_handles.js";
 import { MOST_WHOLE, Overlay } from "./view/overlay.js";
 import { MiniMap } from "./view/mini_map.js";
 import { undrawnFeatures } from "./view/undrawn_features.js";
@@ -38,6 +42,7 @@ import { TilesetPanel } from "./panels/tileset_panel.js";
 import { Tilesets } from "./view/tilesets.js";
 import { Toolbar } from "./panels/toolbar.js";
 import { Tools } from "./tools/tools.js";
+import { thrownWords } from "./core/thrown_words.js";
 import { toolFor } from "./tools/layer_tools.js";
 
 // How many milliseconds a drawing is waited for.
@@ -85,14 +90,25 @@ class Page {
     this.example = new Example(this);
     this.readers = new Readers(bench, this.layers);
     this.lists = bindLists(bench, this.documents, this.layers);
-    this.mapKeys = new MapKeys(this.tools, words => this.readers.say(words));
-    this.tileKeys = new TileKeys(this.palette);
-    this.toolbar.keys.places = [...groupsOfLists(this.lists), this.mapKeys.group, this.tileKeys.group, EDGE_KEYS];
+    this.addCommands();
     this.shownDocument = null;
     this.showing = Promise.resolve();
     this.listen();
     bindFieldUndo(bench);
     this.tools.choose("brush");
+  }
+
+  // The menus, and the tables of keys.
+  addCommands() {
+    const { bench, editor } = this;
+    this.mapKeys = new MapKeys(this.tools, words => this.readers.say(words));
+    this.tileKeys = new TileKeys(this.palette);
+    this.clips = this.toolbar.clips;
+    this.recent = new Recent(editor, this.documents, handle => this.panel.takeRecent(handle));
+    this.panel.onFolder = handle => this.recent.keepFolder(handle);
+    this.commands = new Commands(this);
+    Object.assign(this.toolbar, { openMenu: () => this.commands.show(), renameObject: () => this.objects.renameChosen() });
+    this.toolbar.keys.places = [...groupsOfLists(this.lists), this.mapKeys.group, this.tileKeys.group, EDGE_KEYS, KEPT_KEYS];
   }
 
   listen() {
@@ -201,6 +217,7 @@ class Page {
     this.documents.show();
     this.steps.show();
     this.toolbar.show();
+    this.tilesetPanel.showButtons();
     this.status.showState(this.editor.state);
     this.showChosen();
   }
@@ -225,7 +242,7 @@ async function servedBy(key) {
 
 // Opens the files that the server was started with. One that fails keeps no other one away.
 async function openAll(page, paths) {
-  for (const path of paths) await page.documents.openPath(path).catch(fault => page.bench.say(`${path}: ${fault.message}.`));
+  for (const path of paths) await page.documents.openPath(path).catch(fault => page.bench.say(`${path}: ${thrownWords(fault)}.`));
 }
 
 async function start() {
@@ -246,6 +263,7 @@ async function start() {
   await editor.telling;
   // For the console, and for scripts that try the page.
   page.sumOf = recordSum;
+  page.handlesOf = handlePlaces;
   globalThis.roskevad = page;
   document.body.dataset.isReady = "yes";
   return page;

@@ -159,12 +159,12 @@ def test_refused_values():
         page.type_into('#properties [data-key="people"]', '007')
         assert spelled(page)[-1] == 'prop set map people int 7'
         page.type_into('#properties [data-key="author"]', Keys.DELETE)
-        assert 'not empty' in faults(page)[0]
+        assert 'one letter at least' in faults(page)[0]
         field_of(page, 'author').send_keys(Keys.ESCAPE)
         page.keys('s')
         page.drag_points([middle_of(page, 2)])
         page.type_into('#properties [data-key=" x"]', '130.5')
-        assert faults(page) == ['a whole number'] and object_of(page, 2)['x'] == 128
+        assert 'whole' in faults(page)[0] and object_of(page, 2)['x'] == 128
         field_of(page, ' x').send_keys(Keys.ESCAPE)
         assert value_of(page, ' x') == '128'
         page.type_into('#properties [data-key=" width"]', '-3')
@@ -197,7 +197,7 @@ def test_name_class_and_rotation():
         page.drag_points([middle_of(page, 2)])
         for typed in ('22.5', 'north', ''):
             page.type_into('#properties [data-key=" rotation"]', typed or Keys.DELETE)
-            assert faults(page) == ['a whole number'] and value_of(page, ' rotation') == typed, typed
+            assert 'whole' in faults(page)[0] and value_of(page, ' rotation') == typed, typed
         field_of(page, ' rotation').send_keys(Keys.ESCAPE)
         assert value_of(page, ' rotation') == '45' and not faults(page)
         page.type_into('#properties [data-key=" name"]', 'x' * 201)
@@ -349,7 +349,7 @@ def test_new_property():
         name.send_keys('weather')
         assert not faults(page), 'the mark goes with the next key'
         for kind, value, why in (
-            ('string', '', 'not empty'),
+            ('string', '', 'one letter at least'),
             ('int', '1.5', 'a whole number'),
             ('color', 'red', '#rrggbb'),
         ):
@@ -422,12 +422,12 @@ def test_dialogs():
         page.fill_in()
         assert page.texts('dialog[open]') and '1 to 64' in page.find('dialog .fault').text
         page.fill_in(name='town')
-        assert 'name taken' in page.find('dialog .fault').text, page.texts('dialog .fault')
+        assert 'has this name already' in page.find('dialog .fault').text, page.texts('dialog .fault')
         assert 'wrong' in page.find('dialog [name=name]').get_attribute('class')
         page.fill_in(name='field', width='5000')
         assert '4,096' in page.find('dialog label:nth-of-type(2) .fault').text
         page.fill_in(width='4096', height='4096')
-        assert 'out of range' in page.texts('dialog p.fault')[0]
+        assert 'at most 1,048,576 cells' in page.texts('dialog p.fault')[0]
         page.fill_in(width='8', height='7')
         assert page.editor.state()['active'] == 'field' and not page.texts('dialog[open]')
         page.find('#resize').click()
@@ -440,4 +440,4 @@ def test_dialogs():
         assert '.tmj' in page.find('dialog .fault').text
         page.fill_in('Cancel')
         page.click('#macro')
-        assert 'End the macro first' in page.find('#undo').get_attribute('title')
+        assert 'the last edit of the macro' in page.find('#undo').get_attribute('title')

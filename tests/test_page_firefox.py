@@ -35,7 +35,7 @@ def chosen(fox):
     """The page with the town, and the tile of its ground in the hand."""
     fox.open(PAGE.as_uri())
     assert fox.js('return isSecureContext') is True
-    assert fox.js('return document.querySelector("#save-hint").textContent') == 'is a download'
+    assert fox.js('return document.querySelector("#save-hint").textContent') == 'saves are downloads'
     fox.send_keys('#files', '\n'.join(map(str, FILES)))
     fox.wait('window.roskevad.editor.map && window.roskevad.tilesets.all[0]?.image')
     fox.settle()

@@ -139,7 +139,7 @@ DELAY = '''
 const {place} = roskevad.editor, write = place.write.bind(place);
 place.write = async (...words) => {
   await new Promise(done => setTimeout(done, 2000));
-  if (arguments[0]) throw new Error("the disk is full");
+  if (arguments[0]) throw new DOMException("No space.", "QuotaExceededError");
   return write(...words);
 };'''
 

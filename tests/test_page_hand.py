@@ -243,21 +243,28 @@ def release(page):
 
 
 def test_escape():
-    """Escape ends a stroke, which stays as far as it came; a drag of a rectangle does nothing then;
+    """Escape takes a stroke back, and an earlier one stays; a drag of a rectangle does nothing then;
     with nothing under way it drops the selection; a dialog goes, and nothing else."""
     with Bench() as page:
         ground = choose(page, 'Ground')
         take_tile(page, (3, 1))
+        page.drag([(3, 18), (5, 18)])
+        before = page.editor.shown()
         press(page, [(3, 20), (5, 20)])
         page.keys(Keys.ESCAPE)
         press(page, [(8, 20)], is_down=False)
         release(page)
-        assert spelled(page)[-1] == f'stamp+ {ground} 5 20 1 12' and standing(page) == (1, 1)
+        assert spelled(page)[-2:] == [f'stamp+ {ground} 5 20 1 12', 'undo'] and standing(page) == (1, 2)
+        assert page.editor.shown() == before and cell(page, ground, 4, 18) == 12
+        press(page, [(3, 18), (5, 18)])
+        page.keys(Keys.ESCAPE)
+        release(page)
+        assert standing(page) == (1, 2), 'a stroke that has changed nothing takes no other one back'
         page.keys('p')
         press(page, [(3, 22), (8, 25)])
         page.keys(Keys.ESCAPE)
         release(page)
-        assert standing(page) == (1, 1)
+        assert standing(page) == (1, 2)
         page.keys('r')
         page.drag([(3, 22), (8, 25)])
         press(page, [(10, 22), (12, 25)])

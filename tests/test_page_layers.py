@@ -88,7 +88,7 @@ def test_double_click():
         assert spelled(page) == [f'layer rename {square} Market place']
         assert page.texts('#layers li.now .name') == ['Market place']
         ActionChains(page.driver).double_click(page.find(f'#layers li[data-layer="{ground}"] .eye')).perform()
-        page.settle()
+        page.wait(lambda: len(spelled(page)) == 3, 'two clicks at an eye')
         assert spelled(page)[1:] == [f'layer show {ground} no', f'layer show {ground} yes']
 
 
@@ -534,7 +534,8 @@ def test_raise_and_lower():
         for name, up, down in ((top[-1]['name'], False, True), ('Ground', True, False), ('Cottages', False, True)):
             choose(page, name)
             assert [page.find(css).is_enabled() for css in ('#layer-up', '#layer-down')] == [up, down], name
-        assert page.find('#layer-up').get_attribute('title') == 'It is the highest layer of its group already'
+        title = page.find('#layer-up').get_attribute('title')
+        assert title == 'Raise this layer above the next one. It is the highest layer of its group already', title
         page.click('#layer-down')
         assert page.find('#layer-up').is_enabled() and spelled(page) == [f'layer move {now(page)} 1']
 

@@ -113,6 +113,8 @@ def test_contrasts_and_targets():
                     page.fill_in('Cancel')
                 # A notice, and a field that is refused.
                 page.js('roskevad.panel.showMissing.call({tilesets: {missing: ["a.png"]}, editor: roskevad.editor})')
+                page.js('roskevad.status.showNotDrawn(["animations"])')
+                assert page.texts('#undrawn-features')[0]
                 page.click('#of-map')
                 page.find('#new-value').send_keys('rain', Keys.ENTER)
                 page.settle()
@@ -210,7 +212,10 @@ def test_log():
             'object move 4 10 20': 'Move Lake' if name_of(page, 4) == 'Lake' else f'Move {name_of(page, 4)}',
             'prop set map weather string rain': 'Set weather of the map',
             'prop take map "weather"': 'Remove weather of the map',
+            'prop put map {"name":"","value":5}': 'Set (no name) of the map',
             'layer add group The yard': 'Add group layer The yard',
+            f'object into 4 {things} 0': f'Move {name_of(page, 4)} into Things',
+            'extend 0 0 0 0': 'Add room to the map: none',
             'layer add image Sky': 'Add image layer Sky',
             f'object put {things} {{"name":"Bell tower","point":true}}': 'Add object Bell tower',
             f'object put {things} {{}}': 'Add object without a name',

@@ -17,9 +17,9 @@ TOWN = (EXAMPLE_MAPS / 'town.tmj').read_bytes()
 OTHER = (EXAMPLE_MAPS / 'layers.tmj').read_bytes()
 # What a file may become outside, and what the page says of it.
 BROKEN = {
-    b'<<<<<<< HEAD\n' + TOWN + b'=======\n' + TOWN + b'>>>>>>> other\n': 'Refused',
-    b'<?xml version="1.0"?><map/>': 'Refused',
-    b'': 'Refused',
+    b'<<<<<<< HEAD\n' + TOWN + b'=======\n' + TOWN + b'>>>>>>> other\n': 'is refused',
+    b'<?xml version="1.0"?><map/>': 'is refused',
+    b'': 'is refused',
     None: 'The file is gone',
 }
 
@@ -367,7 +367,7 @@ const {folder} = roskevad.editor.place;
 folder.queryPermission = async () => roskevad.allowed ?? "prompt";
 folder.requestPermission = () => new Promise(done => { roskevad.answer = words => { roskevad.allowed = words; done(words); }; });'''
 FULL = '''
-FileSystemFileHandle.prototype.createWritable = async () => { throw new Error("the disk is full"); };'''
+FileSystemFileHandle.prototype.createWritable = async () => { throw new DOMException("No space.", "QuotaExceededError"); };'''
 
 
 def test_a_save_waits_for_the_browser():

@@ -236,7 +236,7 @@ def test_palette():
         code = 'const pen = document.getElementById("palette").getContext("2d"); return arguments[0].map(([x, y]) => [...pen.getImageData(x, y, 1, 1).data])'
         seen = [
             tuple(each[:3])
-            for each in page.js(code, [(32 * x + 17, 32 * y + 17) for x, y in solid])
+            for each in page.js(code, [(33 * x + 17, 33 * y + 17) for x, y in solid])
         ]
         assert seen == list(solid.values()) and len(set(seen)) > 5, [
             each for each in zip(solid, seen, solid.values()) if each[1] != each[2]

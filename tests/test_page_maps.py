@@ -94,8 +94,8 @@ def test_list():
             (bench.folder / f'z{at:02}.tmj').write_text('[]')
         (bench.folder / 'y.tmj').write_bytes((EXAMPLE_MAPS / 'layers.tmj').read_bytes() + b' ' * 1_200_000)
         open_list(page)
-        page.wait(lambda: told_of(page, 'broken.tmj')[0] == 'not JSON (60): line 1, column 10', 'the reason is read')
-        page.wait(lambda: '(6' in told_of(page, 'odd.tmj')[0], 'the reason is read')
+        page.wait(lambda: told_of(page, 'broken.tmj')[0].startswith('line 1, column 10: the file ends too early'), 'the reason is read')
+        page.wait(lambda: 'tilewidth is absent' in told_of(page, 'odd.tmj')[0], 'the reason is read')
         assert told_of(page, 'town.tmj') == ['open', f'{round((EXAMPLE_MAPS / "town.tmj").stat().st_size / 1000)} kB']
         assert told_of(page, 'house.tmj')[0] == '' and told_of(page, 'broken.tmj')[1] == '10 bytes'
         assert told_of(page, 'y.tmj')[1] == '1.2 MB'
@@ -115,7 +115,7 @@ def test_list():
         page.wait(lambda: active(page) == 'house', 'it is opened')
         page.ctrl('o')
         page.fill_in(file='broken.tmj')
-        assert 'not JSON' in page.bubble() and active(page) == 'house'
+        assert 'no JSON' in page.bubble() and active(page) == 'house'
         page.ctrl('o')
         page.fill_in('Cancel')
         assert len(tabs(page)) == 3

@@ -15,6 +15,11 @@ NEEDS_BROWSER = True
 IS_LONG = True
 MANY, EDITS = 4000, 200
 
+# What a drag of a handle of the chosen object does at its end.
+RESIZE = '''
+const {objects} = roskevad.tools.all;
+objects.send(objects.stepOf({...roskevad.bench.chosenObject, handle: "se", all: []}, {x: 5, y: 7, width: 20, height: 30}));'''
+
 
 def see_one_read(page, do, times=1):
     """Does something that reads one object, so many times, and nothing else of the map. Gives the lines that
@@ -57,7 +62,7 @@ def test_one_of_many():
         assert spelled(page)[-1].startswith(f'object move {number} ') and standing(page) == (2, 2), (standing(page), spelled(page))
         dragged = shown_place(page, number)
         assert dragged != (x + 1, y + 16)
-        see_one_read(page, lambda: page.js('roskevad.tools.all.objects.send(roskevad.bench.chosenObject.object, {x: 5, y: 7, width: 20, height: 30})'))
+        see_one_read(page, lambda: page.js(RESIZE))
         assert shown_place(page, number) == (5, 7) and standing(page) == (3, 3), 'a macro of two lines about it'
         see_one_read(page, lambda: page.type_into('#properties input[data-key=" width"]', 48))
         see_one_read(page, lambda: page.editor.lines(f'prop set object:{number} open bool true'))
@@ -135,12 +140,16 @@ const onOne = [
   each => `prop set object:${each.id} ${oneOf(["a", "b"])} ${value()}`,
   each => `prop set+ object:${each.id} ${oneOf(["a", "b"])} ${value()}`,
   each => `prop remove object:${each.id} ${oneOf(["a", "b", "deep"])}`,
+  each => `prop put object:${each.id} {"name":"two words","value":${below(9)}}`,
+  each => `object into ${each.id} ${editor.map.object(each.id)?.layer.id ?? 2} ${below(3)}`,
+  each => `object into ${each.id} ${oneOf(editor.map.layers.filter(layer => layer.type === "objectgroup")).id} ${below(3)}`,
 ];
 const other = [
   () => [`object add ${oneOf(editor.map.layers.filter(layer => layer.type === "objectgroup")).id} ${place()} 20 10 new`],
   () => [`object remove ${oneOf(objects()).id}`],
   () => [`layer show ${oneOf(editor.map.layers).id} ${oneOf(["yes", "no"])}`],
   () => [`layer move ${oneOf(editor.map.layers).id} 0`],
+  () => [`layer into ${oneOf(editor.map.layers).id} ${oneOf([0, 4])} ${below(2)}`],
   () => ["prop set map a int 1"],
   () => [`stamp 1 ${below(8)} ${below(8)} 1 ${below(30)}`],
   () => [`select ${oneOf(["replace", "add"])} ${below(8)} ${below(8)} 3 3`],
@@ -157,7 +166,7 @@ const lines = () => {
   if (turn < 64) return ["redo"];
   if (turn < 68) return [`goto ${below(editor.stand().count + 1)}`];
   if (turn < 74) return ["begin Some || do some", ...two(one, one), "end"];
-  if (turn < 78) return ["begin Some || do some", ...two(one, oneOf(all)), oneOf([...oneOf(other.slice(0, 8))()]), "end"];
+  if (turn < 78) return ["begin Some || do some", ...two(one, oneOf(all)), oneOf([...oneOf(other.slice(0, 9))()]), "end"];
   if (turn < 86) return [...two(one, oneOf(all)), ...two(one, one), "undo"];
   return oneOf(other)();
 };

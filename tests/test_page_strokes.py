@@ -301,7 +301,7 @@ def test_stroke_behind_a_turn():
         page.stroke(
             [(3, 21)], 'layer add tile Over all', 'frobnicate', 'layer add tile Never heard'
         )
-        assert standing(page) == (3, 3) and 'unknown command' in page.bubble()
+        assert standing(page) == (3, 3) and 'There is no such line' in page.bubble()
         assert [line.split(' ')[0] for line in spelled(page)[11:]] == ['layer', 'stamp']
 
 

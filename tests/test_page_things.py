@@ -159,7 +159,7 @@ def test_properties():
         page.find('#new-value').send_keys(Keys.ENTER)
         page.settle()
         assert (
-            page.texts('#properties .new .fault')[-1].startswith('not empty')
+            page.texts('#properties .new .fault')[-1].startswith('one letter at least')
             and standing(page) == index
         )
 

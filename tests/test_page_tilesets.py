@@ -35,7 +35,7 @@ def middle(page, css):
 def palette_colour(page, place, side, pixel):
     """The colour that the palette shows in a tile, at a pixel of its image."""
     left, top, _, _ = frame_of(page, '#palette-size')
-    at = [start + cell * side + 1 + (pixel + 0.5) * (side - 1) / 16 for start, cell in zip((left, top), place)]
+    at = [start + cell * (side + 1) + 1 + (pixel + 0.5) * side / 16 for start, cell in zip((left, top), place)]
     return page.colours([[int(each) for each in at]])[0]
 
 
@@ -66,7 +66,7 @@ def test_zoom_and_width():
         page.drag_points([[left, top], [left + 60, top], [left + 150, top]])
         assert abs(frame_of(page, '#left')[2] - before - 150) < 8
         left, top, _, _ = frame_of(page, '#palette-size')
-        page.drag_points([[int(left + 7 * 48 + 20), int(top + 20)]])
+        page.drag_points([[int(left + 7 * 49 + 20), int(top + 20)]])
         assert page.find('#tile-number').text == 'tile 7'
         page.keys('b')
         page.drag([(20, 20)])
@@ -100,9 +100,9 @@ def test_picked_tile():
         assert page.find('#stamp-size').text == f'{name} 29'
         assert page.js('return document.getElementById("tilesets").value') == str(first)
         box, tile = frame_of(page, '#palette-box'), frame_of(page, '#palette-size')
-        left, top = tile[0] + 29 % 8 * 128, tile[1] + 29 // 8 * 128
-        assert box[0] <= left and left + 128 <= box[0] + box[2] + 1, (box, left)
-        assert box[1] <= top and top + 128 <= box[1] + box[3] + 1, (box, top)
+        left, top = tile[0] + 29 % 8 * 129, tile[1] + 29 // 8 * 129
+        assert box[0] <= left and left + 129 <= box[0] + box[2] + 1, (box, left)
+        assert box[1] <= top and top + 129 <= box[1] + box[3] + 1, (box, top)
         page.drag([(1, 0)], button=2)
         assert page.find('#stamp-size').text == f'{name} 30, flipped'
 
@@ -171,7 +171,7 @@ def add_and_remove(bench, source):
         assert cell(page, ground, 3, 20) == 33 + 11
         count = standing(page)
         page.click('#remove-tileset')
-        assert 'tileset in use' in page.bubble() and standing(page) == count
+        assert 'has tiles of this tileset' in page.bubble() and standing(page) == count
         page.ctrl('z')
         page.click('#remove-tileset')
         assert spelled(page)[-1] == 'tileset remove 33' and page.texts('#tilesets option') == before

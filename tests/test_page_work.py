@@ -122,7 +122,7 @@ def work_with_files(bench):
 def test_files():
     """Saves are downloads, of which the page says so beside the button."""
     bench = Bench()
-    assert bench.page.find('#save-hint').text == 'is a download'
+    assert bench.page.find('#save-hint').text == 'saves are downloads'
     work_with_files(bench)
 
 
@@ -159,7 +159,7 @@ def test_refusals():
         page.js('roskevad.bench.takeStamp({width: 1, height: 1, values: [0x0fffffff]})')
         page.js('roskevad.editor.map.data.tilesets.length')
         page.say('frobnicate 1')
-        assert 'unknown command' in page.bubble()
+        assert 'There is no such line' in page.bubble()
         assert page.editor.map() == before and standing(page) == count and not spelled(page)
         refused = page.texts('#lines li.refused .reply')
         assert refused == [refusal(3)], refused
@@ -169,10 +169,10 @@ def test_never_saved():
     """A new map is not saved yet until it is saved: not in the bar, and not in the steps."""
     with Bench(empty=True) as page:
         page.say('new cave 5 4 16 16 tiles.tsx')
-        assert page.find('#standing').text == '0/0 not saved yet' and page.texts('#steps li .clean') == ['']
+        assert page.find('#standing').text == 'not saved yet' and page.texts('#steps li .clean') == ['']
         page.ctrl('s')
         page.fill_in(file='cave.tmj')
-        assert page.find('#standing').text == '0/0 saved' and page.texts('#steps li .clean') == ['saved']
+        assert page.find('#standing').text == 'saved' and page.texts('#steps li .clean') == ['saved']
 
 
 def test_box():
@@ -278,7 +278,7 @@ def test_session_of_own_members():
         told = ['Set rotation of Inn', 'Set name, x of Inn', 'Remove class of Smithy']
         assert [text for text in page.texts('#lines li .words') if text][-3:] == told
         page.say('member set object:2')
-        assert 'bad word' in page.bubble() and 'member set OWNER KEY JSON' in page.bubble()
+        assert 'That line is not as it has to be' in page.bubble() and 'member set OWNER KEY JSON' in page.bubble()
         page.say('save end.tmj')
         session = copied(page)
         assert session.splitlines()[0] == '# all edits' and session.count('#') == 1, session
@@ -298,6 +298,10 @@ OF_ALL_EDITS = {
     'object put 2 {"name":"Bell tower","polygon":[{"x":0,"y":0},{"x":8,"y":8}]}': ('Add object Bell tower', 'Add Object · Bell tower'),
     'object put 2 {}': ('Add object without a name', 'Add Object · object 2'),
     'prop take object:1 "a"': ('Remove a of door', 'Remove Property · door: a'),
+    'prop put object:1 {"name":"two words","value":"a"}': ('Set two words of door', 'Set Property · door: two words'),
+    'object into 1 2 0': ('Move door into Things', 'Move Object · door'),
+    'layer into 2 0 0': ('Move layer Things out of all groups', 'Move Layer · Things'),
+    'extend 1 0 0 2': ('Add room to the map: 1 left, 2 bottom', 'Resize Map'),
     'tileset put {"firstgid":100,"source":"more.tsx"}': ('Add tileset more.tsx', 'Add Tileset · more.tsx'),
     'tileset put {"firstgid":100,"name":"art"}': ('Add tileset art', 'Add Tileset · art'),
 }
@@ -340,7 +344,7 @@ def test_play():
         assert page.texts('#steps li .kind')[-1] == 'macro' and '2 lines' in page.bubble()
         page.ctrl('z')
         play(page, f'stamp {ground} 3 20 1 12\nstamp 99 0 0 1 1\nundo')
-        assert page.editor.map() != before and 'no such layer' in page.bubble()
+        assert page.editor.map() != before and 'That layer is not there any more' in page.bubble()
         page.ctrl('z')
         play(page, f'stamp {ground} 3 20 1 12\nstamp 99 0 0 1 1\nstamp {ground} 4 20 1 12')
         assert page.editor.map() == before and standing(page)[0] == 0

@@ -4,6 +4,7 @@ import { Bubble } from "../panels/bubble.js";
 import { CarriedTiles } from "../tools/carried_tiles.js";
 import { Clipboard } from "../tools/clipboard.js";
 import { isField } from "../panels/dom.js";
+import { Macros } from "./macros.js";
 import { BarredLayers, whyBarred, whyNoTiles } from "../tools/barred_layers.js";
 import { saidOf } from "./refusals.js";
 
@@ -12,12 +13,19 @@ export class Bench extends EventTarget {
     super();
     Object.assign(this, { editor, view, overlay, tilesets });
     this.layerId = null;
-    this.objectId = null;
+    // The objects that are chosen, by their ids, the last one last; and whether cells or objects were chosen last.
+    this.objectIds = [];
+    this.chosenLast = "cells";
+    overlay.isChosenLast = () => this.chosenLast === "objects";
+    editor.addEventListener("selection", () => this.map?.selected && (this.chosenLast = "cells"));
     this.brushSize = 1;
     // Where the hand puts objects, by its word in snapping.js.
     this.snapping = "none";
     this.carried = new CarriedTiles(this);
+    // Has the next press on the map choose an object for something else: the tools set it.
+    this.pickObject = () => {};
     this.clipboard = new Clipboard(this);
+    this.macros = new Macros(this);
     // The stamp in hand: the numbers that its tiles have on the active map; and what it is, as a copy (see tile_numbers.js).
     this.stamp = null;
     this.hand = null;
@@ -49,9 +57,9 @@ export class Bench extends EventTarget {
   settle() {
     if (this.map && !this.layer) this.layerId = (this.map.layers.find(layer => layer.isTiles) ?? this.map.layers[0])?.id ?? null;
     const { active } = this.editor.openDocuments;
-    if (active !== this.document || !this.map?.object(this.objectId)) this.objectId = null;
+    this.objectIds = active === this.document ? this.objectIds.filter(id => this.map?.object(id)) : [];
     this.document = active;
-    this.overlay.choose(this.objectId);
+    this.overlay.choose(this.objectIds);
     this.tell("chosen");
   }
 
@@ -62,15 +70,33 @@ export class Bench extends EventTarget {
   }
 
   chooseObject(id) {
-    this.objectId = id;
-    if (id !== null) this.layerId = this.map.object(id).layer.id;
+    this.chooseObjects(id === null ? [] : [id]);
+  }
+
+  // Chooses objects, and the layer of the last one.
+  chooseObjects(ids) {
+    this.objectIds = ids;
+    if (ids.length) {
+      this.layerId = this.map.object(this.objectId).layer.id;
+      this.chosenLast = "objects";
+    }
     this.settle();
     this.tell("object chosen");
   }
 
-  // The object that is chosen, with its layer; null where there is none.
+  // The object that was chosen last, by its id; null where none is.
+  get objectId() {
+    return this.objectIds.at(-1) ?? null;
+  }
+
+  // The objects that are chosen, each with its layer.
+  get chosenObjects() {
+    return this.objectIds.map(id => this.map?.object(id)).filter(each => each);
+  }
+
+  // The object that is chosen alone, with its layer; null where there is none, or several.
   get chosenObject() {
-    return (this.objectId !== null && this.map?.object(this.objectId)) || null;
+    return this.objectIds.length === 1 ? this.map?.object(this.objectId) ?? null : null;
   }
 
   // Whether the objects of a layer take no edit, since it is hidden or locked. It is said what was not done.

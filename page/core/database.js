@@ -1,5 +1,7 @@
 // SPDX-License-Identifier: MIT OR Apache-2.0
 // The journals in the browser's database (IndexedDB): of each one a row, its records in order, and the files that were chosen for it.
+import { Said } from "./thrown_words.js";
+
 const NAME = "roskevad";
 const ROWS = "journals";
 const RECORDS = "records";
@@ -37,7 +39,7 @@ export class Database {
     };
     const database = new Database();
     database.opened = await resultOf(request);
-    database.opened.onclose = () => onEnd(new Error("the browser has closed its database"));
+    database.opened.onclose = () => onEnd(new Said("the browser has closed its database"));
     return database;
   }
 
@@ -59,7 +61,7 @@ export class Database {
     return new Promise((resolve, reject) => {
       const transaction = this.opened.transaction([ROWS, RECORDS, FILES], "readwrite", { durability: "strict" });
       transaction.oncomplete = () => resolve();
-      transaction.onabort = () => reject(transaction.error ?? new Error("the database has stopped"));
+      transaction.onabort = () => reject(transaction.error ?? new Said("the database has stopped"));
       try {
         work({ rows: transaction.objectStore(ROWS), records: transaction.objectStore(RECORDS), files: transaction.objectStore(FILES) });
       } catch (fault) {

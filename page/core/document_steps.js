@@ -1,8 +1,11 @@
 // SPDX-License-Identifier: MIT OR Apache-2.0
-// The steps of one document: their rows, which the editor tells, and of some a word for the way in which it was made, which no step has.
+// The steps of one document: their rows, which the editor tells; of some a word for the way in which it was made, which no step has; and the
+// lines that made them.
 //
-// Both stand at the number of their step: how many were made before it and have not made room for others. `first` is that of the first one
+// All stand at the number of their step: how many were made before it and have not made room for others. `first` is that of the first one
 // that is there, since with an undo limit the oldest ones are dropped.
+
+import { wordOf } from "./line_kinds.js";
 
 const ADDED = new Set(["added", "added and dropped"]);
 
@@ -12,16 +15,39 @@ function cut(all, end) {
 
 export class DocumentSteps {
   constructor() {
-    Object.assign(this, { first: 0, rows: [], ways: [] });
-  }
-
-  // Whether what a line did in some way has to be told, so that this stays true.
-  isAsked(way) {
-    return way !== null || this.rows.length > 0 || this.ways.length > 0;
+    Object.assign(this, { first: 0, rows: [], ways: [], lines: [] });
+    // The lines of the macros that are open, from the outermost `begin` on; null where none is, or they are not known.
+    this.open = null;
   }
 
   // Takes what a line did, and the way in which it did that, or null.
-  take({ became, before, index, count, depth, dropped }, way) {
+  take(line, told, way) {
+    this.takeLine(line, told);
+    this.takeWay(told, way);
+    for (let left = told.dropped; left > 0; left--) this.drop();
+  }
+
+  // Takes a line where its step is.
+  takeLine(line, { became, before, index, count, depth }) {
+    const word = wordOf(line);
+    cut(this.lines, this.first + count - (depth > 0 ? 1 : 0));
+    if (depth === 1 && word === "begin") this.open = [];
+    if (depth > 0 || word === "end") {
+      this.open?.push(line);
+      if (depth > 0) return;
+      if (this.open) this.lines[this.first + index - 1] = this.open;
+      this.open = null;
+    } else if (ADDED.has(became)) this.lines[this.first + before] = [line];
+    else if (became === "merged") this.lines[this.first + index - 1]?.push(line);
+  }
+
+  // The lines of the steps from a place on up to another, a list for each; null where some are not known.
+  linesOf(start, stop) {
+    const found = this.lines.slice(this.first + start, this.first + stop);
+    return found.length === stop - start && !found.includes(undefined) ? found : null;
+  }
+
+  takeWay({ became, before, index, count, depth }, way) {
     const isStep = became !== "nothing" && became !== "turned";
     // The number from which on steps are others. An open macro stands last, and has more with each line.
     const end = this.first + (isStep ? Math.min(before, index) : count - (depth > 0 ? 1 : 0));
@@ -31,13 +57,13 @@ export class DocumentSteps {
     if (ADDED.has(became) && depth === 0 && way !== null) this.ways[end] = way;
     // What was made in two ways was made in none.
     if (isMerged && this.ways[end - 1] !== way) delete this.ways[end - 1];
-    for (let left = dropped; left > 0; left--) this.drop();
   }
 
   // Lets go of the first step.
   drop() {
     delete this.rows[this.first];
     delete this.ways[this.first];
+    delete this.lines[this.first];
     this.first++;
   }
 

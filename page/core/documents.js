@@ -1,18 +1,19 @@
 // SPDX-License-Identifier: MIT OR Apache-2.0
 // The open documents as tabs, and what is done with whole maps: new, open, save, close, resize.
-import { ask, byId, destroying, element } from "../panels/dom.js";
+import { NO_MAP, allow, ask, byId, destroying, element } from "../panels/dom.js";
 import { iconButton } from "../panels/icons.js";
 import { KINDS } from "./kinds.js";
+import { MAX_CELLS } from "../../js/limits.js";
+import { grouped } from "../files/image_files.js";
+import { isOfMap } from "./map_refusals.js";
 import { FileList } from "../files/file_list.js";
 import { MapProbe } from "../files/map_probe.js";
 import { lastOf } from "../files/names.js";
 import { OutsideChanges } from "../files/outside_changes.js";
 import { IN_XML, isXmlMapName } from "../files/places.js";
 import { saidOf } from "./refusals.js";
-import { NEVER_SAVED } from "../panels/status_bar.js";
-
-// What a document is called for the user: the name of its file, or its own name where it has none.
-const titleOf = ({ name, path }) => (path ? lastOf(path) : name);
+import { thrownWords } from "./thrown_words.js";
+import { Tabs, titleOf } from "../panels/tabs.js";
 
 // Sizes of a new map, in cells, and of its tiles, in pixels.
 const SIZES = [["Room 20 × 15", 20, 15], ["Screen 40 × 30", 40, 30], ["World 100 × 100", 100, 100]];
@@ -23,6 +24,12 @@ const SAVE = "Save and close";
 const DISCARD = destroying("Discard");
 const WAIT = "Wait, then close";
 const LEAVE = destroying("Leave it");
+
+// Why a map has too many cells for its columns and rows; "" where it has not.
+function whyTooMany(width, height) {
+  const count = width * height;
+  return count > MAX_CELLS ? `A map has at most ${grouped(MAX_CELLS)} cells: ${grouped(width)} columns and ${grouped(height)} rows make ${grouped(count)}.` : "";
+}
 
 export class Documents {
   constructor(bench) {
@@ -36,34 +43,23 @@ export class Documents {
       iconButton("saveAs", "Save as", "Save as: the map into another file (Ctrl+Shift+S)", () => this.saveAs(), { id: "save-as" }),
       iconButton("resize", "Resize", "Resize: another size of the map", () => this.resize(), { id: "resize" }),
     );
+    this.tabs = new Tabs(bench, this);
     this.outside = new OutsideChanges(bench, document => this.saveAs(document), new MapProbe());
   }
 
   show() {
-    const { documents, active, isClean, file } = this.editor.state;
-    byId("tabs").replaceChildren(...documents.map(each => this.tab(each)));
+    const { active, isClean, file } = this.editor.state;
+    this.tabs.show();
     document.title = active ? `${isClean ? "" : "• "}${titleOf({ name: active, path: file })} – Roskevad` : "Roskevad";
     byId("empty").hidden = Boolean(active);
-    byId("save").title = `Save the map into ${file ? `its file, ${file}` : "a file"} (Ctrl+S)`;
-    byId("save-hint").textContent = this.editor.place.isDownload ? "is a download" : "";
+    const why = active ? "" : NO_MAP;
+    allow(byId("save"), `Save the map into ${file ? `its file, ${file}` : "a file"} (Ctrl+S)`, why);
+    allow(byId("save-as"), "Save as: the map into another file (Ctrl+Shift+S)", why);
+    allow(byId("resize"), "Resize: another size of the map", why);
+    byId("save-hint").textContent = this.editor.place.isDownload ? "saves are downloads" : "";
     byId("save-hint").title = "The browser does not tell whether a download is kept. So a map stays in the journal of this page until it is closed.";
     byId("folder").textContent = this.editor.place.title;
-  }
-
-  tab({ name, isActive, isClean, isWriting, path }) {
-    const saved = isWriting ? "is being saved" : path === null ? NEVER_SAVED : isClean ? "saved" : "not saved";
-    const mark = element("span", { className: "mark", textContent: isClean ? "" : "•", title: saved });
-    const close = iconButton("close", `Close ${titleOf({ name, path })}`, `Close ${titleOf({ name, path })}`, event => {
-      event.stopPropagation();
-      this.close(name);
-    }, { className: "close" });
-    const onclick = () => isActive || this.bench.act([`use ${name}`]);
-    const title = `${path ?? "in no file yet"} (in lines: ${name})`;
-    const shown = { className: "tab", title, data: { document: name }, onclick };
-    const tab = element("div", shown, mark, element("span", { textContent: titleOf({ name, path }) }), close);
-    tab.classList.toggle("on", isActive);
-    tab.classList.toggle("unsaved", !isClean);
-    return tab;
+    byId("folder").title = `Where the maps are: ${this.editor.place.title}`;
   }
 
   async make() {
@@ -81,6 +77,8 @@ export class Documents {
 
   // Makes a map for the dialog. It would be saved under its name, which no file may have.
   async made({ name, width, height, side, tall, source }) {
+    const words = whyTooMany(width, height);
+    if (words) return { words };
     const file = `${name}.tmj`;
     const names = await this.editor.during(this.editor.place.names().catch(() => []));
     const isOpen = this.editor.openDocuments.byName.has(name);
@@ -91,7 +89,7 @@ export class Documents {
   // ---- opening
   async open() {
     const { place } = this.editor;
-    const maps = await place.maps().catch(fault => this.bench.say(fault.message) ?? []);
+    const maps = await place.maps().catch(fault => this.bench.say(`The files cannot be listed: ${thrownWords(fault)}.`) ?? []);
     const known = new Map(this.editor.documents().map(each => [each.path, "open"]));
     const probe = new MapProbe();
     const inXml = await this.namesInXml();
@@ -111,17 +109,24 @@ export class Documents {
   async openPath(path) {
     const open = this.editor.documents().find(each => each.path === path);
     if (open) return this.bench.act([`use ${open.name}`]);
-    return this.bench.sayRefusal(await this.editor.openPath(path));
+    const done = await this.editor.openPath(path);
+    if (done.refusal && isOfMap(done.refusal.code)) return this.bench.say(`${lastOf(path)} was not opened. ${saidOf(done)}`) ?? done;
+    return this.bench.sayRefusal(done);
   }
 
   // ---- saving
   save() {
     const { file, active, isClean } = this.editor.standing();
-    if (!active) return this.bench.act(["save map.tmj"]);
+    if (!active) return this.sayNone();
     if (!file) return this.saveAs();
     if (!isClean) return this.saveTo(this.editor.openDocuments.document, file);
     this.bench.say(`${file} is saved already.`);
     return { isAccepted: true };
+  }
+
+  sayNone() {
+    this.bench.say("Open a map first.");
+    return { isAccepted: false };
   }
 
   // Saves a document, into its file or into one that is asked for.
@@ -135,7 +140,7 @@ export class Documents {
 
   // Asks for a name and saves a document under it. Where that is refused it asks anew, with why; but not where the user kept a file as it is.
   async saveAs(document = this.editor.openDocuments.document, typed = null, refusal = null) {
-    if (!document) return this.bench.act(["save map.tmj"]);
+    if (!document) return this.sayNone();
     const field = { name: "file", label: "File", value: typed ?? document.file?.path ?? `${document.name}.tmj`, kind: KINDS.path };
     const chosen = await ask("Save the map", [field], ["OK"], undefined, refusal);
     if (!chosen) return { isAccepted: false };
@@ -180,9 +185,12 @@ export class Documents {
     await ask("Another size of the map", [
       { name: "width", label: "Columns", value: map.width, kind: KINDS.cells },
       { name: "height", label: "Rows", value: map.height, kind: KINDS.cells },
-      { name: "right", label: "The old map goes to the right by", value: 0, kind: KINDS.coordinate },
+      { name: "right", label: "Move the map right by", value: 0, kind: KINDS.coordinate },
       { name: "down", label: "and down by", value: 0, kind: KINDS.coordinate },
-    ], ["OK"], typed => this.bench.attempt([`resize ${typed.width} ${typed.height} ${typed.right} ${typed.down}`]));
+    ], ["OK"], ({ width, height, right, down }) => {
+      const words = whyTooMany(width, height);
+      return words ? { words } : this.bench.attempt([`resize ${width} ${height} ${right} ${down}`]);
+    });
   }
 }
 

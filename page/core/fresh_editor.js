@@ -4,6 +4,7 @@ import { Editor } from "../../js/roskevad.js";
 import { hashOf } from "../files/hashes.js";
 import { OpenDocuments } from "./open_documents.js";
 import { answerTo, opened } from "./replies.js";
+import { Said } from "./thrown_words.js";
 
 export class FreshEditor {
   constructor(module, limit) {
@@ -14,7 +15,7 @@ export class FreshEditor {
   async open({ name, isClean, file }, bytes) {
     const [hash, word] = [await hashOf(bytes), file?.word ?? `${name}.tmj`];
     const { reply, refusal, why } = await opened(this.editor, name, bytes);
-    if (refusal) throw new Error(`${name}: ${why ?? reply}`);
+    if (refusal) throw new Said(`${name}: ${why ?? reply}`);
     this.take({ line: `open ${name} ${word}`, reply, file: { path: file?.path ?? null, bytes, hash, size: bytes.length, time: file?.mark?.time ?? 0 } });
     // The file itself may have other bytes.
     if (file && file.mark?.hash !== hash) this.arrive(name, file);

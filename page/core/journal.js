@@ -8,6 +8,7 @@ import { forgetBroken, noteBroken } from "./broken_journals.js";
 import { Database } from "./database.js";
 import { hashOf, sumOf } from "../files/hashes.js";
 import { HeldEntries, sizeOf } from "./held_entries.js";
+import { Said } from "./thrown_words.js";
 
 const MEBIBYTE = 1024 * 1024;
 // The most bytes of a journal, where a unit of a text counts as one; and how many more are kept back for lines that only go along the steps.
@@ -26,7 +27,7 @@ export const lockOf = id => `roskevad-journal-${id}`;
 export const recordSum = entries => sumOf(JSON.stringify(entries, (name, value) => (name === "bytes" ? undefined : value)));
 
 // A journal that is damaged; the message says how.
-export class Damaged extends Error {}
+export class Damaged extends Said {}
 
 // Takes the lock of a journal, and keeps it for as long as this window lives. Gives the call that gives it back; null where another
 // window has it.
@@ -95,7 +96,7 @@ export class Journal extends EventTarget {
   // From now on nothing is kept, until the database takes it again.
   break(fault) {
     const isNew = this.fault === null;
-    this.fault = fault ?? new Error("the database has failed");
+    this.fault = fault ?? new Said("the database has failed");
     // What is past the browser's quota is refused before it is written.
     this.isTorn ||= this.fault.name !== "QuotaExceededError";
     this.isFlushing = null;
@@ -108,7 +109,7 @@ export class Journal extends EventTarget {
   // From now on nothing is kept at all, as the user wishes.
   giveUp() {
     Object.assign(this, { isOver: true, queue: [], due: 0, held: new HeldEntries() });
-    this.break(new Error("as you wish"));
+    this.break(new Said("as you wish"));
   }
 
   tryAgain() {
@@ -239,7 +240,7 @@ export class Journal extends EventTarget {
   async begin() {
     const now = Date.now();
     const id = crypto.randomUUID();
-    if (!(await lock(id))) throw new Error("the browser gives no lock");
+    if (!(await lock(id))) throw new Said("the browser gives no lock");
     const { version, limit } = this;
     this.row = { id, version, limit, count: 0, size: 0, began: now, changed: now, documents: [], source: this.source() };
     sessionStorage.setItem(OWN, id);

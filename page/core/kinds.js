@@ -19,9 +19,9 @@ function labelFault(text) {
 }
 
 // The same of a text of a line.
-const textFault = text => (text === "" ? "not empty: no line takes an empty text" : labelFault(text));
+const textFault = text => (text === "" ? "one letter at least" : labelFault(text));
 
-const keyFault = text => (text.includes(" ") ? "no space in it: no line can say such a name" : textFault(text));
+const keyFault = text => (text.includes(" ") ? "without a space" : textFault(text));
 
 // The same of a text that is drawn, which may have several lines.
 function wordsFault(text) {
@@ -89,6 +89,7 @@ export const KINDS = {
   label: { wanted: `a text of at most ${MAX_TEXT} bytes`, fault: labelFault, spelled: asIs },
   words: { wanted: `a text of at most ${LONGEST_TEXT} letters`, fault: wordsFault, spelled: asIs },
   key: { wanted: `a name of 1 to ${MAX_TEXT} bytes, without a space`, fault: keyFault, spelled: asIs },
+  macro: { wanted: `a text of 1 to ${MAX_TEXT} bytes`, fault: text => (text.includes(" || ") ? "without ' || ' in it" : textFault(text)), spelled: asIs },
   coordinate: whole(-MAX_COORDINATE, MAX_COORDINATE),
   size: whole(0, MAX_PIXELS),
   number: whole(0, MAX_NUMBER),

@@ -7,12 +7,12 @@ const LOOKS = new Set(["list", "tile", "show", "status", "undotext", "redotext",
 // The lines about which documents there are.
 const DOCUMENTS = new Set(["new", "open", "close", "discard", "use"]);
 // The edits of the active document.
-const EDITS = new Set(["stamp", "erase", "fill", "select", "layer", "resize", "object", "prop", "tileset", "member"]);
+const EDITS = new Set(["stamp", "erase", "fill", "select", "layer", "resize", "extend", "object", "prop", "tileset", "member"]);
 // The lines that go along the steps, or end a macro.
 const TURNS = new Set(["undo", "redo", "goto", "end"]);
 
 // The lines that an editor for all edits alone reads.
-const FOR_ALL_EDITS = /^(?:member|object put|prop take|tileset put|layer add (?:group|image)) /;
+const FOR_ALL_EDITS = /^(?:member|extend|object (?:put|into)|prop (?:put|take)|tileset put|layer (?:into|add (?:group|image))) /;
 
 export const wordOf = line => line.split(" ", 1)[0].replace(/\++$/, "");
 

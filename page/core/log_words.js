@@ -56,6 +56,7 @@ const OF_WORDS = {
   dirty: () => "Not saved",
   clear: () => "Forget the steps",
   resize: ([, width, height]) => `Resize the map to ${width} × ${height}`,
+  extend: ([, ...counts]) => `Add room to the map: ${counts.map(atSide).filter(Boolean).join(", ") || "none"}`,
   layer: (words, names) => ofLayer(words, names),
   object: (words, names) => ofObject(words, names),
   prop: (words, names) => ofNamed(words, names),
@@ -71,12 +72,16 @@ const OF_SELECT = {
   intersect: cells => `Keep the selection within ${cells}`,
 };
 
+const SIDES = ["left", "top", "right", "bottom"];
+const atSide = (count, at) => (count === "0" ? "" : `${count} ${SIDES[at]}`);
+
 const REMOVALS = new Set(["remove", "take"]);
 const capitalised = word => `${word.charAt(0).toUpperCase()}${word.slice(1).replace(/\+$/, "")}`;
 
 function ofLayer(words, names) {
   const [, what, id, value] = words;
   if (what === "add") return `Add ${id} layer ${rest(words, 3)}`;
+  if (what === "into") return `Move layer ${names.layer(id)} ${value === "0" ? "out of all groups" : `into ${names.layer(value)}`}`;
   if (wordOf(what) === "show") return `${value === "no" ? "Hide" : "Show"} layer ${names.layer(id)}`;
   return wordOf(what) === "rename" ? `Rename layer ${names.layer(id)} to ${rest(words, 3)}` : `${capitalised(what)} layer ${names.layer(id)}`;
 }
@@ -85,8 +90,9 @@ function ofLayer(words, names) {
 const added = (kind, said) => `Add ${kind} ${said ? said.source || said.name || "without a name" : ".."}`;
 
 function ofObject(words, names) {
-  const [, what, id] = words;
+  const [, what, id, layer] = words;
   if (what === "put") return added("object", jsonIn(rest(words, 3)));
+  if (what === "into") return `Move ${names.object(id)} into ${names.layer(layer)}`;
   return what.startsWith("add") ? `Add object ${rest(words, 7)}` : `${capitalised(what)} ${names.object(id)}`;
 }
 

@@ -105,15 +105,17 @@ export class MapModel {
   // Takes how some objects are by now: [id, { members, layer }] of each, with the id of its layer, or [id, null] where there is none.
   // `nextId` is the next id of an object, and `idsIn(layer)` gives those of a layer in their order. Gives what has come of them, as
   // { object, before, layer }, where `object` is null of one that is gone, and `before` of one that is new. null where only the whole
-  // outline tells how the map stands.
+  // outline tells how the map stands, as where one is at another place of its layer.
   take(found, nextId, idsIn) {
     const changes = found.map(([id, now]) => this.changeOf(id, now));
     if (!changes.every(change => change)) return null;
     const same = changes.filter(each => each.object && each.before);
     const others = changes.filter(each => !each.object !== !each.before);
+    const lists = new Map([...same, ...others].filter(({ layer }) => layer).map(({ layer }) => [layer, idsIn(layer.id)]));
+    if (![...lists].every(([layer, ids]) => this.hasOrder(layer, others, ids))) return null;
     for (const { object, layer } of same) layer.data.objects[this.places.get(object.id)[1]] = object;
     for (const layer of new Set(others.map(each => each.layer))) {
-      this.takeList(layer, others.filter(each => each.layer === layer), idsIn(layer.id));
+      this.takeList(layer, others.filter(each => each.layer === layer), lists.get(layer));
     }
     this.data.nextobjectid = nextId;
     return [...same, ...others];
@@ -130,6 +132,13 @@ export class MapModel {
     const isOdd = this.odd.count || this.odd.isCut || odd.count || odd.isCut;
     if (isOdd || (was && was.layer !== layer) || object?.text?.text !== before?.text?.text) return null;
     return { object, before, layer };
+  }
+
+  // Whether the objects of a layer that have not come or gone stand in the order in which they stood.
+  hasOrder(layer, others, ids) {
+    const left = new Set(others.map(({ object, before }) => (object ?? before).id));
+    const [was, now] = [layer.data.objects.map(({ id }) => id), ids].map(list => list.filter(id => !left.has(id)));
+    return was.length === now.length && was.every((id, at) => id === now[at]);
   }
 
   // Takes which objects a layer has: those that it had, but for some that are gone, and some that have come.

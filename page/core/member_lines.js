@@ -8,6 +8,9 @@ import { isKey } from "../../js/words.js";
 // The line that gives a member a value. `owner` is its owner as lines spell it. One that follows joins the step before it.
 export const memberLine = (owner, member, value, follows = false) => `member set${follows ? "+" : ""} ${owner} ${member} ${said(value, member)}`;
 
+// The line that gives several members their values.
+export const membersLine = (owner, members) => `member put ${owner} ${said(members, "members")}`;
+
 // The line that takes a member out.
 export const memberRemoval = (owner, member) => `member remove ${owner} ${member}`;
 

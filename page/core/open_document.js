@@ -23,9 +23,8 @@ export class OpenDocument {
   // is about no step.
   take(line, gesture, tell) {
     this.lines.push(line);
-    const way = wayOf(line, gesture);
-    const told = this.steps.isAsked(way) ? tell() : null;
-    if (told) this.steps.take(told, way);
+    const told = tell();
+    if (told) this.steps.take(line, told, wayOf(line, gesture));
   }
 
   get isWriting() {

@@ -3,7 +3,7 @@
 //
 // Lines are done at once, in the order in which they come. Of `open` and `save` the file is read and written beside them: these lines are
 // read before they are done, and those that close a document, so that none is closed whose save has not ended.
-import { Broken, Editor, FORMS, NoMemory, VERSION, documentName } from "../../js/roskevad.js";
+import { Editor, FORMS, NoMemory, VERSION, documentName } from "../../js/roskevad.js";
 import { Changes } from "./changes.js";
 import { FreshEditor } from "./fresh_editor.js";
 import { Journal } from "./journal.js";
@@ -20,6 +20,7 @@ import { whyOf } from "./refusals.js";
 import { Replay } from "./replay.js";
 import { MOST_AT_ONCE, NO_MEMORY, SAVED, answerTo, cut, opened, pause, refused } from "./replies.js";
 import { sourceOf } from "../files/sources.js";
+import { Said, thrownWords } from "./thrown_words.js";
 
 const OPEN = /^open ([A-Za-z0-9_][A-Za-z0-9_.-]{0,63}) ([A-Za-z0-9_][A-Za-z0-9_.-]{0,99})$/;
 const SAVE = /^save ([A-Za-z0-9_][A-Za-z0-9_.-]{0,99})$/;
@@ -30,6 +31,8 @@ const MOST_BEHIND = 10_000;
 // How long a part of lines takes that are played, and how often it is looked whether something has ended, in milliseconds.
 const SHORT = 40;
 const SOON = 20;
+// By how many steps the ends of those that are listed move.
+const LISTED = 50;
 
 // The end of the lines from a place on that are done at once: before the next one that reads or writes a file.
 function endOfPart(lines, from) {
@@ -41,11 +44,11 @@ function endOfPart(lines, from) {
 // Why a map cannot be shown, by what was thrown.
 function whyNotShown(fault) {
   const isMemory = fault instanceof NoMemory || fault instanceof RangeError;
-  return isMemory ? "it takes more memory than there is" : `the page fails at something in it (${fault.message})`;
+  return isMemory ? "it takes more memory than there is" : "the page fails at something in it";
 }
 
 // A file that the user has kept as it is.
-class NotReplaced extends Error {}
+class NotReplaced extends Said {}
 
 // Events:
 //   map        the active map is another one, or its outline is; the detail is the parts in which alone cells are others, or null
@@ -213,7 +216,7 @@ export class PageEditor extends EventTarget {
   break(fault) {
     this.isBroken = true;
     console.warn(fault);
-    this.tell("broken", fault instanceof Broken ? fault.message : String(fault));
+    this.tell("broken");
   }
 
   list(line, { reply, refusal }, gesture = null) {
@@ -335,7 +338,7 @@ export class PageEditor extends EventTarget {
     try {
       found = await this.place.read(path);
     } catch (fault) {
-      return this.failed(line, STORE_FAILED, `${path}: ${fault.message}`);
+      return this.failed(line, STORE_FAILED, `${path}: ${thrownWords(fault)}`);
     }
     if (!found) return this.failed(line, refused(50, "no such file"), path);
     return this.openFound(name, word, found);
@@ -460,7 +463,7 @@ export class PageEditor extends EventTarget {
     }
     this.settle();
     const done = { replies: [answer.reply], isAccepted: isWritten, refusal: answer.refusal, isKept: came instanceof NotReplaced };
-    return { ...done, why: isWritten ? null : `${path}: ${came.message}` };
+    return { ...done, why: isWritten ? null : `${path}: ${thrownWords(came)}` };
   }
 
   // Writes bytes, and gives how many they are. The journal has their hash before the file does, so that they are known where the page ends
@@ -555,8 +558,9 @@ export class PageEditor extends EventTarget {
   // How the active document and its steps stand now.
   standing() {
     const stands = this.stand();
-    const first = Math.max(0, stands.index - this.steps);
-    const last = Math.min(stands.count, stands.index + this.steps);
+    // The ends of what is listed move by many steps at once: else all rows would move with each.
+    const first = Math.max(0, Math.floor((stands.index - this.steps) / LISTED) * LISTED);
+    const last = Math.min(stands.count, Math.ceil((stands.index + this.steps) / LISTED) * LISTED);
     const { active, document, file } = this.openDocuments;
     const steps = document?.steps.from(first, last, this.editor) ?? [];
     const isWriting = this.isWriting(active);

@@ -5,6 +5,7 @@ import { ask, button, byId, element, shown } from "../panels/dom.js";
 import { pause } from "./replies.js";
 import { isEdit, isQuiet } from "./line_kinds.js";
 import { saidOf } from "./refusals.js";
+import { thrownWords } from "./thrown_words.js";
 
 const MACRO = "Session";
 const SAVE = /^save (\S+)$/;
@@ -31,7 +32,7 @@ export class Player {
       try {
         text.value = await navigator.clipboard.readText();
       } catch (fault) {
-        this.bench.say(`The browser gives no clipboard: ${fault.message}. Paste the lines by Ctrl+V.`);
+        this.bench.say(`The clipboard was not read: ${thrownWords(fault)}. Paste the lines by Ctrl+V.`);
       }
     };
     const row = element("div", { className: "answers" },

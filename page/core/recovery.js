@@ -13,6 +13,7 @@ import { ChosenFiles, FolderFiles, download } from "../files/places.js";
 import { OfDocument } from "./replay.js";
 import { marksOf } from "./session_marks.js";
 import { isSameSource, wordsOf } from "../files/sources.js";
+import { thrownWords } from "./thrown_words.js";
 
 // How many documents of a journal are left out at most, where they fail.
 const MOST_LEFT_OUT = 10;
@@ -32,7 +33,7 @@ export class Recovery {
       return await this.takeLeft(await this.journal.left());
     } catch (fault) {
       console.warn(fault);
-      notice("journals", `What was left in this browser cannot be read: ${fault.message}.`, [["OK", () => {}]]);
+      notice("journals", `What was left in this browser cannot be read: ${thrownWords(fault)}.`, [["OK", () => {}]]);
       return false;
     }
   }
@@ -270,14 +271,14 @@ export class Recovery {
 
   keepFailed(row, fault) {
     console.warn(fault);
-    return isWhole(row) ? this.keep(row, `It cannot be restored: ${fault.message}.`, true) : this.keepUnread(row);
+    return isWhole(row) ? this.keep(row, `It cannot be restored: ${thrownWords(fault)}.`, true) : this.keepUnread(row);
   }
 
   // Gives false, so that a notice that has asked for it stays.
   async mapsOf(row) {
     await this.editor.during(this.restoreMaps(row)).catch(fault => {
       console.warn(fault);
-      this.keep(row, `Its maps cannot be opened: ${fault.message}.`);
+      this.keep(row, `Its maps cannot be opened: ${thrownWords(fault)}.`);
     });
     return false;
   }
@@ -300,7 +301,7 @@ export class Recovery {
         if (line) lines.push(line);
       }
     } catch (fault) {
-      lines.push(`# ${fault.message}`);
+      lines.push(`# ${thrownWords(fault)}`);
     }
     const name = isWhole(row) ? row.documents[0].name : "journal";
     download(`${name}.session`, new TextEncoder().encode([...marksOf(lines), ...lines].map(line => `${line}\n`).join("")), "text/plain");

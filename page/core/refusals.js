@@ -1,33 +1,46 @@
 // SPDX-License-Identifier: MIT OR Apache-2.0
-// Words for a refused line: which of its words is at fault, what is wanted in its place, and what to do. The editor tells the word; the
-// line is read for the forms that begin as it does.
+// Words for a refused line: what that means, and what to do; and of a line that is spelled wrong which of its words is at fault, and what is
+// wanted in its place. The editor tells the word; the line is read for the forms that begin as it does.
 import { FORMS, formsOf } from "../../js/roskevad.js";
+import { isOfMap, wordsOfFault } from "./map_refusals.js";
 
 const LONGEST_SHOWN = 40;
 // How many forms are shown behind a word at fault: of all commands, and of those that a line has begun with.
 const MOST_COMMANDS = 6;
 const MOST_FORMS = 3;
-// What a refusal means for the hand, where its words alone do not tell.
-const HINTS = {
-  1: "Cut it into shorter lines.",
+// What each refusal means, and what to do, in words for the hand.
+const WORDS = {
+  1: "The line is too long: cut it into shorter ones.",
+  2: "That is no text in UTF-8.",
+  3: "There is no such line.",
+  4: "That line is not as it has to be.",
   10: "Open a map first.",
-  11: "Choose another name: a document that is open has this one.",
-  13: "Save it, or discard it.",
-  20: "End the macro first.",
-  30: "Choose a layer that is there.",
-  31: "Choose a tile layer to draw on, and an object layer for objects.",
-  32: "Click within the map.",
+  11: "A map that is open has this name already: choose another one.",
+  12: "No map of that name is open.",
+  13: "It has changes that are not saved: save it, or discard it.",
+  20: "A macro is open: end it first, by 'End macro'.",
+  21: "There is nothing to undo.",
+  22: "There is nothing to redo.",
+  23: "No macro is open.",
+  24: "Macros stand in one another as deep as they can: end one first.",
+  25: "That can be set before the first step alone.",
+  30: "That layer is not there any more: choose another one.",
+  31: "That layer has other things: tiles go on a tile layer, and objects on an object layer.",
+  32: "This is outside the map.",
   33: "No tileset of this map has that tile.",
-  34: "The object is not there: it may have been undone.",
-  39: "A size, a place or a number is past its limit; docs/map-files.md has the limits.",
-  40: "The map, the layer or the owner is full; docs/map-files.md has the limits.",
-  41: "Other lines change that, or nothing does.",
-  42: "The object has nothing of that name.",
-  50: "The folder has no such file.",
+  34: "That object is not there any more.",
+  35: "It has no property of that name any more.",
+  36: "That tileset is not in this map any more.",
+  37: "The map has tiles of this tileset, in cells or as objects: replace them or empty these first.",
+  38: "The tilesets of a map are in the order of their first ids: that one is not above those before it.",
+  39: "A size, a place or a number is too small or too large.",
+  40: "There are as many as there can be: remove some first.",
+  41: "Another field of this table changes that.",
+  42: "It has nothing of that name any more.",
+  50: "That file is not there.",
   51: "The file cannot be read or written.",
-  60: "docs/map-files.md says what to change in a map.",
+  90: "There is not memory enough for that.",
 };
-
 const cut = text => (text.length <= LONGEST_SHOWN ? text : `${text.slice(0, LONGEST_SHOWN)}..`);
 
 // Whether a word of a line, which is what a form has there, is that of this form.
@@ -60,12 +73,12 @@ function wordsOfWord(fault, line) {
   return [wrongWith(fault, line), ...forms].join("\n");
 }
 
-// What is said of a line that is refused with a code, behind the words for that; "" where those tell all.
-const hintOf = code => HINTS[code >= 60 && code <= 69 ? 60 : code] ?? "";
-
-// All that is said of lines that were refused: the words of the refusal, with its code, and what to do.
+// All that is said of lines that were refused: why, and what to do. A map that is refused has both in its reason.
 export function saidOf({ refusal, why, barred }) {
   if (barred) return barred;
   const { code, words } = refusal;
-  return `Refused: ${words} (${code}). ${why ?? hintOf(code)}`.trim();
+  if (isOfMap(code)) return why ?? wordsOfFault({ code });
+  if (code === 50 && why) return `${why}: there is no such file.`;
+  if (code === 51 && why) return /[.?!]$/.test(why) ? why : `${why}.`;
+  return [WORDS[code] ?? `${words}.`, why].filter(Boolean).join(" ");
 }

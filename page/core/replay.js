@@ -7,16 +7,17 @@ import { cellsIn } from "./log_words.js";
 import { FileNames } from "../files/names.js";
 import { OpenDocuments } from "./open_documents.js";
 import { MOST_AT_ONCE, SAVED, answerTo, cut, opened, pause } from "./replies.js";
+import { Said, thrownWords } from "./thrown_words.js";
 
 const BEGINNINGS = new Set(["new", "open"]);
 
 // A journal that gives other replies than those that it has.
-export class Otherwise extends Error {}
+export class Otherwise extends Said {}
 
 // A line of one document has failed, which is named by its life.
-export class OfDocument extends Error {
+export class OfDocument extends Said {
   constructor(life, cause) {
-    super(cause.message, { cause });
+    super(thrownWords(cause), { cause });
     this.life = life;
   }
 }

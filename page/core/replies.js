@@ -1,7 +1,7 @@
 // SPDX-License-Identifier: MIT OR Apache-2.0
 // What comes of lines that an editor does: their replies, and refusals.
 import { NoMemory, Refused } from "../../js/roskevad.js";
-import { wordsOfFault } from "./map_refusals.js";
+import { isOfMap, wordsOfFault } from "./map_refusals.js";
 
 // What the journal has as the reply to a save, whose bytes are reckoned later.
 export const SAVED = "saved";
@@ -42,6 +42,6 @@ export async function opened(editor, name, bytes) {
   try {
     return { ...accepted(await editor.openMap(name, bytes)), why: null };
   } catch (fault) {
-    return { ...ofFault(fault), why: fault instanceof Refused ? wordsOfFault(fault) : null };
+    return { ...ofFault(fault), why: fault instanceof Refused && isOfMap(fault.code) ? wordsOfFault(fault) : null };
   }
 }

@@ -18,7 +18,7 @@ const SIGNS = { replace: "", add: "+ ", subtract: "− ", intersect: "within " }
 const WAYS = {
   select: ([, how, , , width, height]) => (how === "none" ? how : `${SIGNS[how] ?? ""}${width} × ${height}`),
   layer: ([, what, , isShown]) => (wordOf(what) === "show" ? (isShown === "no" ? "hidden" : "shown") : null),
-  prop: ([, what, , name, ...rest]) => (what === "take" ? nameIn([name, ...rest].join(" ")) : name),
+  prop: ([, what, , name, ...rest]) => (what in NAMES ? NAMES[what](jsonIn([name, ...rest].join(" "))) : name),
   member: ([, what, , name, ...rest]) => (wordOf(what) === "put" ? namesIn([name, ...rest].join(" ")) : called(name)),
 };
 
@@ -28,7 +28,9 @@ const CALLED = {
   repeatx: "repeat x", repeaty: "repeat y",
 };
 const called = name => CALLED[name] ?? name;
-const nameIn = text => (jsonIn(text) === "" ? "(no name)" : jsonIn(text));
+const shownName = name => (name === "" ? "(no name)" : name ?? null);
+// The property that a line names, or says, as JSON.
+const NAMES = { take: shownName, put: said => shownName(said?.name) };
 const namesIn = text => jsonIn(text) && Object.keys(jsonIn(text)).map(called).join(", ");
 
 // The way of a line by which the hand may have done something more; null where there is none.

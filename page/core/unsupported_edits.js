@@ -1,5 +1,5 @@
 // SPDX-License-Identifier: MIT OR Apache-2.0
-// What no line can say of a property or of a name, in words.
+// What is changed in Tiled alone, of a property or of a name, in words.
 import { KINDS, TYPES } from "./kinds.js";
 import { LONGEST_NAME } from "../files/members.js";
 
@@ -8,11 +8,11 @@ export function whyNotNamed(text) {
   return text.length > LONGEST_NAME ? `It has more than ${LONGEST_NAME} letters: Tiled changes it.` : "";
 }
 
-// Why no line sets a property; "" where one does.
+// Why a property is not set here; "" where it is.
 export function whyNotSet({ name, type = "string", value }) {
-  if (typeof value === "object" && value !== null) return "No line sets a class.";
-  if (type === "float") return "No line sets a float.";
-  if (!Object.hasOwn(TYPES, type)) return `No line sets the type ${type}.`;
+  if (typeof value === "object" && value !== null) return "A class is set in Tiled.";
+  if (type === "float") return "A float, a number with a fraction, is set in Tiled.";
+  if (!Object.hasOwn(TYPES, type)) return `The type ${type} is set in Tiled.`;
   const fault = KINDS.key.fault(name);
-  return fault ? `No line can name it: ${fault.split(":")[0]}.` : "";
+  return fault ? `Set in Tiled: a name here is ${fault}.` : "";
 }

@@ -1,6 +1,7 @@
 // SPDX-License-Identifier: MIT OR Apache-2.0
 // Files of the folder to choose one from, each with its size and with words of what is in it, which are found when its row is first seen.
 import { button, element, shown } from "../panels/dom.js";
+import { thrownWords } from "../core/thrown_words.js";
 
 // The largest file that is looked into before it is chosen.
 const LARGEST_SEEN = 16 * 1024 * 1024;
@@ -66,7 +67,7 @@ export class FileList {
   async lookInto() {
     while (this.waiting.length && !this.isEnded) {
       const [row] = this.waiting;
-      const { words, isRefused } = await this.look(row.dataset.path).catch(fault => ({ words: fault.message, isRefused: true }));
+      const { words, isRefused } = await this.look(row.dataset.path).catch(fault => ({ words: thrownWords(fault), isRefused: true }));
       const details = row.querySelector(".details");
       details.textContent = details.title = words;
       row.classList.toggle("refused", isRefused);

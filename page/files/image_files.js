@@ -1,11 +1,12 @@
 // SPDX-License-Identifier: MIT OR Apache-2.0
 // The images of files: how large one is, by its head, and what is unpacked of it. A file may claim anything, so its size is known before.
+import { Said } from "../core/thrown_words.js";
 
 // The most pixels of all images of one map together.
 export const MOST_PIXELS = 128 * 1024 * 1024;
 
 // What is wrong with a tileset or an image, in words.
-export class Wrong extends Error {}
+export class Wrong extends Said {}
 
 // An image that is wrong: `words` say what it is or has.
 export class WrongImage extends Wrong {

@@ -1,7 +1,7 @@
 // SPDX-License-Identifier: MIT OR Apache-2.0
 // Tells why a map would be refused, before it is opened: in a module of its own, which goes with the list of maps.
 import { Editor, Refused } from "../../js/roskevad.js";
-import { placeOfFault } from "../core/map_refusals.js";
+import { whyRefused } from "../core/map_refusals.js";
 import { loadModule } from "../core/own_module.js";
 
 export class MapProbe {
@@ -13,7 +13,7 @@ export class MapProbe {
   // gives is `found`.
   async look(place, path, use) {
     const found = await place.read(path);
-    return found ? this.lookInto(found.bytes, use) : { words: "no such file", isRefused: true };
+    return found ? this.lookInto(found.bytes, use) : { words: "the file is not there", isRefused: true };
   }
 
   // The same for the bytes of a file.
@@ -25,8 +25,7 @@ export class MapProbe {
       return { words: "", isRefused: false, found: await use(editor) };
     } catch (fault) {
       if (!(fault instanceof Refused)) throw fault;
-      const place = placeOfFault(fault);
-      return { words: `${fault.words} (${fault.code})${place && `: ${place}`}`, isRefused: true };
+      return { words: whyRefused(fault), isRefused: true };
     } finally {
       if (!this.module.isBroken) editor.close();
     }

@@ -6,6 +6,7 @@ import { ask, destroying } from "../panels/dom.js";
 import { lastOf } from "./names.js";
 import { endNotice, hasNotice, notice } from "../panels/notice_bars.js";
 import { saidOf } from "../core/refusals.js";
+import { thrownWords } from "../core/thrown_words.js";
 
 const REPLACE = "Replace it";
 const RELOAD = "Reload";
@@ -111,9 +112,9 @@ export class OutsideChanges {
       const found = await this.editor.during(this.editor.place.read(path));
       if (!found) return { words: "The file is gone." };
       const { words } = await this.probe.lookInto(found.bytes);
-      return words ? { words: `Refused: ${words}.` } : found;
+      return words ? { words: `It is refused: ${words}.` } : found;
     } catch (fault) {
-      return { words: `It cannot be read: ${fault.message}.` };
+      return { words: `It cannot be read: ${thrownWords(fault)}.` };
     }
   }
 

@@ -12,6 +12,7 @@
 //   fileOf(path)      a text that tells the file of a path from all others that the page has seen, here and in other places
 //   write(path, bytes, mark)  writes a file whole, and gives its new mark. `mark` tells what must be there: null that no file is.
 //   advice(path)      what to do where a tileset is not there
+import { Said, thrownWords } from "../core/thrown_words.js";
 import { hashOf } from "./hashes.js";
 import { joined, lastOf, plainPath } from "./names.js";
 
@@ -26,17 +27,17 @@ export const isTilesetName = name => /\.(tsx|tsj)$/i.test(name);
 export const IN_XML = "a map in XML, which the page does not open. In Tiled save it as JSON: 'Save As', with the name .tmj; then choose that.";
 
 // The file is not what it must be: it was changed by another program, or a file has come.
-export class Changed extends Error {}
+export class Changed extends Said {}
 
 // The file cannot be read or written; the message says why.
-export class Failed extends Error {}
+export class Failed extends Said {}
 
 async function markOf(bytes, time) {
   return { hash: await hashOf(bytes), size: bytes.length, time };
 }
 
 async function bytesOf(file) {
-  if (file.size > LONGEST_FILE) throw new Failed(`it has more than ${LONGEST_FILE} bytes`);
+  if (file.size > LONGEST_FILE) throw new Failed(`it has more than ${LONGEST_FILE / 1024 / 1024} MiB`);
   return new Uint8Array(await file.arrayBuffer());
 }
 
@@ -57,7 +58,8 @@ export class ChosenFiles {
   }
 
   get title() {
-    return this.files.size ? `${this.files.size} chosen files` : "no files are chosen";
+    const { size } = this.files;
+    return size ? `${size} chosen ${size === 1 ? "file" : "files"}` : "no files are chosen";
   }
 
   // Takes files with their bytes, as `{ path, bytes }`, beside those that it has.
@@ -168,7 +170,7 @@ export class FolderFiles extends EventTarget {
       return await (await this.folderOf(path)).getFileHandle(lastOf(joined("", path) ?? ""), { create });
     } catch (fault) {
       if (["NotFoundError", "TypeMismatchError", "TypeError"].includes(fault.name) && !create) return null;
-      throw new Failed(fault.message);
+      throw new Failed(thrownWords(fault));
     }
   }
 
@@ -235,7 +237,7 @@ export class FolderFiles extends EventTarget {
       await to.close();
     } catch (fault) {
       if (mark === null) await this.removeEmpty(path);
-      throw new Failed(fault.message);
+      throw new Failed(thrownWords(fault));
     }
     return markOf(bytes, (await handle.getFile()).lastModified);
   }

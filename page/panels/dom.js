@@ -21,6 +21,14 @@ export function button(text, title, onclick, properties = {}) {
   return element("button", { type: "button", textContent: text, title, onclick, ...properties });
 }
 
+// Has a button grey where something is not done now, with why beside what it does.
+export function allow(at, words, why = "") {
+  at.disabled = why !== "";
+  at.title = why ? `${words}. ${why}` : words;
+}
+
+export const NO_MAP = "Open a map first";
+
 // A listener that calls something where the key is Enter. (One that gives false would keep a letter out of its field.)
 export function onEnter(call) {
   return event => {

@@ -24,6 +24,6 @@ export function bindFieldUndo(bench) {
     const line = (event.ctrlKey || event.metaKey) && !event.altKey && isField(field) && !field.closest("dialog") ? wanted(event) : null;
     if (!line || isTyped(field) || (line === "redo" && undone.has(field))) return;
     event.preventDefault();
-    bench.act([line]);
+    bench.macros[line]();
   });
 }

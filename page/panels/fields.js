@@ -207,9 +207,10 @@ class BoolField extends ChosenField {
 
 // An object of the map: the list is made as it is opened.
 class ObjectField extends ChosenField {
-  constructor(value, take, { map }) {
+  constructor(value, take, { map, pick }) {
     super(value, take, element("select", {}));
     this.map = map;
+    this.box.append(button("⌖", "Pick the object by a click on the map", () => pick(id => this.pick(String(id))), { className: "pick-object" }));
     this.input.onfocus = () => this.list();
     this.input.onpointerdown = () => this.list();
     this.input.onblur = () => (this.isListed = false);
@@ -236,6 +237,17 @@ class ObjectField extends ChosenField {
     return this.input.value;
   }
 
+  // Takes an object that was picked on the map.
+  async pick(id) {
+    const old = this.value;
+    if (id === old) return;
+    this.put(id);
+    const words = await this.take(id);
+    if (words === null) return;
+    this.put(old);
+    mark(this.input, words);
+  }
+
   list() {
     if (this.isListed) return;
     this.isListed = true;
@@ -254,7 +266,7 @@ class ObjectField extends ChosenField {
 // An object in a list: its name, and its id.
 export const titleOf = object => `${object.name || "(no name)"}  ${object.id}`;
 
-// The field for the values of a type. `around` has calls: `map`, and `files`, which gives their place and the folder of the map.
+// The field for the values of a type. `around` has calls: `map`; `pick`, which has an object picked on the map; and `files`, which gives their place and the folder of the map.
 export function fieldFor(type, value, take, around, kind = TYPES[type]) {
   if (type === "bool") return new BoolField(value, take);
   if (type === "object") return new ObjectField(value, take, around);

@@ -1,9 +1,10 @@
 // SPDX-License-Identifier: MIT OR Apache-2.0
 // What is said where the journal of this window is broken off, or full, and where a map cannot be shown; and how the journal begins anew.
 import { ask, byId, destroying } from "./dom.js";
-import { lastOf } from "../files/names.js";
 import { endNotice, hasNotice, notice } from "./notice_bars.js";
 import { download } from "../files/places.js";
+import { titleOf } from "./tabs.js";
+import { thrownWords } from "../core/thrown_words.js";
 
 const MEBIBYTE = 1024 * 1024;
 const SAID = "roskevad-said-that-nothing-is-kept";
@@ -13,8 +14,6 @@ const IS_ROOM = /quota|no_?space|full/i;
 // How many milliseconds lie between two looks whether the hand is off the map.
 const LOOK = 100;
 
-const titleOf = ({ name, path }) => (path ? lastOf(path) : name);
-
 export class JournalNotices {
   constructor(bench, documents) {
     Object.assign(this, { bench, documents, editor: bench.editor, journal: bench.editor.journal, isBeginning: false });
@@ -22,7 +21,7 @@ export class JournalNotices {
       broken: ({ detail }) => this.sayBroken(detail), mended: () => this.sayMended(), lost: () => this.beginFromMaps(), full: () => this.sayFull(),
     };
     for (const [name, tell] of Object.entries(tells)) this.journal.addEventListener(name, tell);
-    this.editor.addEventListener("broken", ({ detail }) => this.sayEnded(detail));
+    this.editor.addEventListener("broken", () => this.sayEnded());
     this.editor.addEventListener("unopened", ({ detail }) => this.sayUnopened(detail));
     this.editor.addEventListener("unshown", ({ detail }) => this.sayUnshown(detail));
     addEventListener("beforeunload", event => this.mayLeave() || event.preventDefault());
@@ -50,7 +49,7 @@ export class JournalNotices {
       notice("journal", `The browser keeps nothing more: ${why}. Until it does again, what is not saved is lost with this window.`, ok);
     } else if (!sessionStorage.getItem(SAID)) {
       sessionStorage.setItem(SAID, "yes");
-      notice("journal", `This browser keeps nothing here (${fault.message}): what is not saved is lost with this window.`, ok);
+      notice("journal", `This browser keeps nothing here (${thrownWords(fault)}): what is not saved is lost with this window.`, ok);
     }
   }
 
@@ -77,8 +76,7 @@ export class JournalNotices {
     try {
       return await this.editor.during(work());
     } catch (fault) {
-      console.warn(fault);
-      this.bench.say(`The journal did not begin anew: ${fault.message}.`);
+      this.bench.say(`The journal did not begin anew: ${thrownWords(fault)}.`);
       return false;
     } finally {
       this.isBeginning = false;
@@ -125,8 +123,8 @@ export class JournalNotices {
   }
 
   // ---- the editor, and maps that cannot be shown
-  sayEnded(why) {
-    notice("editor", `The editor was broken off: ${why}. What was done is in the journal.`, [["Load anew", () => location.reload()]]);
+  sayEnded() {
+    notice("editor", "The editor was broken off by a fault in it. What was done is in the journal.", [["Load anew", () => location.reload()]]);
   }
 
   sayUnopened({ path, why }) {

@@ -1,6 +1,6 @@
 // SPDX-License-Identifier: MIT OR Apache-2.0
 // The layers as a tree: the one that is drawn last stands on top, and a group above the layers in it.
-import { button, byId, element } from "./dom.js";
+import { NO_MAP, allow, button, byId, element } from "./dom.js";
 import { iconButton, showIcon } from "./icons.js";
 import { KINDS } from "../core/kinds.js";
 import { isLocked, lockLine, lockedGroupOf } from "../tools/barred_layers.js";
@@ -33,6 +33,8 @@ export class LayerPanel {
     this.list.onclick = event => this.click(event);
     this.list.ondblclick = event => this.rowOf(event) && !event.target.closest("button, input") && this.rename();
     this.drag = new LayerDrag(this);
+    // Where the panel gets another height, the current layer stays in sight.
+    new ResizeObserver(() => this.list.querySelector(".now")?.scrollIntoView({ block: "nearest" })).observe(this.list);
     byId("layer-actions").append(
       ...Object.entries(ADDED).map(([kind, { words }]) => (
         iconButton(`${kind}Layer`, `Add ${words}`, `Add ${words}, above the current one`, () => this.add(kind), { id: `add-${kind}-layer` })
@@ -81,12 +83,19 @@ export class LayerPanel {
   showMoves() {
     this.showMove("layer-up", 1, "Raise this layer above the next one", "highest");
     this.showMove("layer-down", -1, "Lower this layer below the next one", "lowest");
+    for (const [kind, { words }] of Object.entries(ADDED)) allow(byId(`add-${kind}-layer`), `Add ${words}, above the current one`, this.bench.map ? "" : NO_MAP);
+    allow(byId("rename-layer"), "Rename this layer: a double click", this.whyNoLayer);
+    allow(byId("remove-layer"), "Remove this layer, with all that is in it", this.whyNoLayer);
+  }
+
+  get whyNoLayer() {
+    if (!this.bench.map) return NO_MAP;
+    return this.bench.layer ? "" : "Add a layer first";
   }
 
   showMove(id, by, words, last) {
     const { layer } = this.bench;
-    byId(id).disabled = !this.canMove(by);
-    byId(id).title = layer && !this.canMove(by) ? `It is the ${last} layer${layer.group ? " of its group" : ""} already` : words;
+    allow(byId(id), words, this.whyNoLayer || (this.canMove(by) ? "" : `It is the ${last} layer${layer.group ? " of its group" : ""} already`));
   }
 
   // The layers of one group as they are listed, with those in them.

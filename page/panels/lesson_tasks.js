@@ -34,7 +34,8 @@ function tileBox({ palette }, value) {
   if (!palette.tileset) return null;
   const tile = value - palette.tileset.first;
   const frame = byId("palette-size").getBoundingClientRect();
-  const [left, top] = [frame.left + tile % palette.columns * palette.side, frame.top + Math.floor(tile / palette.columns) * palette.side];
+  const [x, y] = palette.spotOf(tile);
+  const [left, top] = [frame.left + x, frame.top + y];
   return { left, top, right: left + palette.side, bottom: top + palette.side };
 }
 

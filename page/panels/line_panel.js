@@ -4,6 +4,7 @@
 import { byId, element } from "./dom.js";
 import { isFollowing } from "../core/line_kinds.js";
 import { LogWords } from "../core/log_words.js";
+import { thrownWords } from "../core/thrown_words.js";
 
 const SHOWN = 1000;
 // The lines that have the name of a document, or of a file, as their word at a place.
@@ -131,7 +132,7 @@ export class LinePanel {
       await navigator.clipboard.writeText(session);
       this.bench.say(`${session.split("\n").length - 1} lines are on the clipboard.`);
     } catch (fault) {
-      this.bench.say(`The browser gives no clipboard: ${fault.message}`);
+      this.bench.say(`The clipboard was not written: ${thrownWords(fault)}.`);
     }
   }
 }

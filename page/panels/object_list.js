@@ -69,7 +69,7 @@ export class ObjectList {
     const said = JSON.stringify([left, rows]);
     if (said !== this.said) this.list.replaceChildren(...this.made(rows, left));
     this.said = said;
-    for (const row of this.list.children) row.classList.toggle("now", Number(row.dataset.object) === this.bench.objectId);
+    for (const row of this.list.children) row.classList.toggle("now", this.bench.objectIds.includes(Number(row.dataset.object)));
   }
 
   // Shows objects that have changed. As a rule their rows say of each what they said before.
@@ -123,7 +123,15 @@ export class ObjectList {
   click(event) {
     const row = event.target.closest("li");
     if (row?.dataset.layer) this.bench.chooseLayer(Number(row.dataset.layer));
-    if (row?.dataset.object) this.choose(Number(row.dataset.object));
+    if (row?.dataset.object && (event.shiftKey || event.ctrlKey)) this.turn(Number(row.dataset.object));
+    else if (row?.dataset.object) this.choose(Number(row.dataset.object));
+  }
+
+  // Chooses an object besides the others, or not any more.
+  turn(id) {
+    const { bench, tools } = this;
+    if (tools.name !== "objects") tools.choose("objects");
+    bench.chooseObjects(bench.objectIds.includes(id) ? bench.objectIds.filter(each => each !== id) : [...bench.objectIds, id]);
   }
 
   // Asks for another name of the object of a row.
@@ -135,6 +143,11 @@ export class ObjectList {
     if (whyNotNamed(value)) return void bench.say(`This name is not changed here. ${whyNotNamed(value)}`);
     const field = { name: "name", label: "Name", value, kind: KINDS.label };
     await ask("Rename an object", [field], ["OK"], ({ name }) => bench.attempt([memberLine(`object:${id}`, "name", name)]));
+  }
+
+  renameChosen() {
+    const { objectId } = this.bench;
+    if (objectId !== null) this.rename({ dataset: { object: objectId } });
   }
 
   // Chooses an object, with the tool that shows it, and moves the view to it where it is not seen.

@@ -10,6 +10,10 @@ import { wordsOf } from "../core/tile_words.js";
 const SIDES = [16, 24, 32, 48, 64, 96, 128];
 const USUAL = 2;
 const WIDEST = 8;
+// How far tiles stand apart, and before the first one, in pixels of the page.
+const GAP = 1;
+// The frame of a chosen tile: a light line between two dark ones, of which one is seen on any tile.
+const FRAME = { light: "#ffd34d", dark: "#10131a" };
 // The side of the picture of the stamp, in pixels of the page.
 const STAMP = 64;
 
@@ -47,6 +51,11 @@ export class Palette {
     return Math.ceil(this.tileset.count / this.columns);
   }
 
+  // How far it is from a tile to the next one.
+  get pitch() {
+    return this.side + GAP;
+  }
+
   // Shows a tileset of the map, by its first id.
   choose(first) {
     this.first = first;
@@ -66,7 +75,8 @@ export class Palette {
   zoomTo(side, x = 0, y = 0) {
     if (!SIDES.includes(side) || side === this.side) return;
     const { box } = this;
-    const [left, top] = [(box.scrollLeft + x) / this.side * side - x, (box.scrollTop + y) / this.side * side - y];
+    const larger = (side + GAP) / this.pitch;
+    const [left, top] = [(box.scrollLeft + x) * larger - x, (box.scrollTop + y) * larger - y];
     this.side = side;
     this.draw();
     box.scrollTo(left, top);
@@ -93,7 +103,7 @@ export class Palette {
     const size = byId("palette-size");
     size.hidden = !set;
     if (!set) return;
-    const [width, height] = [this.columns * this.side + 1, this.rows * this.side + 1];
+    const [width, height] = [this.columns * this.pitch + GAP, this.rows * this.pitch + GAP];
     size.style.width = `${width}px`;
     size.style.height = `${height}px`;
     this.sizeCanvas(Math.min(width, this.box.clientWidth), Math.min(height, this.box.clientHeight));
@@ -108,16 +118,16 @@ export class Palette {
 
   // Draws the rows and columns of tiles that are seen.
   drawRows(set, left, top) {
-    const { side, box } = this;
-    const [right, bottom] = [Math.ceil((left + box.clientWidth) / side), Math.ceil((top + box.clientHeight) / side)];
-    const columns = [Math.floor(left / side), Math.min(right, this.columns)];
-    for (let row = Math.floor(top / side); row < Math.min(bottom, this.rows); row++) this.drawRow(set, row, ...columns);
+    const { pitch, box } = this;
+    const [right, bottom] = [Math.ceil((left + box.clientWidth) / pitch), Math.ceil((top + box.clientHeight) / pitch)];
+    const columns = [Math.floor(left / pitch), Math.min(right, this.columns)];
+    for (let row = Math.floor(top / pitch); row < Math.min(bottom, this.rows); row++) this.drawRow(set, row, ...columns);
   }
 
   drawRow(set, row, from, to) {
     for (let column = from; column < to; column++) {
       const tile = row * this.columns + column;
-      if (tile < set.count) this.drawTile(set, tile, column * this.side, row * this.side);
+      if (tile < set.count) this.drawTile(set, tile, ...this.spotOf(tile));
     }
   }
 
@@ -136,21 +146,28 @@ export class Palette {
     return [inside.left - all.left, inside.top - all.top];
   }
 
+  // The upper left corner of a tile among all.
+  spotOf(tile) {
+    return [tile % this.columns * this.pitch + GAP, Math.floor(tile / this.columns) * this.pitch + GAP];
+  }
+
   drawTile(set, tile, x, y) {
     const [width, height] = set.has(tile) ? set.sizeOf(tile) : [set.tileWidth, set.tileHeight];
-    const scale = Math.min((this.side - 1) / width, (this.side - 1) / height);
-    drawTile(this.pen, this.tilesets, set.first + tile, x + 1, y + 1, width * scale, height * scale);
+    const scale = Math.min(this.side / width, this.side / height);
+    drawTile(this.pen, this.tilesets, set.first + tile, x, y, width * scale, height * scale);
   }
 
   // A frame around the tiles of the stamp, where they stand in this tileset.
   drawFrame() {
-    const { side, columns, tileset } = this;
-    this.pen.strokeStyle = "#ffd34d";
-    this.pen.lineWidth = 2;
+    const { pen, side, tileset } = this;
     for (const value of this.framed) {
       const tile = value - tileset.first;
       if (tile < 0 || tile >= tileset.count) continue;
-      this.pen.strokeRect(tile % columns * side + 1, Math.floor(tile / columns) * side + 1, side - 1, side - 1);
+      const [x, y] = this.spotOf(tile);
+      for (const [colour, width, inset] of [[FRAME.dark, 1, 0.5], [FRAME.light, 2, 2], [FRAME.dark, 1, 3.5]]) {
+        Object.assign(pen, { strokeStyle: colour, lineWidth: width });
+        pen.strokeRect(x + inset, y + inset, side - 2 * inset, side - 2 * inset);
+      }
     }
   }
 
@@ -180,7 +197,7 @@ export class Palette {
     if (this.isFitted || !this.tileset) return;
     this.isFitted = true;
     const smaller = SIDES[SIDES.indexOf(this.side) - 1];
-    const fits = side => this.columns * side < this.box.clientWidth;
+    const fits = side => this.columns * (side + GAP) < this.box.clientWidth;
     if (!fits(this.side) && fits(smaller)) this.side = smaller;
   }
 
@@ -194,15 +211,16 @@ export class Palette {
   reveal(tileset, tile) {
     if (tileset !== this.tileset) this.choose(tileset.first);
     else this.draw();
-    const { box, side } = this;
-    const within = (from, length, at) => Math.max(at + side + 1 - length, Math.min(from, at));
-    box.scrollTo(within(box.scrollLeft, box.clientWidth, tile % this.columns * side), within(box.scrollTop, box.clientHeight, Math.floor(tile / this.columns) * side));
+    const { box, pitch } = this;
+    const [x, y] = this.spotOf(tile);
+    const within = (from, length, at) => Math.max(at + pitch - length, Math.min(from, at - GAP));
+    box.scrollTo(within(box.scrollLeft, box.clientWidth, x), within(box.scrollTop, box.clientHeight, y));
   }
 
   // ---- the hand
   placeOf(event) {
     const frame = byId("palette-size").getBoundingClientRect();
-    const within = (length, most) => Math.max(0, Math.min(most - 1, Math.floor(length / this.side)));
+    const within = (length, most) => Math.max(0, Math.min(most - 1, Math.floor(length / this.pitch)));
     return [within(event.clientX - frame.left, this.columns), within(event.clientY - frame.top, this.rows)];
   }
 

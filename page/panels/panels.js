@@ -169,10 +169,11 @@ export class Panels {
     if ([upper, lower].some(part => part.classList.contains("folded"))) return;
     const heights = this.parts.map(part => part.getBoundingClientRect().height);
     this.parts.forEach((part, place) => (part.style.flexGrow = heights[place]));
+    byId("right").classList.add("shared");
     const [top, bottom] = [upper.getBoundingClientRect().top, lower.getBoundingClientRect().bottom];
     const edge = Math.max(top + LEAST_HEIGHT, Math.min(bottom - LEAST_HEIGHT, y));
     upper.style.flexGrow = Math.round(edge - top);
-    lower.style.flexGrow = Math.round(bottom - edge);
+    lower.style.flexGrow = Math.round(bottom - edge - byId(`edge-${at}`).offsetHeight);
   }
 
   // ---- what is kept
@@ -187,6 +188,7 @@ export class Panels {
     byId("left").style.width = left;
     byId("right").style.width = right;
     byId("line-box").style.height = lines;
+    byId("right").classList.toggle("shared", shares.some(share => share));
     this.parts.forEach((part, at) => {
       part.style.flexGrow = shares[at] ?? "";
       part.classList.toggle("folded", folded.includes(part.id));

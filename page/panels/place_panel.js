@@ -1,23 +1,27 @@
 // SPDX-License-Identifier: MIT OR Apache-2.0
 // Where the files come from: a folder of this machine, files that are chosen or dropped, or the folder that a server gives.
-import { byId, element } from "./dom.js";
+import { ask, byId, element } from "./dom.js";
 import { iconButton } from "./icons.js";
 import { endNotice, notice } from "./notice_bars.js";
 import { ChosenFiles, FolderFiles, IN_XML, chosen, isMapName, isTilesetName, isXmlMapName } from "../files/places.js";
 import { isSameSource, sourceOf, wordsOf } from "../files/sources.js";
+import { thrownWords } from "../core/thrown_words.js";
 
 // What notices are about; how many files one names.
 const OTHERS = "other files";
 const SOURCE = "source";
 const PERMISSION = "permission";
 const MOST_NAMED = 3;
+// How many maps are opened without a question.
+const MOST_UNASKED = 5;
 const IMAGE = /\.(png|jpe?g|gif|webp|bmp|svg|avif)$/i;
 
 export class PlacePanel {
   constructor(bench, documents, tilesets) {
     Object.assign(this, { bench, documents, tilesets, editor: bench.editor });
-    // Called where the tilesets may be others.
+    // Called where the tilesets may be others, and where a folder was opened.
     this.onTilesets = () => {};
+    this.onFolder = () => {};
   }
 
   // Shows the buttons that choose files, where no server gives them.
@@ -43,16 +47,27 @@ export class PlacePanel {
     try {
       folder = await globalThis.showDirectoryPicker({ mode: "readwrite" });
     } catch (fault) {
-      if (fault.name !== "AbortError") this.bench.say(fault.message);
+      if (fault.name !== "AbortError") this.bench.say(`The folder was not opened: ${thrownWords(fault)}.`);
       return;
     }
     await this.takeFolder(folder);
+  }
+
+  // Opens a folder that was open before, where the browser still lets the page.
+  async takeRecent(folder) {
+    try {
+      if ((await folder.requestPermission({ mode: "readwrite" })) === "granted") await this.takeFolder(folder);
+      else this.bench.say(`The browser was told that this page may not read the folder ${folder.name}.`);
+    } catch (fault) {
+      this.bench.say(`The folder was not opened: ${thrownWords(fault)}.`);
+    }
   }
 
   async takeFolder(folder) {
     const [before, place] = [sourceOf(this.editor.place), new FolderFiles(folder)];
     const isOther = before.kind === place.kind && !(await isSameSource(before, place));
     this.take(place);
+    this.onFolder(folder);
     if (isOther && [...this.editor.openDocuments.byName.values()].some(document => document.file)) this.part(before);
     this.editor.journal.keepSource();
     if (!this.editor.openDocuments.byName.size) await this.documents.open();
@@ -74,15 +89,25 @@ export class PlacePanel {
     try {
       taken = await chosen(files);
     } catch (fault) {
-      this.bench.say(`Not read: ${fault.message}`);
+      this.bench.say(`Not read: ${thrownWords(fault)}.`);
       return;
     }
     const place = this.editor.place.kind === "chosen" ? this.editor.place : new ChosenFiles();
     place.take(taken);
     this.take(place);
     this.editor.journal.keepSource(taken);
-    for (const { path, bytes } of taken) if (isMap(path, bytes)) await this.documents.openPath(path);
+    const maps = taken.filter(({ path, bytes }) => isMap(path, bytes)).map(each => each.path);
+    const isList = maps.length > MOST_UNASKED && !(await this.wantsAll(maps.length));
+    if (!isList) for (const path of maps) await this.documents.openPath(path);
     this.sayOthers(taken);
+    // Where no map is open, they stand there with pictures.
+    if (isList && this.editor.openDocuments.active !== null) await this.documents.open();
+  }
+
+  // Whether so many maps are all to be opened; else they are there to be chosen from.
+  async wantsAll(count) {
+    const all = `Open all ${count}`;
+    return (await ask(`${count} maps were chosen. Each that is opened has a tab.`, [], ["Choose from them", all]))?.answer === all;
   }
 
   // Says which of the files are passed over, and what to do.

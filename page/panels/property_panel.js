@@ -1,12 +1,14 @@
 // SPDX-License-Identifier: MIT OR Apache-2.0
-// The properties of the map, of a layer or of an object, in a table; and what else a line can set of an object.
+// The properties of the map, of a layer, of an object or of several, in a table; and what else a line can set of these.
 import { button, byId, element, mark } from "./dom.js";
-import { fieldFor, linesField, numberField, textField } from "./fields.js";
+import { fieldFor, numberField, textField } from "./fields.js";
 import { KINDS, TYPES } from "../core/kinds.js";
 import { LayerRows } from "./layer_rows.js";
+import { ObjectRows } from "./object_rows.js";
 import { memberLine, removalLine } from "../core/member_lines.js";
 import { LONGEST_NAME, cutText } from "../files/members.js";
 import { saidOf } from "../core/refusals.js";
+import { owned, sharedOwner, showMixed, shownOf } from "./shared_values.js";
 import { cellOf, rowOf } from "./table_rows.js";
 import { whyNotNamed, whyNotSet } from "../core/unsupported_edits.js";
 
@@ -19,7 +21,6 @@ const USUAL = "string";
 const MOST_SHOWN = 1024;
 const CUT = `Only its first ${MOST_SHOWN.toLocaleString("en-US")} letters are shown. To change it, remove it and set it anew.`;
 const isChoice = type => type === "bool" || type === "object";
-const PARTS = [["x", KINDS.coordinate, "x"], ["y", KINDS.coordinate, "y"], ["width", KINDS.size, "w"], ["height", KINDS.size, "h"]];
 
 export class PropertyPanel {
   constructor(bench) {
@@ -30,10 +31,12 @@ export class PropertyPanel {
     this.body = element("tbody");
     this.around = {
       map: () => bench.map,
+      pick: take => bench.pickObject(take),
       files: () => ({ place: bench.editor.place, folder: bench.editor.folder }),
     };
     this.last = this.newRow();
     this.layerRows = new LayerRows(this);
+    this.objectRows = new ObjectRows(this);
     const columns = Array.from({ length: 3 }, () => element("col"));
     byId("properties").querySelector("table").append(element("colgroup", {}, ...columns), this.body);
     byId("properties").append(this.last);
@@ -48,14 +51,16 @@ export class PropertyPanel {
     this.show();
   }
 
-  // The owner as a line spells it, its data and its title; null where none is chosen.
+  // The owner as a line spells it, its data and its title; null where none is chosen. Of several objects all that they share, with the names
+  // of members that they do not share as `mixed`. `all` has each that a value is set of, { word, data }.
   owner() {
-    const { map, layer, objectId } = this.bench;
+    const { map, layer } = this.bench;
     if (!map) return null;
-    if (this.kind === "map") return { word: "map", data: map.data, title: "The map" };
-    if (this.kind === "layer") return layer && { word: `layer:${layer.id}`, data: layer.data, title: `Layer ${layer.data.name}` };
-    const found = objectId === null ? null : map.object(objectId);
-    return found && { word: `object:${objectId}`, data: found.object, title: `Object ${found.object.name || objectId}` };
+    if (this.kind === "map") return owned("map", map.data, "The map");
+    if (this.kind === "layer") return layer && owned(`layer:${layer.id}`, layer.data, `Layer ${layer.data.name}`);
+    const objects = this.bench.chosenObjects.map(({ object }) => object);
+    if (objects.length > 1) return sharedOwner(objects);
+    return objects.length ? owned(`object:${objects[0].id}`, objects[0], `Object ${objects[0].name || objects[0].id}`) : null;
   }
 
   show() {
@@ -88,21 +93,12 @@ export class PropertyPanel {
   }
 
   // ---- what is no property
-  // The size and the class of the map; what a layer has; the name, the class, the text, the place, the size and the rotation of an object.
+  // The size and the class of the map; what a layer has, or an object.
   factRows(owner) {
     const { data } = owner;
     if (this.kind === "map") return [this.fact("size", `${data.width} × ${data.height}`, ""), this.classRow(owner)];
     if (this.kind === "layer") return this.layerRows.rows(owner, this.bench.layer);
-    // Tiled 1.9 has it elsewhere.
-    const kind = !data.type && data.class ? "class" : "type";
-    return [
-      this.memberRow(owner, "name", "name", data.name ?? ""),
-      this.memberRow(owner, "class", kind, data[kind] ?? ""),
-      ...(data.text ? [this.textRow(owner)] : []),
-      this.partRow(owner, PARTS.slice(0, 2), "place"),
-      this.partRow(owner, PARTS.slice(2), "size"),
-      this.memberRow(owner, "rotation", "rotation", data.rotation ?? 0),
-    ];
+    return this.objectRows.rows(owner);
   }
 
   // The class of the map, or of a layer.
@@ -111,29 +107,17 @@ export class PropertyPanel {
   }
 
   // A text or a number, which is an own member.
-  memberRow({ word }, name, member, value) {
+  memberRow(owner, name, member, value) {
+    const { word } = owner;
     const isNumber = typeof value === "number";
     const why = isNumber ? "" : whyNotNamed(value);
     if (why) return this.fact(name, value, why);
-    return this.kept(` ${word} ${member}`, [String(value)], () => {
-      const take = text => this.send(memberLine(word, member, isNumber ? Number(text) : text));
+    return this.kept(` ${word} ${member}`, [shownOf(owner, member, value)], () => {
+      const take = text => this.sendEach(each => memberLine(each.word, member, isNumber ? Number(text) : text), `Set ${name}`);
       const field = isNumber ? numberField(KINDS.coordinate, String(value), take) : textField(KINDS.label, value, take);
+      showMixed(field, owner, member);
       Object.assign(field.input.dataset, { key: ` ${name}`, owner: word });
       return { element: rowOf(name, "", isNumber ? "in degrees, clockwise" : "", cellOf([field])), fields: [field] };
-    });
-  }
-
-  // The text that is drawn. The page may have a part of it.
-  textRow({ word, data }) {
-    return this.kept(` ${word} text`, [data.text.text ?? ""], () => {
-      const take = text => {
-        const { text: whole } = this.bench.editor.membersOf(data.id);
-        const isKnown = (whole.text ?? "") === (this.owner().data.text.text ?? "");
-        return isKnown ? this.send(memberLine(word, "text", { ...whole, text })) : "this text is longer than what is shown here";
-      };
-      const field = linesField(KINDS.words, data.text.text ?? "", take);
-      Object.assign(field.input.dataset, { key: " text", owner: word });
-      return { element: rowOf("text", "", "Shift+Enter begins another line", element("td", { colSpan: 2 }, field.box)), fields: [field] };
     });
   }
 
@@ -142,22 +126,13 @@ export class PropertyPanel {
     return this.kept(` ${name} ${text}`, [], () => ({ element: rowOf(name, "", why, cell), fields: [] }));
   }
 
-  // Two numbers of an object, beside one another.
-  partRow({ word, data }, parts, name) {
-    const values = parts.map(([part]) => String(data[part] ?? 0));
-    return this.kept(` ${word} ${name}`, values, () => {
-      const fields = parts.map(([part, kind], at) => numberField(kind, values[at], text => this.setPart(part, text)));
-      fields.forEach((field, at) => Object.assign(field.input.dataset, { key: ` ${parts[at][0]}`, owner: word }));
-      return { element: rowOf(name, "", "in pixels", cellOf(fields, parts.map(part => part[2]))), fields };
-    });
-  }
-
-  // A line takes whole numbers. A fraction comes back where its whole part is left as it is.
-  setPart(part, text) {
-    const { data } = this.owner();
-    const of = name => (name === part ? text : Math.floor(data[name] ?? 0));
-    const isPlace = part === "x" || part === "y";
-    return this.send(isPlace ? `object move ${data.id} ${of("x")} ${of("y")}` : `object resize ${data.id} ${of("width")} ${of("height")}`);
+  // Does for a field a line for each thing that the table is about, as one step with a name where they are several: gives null, or why it was
+  // refused.
+  async sendEach(lineOf, name) {
+    const lines = this.owner().all.map(lineOf);
+    if (lines.length === 1) return this.send(lines[0]);
+    const done = this.bench.doAsOne(`${name} || ${name.toLowerCase()}`, lines);
+    return done.isAccepted ? null : saidOf(done);
   }
 
   // Does a line for a field: gives null, or why it was refused.
@@ -168,16 +143,19 @@ export class PropertyPanel {
   // ---- properties
   row(owner, property) {
     const { name, type = "string", value } = property;
-    const whole = textOf(value);
+    const whole = owner.mixed.has(`property ${name}`) ? "" : textOf(value);
     const text = cutText(whole, MOST_SHOWN);
     const why = text === whole ? whyNotSet(property) : CUT;
     const key = `${owner.word} ${type} ${why} ${why && text} ${name}`;
     return this.kept(key, [text], () => (why ? this.barredRow(owner, name, type, text, why) : this.setRow(owner, name, type, text)));
   }
 
-  setRow({ word }, name, type, text) {
-    const field = fieldFor(type, text, value => this.send(`prop set ${word} ${name} ${type} ${value}`), this.around);
+  setRow(owner, name, type, text) {
+    const { word } = owner;
+    const take = value => this.sendEach(each => `prop set ${each.word} ${name} ${type} ${value}`, "Set Property");
+    const field = fieldFor(type, text, take, this.around);
     Object.assign(field.input.dataset, { key: name, owner: word });
+    showMixed(field, owner, `property ${name}`);
     return { element: this.propertyRow(word, name, type, field.box), fields: [field] };
   }
 
@@ -194,10 +172,15 @@ export class PropertyPanel {
     const isCut = name.length > LONGEST_NAME;
     const title = isCut ? `It has more than ${LONGEST_NAME} letters: Tiled removes it.` : "Remove this property";
     // The second press of a double click at '+' comes to where this button is then.
-    const remove = button("×", title, event => event.detail < 2 && this.bench.act([removalLine(word, name)]), { disabled: isCut });
+    const remove = button("×", title, event => event.detail < 2 && this.removeProperty(name), { disabled: isCut });
     const row = rowOf(name, type, `${name}: ${type}`, element("td", {}, box), element("td", {}, remove));
     row.dataset.property = name;
     return row;
+  }
+
+  async removeProperty(name) {
+    const why = await this.sendEach(each => removalLine(each.word, name), "Remove Property");
+    if (why) this.bench.say(why);
   }
 
   // ---- a new property
@@ -252,8 +235,8 @@ export class PropertyPanel {
     for (const [input, fault] of faults) mark(input, fault);
     const wrong = faults.find(([, fault]) => fault);
     if (wrong) return wrong[0].focus();
-    const done = await this.bench.editor.send([`prop set ${this.owner().word} ${name.value} ${type.value} ${value}`]);
-    if (!done.isAccepted) return mark(name, saidOf(done));
+    const why = await this.sendEach(each => `prop set ${each.word} ${name.value} ${type.value} ${value}`, "Set Property");
+    if (why) return mark(name, why);
     this.bench.bubble.hide();
     name.value = "";
     // The keys stay in the row, for the next property.

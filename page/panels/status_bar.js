@@ -14,7 +14,11 @@ export class StatusBar {
 
   showState({ active, file, index, count, isClean, isWriting, depth }) {
     const saved = isWriting ? "is being saved" : file === null ? NEVER_SAVED : isClean ? "saved" : "not saved";
-    byId("standing").textContent = active ? `${index}/${count} ${saved}${depth ? `, ${depth} open` : ""}` : "";
+    // A macro that is open stands behind the steps that are done, and none is undone then.
+    const undone = depth ? 0 : count - index;
+    const steps = undone ? [`${undone} ${undone === 1 ? "step" : "steps"} undone`] : [];
+    const macros = depth ? [depth === 1 ? "a macro is open" : `${depth} macros are open`] : [];
+    byId("standing").textContent = active ? [...steps, ...macros, saved].join(", ") : "";
   }
 
   // What of the map is not drawn, or otherwise than in Tiled.

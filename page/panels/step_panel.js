@@ -2,6 +2,7 @@
 // The steps of the active document: those that were made, each with what it is about, the present place, the clean mark, and those that
 // were undone.
 import { button, byId, element } from "./dom.js";
+import { groupSteps } from "./group_steps.js";
 import { putRows } from "./list_rows.js";
 
 const MORE = 1000;
@@ -13,8 +14,10 @@ export class StepPanel {
     // The names that layers, objects and tilesets have, or had before they were removed, by their documents.
     this.names = new Map();
     this.editor.addEventListener("objects", ({ detail }) => this.keepObjects(detail));
-    // The rows that stand there, by what they show.
+    // The rows that stand there, by their places: { row, said }, with what each shows.
     this.rows = new Map();
+    this.now = null;
+    new ResizeObserver(() => this.now?.scrollIntoView({ block: "nearest" })).observe(byId("steps"));
   }
 
   // What a layer, an object or a tileset is called, or was before the last line.
@@ -37,6 +40,7 @@ export class StepPanel {
     const list = byId("steps");
     if (!state.active) {
       this.rows.clear();
+      byId("panel-steps").style.setProperty("--rows", 1);
       list.replaceChildren();
       return;
     }
@@ -44,25 +48,35 @@ export class StepPanel {
     const { steps, firstStep, count } = state;
     const later = count - firstStep - steps.length;
     const wanted = [
-      firstStep === 0 ? { place: 0, text: "(as it began)", isMacro: false } : { text: `${firstStep} earlier steps ..` },
+      firstStep === 0 ? { place: 0, text: "(as it began)", isMacro: false } : { more: "earlier", text: `${firstStep} earlier steps ..` },
       ...steps.map((step, at) => ({ place: firstStep + at + 1, text: this.wordsOf(step), isMacro: step.isMacro })),
-      ...(later > 0 ? [{ text: `${later} later steps ..` }] : []),
+      ...(later > 0 ? [{ more: "later", text: `${later} later steps ..` }] : []),
     ];
     this.putRows(list, wanted);
-    const now = list.querySelector(".now");
-    if (now !== this.now) now?.scrollIntoView({ block: "nearest" });
-    this.now = now;
+    this.showNow();
   }
 
-  // Puts rows into the list. One that would show the same stays.
+  // Puts rows into the list. That of a place stays, and of it only what it shows otherwise is changed.
   putRows(list, wanted) {
-    const rows = new Map(wanted.map(each => {
-      const shown = each.place === undefined ? each : { ...each, ...this.looksOf(each) };
-      const key = JSON.stringify(shown);
-      return [key, this.rows.get(key) ?? (each.place === undefined ? this.more(each.text) : this.row(shown))];
-    }));
+    const rows = new Map();
+    for (const each of wanted) {
+      const key = each.more ?? each.place;
+      const shown = each.more ? each : { ...each, ...this.looksOf(each) };
+      const kept = this.rows.get(key) ?? { row: each.more ? this.more() : this.row(each.place), said: "" };
+      const said = JSON.stringify(shown);
+      if (kept.said !== said) this.showRow(kept.row, shown);
+      rows.set(key, { row: kept.row, said });
+    }
     this.rows = rows;
-    putRows(list, [...rows.values()]);
+    putRows(list, [...rows.values()].map(each => each.row));
+    byId("panel-steps").style.setProperty("--rows", rows.size);
+  }
+
+  // The row of the present place comes into sight with the next frame, which lays all out.
+  showNow() {
+    const now = this.rows.get(this.editor.state.index)?.row ?? null;
+    if (now !== this.now) requestAnimationFrame(() => this.now?.scrollIntoView({ block: "nearest" }));
+    this.now = now;
   }
 
   keepNames() {
@@ -98,19 +112,34 @@ export class StepPanel {
     return { saved, isOpen, isNow: place === index, isUndone: place > index && !isOpen };
   }
 
-  row({ place, text, isMacro, saved, isOpen, isNow, isUndone }) {
-    const row = element("li", { data: { place }, onclick: () => this.bench.act([`goto ${place}`]) },
-      element("span", { className: "number", textContent: place }),
-      element("span", { className: "name", textContent: text, title: text }),
-      element("span", { className: "kind", textContent: isOpen ? "open macro" : isMacro ? "macro" : "" }),
-      element("span", { className: "clean", textContent: saved }));
-    row.classList.toggle("now", isNow);
-    row.classList.toggle("undone", isUndone);
-    return row;
+  row(place) {
+    return element("li", { data: { place }, onclick: event => this.click(place, event) },
+      element("span", { className: "number", textContent: place }), element("span", { className: "name" }), element("span", { className: "kind" }), element("span", { className: "clean" }));
   }
 
-  more(text) {
-    return element("li", {}, button(text, "Show more steps", () => {
+  // Goes to a step; with Shift groups all from it on up to the present one.
+  click(place, { shiftKey }) {
+    const { index } = this.editor.stand();
+    if (shiftKey && place > 0 && place <= index) return void groupSteps(this.bench, index - place + 1);
+    return this.bench.act([`goto ${place}`]);
+  }
+
+  // Has a row show how its step stands.
+  showRow(row, { more, text, isMacro, saved, isOpen, isNow, isUndone }) {
+    if (more) {
+      row.firstElementChild.textContent = text;
+      return;
+    }
+    const [, name, kind, clean] = row.children;
+    const words = [[name, text], [kind, isOpen ? "open macro" : isMacro ? "macro" : ""], [clean, saved]];
+    for (const [part, said] of words) if (part.textContent !== said) part.textContent = said;
+    if (name.title !== text) name.title = text;
+    row.classList.toggle("now", isNow);
+    row.classList.toggle("undone", isUndone);
+  }
+
+  more() {
+    return element("li", {}, button("", "Show more steps", () => {
       this.editor.steps += MORE;
       this.editor.tellSoon();
     }));

@@ -1,9 +1,10 @@
 // SPDX-License-Identifier: MIT OR Apache-2.0
 // The tilesets of the map: which one the palette shows, at what scale; one of the folder is added, or one is removed.
-import { byId, element } from "./dom.js";
+import { NO_MAP, allow, byId, element } from "./dom.js";
 import { iconButton } from "./icons.js";
 import { FileList } from "../files/file_list.js";
 import { pathFrom } from "../files/names.js";
+import { thrownWords } from "../core/thrown_words.js";
 import { endNotice, notice } from "./notice_bars.js";
 import { checked, readTileset } from "../files/tileset_files.js";
 
@@ -35,7 +36,14 @@ export class TilesetPanel {
     if (sets.length && !sets.some(set => set.first === this.palette.first)) this.palette.first = sets[0].first;
     byId("tilesets").value = String(this.palette.first);
     this.palette.show();
+    this.showButtons();
     this.showWrong();
+  }
+
+  showButtons() {
+    const why = this.bench.map ? "" : NO_MAP;
+    allow(byId("add-tileset"), "Add a tileset of the folder to the map", why);
+    allow(byId("remove-tileset"), "Remove this tileset from the map, where nothing uses it", why || (this.palette.tileset ? "" : "The map has no tileset"));
   }
 
   // Says what is wrong with tilesets; all others are drawn.
@@ -52,14 +60,12 @@ export class TilesetPanel {
     const { map } = this.bench;
     if (!map) return this.bench.say("Open a map first.");
     const { place } = this.editor;
-    const files = await place.tilesets().catch(fault => this.bench.say(fault.message) ?? []);
+    const files = await place.tilesets().catch(fault => this.bench.say(`The files cannot be listed: ${thrownWords(fault)}.`) ?? []);
     const folder = this.editor.folder;
     const has = new Set(map.data.tilesets.map(set => set.source));
     const known = new Map(files.filter(each => has.has(pathFrom(folder, each.path))).map(each => [each.path, "in the map already"]));
     const first = element("input", { name: "first", type: "number", min: 1, value: this.bench.carried.numbers.nextFirst() });
-    const unknown = this.tilesets.all.filter(set => set.span === null).length;
-    const doubt = unknown ? ` Of ${unknown} of them it is not known how many tiles they have.` : "";
-    const label = element("label", {}, element("span", { textContent: `Its first id, behind the tiles of the others.${doubt}` }), first);
+    const label = this.firstField(first);
     const none = "There is no tileset here: a .tsx or .tsj file, in the folder or among the chosen files.";
     const path = await new FileList("Add a tileset", files, { known, look: path => this.look(path), none, fields: [label] }).ask();
     if (!path) return null;
@@ -68,10 +74,18 @@ export class TilesetPanel {
     return done;
   }
 
+  // The field of the first id, folded where it is as clear which one it is as can be.
+  firstField(first) {
+    const unknown = this.tilesets.all.filter(set => set.span === null).length;
+    const doubt = unknown ? ` Of ${unknown} of them it is not known how many tiles they have.` : "";
+    const words = element("span", { textContent: `Its tiles are counted from this number on, behind those of the others.${doubt}` });
+    return element("details", { open: unknown > 0 }, element("summary", { textContent: "Number of its first tile" }), element("label", {}, words, first));
+  }
+
   // Words for a file: how many tiles it has.
   async look(path) {
     const bytes = await this.editor.place.bytes(path);
-    if (!bytes) return { words: "no such file", isRefused: true };
+    if (!bytes) return { words: "the file is not there", isRefused: true };
     const { tilecount, tilewidth, tileheight, image } = checked(readTileset(path, bytes));
     return { words: `${tilecount ?? "?"} tiles of ${tilewidth ?? "?"} × ${tileheight ?? "?"}${image ? "" : ", not of one image"}`, isRefused: false };
   }

@@ -1,8 +1,10 @@
 // SPDX-License-Identifier: MIT OR Apache-2.0
 // The row of tools, and what its buttons do.
 import { Clips, KeptStamps } from "../tools/clips.js";
-import { byId, element, onEnter } from "./dom.js";
+import { NO_MAP, allow, byId, element, onEnter } from "./dom.js";
 import { iconButton, showIcon } from "./icons.js";
+import { groupSteps } from "./group_steps.js";
+import { PanelKeys } from "./panel_keys.js";
 import { titleOf } from "../tools/insert_tool.js";
 import { Keys } from "../tools/keys.js";
 import { SNAPPINGS } from "../tools/snapping.js";
@@ -49,10 +51,11 @@ export class Toolbar {
       iconButton("miniMap", "Mini-map", "Mini-map: hides or shows the whole map in small (M)", () => this.turnMiniMap(), { id: "turn-mini-map", className: "on" }),
     );
     byId("page-actions").append(iconButton("keys", "Keys", "Keys: lists them (F1)", () => this.keys.list(), { id: "list-keys" }));
-    const clips = new Clips(bench, tools);
+    const clips = this.clips = new Clips(bench, tools);
     showIcon(byId("take"), "take");
     byId("take").onclick = () => bench.clipboard.during(() => clips.copyCells());
     byId("macro").onclick = () => this.turnMacro();
+    byId("macro").after(iconButton("group", "Group the last steps", "", () => groupSteps(bench), { id: "group-steps" }));
     byId("macro-name").onkeydown = onEnter(() => this.turnMacro());
     const sizes = Array.from({ length: LARGEST_BRUSH }, (_, at) => element("option", { value: at + 1, textContent: `${at + 1} × ${at + 1}` }));
     byId("brush-size").append(...sizes);
@@ -61,7 +64,10 @@ export class Toolbar {
       event.target.blur();
     };
     bench.addEventListener("tool", () => this.show());
-    this.keys = new Keys({ bench, tools, toolbar: this, documents, layers, view: bench.view, clips, stamps: new KeptStamps(bench, tools) });
+    // What keys do that stand in other parts: the page sets it.
+    Object.assign(this, { openMenu: () => {}, renameObject: () => {} });
+    const parts = { bench, tools, toolbar: this, documents, layers, view: bench.view, clips, stamps: new KeptStamps(bench, tools), panels: new PanelKeys() };
+    this.keys = new Keys(parts);
   }
 
   // The shapes of new objects, and where the mouse puts objects.
@@ -94,12 +100,14 @@ export class Toolbar {
     const { state } = this.editor;
     this.showTools();
     this.showShapes();
-    byId("undo").disabled = state.index === 0 || state.depth > 0;
-    byId("redo").disabled = state.index === state.count || state.depth > 0;
-    const why = state.depth > 0 ? "End the macro first: what is in it is one step. " : "";
-    byId("undo").title = `${why}Undo (Ctrl+Z)`;
-    byId("redo").title = `${why}Redo (Ctrl+Shift+Z, Ctrl+Y)`;
-    this.showMacro(state.depth);
+    const { macros } = this.bench;
+    const noMap = state.active ? "" : NO_MAP;
+    const [canUndo, canRedo] = [state.depth > 0 || state.index > 0, macros.again.length > 0 || (state.depth === 0 && state.index < state.count)];
+    allow(byId("undo"), `Undo${state.depth ? " the last edit of the macro" : ""} (Ctrl+Z)`, noMap || (canUndo ? "" : "Nothing is done yet"));
+    allow(byId("redo"), "Redo (Ctrl+Shift+Z, Ctrl+Y)", noMap || (canRedo ? "" : "Nothing is undone"));
+    allow(byId("group-steps"), "Group the last steps: they become one, with a name", macros.whyNot(1));
+    allow(byId("take"), "Take the selected cells as the stamp (Ctrl+C)", state.active ? "" : NO_MAP);
+    this.showMacro(state);
     byId("turn-names").classList.toggle("on", this.bench.overlay.hasNames);
     byId("grid").classList.toggle("on", this.bench.overlay.hasGrid);
     byId("brush-size").value = String(this.bench.brushSize);
@@ -119,25 +127,29 @@ export class Toolbar {
   }
 
   // A macro that is open is told in letters.
-  showMacro(depth) {
+  showMacro({ depth, active }) {
     const macro = byId("macro");
     if (depth === 0) showIcon(macro, "macro");
     else macro.textContent = `End macro${depth > 1 ? ` (${depth})` : ""}`;
     if (depth > 0) delete macro.dataset.icon;
     macro.setAttribute("aria-label", macro.textContent || "Begin macro");
-    macro.title = `${depth === 0 ? "Begin a macro" : "End the macro"}: what stands between begin and end is one step`;
+    allow(macro, `${depth === 0 ? "Begin a macro" : "End the macro"}: what stands between begin and end is one step`, active ? "" : NO_MAP);
     macro.classList.toggle("on", depth > 0);
     byId("macro-name").hidden = depth > 0;
   }
 
   setBrush(size) {
-    this.bench.brushSize = Math.max(1, Math.min(LARGEST_BRUSH, size));
-    byId("brush-size").value = String(this.bench.brushSize);
+    const { bench } = this;
+    bench.brushSize = Math.max(1, Math.min(LARGEST_BRUSH, size));
+    byId("brush-size").value = String(bench.brushSize);
+    this.tools.showAnew();
+    const { width, height, values } = bench.stamp;
+    if (this.tools.name === "brush" && values.length > 1) bench.say(`The stamp of ${width} × ${height} is drawn as it is. A size is for the eraser, and for a stamp of one tile.`);
   }
 
   // Does an undo or a redo, and has the browser measure how long it takes until it is seen.
   async turn(line, event) {
-    const done = await this.bench.act([line]);
+    const done = await this.bench.macros[line]();
     if (done.isAccepted) this.bench.view.measure(line, event.timeStamp);
   }
 
@@ -166,6 +178,5 @@ export class Toolbar {
 
   flip(change) {
     this.bench.takeStamp(change(this.bench.stamp));
-    this.tools.showHand(this.bench.place);
   }
 }

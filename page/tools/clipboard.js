@@ -1,5 +1,5 @@
 // SPDX-License-Identifier: MIT OR Apache-2.0
-// What was copied last: tiles, or an object.
+// What was copied last: tiles, or objects.
 
 export class Clipboard {
   constructor(bench) {
@@ -11,12 +11,13 @@ export class Clipboard {
     Object.assign(this, { tiles, object: null });
   }
 
-  // Keeps the members of a copy of an object of the active map: with its tile, as a copy of tiles, and with the folder of that map.
-  keepObject(members, layer) {
+  // Keeps the members of copies of objects of the active map, with their layers: with their tiles, as a copy of tiles, and with the folder of
+  // that map.
+  keepObjects(members, layers) {
     const { numbers } = this.bench.carried;
-    const tile = numbers.copyOf({ width: 1, height: 1, values: [members.gid ?? 0] });
+    const tiles = numbers.copyOf({ width: members.length, height: 1, values: members.map(({ gid = 0 }) => gid) });
     this.tiles = null;
-    this.object = { ...tile, members: structuredClone(members), layer: layer.id, folder: this.bench.editor.folder };
+    this.object = { ...tiles, all: members.map((each, at) => ({ members: structuredClone(each), layer: layers[at].id })), folder: this.bench.editor.folder };
   }
 
   // Does what copies something. Where that is refused, which it says, what was copied before is dropped: it would be pasted in its place.

@@ -6,21 +6,34 @@ export class Clips {
     Object.assign(this, { bench, tools, clipboard: bench.clipboard });
   }
 
-  // ---- keys: each is about objects where the tool in hand says so, and else about cells
+  // ---- keys: each is about what was chosen last, objects or cells
+  // The tool that does what is about objects: null where it is about cells. Where the tool in hand is drawing corner by corner, it is about that.
+  get objects() {
+    const { bench, tools } = this;
+    if (tools.now.isDrawing) return tools.now;
+    const isAboutObjects = bench.objectIds.length > 0 ? bench.chosenLast === "objects" || !bench.map.selected : Boolean(tools.now.remove) && !this.hasCells;
+    return isAboutObjects ? tools.all.objects : null;
+  }
+
+  get hasCells() {
+    const { map, layer } = this.bench;
+    return Boolean(map?.selected && layer?.isTiles);
+  }
+
   copy() {
-    this.clipboard.during(() => this.tools.now.copy?.() === true || this.copyCells());
+    this.clipboard.during(() => (this.objects ? this.objects.copy() : this.copyCells()));
   }
 
   cut() {
-    this.clipboard.during(() => this.tools.now.cut?.() === true || this.cutCells());
+    this.clipboard.during(() => (this.objects ? this.objects.cut() : this.cutCells()));
   }
 
   remove() {
-    return this.tools.now.remove?.() === true || this.removeCells();
+    return this.objects ? this.objects.remove() : this.removeCells();
   }
 
   duplicate() {
-    return this.tools.now.duplicate?.() === true || this.bench.say("Choose an object first, with the tool Objects.");
+    return this.bench.objectIds.length ? this.tools.all.objects.duplicate() : this.bench.say("Choose an object first, with the tool Objects.");
   }
 
   // What was copied says what is pasted, whatever tool is in hand.

@@ -1,16 +1,38 @@
 // SPDX-License-Identifier: MIT OR Apache-2.0
 // The tools that fill: joined cells that are alike, or a rectangle.
-import { drawBlock, joinedCells, patternOver } from "./patterns.js";
+import { drawBlock, joinedCells, patternFrom, patternOver } from "./patterns.js";
 import { BARS } from "./stroke_tool.js";
 
 // A stamp of one tile fills by the line `fill`. One of more is a pattern over the cells that this line would take.
 export class FillTool {
   constructor(bench, colour) {
-    Object.assign(this, { bench, colour });
+    Object.assign(this, { bench, colour, region: null });
+    // Behind lines other cells are joined.
+    bench.editor.addEventListener("done", () => (this.region = null));
   }
 
+  // The cells that a press fills are shown with the tiles that they get.
   hover(place) {
-    return { cells: [...place.cell, 1, 1], values: [this.bench.fillValue], colour: this.colour };
+    const { colour } = this;
+    const region = this.regionAt(...place.cell);
+    if (!region) return { cells: [...place.cell, 1, 1], colour };
+    const { x, y, width, height, isIn, count } = region;
+    return { cells: [x, y, width, height], isIn, valueAt: patternFrom(this.stamp, [x, y]), colour, words: count === 1 ? "1 cell" : `${count} cells` };
+  }
+
+  // A stamp of one tile fills with its first tile, whichever of its cells has that.
+  get stamp() {
+    const { stamp, fillValue } = this.bench;
+    return stamp.values.length === 1 ? { width: 1, height: 1, values: [fillValue] } : stamp;
+  }
+
+  // The cells that are joined to one, which are looked for anew only where others are; null where there are none.
+  regionAt(x, y) {
+    const { layer, layerId, map } = this.bench;
+    const known = this.region;
+    if (known?.map === map && known.layerId === layerId && known.isIn(x, y)) return known;
+    const found = layer?.isTiles ? joinedCells(map, layerId, x, y) : null;
+    return (this.region = found && { ...found, map, layerId });
   }
 
   down(place) {

@@ -53,19 +53,43 @@ function namesOf(keys) {
   return names.length > 8 ? `${names[0]} to ${names[names.length - 1]}` : names.join(", ");
 }
 
-const rowOf = ([keys, text]) => element("tr", {}, element("th", { scope: "row", textContent: keys }), element("td", { textContent: text }));
-
-function tableOf({ title, rows }) {
-  return element("section", {}, element("h3", { textContent: title }), element("table", {}, element("tbody", {}, ...rows.map(rowOf))));
+// A row of the list; with `onChange` its keys are a button.
+function rowOf([keys, text], onChange) {
+  const shown = onChange ? button(keys || "none", "Change this key", event => onChange(event.target), { className: "own-key" }) : keys;
+  return element("tr", {}, element("th", { scope: "row" }, shown), element("td", { textContent: text }));
 }
 
-// `groups` are the tables that bind the keys: { title, rows } each.
-export function showKeys(groups) {
-  const bound = groups.map(({ title, rows }) => ({ title, rows: rows.map(([keys, text]) => [namesOf(keys), text]) }));
-  const columns = element("div", { className: "columns" }, ...bound.map(tableOf));
+function tableOf({ title, rows }, { isOwn, onChange }) {
+  const made = rows.map(([keys, text]) => rowOf([namesOf(keys), text], isOwn(text) ? at => onChange(at, text) : null));
+  return element("section", {}, element("h3", { textContent: title }), element("table", {}, element("tbody", {}, ...made)));
+}
+
+// Waits for the next key that is pressed, in the place of the words of a button; Escape gives none.
+function askKey(at, take) {
+  const before = at.textContent;
+  at.textContent = "press a key";
+  const listen = event => {
+    event.preventDefault();
+    event.stopImmediatePropagation();
+    if (["Control", "Shift", "Alt", "Meta"].includes(event.key)) return;
+    removeEventListener("keydown", listen, true);
+    at.textContent = before;
+    if (event.key !== "Escape") take(wordOf(event));
+  };
+  addEventListener("keydown", listen, true);
+}
+
+// `groups` are the tables that bind the keys: { title, rows } each. Rows of which `isOwn(text)` is true get another key by a click:
+// `change(text, key)` and `reset()` do that, and give the groups as they are then.
+export function showKeys(groups, { isOwn, change, reset }) {
+  const columns = element("div", { className: "columns" });
+  const put = all => columns.replaceChildren(...all.map(group => tableOf(group, { isOwn, onChange: (at, text) => askKey(at, key => put(change(text, key))) })));
+  put(groups);
   const tables = element("div", { className: "rows", tabIndex: 0, role: "region", ariaLabel: "All keys" }, columns);
   const close = button("Close", "Esc", () => dialog.close(""), { autofocus: true });
-  const form = element("form", { method: "dialog" }, element("h2", { textContent: "Keys" }), tables, element("div", { className: "answers" }, close));
+  const back = button("The keys as they were", "Forgets the keys of your own", () => put(reset()));
+  const hint = element("p", { className: "hint", textContent: "A click at a key, and another key behind it, changes that. The browser keeps it." });
+  const form = element("form", { method: "dialog" }, element("h2", { textContent: "Keys" }), hint, tables, element("div", { className: "answers" }, back, close));
   const dialog = element("dialog", { id: "keys" }, form);
   return shown(dialog);
 }

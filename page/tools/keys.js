@@ -1,6 +1,7 @@
 // SPDX-License-Identifier: MIT OR Apache-2.0
 // The table of keys: Tiled's, where Tiled has one. The page's keys are bound from it, and it can be listed.
 import { isTyping } from "../panels/dom.js";
+import { OwnKeys, isChangeable } from "./own_keys.js";
 import { ARROWS, ARROW_KEYS, callsOf, keyOf, showKeys, wordOf } from "./key_tables.js";
 import { flippedToSide, flippedUpDown, turnedLeft, turnedRight } from "./stamps.js";
 
@@ -28,7 +29,7 @@ function toolRows({ tools }) {
     [["i"], "Insert: draws a new object; again it takes the next shape", () => turnShape(tools, 1)],
     [["Shift+i"], "Insert: takes the shape before", () => turnShape(tools, -1)],
     [["enter"], "Ends a polygon or a line", () => tools.end()],
-    [["escape"], "Ends a stroke or a drag, gives up a polygon, and then drops what is chosen or selected", () => tools.escape()],
+    [["escape"], "Takes a stroke back, ends a drag, gives up a polygon, and then drops what is chosen or selected", () => tools.escape()],
   ];
 }
 
@@ -47,8 +48,8 @@ function stampRows({ toolbar, stamps }) {
 function editRows({ toolbar, clips, bench }) {
   const redo = event => toolbar.turn("redo", event);
   return [
-    [["Ctrl+z"], "Undoes a step", (_, event) => toolbar.turn("undo", event)],
-    [["Ctrl+Shift+z", "Ctrl+y"], "Redoes a step", (_, event) => redo(event)],
+    [["Ctrl+z"], "Undoes a step; in an open macro its last edit", (_, event) => toolbar.turn("undo", event)],
+    [["Ctrl+Shift+z", "Ctrl+y"], "Redoes a step, or an edit of an open macro", (_, event) => redo(event)],
     [["Ctrl+c"], "Copies the selected cells, and takes them as the stamp; or the chosen object", () => clips.copy()],
     [["Ctrl+x"], "Cuts the selected cells, or the chosen object", () => clips.cut()],
     [["Ctrl+v"], "Takes copied cells as the stamp, and drops the selection; or pastes a copied object", () => clips.paste()],
@@ -74,11 +75,15 @@ function viewRows({ toolbar, tools, view }) {
   ];
 }
 
-function layerRows({ layers }) {
+function layerRows({ layers, toolbar, bench }) {
+  const rename = () => (bench.chosenLast === "objects" && bench.objectIds.length === 1 ? toolbar.renameObject() : layers.rename());
   const also = "with Ctrl, as in Tiled, only where the browser leaves that to the page";
   return [
     [["pageup", "Ctrl+pageup"], `Chooses the layer above; ${also}`, () => layers.step(-1)],
     [["pagedown", "Ctrl+pagedown"], "Chooses the layer below", () => layers.step(1)],
+    [["Ctrl+Shift+arrowup"], "Raises the layer", () => layers.move(1)],
+    [["Ctrl+Shift+arrowdown"], "Lowers the layer", () => layers.move(-1)],
+    [["f2"], "Renames the chosen object, or the layer", rename],
   ];
 }
 
@@ -91,9 +96,23 @@ function mapRows({ documents }) {
   ];
 }
 
-function pageRows({ toolbar }) {
-  return [[["f1", "?"], "Lists the keys", () => toolbar.keys.list()]];
+function pageRows({ toolbar, panels }) {
+  return [
+    [["f1", "?"], "Lists the keys", () => toolbar.keys.list()],
+    [["f10"], "Opens the menu", () => toolbar.openMenu()],
+    [["f6", "Shift+f6"], "Goes to the next panel, or to the one before", (_, { shiftKey }) => panels.go(shiftKey ? -1 : 1)],
+  ];
 }
+
+// Keys that Tiled has, and browsers do not let go of, with what does it here.
+const KEPT = [
+  [["Ctrl+n"], "A new window of the browser. A new map: New, in the menu"],
+  [["Ctrl+w"], "Closes the page, which offers its maps again. Closes a map: Delete at its tab, or its ×"],
+  [["Ctrl+t", "Ctrl+Tab", "Ctrl+Shift+Tab"], "Tabs of the browser. Another map: the list behind the tabs"],
+  [["Ctrl+pageup", "Ctrl+pagedown"], "Tabs of the browser. Another layer: the same keys without Ctrl"],
+  [["Ctrl+r"], "Loads the page anew, which brings all back"],
+];
+export const KEPT_KEYS = { title: "Keys that the browser keeps", rows: KEPT };
 
 // These page through what has the focus, where that is a list of something else, or no map is open.
 const PAGING = new Set(["pageup", "pagedown"]);
@@ -105,15 +124,23 @@ export class Keys {
   // `parts` has the bench, the tools, the toolbar, the documents, the layers, the view, and the clips and kept stamps of cells.
   constructor(parts) {
     Object.assign(this, { tools: parts.tools });
-    this.groups = GROUPS.map(([title, rowsOf]) => ({ title, rows: rowsOf(parts) }));
-    this.calls = callsOf(this.rows);
+    this.own = new OwnKeys();
+    this.usual = GROUPS.map(([title, rowsOf]) => ({ title, rows: rowsOf(parts) }));
+    this.bind();
     // What keys do where something has the focus: groups of rows, as those of the page.
     this.places = [];
-    this.inFields = new Set(["f1", ...mapRows(parts).flatMap(([keys]) => keys)]);
     document.addEventListener("keydown", event => this.press(event));
     document.addEventListener("keyup", event => {
       if (event.code === "Space") this.tools.isSpace = false;
     });
+  }
+
+  // Binds the keys of the table, with those of one's own. Those that have no letter go in fields, too.
+  bind() {
+    this.groups = this.usual.map(({ title, rows }) => ({ title, rows: this.own.of(rows) }));
+    this.calls = callsOf(this.rows);
+    const ofMaps = this.groups.filter(({ title }) => title === "Maps").flatMap(({ rows }) => rows.flatMap(([keys]) => keys));
+    this.inFields = new Set([...[...this.calls.keys()].filter(key => /^(Shift\+)?f\d+$/.test(key) && key !== "f2"), ...ofMaps]);
   }
 
   press(event) {
@@ -135,8 +162,19 @@ export class Keys {
     return this.groups.flatMap(group => group.rows);
   }
 
+  // Lists the keys; a row of the page's own table may get another one.
   list() {
-    return showKeys([...this.groups, ...this.places]);
+    const change = (text, key) => {
+      this.own.give(text, key, this.rows);
+      this.bind();
+      return [...this.groups, ...this.places];
+    };
+    const reset = () => {
+      this.own.forget();
+      this.bind();
+      return [...this.groups, ...this.places];
+    };
+    return showKeys([...this.groups, ...this.places], { isOwn: text => this.rows.some(([keys, other]) => other === text && isChangeable(keys)), change, reset });
   }
 
   // A field takes what was typed before the map is saved.

@@ -18,7 +18,7 @@ export class MapKeys {
     // A press of the mouse leaves the keys to the page.
     this.box.addEventListener("mousedown", event => event.target.closest("button, input, select, a") || event.preventDefault());
     this.box.addEventListener("focus", () => this.box.matches(":focus-visible") && this.bench.map && this.show());
-    this.box.addEventListener("blur", () => tools.held || tools.showHand(null));
+    this.box.addEventListener("blur", () => tools.held || tools.leave());
     this.group = { title: "On the map, by Tab", rows: this.rows() };
     const calls = callsOf(this.group.rows);
     this.box.addEventListener("keydown", event => event.target === this.box && this.bench.map && pressed(calls, event));

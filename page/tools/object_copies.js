@@ -1,5 +1,5 @@
 // SPDX-License-Identifier: MIT OR Apache-2.0
-// Copies of objects: one step of an `object put`, with all that an object is. What a copy would not keep is named.
+// Copies of objects: one step of an `object put` for each, with all that an object is. What a copy would not keep is named.
 import { copyOf } from "../core/whole_objects.js";
 import { bytesTooMany, objectLine } from "../core/member_lines.js";
 import { pathFrom, plainPath } from "../files/names.js";
@@ -9,6 +9,9 @@ const ABOUT = "copy";
 
 export const listed = (words, last = "and") => (words.length < 2 ? words.join("") : `${words.slice(0, -1).join(", ")} ${last} ${words[words.length - 1]}`);
 export const nameOf = object => object.name || `Object ${object.id}`;
+
+// What is said of objects that something is done with.
+const namesOf = all => (all.length === 1 ? `${nameOf(all[0].object)} is` : `${all.length} objects are`);
 
 const objectLayers = ({ map }) => map.layers.filter(each => each.type === "objectgroup");
 
@@ -50,82 +53,106 @@ export class ObjectCopies {
     for (const name of ["object chosen", "document"]) bench.addEventListener(name, () => endNotice(ABOUT));
   }
 
-  // Calls `go` with the members of a copy of an object, where that is the whole object. Else it says what it would not keep, and offers to
-  // copy the rest. `done` is what is done with the object.
-  whole(object, done, go) {
+  // Calls `go` with the members of copies of objects, { object, layer } each, where these are the whole objects. Else it says what they would
+  // not keep, and offers to copy the rest. `done` is what is done with them.
+  whole(all, done, go) {
     endNotice(ABOUT);
-    const { members, lost } = copyOf(this.bench.editor.membersOf(object.id));
-    const tooMany = bytesTooMany(objectLine(0, members));
-    if (tooMany) return this.bench.say(`${nameOf(object)} is not ${done}: it is too large for a copy, by ${tooMany.toLocaleString("en-US")} bytes.`);
+    const copies = all.map(({ object }) => ({ object, ...copyOf(this.bench.editor.membersOf(object.id)) }));
+    const large = copies.find(({ members }) => bytesTooMany(objectLine(0, members)));
+    if (large) {
+      const tooMany = bytesTooMany(objectLine(0, large.members)).toLocaleString("en-US");
+      return this.bench.say(`${nameOf(large.object)} is not ${done}: it is too large for a copy, by ${tooMany} bytes.`);
+    }
+    const members = copies.map(each => each.members);
+    const lost = [...new Set(copies.flatMap(each => each.lost))];
     if (!lost.length) return go(members);
-    const words = `${nameOf(object)} is not ${done}: a copy would not keep ${listed(lost)}.`;
+    const words = `${namesOf(all)} not ${done}: a copy would not keep ${listed(lost)}.`;
     this.bench.say(words);
     notice(ABOUT, words, done === "cut" ? [["OK", () => {}]] : [["Copy the rest", () => void go(members)], ["OK", () => {}]], "mild");
     return null;
   }
 
-  // Keeps an object for a paste.
-  keep(object, layer) {
-    return this.whole(object, "copied", members => this.take(members, object, layer));
+  // Keeps objects for a paste.
+  keep(all) {
+    return this.whole(all, "copied", members => this.take(members, all));
   }
 
-  take(members, object, layer) {
-    this.bench.clipboard.keepObject(members, layer);
-    this.bench.say(`${nameOf(object)} is copied: Ctrl+V puts it where the mouse is.`);
+  take(members, all) {
+    this.bench.clipboard.keepObjects(members, all.map(({ layer }) => layer));
+    this.bench.say(`${namesOf(all)} copied: Ctrl+V puts ${all.length === 1 ? "it" : "them"} where the mouse is.`);
     return true;
   }
 
-  // Puts a copy beside the object, one cell to the right and down.
-  duplicate(object, layer) {
-    const place = besides(object, this.bench.map);
-    return this.whole(object, "copied", members => this.put(members, layer.id, place, "Duplicate Object || duplicate object"));
+  // Puts copies beside the objects, one cell to the right and down.
+  duplicate(all) {
+    const { map } = this.bench;
+    const name = all.length === 1 ? "Duplicate Object" : "Duplicate Objects";
+    return this.whole(all, "copied", members => this.put(members.map((each, at) => ({ members: each, layer: all[at].layer.id, place: besides(all[at].object, map) })), name));
   }
 
-  // Puts what was kept where the hand is, or else beside where it was; its tile is that of the same tileset here.
+  // Puts what was kept where the hand is, or else beside where it was; its tiles are those of the same tilesets here.
   paste() {
     const { bench } = this;
     const kept = bench.clipboard.object;
-    return this.layerForPaste(kept) && bench.carried.bring(kept, "pasted", ({ values: [gid] }) => this.pasteWith(gid, kept), false);
+    return this.layerForPaste(kept) && bench.carried.bring(kept, "pasted", ({ values }) => this.pasteWith(values, kept), false);
   }
 
-  pasteWith(gid, kept) {
+  pasteWith(values, kept) {
     const { bench } = this;
     const layer = this.layerForPaste(kept);
     if (!layer) return null;
-    const [members, left] = this.membersHere(kept);
-    if (gid) members.gid = gid;
-    const at = bench.place;
-    const place = at ? bench.overlay.placeAround(members, layer, at.pixelX, at.pixelY) : besides(members, bench.map);
-    const isThere = this.put(members, layer.id, place, "Paste Object || paste object");
+    const here = kept.all.map(each => this.membersHere(each.members, kept));
+    const all = here.map(([members], at) => (values[at] ? { ...members, gid: values[at] } : members));
+    const left = here.flatMap(([, lost]) => lost);
+    const places = this.placesFor(all, layer);
+    const name = all.length === 1 ? "Paste Object" : "Paste Objects";
+    const isThere = this.put(all.map((members, at) => ({ members, layer: layer.id, place: places[at] })), name);
     if (isThere && left.length) bench.say(`Without ${listed(left.map(each => each.name))}: an object of the other map is named there.`);
     return null;
   }
 
+  // Where objects are pasted: the middle of them all at the hand, or else one cell beside where they were.
+  placesFor(all, layer) {
+    const { bench } = this;
+    const at = bench.place;
+    if (!at) return all.map(members => besides(members, bench.map));
+    if (all.length === 1) return [bench.overlay.placeAround(all[0], layer, at.pixelX, at.pixelY)];
+    const frames = all.map(members => bench.overlay.frameOf(members, layer));
+    const edge = (name, which) => which(...frames.map(frame => frame[name]));
+    const { view, map } = bench;
+    const middle = [(edge(0, Math.min) + edge(2, Math.max)) / 2, (edge(1, Math.min) + edge(3, Math.max)) / 2];
+    const [fromX, fromY] = map.projection.named((middle[0] - view.originX) / view.scale, (middle[1] - view.originY) / view.scale);
+    return all.map(({ x = 0, y = 0 }) => [x + at.pixelX - fromX, y + at.pixelY - fromY]);
+  }
+
   // The members of a copy on the active map, and the properties that it leaves: an id of an object of another map would name any object here.
-  membersHere(kept) {
-    if (this.bench.carried.numbers.isHome(kept)) return [{ ...kept.members }, []];
-    const { properties = [], ...others } = kept.members;
+  membersHere(members, kept) {
+    if (this.bench.carried.numbers.isHome(kept)) return [{ ...members }, []];
+    const { properties = [], ...others } = members;
     const left = properties.filter(({ type, value }) => type === "object" && value !== 0);
     const staying = properties.filter(each => !left.includes(each));
     return [inFolder({ ...others, properties: staying }, kept.folder, this.bench.editor.folder), left];
   }
 
-  // The layer in hand, or else that of the object, where this is its map; of another map it is none that has the same id by chance. null where
-  // there is none that takes an object: it is said.
+  // The layer in hand, or else that of the first object, where this is its map; of another map it is none that has the same id by chance. null
+  // where there is none that takes an object: it is said.
   layerForPaste(kept) {
     const { bench } = this;
-    const own = bench.carried.numbers.isHome(kept) ? bench.map.layer(kept.layer) : null;
+    const own = bench.carried.numbers.isHome(kept) ? bench.map.layer(kept.all[0].layer) : null;
     const layer = bench.layer?.type !== "objectgroup" && own?.type === "objectgroup" ? own : layerForObjects(bench);
     return layer && !bench.barsObjects(layer, "pasted") ? layer : null;
   }
 
-  // Adds a copy, and gives whether it is there.
-  put(members, layer, place, step) {
+  // Adds copies, { members, layer, place } each, as one step, and gives whether they are there.
+  put(all, name) {
     const { bench } = this;
-    const id = bench.map.data.nextobjectid;
-    const [x, y] = place.map(Math.round);
-    if (!bench.doAsOne(step, [objectLine(layer, { ...members, x, y })]).isAccepted) return false;
-    bench.chooseObject(id);
+    const first = bench.map.data.nextobjectid;
+    const lines = all.map(({ members, layer, place }) => {
+      const [x, y] = place.map(Math.round);
+      return objectLine(layer, { ...members, x, y });
+    });
+    if (!bench.doAsOne(`${name} || ${name.toLowerCase()}`, lines).isAccepted) return false;
+    bench.chooseObjects(all.map((_, at) => first + at));
     return true;
   }
 }

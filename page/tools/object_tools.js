@@ -1,8 +1,9 @@
 // SPDX-License-Identifier: MIT OR Apache-2.0
-// The tool of the hand that chooses objects, drags and resizes them.
+// The tool of the hand that chooses objects, one or several, drags and resizes them.
+import { handleAt } from "../view/object_handles.js";
 import { ObjectCopies, nameOf } from "./object_copies.js";
-import { gridOf, snapped } from "./snapping.js";
-import { handleAt, resized } from "../view/object_shapes.js";
+import { goalOf, removedCorner, stepFor, stepForAll } from "./object_drags.js";
+import { ObjectRun } from "./object_run.js";
 
 // How far the hand moves before a press is a drag, in pixels of the page.
 const SHORTEST_DRAG = 3;
@@ -10,154 +11,198 @@ const SHORTEST_DRAG = 3;
 // Whether the hand has moved so far from one place to another, where a pixel of the page has so many of the screen.
 export const isDrag = (from, to, ratio) => Math.hypot(to.x - from.x, to.y - from.y) >= SHORTEST_DRAG * ratio;
 
-// Chooses an object, and drags it or one of its handles: the page draws it on its way, and its lines are sent at the end.
+// Chooses objects, and drags them or a handle of one: the page draws them on their way, and their lines are sent at the end. A drag from where
+// no object is chooses all in its rectangle.
 export class ObjectTool {
   constructor(bench) {
     this.bench = bench;
-    this.drag = null;
+    // What is dragged: { object, layer, handle, from, all, isMoved }, where `all` are those that go along; or from where a band is drawn.
+    Object.assign(this, { drag: null, band: null });
     this.copies = new ObjectCopies(bench);
-    // A run of arrow keys is one step, up to the next line that is not of it.
-    this.run = null;
-    bench.editor.addEventListener("done", () => this.isNudging || (this.run = null));
-    // The tool shows which one is chosen.
-    bench.addEventListener("tool", () => bench.chosenObject && bench.overlay.redrawObjects([bench.chosenObject]));
+    this.run = new ObjectRun(bench);
+    // The tool shows which ones are chosen.
+    bench.addEventListener("tool", () => bench.chosenObjects.length && bench.overlay.redrawObjects(bench.chosenObjects));
   }
 
   // ---- the hand
   // Shows by the pointer what a press would do, and the object that it would choose.
-  hover(place) {
+  hover(place, event) {
     const { view, overlay } = this.bench;
-    if (this.drag) return null;
+    if (this.band) return { band: this.bandTo(place) };
+    if (this.drag) return { words: this.wordsOf(overlay.dragged) };
     const found = overlay.objectAt(place.pixelX, place.pixelY, this.bench.layerId);
-    view.box.dataset.over = this.handleAt(place) ?? (found ? "object" : "");
+    view.box.dataset.over = this.handleAt(place, event) ?? (found ? "object" : "");
     overlay.hover(found?.object.id ?? null);
     return null;
   }
 
-  // The handle of the chosen object at a place, or null.
-  handleAt(place) {
+  // Where an object is dragged to, or how large it is then.
+  wordsOf(goal) {
+    if (!goal || goal.polygon || goal.polyline) return "";
+    if (goal.rotation !== undefined) return `${goal.rotation}°`;
+    return goal.width === undefined ? `${goal.x}, ${goal.y}` : `${goal.width} × ${goal.height}`;
+  }
+
+  // The handle of the object that is chosen alone at a place, or null.
+  handleAt(place, event) {
     const { bench } = this;
     const chosen = bench.chosenObject;
     if (!chosen || !bench.overlay.isShown(chosen)) return null;
     const { overlay, view } = bench;
     const at = overlay.ownPlace(chosen.object, chosen.layer, place.pixelX, place.pixelY);
-    return handleAt(overlay.shapeOf(chosen.object), at, view.scale / view.ratio);
+    return handleAt(overlay.shapeOf(chosen.object), at, view.scale / view.ratio, event?.pointerType === "touch");
   }
 
-  down(place) {
+  down(place, event) {
     const { bench } = this;
-    const handle = this.handleAt(place);
+    const handle = event.shiftKey ? null : this.handleAt(place, event);
     const found = handle ? bench.chosenObject : bench.overlay.objectAt(place.pixelX, place.pixelY, bench.layerId);
-    if (!handle) bench.chooseObject(found?.object.id ?? null);
-    if (!found && !bench.map.layers.some(layer => layer.data.objects?.length)) bench.say("This map has no objects. The tool Insert (I) makes one.");
-    this.drag = found && { ...found, handle, from: place, isMoved: false };
+    if (!found) return this.beginBand(place, event);
+    const wasChosen = bench.objectIds.includes(found.object.id);
+    if (!handle) this.choose(found.object.id, wasChosen, event.shiftKey);
+    this.drag = { ...found, handle, from: place, isMoved: false, wasChosen, all: bench.chosenObjects };
+    return null;
+  }
+
+  // One of several that are chosen leaves the others so, for they may be dragged; with Shift it comes to them, or goes.
+  choose(id, wasChosen, isMore) {
+    const { bench } = this;
+    if (isMore) bench.chooseObjects(wasChosen ? bench.objectIds.filter(each => each !== id) : [...bench.objectIds, id]);
+    else if (!wasChosen) bench.chooseObject(id);
+    else bench.chooseObjects([...bench.objectIds.filter(each => each !== id), id]);
   }
 
   move(place, event) {
-    const { drag } = this;
+    const { drag, bench } = this;
     if (!drag) return;
-    if (!drag.isMoved && !isDrag(drag.from, place, this.bench.view.ratio)) return;
-    if (!drag.isMoved && this.bench.barsObjects(drag.layer, drag.handle ? "resized" : "moved")) return this.cancel();
+    if (!drag.isMoved && !isDrag(drag.from, place, bench.view.ratio)) return;
+    if (!drag.isMoved && this.isBarredDrag(drag)) return this.cancel();
     drag.isMoved = true;
-    this.bench.overlay.dragged = { id: drag.object.id, ...this.goal(place, event) };
+    const goal = goalOf(bench, drag, place, event);
+    const [byX, byY] = [goal.x - Math.floor(drag.object.x ?? 0), goal.y - Math.floor(drag.object.y ?? 0)];
+    const others = this.goesAlong(drag).map(({ object }) => ({ id: object.id, x: (object.x ?? 0) + byX, y: (object.y ?? 0) + byY }));
+    this.show([{ id: drag.object.id, ...goal }, ...others]);
+  }
+
+  // Those that go along where an object is dragged.
+  goesAlong({ object, handle, all }) {
+    return handle ? [] : all.filter(each => each.object.id !== object.id);
+  }
+
+  isBarredDrag(drag) {
+    const done = drag.handle ? "changed" : "moved";
+    return [drag, ...this.goesAlong(drag)].some(({ layer }) => this.bench.barsObjects(layer, done));
+  }
+
+  // Shows objects as they are dragged, null where they are not any more; the fields follow.
+  show(dragged) {
+    this.bench.overlay.dragged = dragged;
+    this.bench.tell("dragged");
   }
 
   async up(place, event) {
     const { drag, bench } = this;
+    if (this.band) return this.endBand(place);
     this.drag = null;
-    if (drag?.isMoved) await this.send(drag.object, this.goal(place, event, drag));
-    bench.overlay.dragged = null;
+    if (drag?.isMoved) await this.send(this.stepOf(drag, goalOf(bench, drag, place, event)));
+    // A click at one of several chooses that alone.
+    else if (drag && !drag.handle && drag.wasChosen && !event?.shiftKey) bench.chooseObject(drag.object.id);
+    this.show(null);
+    return null;
+  }
+
+  stepOf(drag, goal) {
+    const others = this.goesAlong(drag);
+    return others.length ? stepForAll(drag.object, goal, others) : stepFor(this.bench, drag, goal);
+  }
+
+  // Does the lines of a step, which has a name where they are several, or tell less than that.
+  send({ lines, name }) {
+    if (!lines.length) return null;
+    return name ? this.bench.doAsOne(`${name} || ${name.toLowerCase()}`, lines) : this.bench.act(lines);
+  }
+
+  // A double click at a corner takes that away.
+  doubled(place, event) {
+    const { bench } = this;
+    const handle = this.handleAt(place, event);
+    if (!handle?.startsWith("corner") || bench.barsObjects(bench.chosenObject.layer, "changed")) return;
+    const step = removedCorner(bench, bench.chosenObject.object, handle);
+    if (step) this.send(step);
   }
 
   // Ends a drag, which then does nothing.
   cancel() {
-    this.drag = null;
-    this.bench.overlay.dragged = null;
+    Object.assign(this, { drag: null, band: null });
+    this.show(null);
   }
 
-  // Where the object goes, or how large it is, on the grid where there is one.
-  goal(place, event, drag = this.drag) {
-    const { object, layer, handle, from } = drag;
-    const grid = gridOf(this.bench, event);
-    const snaps = [0, 1].map(axis => at => snapped(at, grid?.[axis]));
-    if (handle) {
-      const [[toX, toY], [fromX, fromY]] = [place, from].map(at => this.bench.overlay.ownPlace(object, layer, at.pixelX, at.pixelY));
-      return resized(object, handle, [toX - fromX, toY - fromY], snaps);
-    }
-    // Where the hand has not moved it one way, it keeps the whole part that it has there, and so its fraction.
-    const moved = (at, by, snap) => (by === 0 && !grid ? Math.floor(at) : snap(at + by));
-    return { x: moved(object.x ?? 0, place.pixelX - from.pixelX, snaps[0]), y: moved(object.y ?? 0, place.pixelY - from.pixelY, snaps[1]) };
+  // ---- the band
+  beginBand(place, { shiftKey }) {
+    const { bench } = this;
+    if (!shiftKey) bench.chooseObject(null);
+    if (!bench.map.layers.some(layer => layer.data.objects?.length)) bench.say("This map has no objects. The tool Insert (I) makes one.");
+    this.band = { from: place, before: bench.objectIds };
   }
 
-  // Moves and resizes an object as one step.
-  send(object, { x, y, width, height }) {
-    const whole = name => Math.floor(object[name] ?? 0);
-    const isMoved = x !== whole("x") || y !== whole("y");
-    const isResized = width !== undefined && (width !== whole("width") || height !== whole("height"));
-    const lines = [
-      ...(isResized ? [`object resize ${object.id} ${width} ${height}`] : []),
-      ...(isMoved ? [`object move ${object.id} ${x} ${y}`] : []),
-    ];
-    return lines.length === 2 ? this.bench.doAsOne("Resize Object || resize object", lines) : this.bench.act(lines);
+  bandTo(place) {
+    const { from } = this.band;
+    return [Math.min(from.x, place.x), Math.min(from.y, place.y), Math.max(from.x, place.x), Math.max(from.y, place.y)];
+  }
+
+  endBand(place) {
+    const { bench, band } = this;
+    const box = this.bandTo(place);
+    this.band = null;
+    if (!isDrag(band.from, place, bench.view.ratio)) return;
+    const found = bench.overlay.objectsIn(box, bench.layerId).filter(id => !band.before.includes(id));
+    if (found.length) bench.chooseObjects([...band.before, ...found]);
   }
 
   // ---- keys: each gives true where it is about objects
-  // Moves the chosen object by a pixel, or with Shift by a cell.
+  // Moves the chosen objects by a pixel, or with Shift by a cell.
   nudge(toX, toY, isFar) {
     const { bench } = this;
-    const chosen = bench.chosenObject;
-    if (!chosen) return false;
-    if (this.isBarred(chosen, "moved")) return true;
-    const { object } = chosen;
+    if (!bench.chosenObjects.length) return false;
     const [wide, high] = isFar ? bench.map.projection.side : [1, 1];
-    const [byX, byY] = [toX * wide, toY * high];
-    // From a fraction it goes on to whole pixels.
-    const moved = (at, by) => (by < 0 ? Math.ceil(at) : Math.floor(at)) + by;
-    const [x, y] = [moved(object.x ?? 0, byX), moved(object.y ?? 0, byY)];
-    const follows = this.run?.id === object.id;
-    if (!follows) this.run = { id: object.id };
-    this.isNudging = true;
-    const done = bench.sayRefusal(bench.editor.doLines([`object move${follows ? "+" : ""} ${object.id} ${x} ${y}`]));
-    this.isNudging = false;
-    // Back where the run began its step is gone, and a line that follows would join the step before it.
-    if (!done.isAccepted || done.told.became === "gone") this.run = null;
-    return true;
+    return this.onChosen("moved", all => this.run.move(all.map(({ object }) => object), toX * wide, toY * high));
   }
 
-  // Whether an object takes no edit by a key, since it is not seen or its layer is locked; it is said.
-  isBarred({ object, layer }, done) {
-    if (this.bench.barsObjects(layer, done)) return true;
-    if (object.visible !== false) return false;
-    this.bench.say(`${nameOf(object)} is hidden. It was not ${done}.`);
-    return true;
+  // Why an object takes no edit by a key, since it is not seen or its layer is locked; "" where it takes one.
+  whyBarred({ object, layer }, done) {
+    if (object.visible === false) return `${nameOf(object)} is hidden. It was not ${done}.`;
+    return this.bench.barsObjects(layer, done) ? this.bench.bubble.words : "";
   }
 
-  // Calls with the chosen object, where there is one that is not barred.
+  // Calls with the chosen objects that are not barred, if any; says what is left as it is.
   onChosen(done, call) {
-    const chosen = this.bench.chosenObject;
-    if (!chosen) this.bench.say("Choose an object first: click at one.");
-    else if (!this.isBarred(chosen, done)) call(chosen.object, chosen.layer);
+    const { bench } = this;
+    const all = bench.chosenObjects;
+    const [why] = all.map(each => this.whyBarred(each, done)).filter(each => each);
+    const free = all.filter(each => !this.whyBarred(each, done));
+    bench.bubble.hide();
+    if (!all.length) bench.say("Choose an object first: click at one.");
+    else if (free.length) call(free);
+    if (why && all.length) bench.say(all.length === 1 ? why : `${why} So it is with ${all.length - free.length} of ${all.length} objects.`);
     return true;
-  }
-
-  // Where no object is chosen and cells of the layer in hand are selected, copies, cuts and removals are about these.
-  get isAboutCells() {
-    const { chosenObject, layer, map } = this.bench;
-    return !chosenObject && Boolean(map?.selected && layer?.isTiles);
   }
 
   remove() {
-    return !this.isAboutCells && this.onChosen("removed", object => this.bench.act([`object remove ${object.id}`]));
+    return this.onChosen("removed", all => this.removeAll(all, "Remove Objects"));
+  }
+
+  removeAll(all, name) {
+    return this.send({ lines: all.map(({ object }) => `object remove ${object.id}`), name: all.length > 1 ? name : null });
   }
 
   copy() {
-    return !this.isAboutCells && this.onChosen("copied", (object, layer) => this.copies.keep(object, layer));
+    return this.onChosen("copied", all => this.copies.keep(all));
   }
 
   cut() {
-    return !this.isAboutCells && this.onChosen("cut", (object, layer) => this.copies.whole(object, "cut", members => {
-      this.copies.take(members, object, layer);
-      this.bench.act([`object remove ${object.id}`]);
+    return this.onChosen("cut", all => this.copies.whole(all, "cut", members => {
+      this.copies.take(members, all);
+      this.removeAll(all, "Cut Objects");
     }));
   }
 
@@ -166,7 +211,7 @@ export class ObjectTool {
   }
 
   duplicate() {
-    return this.onChosen("copied", (object, layer) => this.copies.duplicate(object, layer));
+    return this.onChosen("copied", all => this.copies.duplicate(all));
   }
 
   // Chooses no object any more.

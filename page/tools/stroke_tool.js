@@ -1,14 +1,34 @@
 // SPDX-License-Identifier: MIT OR Apache-2.0
 // The brush and the eraser.
-import { Stroke } from "./stroke.js";
+import { Stroke, cellsOnLine } from "./stroke.js";
 
-// The largest stamp whose tiles are shown under the hand.
-const MOST_SHOWN = 4096;
+// How many cells of blocks a line may have that is shown with what it would leave; of one that has more only its way is shown.
+const MOST_SHOWN = 200_000;
 // What is said where a block can change no cell.
 export const BARS = {
   outside: "This is outside the map.",
   selection: "The selection keeps these cells as they are. Ctrl+Shift+A drops it.",
 };
+
+// What is shown of a line along cells: what the blocks at them leave, a later one over those before it.
+function lineShown(line, blockAt) {
+  const first = blockAt(line[0]);
+  const isLong = line.length * first.width * first.height > MOST_SHOWN;
+  const blocks = isLong ? line.map(([x, y]) => ({ x, y, width: 1, height: 1 })) : line.map(blockAt);
+  const left = new Map();
+  for (const { x, y, width, height, values } of blocks) {
+    for (let at = 0; at < width * height; at++) {
+      const key = `${x + at % width} ${y + Math.floor(at / width)}`;
+      if (!values || values[at]) left.set(key, values?.[at] ?? 0);
+    }
+  }
+  const [across, down] = [blocks.map(block => block.x), blocks.map(block => block.y)];
+  const [x, y] = [Math.min(...across), Math.min(...down)];
+  const { width, height } = blocks[0];
+  const cells = [x, y, Math.max(...across) + width - x, Math.max(...down) + height - y];
+  const valueAt = first.values && !isLong ? (column, row) => left.get(`${column} ${row}`) ?? 0 : undefined;
+  return { cells, isIn: (column, row) => left.has(`${column} ${row}`), valueAt, words: `${line.length} cells long` };
+}
 
 export class StrokeTool {
   constructor(bench, name, colour) {
@@ -33,10 +53,11 @@ export class StrokeTool {
   }
 
   hover(place, event) {
-    const block = this.blockAt(...place.cell);
-    const values = block.width * block.height <= MOST_SHOWN ? block.values : null;
-    const line = event?.shiftKey && this.start ? [this.start, place.cell] : null;
-    return { cells: [block.x, block.y, block.width, block.height], values, line, colour: this.colour };
+    const { colour, stroke } = this;
+    if (event?.shiftKey && this.start && !stroke) return { ...lineShown(cellsOnLine(this.start, place.cell), cell => this.blockAt(...cell)), colour };
+    const { x, y, width, height, values } = this.blockAt(...place.cell);
+    const valueAt = values && ((column, row) => values[(row - y) * width + column - x]);
+    return { cells: [x, y, width, height], valueAt, colour };
   }
 
   down(place, event) {
@@ -53,13 +74,15 @@ export class StrokeTool {
   }
 
   up() {
-    this.cancel();
-  }
-
-  // Ends the stroke: what it has drawn stays.
-  cancel() {
     if (this.stroke?.last) this.last = { document: this.document, cell: this.stroke.last };
     this.stroke = null;
+  }
+
+  // Takes the stroke back: what was there before it stays.
+  cancel() {
+    const { stroke, bench } = this;
+    this.stroke = null;
+    if (stroke?.hasStep && bench.editor.openDocuments.active === this.document) bench.macros.undo();
   }
 
   // Does a line of the stroke, and gives what is told of it. Behind one that is refused the stroke is over.

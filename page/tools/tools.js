@@ -2,8 +2,10 @@
 // The tools of the hand on the map, and its events there. Each gives the editor session lines, and nothing else.
 import { FillTool, fillRectangle } from "./fill_tools.js";
 import { InsertTool } from "./insert_tool.js";
+import { HandWords } from "./hand_words.js";
 import { PAINTING } from "./layer_tools.js";
 import { ObjectTool } from "./object_tools.js";
+import { patternFrom } from "./patterns.js";
 import { StrokeTool } from "./stroke_tool.js";
 import { ViewHand } from "./view_hand.js";
 
@@ -19,14 +21,15 @@ function cellsBetween([x0, y0], [x1, y1]) {
   return [Math.min(x0, x1), Math.min(y0, y1), Math.abs(x1 - x0) + 1, Math.abs(y1 - y0) + 1];
 }
 
-// A drag over cells: `done` is called with its rectangle.
+// A drag over cells: `done` is called with its rectangle, and `valueIn` gives which values it would leave there, if it leaves any.
 class RectangleTool {
-  constructor(bench, name, done) {
-    Object.assign(this, { bench, name, done, first: null, isDragged: true });
+  constructor(bench, name, done, valueIn = () => undefined) {
+    Object.assign(this, { bench, name, done, valueIn, first: null, isDragged: true });
   }
 
   hover(place) {
-    return { cells: cellsBetween(this.first ?? place.cell, place.cell), colour: COLOURS[this.name] };
+    const cells = cellsBetween(this.first ?? place.cell, place.cell);
+    return { cells, valueAt: this.valueIn(cells), colour: COLOURS[this.name], words: this.first && `${cells[2]} × ${cells[3]}` };
   }
 
   down(place, event) {
@@ -49,6 +52,11 @@ class RectangleTool {
   }
 }
 
+// What of an event tells where the hand is, and which keys are held.
+const eventAt = ({ clientX, clientY, shiftKey, ctrlKey, metaKey, isTrusted, pointerType }) => (
+  { clientX, clientY, shiftKey, ctrlKey, metaKey, isTrusted, pointerType }
+);
+
 function select(bench, cells, { shift, ctrl }) {
   const how = shift && ctrl ? "intersect" : shift ? "add" : ctrl ? "subtract" : "replace";
   bench.act([`select ${how} ${cells.join(" ")}`]);
@@ -57,33 +65,40 @@ function select(bench, cells, { shift, ctrl }) {
 // All tools by their names, the one that is used, and the hand's events on the map.
 //
 // A tool has `down`, `move` and `up`, each with the place of the hand and its event, and `hover`, which tells what is shown under the
-// hand; `rest`, where it is there, tells what is shown while the hand is not on the map. With `cancel` it ends what it is about. `isDragged`
+// hand, with words beside it; `rest`, where it is there, tells what is shown while the hand is not on the map. With `cancel` it ends what it is about. `isDragged`
 // tells whether it wants a press and a release. It may also have calls for keys: `copy`, `cut`, `paste`, `remove`, `duplicate`, `drop`, `nudge`
 // and `end`. One that gives `true` has done what its key asks for; else the key is about cells.
 export class Tools {
   constructor(bench) {
     this.bench = bench;
-    const rectangle = (name, done) => new RectangleTool(bench, name, done);
+    const rectangle = (name, done, valueIn) => new RectangleTool(bench, name, done, valueIn);
     const objects = new ObjectTool(bench);
     this.all = {
       brush: new StrokeTool(bench, "brush", COLOURS.brush),
       eraser: new StrokeTool(bench, "eraser", COLOURS.eraser),
       fill: new FillTool(bench, COLOURS.fill),
-      rectangle: rectangle("rectangle", cells => fillRectangle(bench, cells)),
+      rectangle: rectangle("rectangle", cells => fillRectangle(bench, cells), cells => patternFrom(bench.stamp, cells)),
       select: rectangle("select", (cells, keys) => select(bench, cells, keys)),
       objects,
-      insert: new InsertTool(bench, objects, () => this.showHand(bench.place)),
+      insert: new InsertTool(bench, objects, () => this.showAnew()),
       capture: rectangle("capture", cells => bench.takeCells(...cells)),
     };
     this.name = "brush";
     this.held = null;
     this.isSpace = false;
+    // Where the hand is on the map, and which keys are held there, as an event tells it; null where it is not there.
+    this.at = null;
+    this.words = new HandWords(bench.view);
+    // What the next press on the map chooses an object for: it is called with that; null where nothing waits for one.
+    this.picking = null;
+    bench.pickObject = take => this.pick(take);
     // The time of the last move of a drag that came before a frame of the screen.
     this.drawnUpTo = -Infinity;
     this.viewHand = new ViewHand(bench.view, event => this.down(event), () => this.cancel());
     this.listen(bench.view.box);
-    // What is shown under the hand is about the layer that is chosen.
-    bench.addEventListener("layer chosen", () => this.showHand(bench.place));
+    // What is shown under the hand is about the layer that is chosen, the stamp, and what the map has.
+    for (const name of ["layer chosen", "stamp"]) bench.addEventListener(name, () => this.showAnew());
+    bench.editor.addEventListener("done", () => this.name === "fill" && this.showAnew());
   }
 
   get now() {
@@ -93,7 +108,7 @@ export class Tools {
   choose(name) {
     this.name = name;
     this.bench.view.box.dataset.tool = name;
-    this.showHand(null);
+    this.showAnew();
     this.bench.tell("tool");
   }
 
@@ -104,8 +119,10 @@ export class Tools {
     box.addEventListener("pointerrawupdate", event => this.raw(event));
     box.onpointerup = event => this.up(event);
     box.onpointercancel = event => this.up(event);
-    box.onpointerleave = () => this.showHand(null);
+    box.onpointerleave = () => this.leave();
+    for (const kind of ["keydown", "keyup"]) addEventListener(kind, event => ["Shift", "Control", "Meta"].includes(event.key) && this.hold(event));
     box.oncontextmenu = event => event.preventDefault();
+    box.ondblclick = event => this.now.doubled?.(this.placeOf(event), event);
     addEventListener("blur", () => (this.isSpace = false));
   }
 
@@ -121,6 +138,7 @@ export class Tools {
     getSelection().removeAllRanges();
     const name = this.toolOf(event);
     if (!name || this.held || (name !== "pan" && !this.isReady())) return;
+    if (this.picking && name !== "pan") return this.endPick(this.foundAt(this.placeOf(event, "objects")));
     if (PAINTING.has(name) && this.bench.barredLayer()) return;
     if (STAMPING.has(name) && this.bench.carried.bars()) return;
     event.preventDefault();
@@ -135,6 +153,28 @@ export class Tools {
     this.from = this.placeOf(event);
     if (name !== "pan") this.all[name].down(this.from, event);
     this.bench.view.drawNow();
+  }
+
+  // ---- an object that something else asks for
+  pick(take) {
+    this.picking = take;
+    this.bench.view.box.classList.add("picking");
+    this.bench.say("Click at the object on the map. Escape leaves it.");
+  }
+
+  foundAt({ pixelX, pixelY }) {
+    return this.bench.overlay.objectAt(pixelX, pixelY, this.bench.layerId)?.object.id ?? null;
+  }
+
+  // Ends that with the id of an object, null where there was none, or with nothing.
+  endPick(id) {
+    const take = this.picking;
+    this.picking = null;
+    this.bench.view.box.classList.remove("picking");
+    this.bench.overlay.hover(null);
+    if (id === undefined) this.bench.bubble.hide();
+    else if (id === null) this.bench.say("There is no object.");
+    else take(id);
   }
 
   isReady() {
@@ -200,12 +240,12 @@ export class Tools {
     this.bench.view.box.classList.remove("held");
   }
 
-  // Ends what the hand is about, and says whether it was about something: a stroke stays as far as it came, another drag does nothing.
+  // Ends what the hand is about, and says whether it was about something: a stroke is taken back, another drag does nothing.
   cancel() {
     if (!this.held) return false;
     if (this.held !== "pan") this.all[this.held].cancel?.();
     this.release();
-    this.showHand(this.bench.place);
+    this.showAnew();
     this.bench.tell("free");
     return true;
   }
@@ -213,15 +253,16 @@ export class Tools {
   // Ends what the hand is about; or else drops what the tool has chosen; or else the selection.
   escape() {
     const { bench } = this;
+    if (this.picking) return this.endPick();
     if (this.cancel() || this.now.drop?.() === true) return;
-    if (bench.map?.selected && (this.name !== "objects" || bench.objectId === null)) bench.act(["select none"]);
+    if (bench.map?.selected && (bench.chosenLast === "cells" || bench.objectId === null)) bench.act(["select none"]);
     bench.chooseObject(null);
   }
 
   // Ends what the tool draws corner by corner.
   end() {
     this.now.end?.();
-    this.showHand(this.bench.place);
+    this.showAnew();
   }
 
   // Whether the tool would draw tiles on a layer that has none.
@@ -230,14 +271,45 @@ export class Tools {
     return PAINTING.has(this.busy) && layer !== null && !layer.isTiles;
   }
 
+  // The hand has left the map.
+  leave() {
+    this.at = null;
+    this.showHand(null);
+  }
+
+  // Other keys are held while the hand rests.
+  hold({ shiftKey, ctrlKey, metaKey }) {
+    if (!this.at || this.held === "pan") return;
+    Object.assign(this.at, { shiftKey, ctrlKey, metaKey });
+    this.showAnew();
+  }
+
+  // Shows what the hand is about where it is.
+  showAnew() {
+    this.showHand(this.at && this.placeOf(this.at), this.at);
+  }
+
+  // Shows which object a press would pick.
+  showPicked(place) {
+    const { overlay } = this.bench;
+    overlay.hover(this.foundAt(place));
+    overlay.hand = null;
+    overlay.redrawHand();
+    this.bench.place = place;
+    this.bench.tell("hand");
+  }
+
   showHand(place, event = null) {
     const { overlay, map, view } = this.bench;
+    this.at = place && event && eventAt(event);
     view.box.classList.toggle("astray", this.isAstray);
     const tool = this.all[this.busy];
+    if (this.picking && place) return this.showPicked(place);
     if (!place || tool !== this.all.objects) overlay.hover(null);
     const hand = !map || this.isAstray ? null : place ? tool.hover(place, event) : tool.rest?.() ?? null;
     overlay.hand = hand && { layer: ON_LAYER.has(this.busy) ? this.bench.layer : null, ...hand };
     overlay.redrawHand();
+    this.words.show(hand?.words, place);
     this.bench.place = place;
     this.bench.tell("hand");
   }

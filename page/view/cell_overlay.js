@@ -1,18 +1,17 @@
 // SPDX-License-Identifier: MIT OR Apache-2.0
-// Draws over the cells of a map: the grid, the selection, and what the hand is about to do.
+// Draws over the cells of a map: the grid and the selection.
 
 // How far aside of a box of the screen cells are looked at: an edge of theirs may be in it.
 const NEAR = 2;
 // Below these widths of a cell there is no grid, and the selection has no outline.
 const SMALLEST_GRID = 6;
-const SMALLEST_OUTLINE = 4;
+export const SMALLEST_OUTLINE = 4;
 // How many cells that are no rectangles are outlined one by one.
-const MOST_SHAPES = 20_000;
+export const MOST_SHAPES = 20_000;
 
 export class CellOverlay {
-  // `pen` draws below the objects, and `handPen` over all.
-  constructor(view, pen, handPen) {
-    Object.assign(this, { view, pen, handPen });
+  constructor(view, pen) {
+    Object.assign(this, { view, pen });
   }
 
   get isPlain() {
@@ -145,58 +144,4 @@ export class CellOverlay {
     pen.fill();
     if (this.isSeenFrom(SMALLEST_OUTLINE)) pen.stroke();
   }
-
-  // ---- the hand
-  // Shows what the hand is about to do: { cells: [x, y, width, height], values, line, colour, layer }.
-  drawHand(hand) {
-    const { handPen: pen, view } = this;
-    pen.clearRect(0, 0, view.canvas.width, view.canvas.height);
-    if (!view.map || !hand) return;
-    const { cells, values, line, colour, layer } = hand;
-    pen.save();
-    pen.translate(Math.round((layer?.offsetX ?? 0) * view.scale), Math.round((layer?.offsetY ?? 0) * view.scale));
-    pen.globalAlpha = 0.75;
-    pen.imageSmoothingEnabled = view.scale < 1;
-    if (values) this.drawValues(cells, values);
-    pen.globalAlpha = 1;
-    pen.strokeStyle = colour;
-    pen.lineWidth = 2;
-    pen.beginPath();
-    if (this.isPlain) this.addRectangle(cells);
-    else this.addCells(cells);
-    if (line) for (const [x, y] of line) this.addPoint(x, y, line[0][0] === x && line[0][1] === y);
-    pen.stroke();
-    pen.restore();
-  }
-
-  drawValues([x, y, width], values) {
-    const { map, painter } = this.view;
-    for (let at = 0; at < values.length; at++) {
-      const [column, row] = [x + at % width, y + Math.floor(at / width)];
-      if (values[at] && map.isReached(column, row)) painter.paintCell(NOWHERE, values[at], column, row, null, this.handPen);
-    }
-  }
-
-  addRectangle([x, y, width, height]) {
-    const [[left, top], [right, bottom]] = [this.corner(x, y), this.corner(x + width, y + height)];
-    this.handPen.rect(left, top, right - left, bottom - top);
-  }
-
-  addCells([x, y, width, height]) {
-    const count = Math.min(width * height, MOST_SHAPES);
-    for (let at = 0; at < count; at++) this.addShape(this.handPen, x + at % width, y + Math.floor(at / width));
-  }
-
-  // The line that Shift would draw.
-  addPoint(x, y, isFirst) {
-    const { view } = this;
-    const { projection } = view.map;
-    const [left, top] = projection.corner(x, y);
-    const place = [view.screenX(left + projection.tileWidth / 2), view.screenY(top + projection.tileHeight / 2)];
-    if (isFirst) this.handPen.moveTo(...place);
-    else this.handPen.lineTo(...place);
-  }
 }
-
-// The pen of the hand is moved to where the layer lies.
-const NOWHERE = { offsetX: 0, offsetY: 0 };

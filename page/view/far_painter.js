@@ -41,7 +41,8 @@ function paintCells(view, layer, pixels, [x0, y0, x1, y1]) {
   pen.drawImage(sheetOf(pixels, x1 - x0, y1 - y0), view.screenX(left) + asideX, view.screenY(top) + asideY, width, height);
 }
 
-function sheetOf(pixels, width, height) {
+// A picture of pixels of 32 bits.
+export function sheetOf(pixels, width, height) {
   const sheet = new OffscreenCanvas(width, height);
   sheet.getContext("2d").putImageData(new ImageData(new Uint8ClampedArray(pixels.buffer), width, height), 0, 0);
   return sheet;

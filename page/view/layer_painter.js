@@ -89,7 +89,7 @@ export class LayerPainter {
   // The objects of a layer that may be seen in a box.
   thingsIn(layer, box) {
     const { view } = this;
-    return (layer.data.objects ?? []).filter(each => isThing(each) && view.hidden !== each.id && areTouching(view.boxOfThing(each, layer), box));
+    return (layer.data.objects ?? []).filter(each => isThing(each) && !view.hidden.has(each.id) && areTouching(view.boxOfThing(each, layer), box));
   }
 
   // ---- near

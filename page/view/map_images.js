@@ -4,6 +4,7 @@
 import { PixelBudget, WrongImage, imageFile, unpacked } from "../files/image_files.js";
 import { folderOf } from "../files/names.js";
 import { Tints, partsOfColour } from "./tints.js";
+import { Said } from "../core/thrown_words.js";
 
 export class MapImages {
   constructor(editor, tilesets) {
@@ -68,7 +69,7 @@ export class MapImages {
   // The image of a path; null where it has no pixels left. Throws WrongImage, or another fault where the file cannot be had.
   async read(all, path, clear) {
     const bytes = await this.editor.place.bytes(path);
-    if (!bytes) throw new Error("no such file");
+    if (!bytes) throw new Said("the file is not there");
     const file = imageFile(path, bytes);
     if (this.all !== all) return null;
     if (this.hasPixelsFor(file)) return unpacked(file, clear);

@@ -39,7 +39,7 @@ async function viewOf(map, place, path, canvas) {
   await tilesets.take(map);
   const { width, height } = map.projection;
   const scale = Math.min(canvas.width / width, canvas.height / height);
-  const view = Object.assign(Object.create(MapView.prototype), { editor, tilesets, images, canvas, scale, hidden: null, cache: new CellCache() });
+  const view = Object.assign(Object.create(MapView.prototype), { editor, tilesets, images, canvas, scale, hidden: new Set(), cache: new CellCache() });
   view.pen = canvas.getContext("2d");
   view.behind = getComputedStyle(canvas).backgroundColor;
   view.originX = Math.round((canvas.width - width * scale) / 2);

@@ -35,8 +35,8 @@ export class MapView {
     this.drawn = null;
     // How many strokes were begun, and whether the last one goes on.
     Object.assign(this, { strokes: 0, isHeld: false });
-    // The object that is not drawn, since it is shown elsewhere while it is dragged.
-    this.hidden = null;
+    // The objects that are not drawn, since they are shown elsewhere while they are dragged.
+    this.hidden = new Set();
     this.isWhole = true;
     this.moved = [0, 0];
     // Objects where which all is drawn anew: { object, layer }.

@@ -1,18 +1,12 @@
 // SPDX-License-Identifier: MIT OR Apache-2.0
-// The shapes of objects: what is under the hand, and what a drag at a handle makes of one. Lengths are pixels of the map.
+// The shapes of objects, and what is under the hand. Lengths are pixels of the map.
 //
 // An object's own coordinates begin at its place, and are turned and slanted as it is drawn. `aligned` tells how far a tile reaches to the
 // left of its place and above it, as shares of its size.
 
-// How far from the box its handles stand, how far from one the hand may be, and from which length on an edge has one in its middle: in
-// pixels of the screen.
-const ASIDE = 7;
-const NEAR_HANDLE = 6;
-const LONG_EDGE = 30;
+// How near to a line and to an area the hand is on it, in pixels of the screen.
 const NEAR_LINE = 6;
 const NEAR_AREA = 1;
-// The handles by the edges that they move, from the upper left one to the lower right one.
-const HANDLES = ["nw", "n", "ne", "w", "e", "sw", "s", "se"];
 
 function frameOf(corners) {
   const frame = [Infinity, Infinity, -Infinity, -Infinity];
@@ -30,10 +24,10 @@ export function cornersOf(object) {
 }
 
 // Whether it has no size: a point, or a rectangle of none.
-const isSpot = object => !cornersOf(object) && !object.width && !object.height;
+export const isSpot = object => !cornersOf(object) && !object.width && !object.height;
 
 // A tile stands on its place, but where its tileset or the map says otherwise.
-const STANDING = [0, 1];
+export const STANDING = [0, 1];
 
 // The box of an object: [left, top, right, bottom] in its own coordinates.
 export function boxOf(object) {
@@ -56,6 +50,14 @@ export function ownPlace(object, layer, x, y, projection) {
   const [right, down] = turned(atX - layer.offsetX - fromX, atY - layer.offsetY - fromY, -(object.rotation ?? 0));
   const [a, b, c, d] = object.gid ? [1, 0, 0, 1] : projection.matrix;
   return [(d * right - c * down) / (a * d - b * c), (a * down - b * right) / (a * d - b * c)];
+}
+
+// A place in an object's own coordinates as one of the map.
+export function mapPlace(object, layer, [ownX, ownY], projection) {
+  const [a, b, c, d] = object.gid ? [1, 0, 0, 1] : projection.matrix;
+  const [right, down] = turned(a * ownX + c * ownY, b * ownX + d * ownY, object.rotation ?? 0);
+  const [left, top] = projection.place(object.x ?? 0, object.y ?? 0);
+  return projection.named(left + layer.offsetX + right, top + layer.offsetY + down);
 }
 
 // The place of an object of which a place in its own coordinates lies at a place of the map.
@@ -117,57 +119,4 @@ export function areaOf(object) {
   if (!object.polygon) return (object.width ?? 0) * (object.height ?? 0);
   const last = at => object.polygon[at - 1] ?? object.polygon[object.polygon.length - 1];
   return Math.abs(object.polygon.reduce((sum, { x, y }, at) => sum + last(at).x * y - x * last(at).y, 0)) / 2;
-}
-
-// ---- handles
-// The handles that an object has: of a turned one only those that leave its place where it is, and of a tile that does not stand on its
-// place none.
-function handlesOf(object) {
-  if (cornersOf(object) || object.point || (object.gid && String(object.aligned ?? STANDING) !== String(STANDING))) return [];
-  if (!object.rotation) return HANDLES;
-  return object.gid ? ["n", "ne", "e"] : ["e", "s", "se"];
-}
-
-// The handles of an object with their places in its own coordinates, drawn at a scale: [name, x, y].
-export function handlePlaces(object, scale) {
-  const [left, top, right, bottom] = boxOf(object);
-  const aside = ASIDE / scale;
-  const isLong = { n: (right - left) * scale >= LONG_EDGE, w: (bottom - top) * scale >= LONG_EDGE };
-  const isShown = name => name.length === 2 || (name === "n" || name === "s" ? isLong.n : isLong.w);
-  return handlesOf(object).filter(isShown).map(name => [
-    name,
-    name.includes("w") ? left - aside : name.includes("e") ? right + aside : (left + right) / 2,
-    name.includes("n") ? top - aside : name.includes("s") ? bottom + aside : (top + bottom) / 2,
-  ]);
-}
-
-// The handle of an object at a place in its own coordinates, or null.
-export function handleAt(object, [atX, atY], scale) {
-  const near = NEAR_HANDLE / scale;
-  return handlePlaces(object, scale).find(([, left, top]) => Math.abs(atX - left) <= near && Math.abs(atY - top) <= near)?.[0] ?? null;
-}
-
-// One side of an object behind a drag: its first edge and its length in whole pixels. `moved` tells which edge is moved, by how much.
-function resizedSide(from, length, moved, by, snap) {
-  if (!moved || by === 0) return [Math.floor(from), Math.floor(length)];
-  if (moved === "first") {
-    const first = Math.min(snap(from + by), Math.floor(from + length) - 1);
-    return [first, Math.max(1, Math.round(from + length - first))];
-  }
-  return [Math.floor(from), Math.max(1, Math.round(snap(from + length + by) - from))];
-}
-
-// What a drag at a handle makes of an object, in whole pixels: { x, y, width, height }. `snaps` put an edge where it may be, across and down.
-export function resized(object, handle, [byX, byY], snaps) {
-  const [x, y, width, height] = [object.x ?? 0, object.y ?? 0, object.width ?? 0, object.height ?? 0];
-  const movedX = handle.includes("w") ? "first" : handle.includes("e") ? "last" : null;
-  const movedY = handle.includes("n") ? "first" : handle.includes("s") ? "last" : null;
-  const [left, wide] = resizedSide(x, width, movedX, byX, snaps[0]);
-  if (!object.gid) {
-    const [top, high] = resizedSide(y, height, movedY, byY, snaps[1]);
-    return { x: left, y: top, width: wide, height: high };
-  }
-  // A tile's place is at its lower edge.
-  const [top, high] = resizedSide(y - height, height, movedY, byY, snaps[1]);
-  return { x: left, y: movedY === "last" && byY !== 0 ? top + high : Math.floor(y), width: wide, height: high };
 }

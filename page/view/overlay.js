@@ -2,8 +2,10 @@
 // Draws over the map: the grid, the selection, the objects, and what the hand is about to do.
 import { isLockedIn } from "../tools/barred_layers.js";
 import { CellOverlay } from "./cell_overlay.js";
-import { boxesOn, placeOnScreen } from "./object_boxes.js";
-import { areaOf, boxOf, cornersOf, handlePlaces, isOn, middleOf, ownPlace, placeWith } from "./object_shapes.js";
+import { CellPreview } from "./cell_preview.js";
+import { areTouching, boxesOn, placeOnScreen } from "./object_boxes.js";
+import { handlePlaces } from "./object_handles.js";
+import { areaOf, boxOf, cornersOf, isOn, mapPlace, middleOf, ownPlace, placeWith } from "./object_shapes.js";
 import { PIN, ShapePainter } from "./shape_painter.js";
 import { alignedAt, isThing, paintThing, reachOfThing } from "./thing_painter.js";
 import { colourOfText } from "./tints.js";
@@ -16,7 +18,7 @@ const OUTLINE = "#e4e7eb";
 // The side of a handle, in pixels of the page; and how far around an object its outline reaches, that of a spot, its handles, and the
 // sharpest corner of a line.
 const HANDLE = 8;
-const AROUND = { outline: 4, spot: 8, pin: PIN.above + PIN.radius + 4, handles: 13, corner: 28 };
+const AROUND = { outline: 4, spot: 8, pin: PIN.above + PIN.radius + 4, handles: 48, corner: 28 };
 // How high a name stands above its object, how much wider than its letters it is, how high, and of how many the width is kept.
 const ABOVE = 18;
 const BESIDE = 8;
@@ -34,24 +36,29 @@ export class Overlay {
     this.canvas = view.box.querySelector("#overlay");
     this.pen = this.canvas.getContext("2d");
     this.handPen = view.box.querySelector("#hand").getContext("2d");
-    this.cells = new CellOverlay(view, this.pen, this.handPen);
+    this.cells = new CellOverlay(view, this.pen);
+    this.preview = new CellPreview(view, this.cells, this.handPen);
     this.shapes = new ShapePainter(view, tilesets);
     this.hasGrid = true;
     this.hasNames = true;
-    // The object that is chosen, by its id.
-    this.chosen = null;
+    // The objects that are chosen, by their ids.
+    this.chosen = new Set();
     // The one under the hand, by its id.
     this.hovered = null;
-    this.place = null;
+    // How objects are drawn while they are dragged, by their ids.
+    this.places = new Map();
     // Whether all is drawn anew; else only where these objects are, { object, layer } of each. And whether what the hand is about to do is.
     Object.assign(this, { isChanged: true, objects: [], isHandChanged: true });
     // How wide names are drawn, at a ratio of the screen.
     this.widths = new Map();
     // How far objects with corners reach.
     this.reaches = new WeakMap();
-    // What the hand is about to do: { cells: [x, y, width, height], values, line, colour }; a line goes from a cell to a cell. Or the members
-    // of an object that it is about to add to a layer: { object, layer, colour, corners }, with corners that stand already.
+    // What the hand is about to do with cells (see cell_preview.js). Or the members of an object that it is about to add to a layer:
+    // { object, layer, colour, corners }, with corners that stand already; or the band that chooses objects: { band: [left, top, right, bottom] },
+    // on the screen.
     this.hand = null;
+    // Whether objects were chosen last, and no cells.
+    this.isChosenLast = () => false;
   }
 
   redraw() {
@@ -83,30 +90,34 @@ export class Overlay {
     return this.editor.map;
   }
 
-  // Where an object is drawn while it is dragged, and how large: { id, x, y, width, height }.
+  // How objects are drawn while they are dragged: of each its id, and the members that are others than the map has. Null where none is.
   get dragged() {
-    return this.place;
+    return this.places.values().next().value ?? null;
   }
 
-  // Meanwhile the map does not show it at its old place.
-  set dragged(place) {
-    const found = this.map?.object(place?.id ?? this.place?.id);
-    const placed = () => (found ? [{ object: this.placed(found.object), layer: found.layer }] : []);
+  // Meanwhile the map does not show them at their old places.
+  set dragged(places) {
+    const all = [places ?? []].flat();
+    const found = [...new Set([...this.places.keys(), ...all.map(({ id }) => id)])].map(id => this.map?.object(id)).filter(each => each);
+    const placed = () => found.map(({ object, layer }) => ({ object: this.placed(object), layer }));
     const before = placed();
-    this.place = place;
+    this.places = new Map(all.map(place => [place.id, place]));
     this.redrawObjects([...before, ...placed()]);
-    const hidden = place && found && isThing(found.object) ? place.id : null;
-    if (hidden === this.view.hidden) return;
+    const hidden = new Set(found.filter(({ object }) => this.places.has(object.id) && isThing(object)).map(({ object }) => object.id));
+    const was = this.view.hidden;
+    if (hidden.size === was.size && [...hidden].every(id => was.has(id))) return;
     this.view.hidden = hidden;
-    this.view.redrawThings(found ? [found] : []);
+    this.view.redrawThings(found);
   }
 
-  // Has an object chosen, by its id; null for none.
-  choose(id) {
-    if (id === this.chosen) return;
+  // Has objects chosen, by their ids.
+  choose(ids) {
     const before = this.chosen;
-    this.chosen = id;
-    this.redrawObjects([before, id].map(each => this.map?.object(each)).filter(each => each));
+    this.chosen = new Set(ids);
+    const others = [...before, ...ids].filter(id => before.has(id) !== this.chosen.has(id));
+    // With one alone its handles come or go.
+    const again = before.size === 1 || this.chosen.size === 1 ? [...before, ...ids] : others;
+    if (others.length) this.redrawObjects([...new Set(again)].map(each => this.map?.object(each)).filter(each => each));
   }
 
   // Has an object shown as the one under the hand, by its id; null for none.
@@ -143,16 +154,16 @@ export class Overlay {
   }
 
   // ---- objects
-  // The chosen one stands over all others.
+  // The chosen ones stand over all others.
   drawObjects(box) {
-    const chosen = this.chosen !== null && this.showsChosen ? this.map.object(this.chosen) : null;
+    const chosen = this.showsChosen ? this.chosen : new Set();
     let left = MOST_WHOLE;
     // Each name finds it.
     this.pen.font = this.font;
     for (const layer of this.map.layers) {
       const others = [];
       for (const each of layer.isSeen ? layer.data.objects ?? [] : []) {
-        if (each.visible === false || each.id === chosen?.object.id) continue;
+        if (each.visible === false || chosen.has(each.id)) continue;
         const object = this.placed(each);
         const place = this.screenPlace(object, layer);
         if (!this.isInView(object, place)) continue;
@@ -163,9 +174,13 @@ export class Overlay {
       }
       if (others.length) this.drawBoxes(others, layer);
     }
-    if (!chosen || !this.isShown(chosen)) return;
-    this.drawObject(this.placed(chosen.object), chosen.layer);
-    if (this.hasHandles) this.drawHandles(chosen);
+    this.drawChosen([...chosen].map(id => this.map.object(id)).filter(each => each && this.isShown(each)));
+  }
+
+  // One that is chosen alone has handles.
+  drawChosen(all) {
+    for (const { object, layer } of all) this.drawObject(this.placed(object), layer);
+    if (all.length === 1 && this.chosen.size === 1 && this.hasHandles) this.drawHandles(all[0]);
   }
 
   // Whether a part of the object or its name may be seen, where its place is on the screen: all of it lies within its greatest length of that.
@@ -223,10 +238,10 @@ export class Overlay {
     const { pen, view } = this;
     if (object.visible === false) return;
     // The map shows tiles and texts, but for one that is dragged.
-    if (view.hidden === object.id) paintThing(view.painter, layer, object, pen);
+    if (view.hidden.has(object.id)) paintThing(view.painter, layer, object, pen);
     pen.save();
     pen.translate(...this.screenPlace(object, layer));
-    const isChosen = this.chosen === object.id && this.showsChosen;
+    const isChosen = this.chosen.has(object.id) && this.showsChosen;
     const isHovered = this.hovered === object.id;
     if (isChosen || isHovered || !isSeenAsIs(object)) this.drawOutline(object, layer, isChosen, isHovered);
     this.drawName(object, isChosen, isHovered);
@@ -247,7 +262,8 @@ export class Overlay {
   // Draws what the hand is about to do.
   drawHand() {
     const { hand, handPen: pen, view } = this;
-    this.cells.drawHand(hand?.object ? null : hand);
+    this.preview.draw(hand?.cells ? hand : null);
+    if (this.map && hand?.band) this.drawBand(pen, hand.band);
     if (!this.map || !hand?.object) return;
     const { object, layer, corners = [] } = hand;
     pen.save();
@@ -259,6 +275,16 @@ export class Overlay {
     this.shapes.paint(pen, object);
     pen.restore();
     for (const corner of corners) this.drawHandle(pen, this.screenPlace(corner, layer));
+  }
+
+  // The rectangle that chooses objects, on the screen.
+  drawBand(pen, [left, top, right, bottom]) {
+    pen.fillStyle = "#8cc8ff33";
+    pen.fillRect(left, top, right - left, bottom - top);
+    for (const [colour, width] of [["#10131a", 3], ["#8cc8ff", 1]]) {
+      Object.assign(pen, { strokeStyle: colour, lineWidth: width * this.view.ratio });
+      pen.strokeRect(left, top, right - left, bottom - top);
+    }
   }
 
   // The boxes around objects of a layer, which are not turned.
@@ -330,6 +356,25 @@ export class Overlay {
     return found.sort((one, other) => one.rank - other.rank || one.area - other.area)[0] ?? null;
   }
 
+  // The ids of objects that reach into a box of the screen, [left, top, right, bottom]: of the layer in hand, or else of all that are seen and
+  // not locked.
+  objectsIn(box, layerId) {
+    const inHand = this.map.layer(layerId);
+    const isOf = layer => (inHand?.data.objects?.length ? layer === inHand : !isLockedIn(layer));
+    const isThere = (object, layer) => object.visible !== false && areTouching(this.frameOf(object, layer), box);
+    return this.map.layers.filter(layer => layer.isSeen && isOf(layer)).flatMap(layer => (layer.data.objects ?? []).filter(each => isThere(each, layer)).map(each => each.id));
+  }
+
+  // The box of the screen around the shape of an object.
+  frameOf(object, layer) {
+    const { projection } = this.map;
+    const [left, top, right, bottom] = boxOf(this.shapeOf(object));
+    const places = [[left, top], [right, top], [right, bottom], [left, bottom]].map(corner => projection.place(...mapPlace(object, layer, corner, projection)));
+    const across = places.map(([x]) => this.view.originX + x * this.view.scale);
+    const down = places.map(([, y]) => this.view.originY + y * this.view.scale);
+    return [Math.min(...across), Math.min(...down), Math.max(...across) + 1, Math.max(...down) + 1];
+  }
+
   isUnder(object, layer, x, y) {
     if (object.visible === false) return false;
     if (object.point && this.isOnPin(object, layer, x, y)) return true;
@@ -373,7 +418,7 @@ export class Overlay {
 
   // Whether the tool in hand shows which object is chosen, and whether that has handles.
   get showsChosen() {
-    return ["objects", "insert"].includes(this.view.box.dataset.tool);
+    return this.isChosenLast() || ["objects", "insert"].includes(this.view.box.dataset.tool);
   }
 
   get hasHandles() {
@@ -386,12 +431,24 @@ export class Overlay {
     const shown = this.placed(object);
     pen.save();
     pen.translate(...this.screenPlace(shown, layer));
-    pen.rotate((object.rotation ?? 0) * Math.PI / 180);
+    pen.rotate((shown.rotation ?? 0) * Math.PI / 180);
     const [a, b, c, d] = object.gid ? [1, 0, 0, 1] : this.map.projection.matrix;
-    for (const [, x, y] of handlePlaces(this.shapeOf(shown), view.scale / view.ratio)) {
-      this.drawHandle(pen, [(a * x + c * y) * view.scale, (b * x + d * y) * view.scale]);
+    for (const [name, x, y] of handlePlaces(this.shapeOf(shown), view.scale / view.ratio)) {
+      const place = [(a * x + c * y) * view.scale, (b * x + d * y) * view.scale];
+      if (name === "turn" || name.startsWith("edge")) this.drawKnob(pen, place, name === "turn" ? HANDLE / 2 + 1 : HANDLE / 2 - 1);
+      else this.drawHandle(pen, place);
     }
     pen.restore();
+  }
+
+  // A round handle: it turns the object, or adds a corner.
+  drawKnob(pen, [left, top], radius) {
+    const { ratio } = this.view;
+    Object.assign(pen, { lineWidth: ratio, strokeStyle: "#000", fillStyle: "#fff" });
+    pen.beginPath();
+    pen.arc(left, top, radius * ratio, 0, 2 * Math.PI);
+    pen.fill();
+    pen.stroke();
   }
 
   drawHandle(pen, [left, top]) {
@@ -405,6 +462,7 @@ export class Overlay {
 
   // An object with the place and the size to which it is dragged.
   placed(object) {
-    return this.dragged?.id === object.id ? { ...object, ...this.dragged } : object;
+    const place = this.places.get(object.id);
+    return place ? { ...object, ...place } : object;
   }
 }

@@ -124,10 +124,11 @@ def cells_with(page, name, value):
 
 def take_tile(page, place):
     """Clicks at a tile of the palette, by its column and row."""
-    frame = page.js(
-        'const box = document.getElementById("palette").getBoundingClientRect(); return [box.left, box.top]'
+    point = page.js(
+        'const box = document.getElementById("palette").getBoundingClientRect(), {palette} = roskevad;'
+        'return [box.left, box.top].map((from, axis) => Math.floor(from + arguments[0][axis] * palette.pitch + palette.side / 2))',
+        place,
     )
-    point = [int(frame[0] + place[0] * 32 + 16), int(frame[1] + place[1] * 32 + 16)]
     page.drag_points([point])
 
 

@@ -1,0 +1,140 @@
+// SPDX-License-Identifier: MIT OR Apache-2.0
+// What an object has beside its properties, in rows of the table: its name and class, the words of a text, its tile, its place, size and
+// rotation, and whether it is seen. The numbers follow the hand while it is dragged.
+import { button, element } from "./dom.js";
+import { fieldFor, linesField, numberField } from "./fields.js";
+import { KINDS, numberKind } from "../core/kinds.js";
+import { memberLine } from "../core/member_lines.js";
+import { MAX_COORDINATE, MAX_PIXELS } from "../../js/limits.js";
+import { showMixed, shownOf } from "./shared_values.js";
+import { cellOf, rowOf } from "./table_rows.js";
+import { ALIGNMENTS, align } from "../tools/alignments.js";
+import { wordsOf } from "../core/tile_words.js";
+
+const PARTS = { place: [["x", "x"], ["y", "y"]], size: [["width", "w"], ["height", "h"]] };
+
+export class ObjectRows {
+  // `panel` is the panel of the properties, which keeps rows and sends lines.
+  constructor(panel) {
+    Object.assign(this, { panel, bench: panel.bench });
+    this.bench.addEventListener("dragged", () => this.follow());
+  }
+
+  rows(owner) {
+    const { data } = owner;
+    const { panel } = this;
+    // Tiled 1.9 has it elsewhere.
+    const kind = !data.type && data.class ? "class" : "type";
+    return [
+      panel.memberRow(owner, "name", "name", data.name ?? ""),
+      panel.memberRow(owner, "class", kind, data[kind] ?? ""),
+      ...(data.text ? [this.textRow(owner)] : []),
+      this.partRow(owner, "place"),
+      this.partRow(owner, "size"),
+      this.rotationRow(owner),
+      this.visibleRow(owner),
+      ...(data.gid ? [this.tileRow(owner)] : []),
+      ...(owner.all.length > 1 && !this.bench.map.projection.isIsometric ? [this.alignRow(owner)] : []),
+    ];
+  }
+
+  kindOf(least, most) {
+    return numberKind(least, most, this.bench.editor.takesFractions, 1);
+  }
+
+  // The text that is drawn. The page may have a part of it.
+  textRow({ word, data }) {
+    const { panel } = this;
+    return panel.kept(` ${word} text`, [data.text.text ?? ""], () => {
+      const take = text => {
+        const { text: whole } = this.bench.editor.membersOf(data.id);
+        const isKnown = (whole.text ?? "") === (panel.owner().data.text.text ?? "");
+        return isKnown ? panel.send(memberLine(word, "text", { ...whole, text })) : "this text is longer than what is shown here";
+      };
+      const field = linesField(KINDS.words, data.text.text ?? "", take);
+      Object.assign(field.input.dataset, { key: " text", owner: word });
+      return { element: rowOf("text", "", "Shift+Enter begins another line", element("td", { colSpan: 2 }, field.box)), fields: [field] };
+    });
+  }
+
+  // Two numbers, beside one another.
+  partRow(owner, name) {
+    const { word, data } = owner;
+    const parts = PARTS[name];
+    const values = parts.map(([part]) => shownOf(owner, part, data[part] ?? 0));
+    const kind = name === "place" ? this.kindOf(-MAX_COORDINATE, MAX_COORDINATE) : this.kindOf(0, MAX_PIXELS);
+    return this.panel.kept(` ${word} ${name}`, values, () => {
+      const fields = parts.map(([part], at) => numberField(kind, values[at], text => this.setPart(name, part, Number(text))));
+      fields.forEach((field, at) => Object.assign(field.input.dataset, { key: ` ${parts[at][0]}`, owner: word }));
+      fields.forEach((field, at) => showMixed(field, owner, parts[at][0]));
+      return { element: rowOf(name, "", "in pixels", cellOf(fields, parts.map(part => part[1]))), fields };
+    });
+  }
+
+  // Where the editor takes whole numbers alone, a fraction comes back where its whole part is left as it is.
+  setPart(name, part, value) {
+    const lineOf = ({ word, data }) => {
+      const all = PARTS[name].map(([each]) => (each === part ? value : data[each] ?? 0));
+      if (this.bench.editor.takesFractions && !all.every(Number.isInteger)) return memberLine(word, part, value);
+      return `object ${name === "place" ? "move" : "resize"} ${data.id} ${all.map(Math.floor).join(" ")}`;
+    };
+    return this.panel.sendEach(lineOf, name === "place" ? "Move Objects" : "Resize Objects");
+  }
+
+  rotationRow(owner) {
+    const { word, data } = owner;
+    const value = shownOf(owner, "rotation", data.rotation ?? 0);
+    return this.panel.kept(` ${word} rotation`, [value], () => {
+      const kind = this.kindOf(-MAX_COORDINATE, MAX_COORDINATE);
+      const field = numberField(kind, value, text => this.panel.sendEach(each => memberLine(each.word, "rotation", Number(text)), "Rotate Objects"));
+      showMixed(field, owner, "rotation");
+      Object.assign(field.input.dataset, { key: " rotation", owner: word });
+      return { element: rowOf("rotation", "", "in degrees, clockwise", cellOf([field])), fields: [field] };
+    });
+  }
+
+  visibleRow(owner) {
+    const { word, data } = owner;
+    const value = shownOf(owner, "visible", data.visible !== false);
+    return this.panel.kept(` ${word} visible`, [value], () => {
+      const field = fieldFor("bool", value, text => this.panel.sendEach(each => memberLine(each.word, "visible", text === "true"), "Show Objects"));
+      showMixed(field, owner, "visible");
+      Object.assign(field.input.dataset, { key: " visible", owner: word });
+      return { element: rowOf("visible", "", "", cellOf([field])), fields: [field] };
+    });
+  }
+
+  // The tile of a tile object, and a button that gives it the one in hand.
+  tileRow({ word, data }) {
+    const text = wordsOf(data.gid, this.bench.tilesets);
+    return this.panel.kept(` ${word} tile ${text}`, [], () => {
+      const words = element("span", { textContent: text });
+      const take = button("Take the tile in hand", "Give it the tile of the palette that is in hand, with its flips", () => this.takeTile(word), { id: "take-tile" });
+      return { element: rowOf("tile", "", "", element("td", { colSpan: 2 }, element("div", { className: "value" }, words, take))), fields: [] };
+    });
+  }
+
+  // Buttons that put several objects into one line.
+  alignRow({ word }) {
+    return this.panel.kept(` ${word} align`, [], () => {
+      const buttons = Object.entries(ALIGNMENTS).map(([how, [sign, words]]) => button(sign, words, () => align(this.bench, how), { id: `align-${how}` }));
+      return { element: rowOf("align", "", "", element("td", { colSpan: 2 }, element("div", { className: "aligns" }, ...buttons))), fields: [] };
+    });
+  }
+
+  takeTile(word) {
+    const { bench } = this;
+    return bench.carried.bars() ? null : bench.act([memberLine(word, "gid", bench.fillValue)]);
+  }
+
+  // The numbers of the object that is dragged; behind the drag those that the map has.
+  follow() {
+    const { dragged } = this.bench.overlay;
+    if (!dragged) return this.panel.show();
+    for (const [name, members] of [...Object.entries(PARTS).map(([row, parts]) => [row, parts.map(([part]) => part)]), ["rotation", ["rotation"]]]) {
+      const fields = this.panel.rows.get(` object:${dragged.id} ${name}`)?.fields ?? [];
+      members.forEach((member, at) => dragged[member] !== undefined && fields[at]?.update(String(dragged[member])));
+    }
+    return null;
+  }
+}
