@@ -2,3 +2,4 @@ pub mod Places
 pub mod Fractions
 pub mod Aside
 pub mod Back
+pub mod Lines

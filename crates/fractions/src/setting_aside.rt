@@ -52,8 +52,8 @@ fn put_note(
     Ok(())
 }
 
-// The notes of an object's coordinates.
-fn notes_of(
+/// The notes of an object's coordinates.
+pub fn notes_of(
     alloc: Global,
     place: Place,
     members: &Map<String, Value>,
@@ -74,8 +74,8 @@ fn notes_of(
     Ok(notes)
 }
 
-// Puts notes among the members, if there are any.
-fn put_notes(
+/// Puts notes among the members, if there are any.
+pub fn put_notes(
     alloc: Global,
     members: &mut Map<String, Value>,
     notes: Map<String, Value>,
@@ -133,5 +133,20 @@ fn members_aside(
         let value = aside(alloc, place.below(key.as_str()), member)?;
         serde_json::put(&mut all, alloc, key.as_str(), value)?;
     }
+    Ok(all)
+}
+
+/// The members of an object that stands at a place, with their fractions set aside.
+pub fn object_aside(
+    alloc: Global,
+    place: Place,
+    members: &Map<String, Value>,
+) -> Result<Map<String, Value>, AllocError>
+    ensures { IfOk result (λ m. members_view m.entries
+        ≡ with_notes (notes_of place (members_view members.now.entries)) (members_aside place (members_view members.now.entries))) }
+{
+    let notes = notes_of(alloc, place, members)?;
+    let mut all = members_aside(alloc, place, members)?;
+    put_notes(alloc, &mut all, notes)?;
     Ok(all)
 }

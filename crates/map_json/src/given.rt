@@ -11,7 +11,8 @@ ghost use Rattle.map_json.specs.Given.{given_object_at, given_property_at, given
 use crate::doubles::names_are_distinct;
 use crate::elements::Element;
 use crate::size::Size;
-use crate::word::{json_word, json_words};
+use crate::word::{json_word, members_said};
+use fractions::{Fractions, Place};
 use map_model::{Object, Property, Tileset, names};
 use map_values::{JsonObject, MapFault, NoTrail};
 use refusals::MapRefusal;
@@ -48,12 +49,16 @@ fn put_id(alloc: Global, members: &mut JsonObject) -> Result<bool, AllocError>
 ///
 /// It is read as an object of a file. Then no name may stand twice among its properties.
 #[tactic(auto, unfolding(crate::specs::Given::given_object_at))]
-pub fn given_object(alloc: Global, text: &str) -> Result<GivenObject, MapFault>
-    ensures value { Gives result (given_object_at text.now) }
+pub fn given_object(
+    alloc: Global,
+    fractions: Fractions,
+    text: &str,
+) -> Result<GivenObject, MapFault>
+    ensures value { Gives result (given_object_at fractions text.now) }
     ensures id { IfOk result (λ given. IsId MAX_NEXT_ID given.object.id) }
     ensures sound { (tier : ℕ) → tier ≤ deepest_tier → IfOk result (λ given. IsObject (object_tier tier) given.object) }
 {
-    let mut members = json_words(alloc, text)?;
+    let mut members = members_said(alloc, fractions, Place::Object, text)?;
     let has_id = put_id(alloc, &mut members)?;
     let object = Object::read(alloc, ANY_SIZE, members.into_value(), &mut NoTrail)?;
     if !names_are_distinct(alloc, &object.properties, &mut NoTrail)? {
@@ -64,30 +69,30 @@ pub fn given_object(alloc: Global, text: &str) -> Result<GivenObject, MapFault>
 
 /// The tileset that a JSON text of a line says, or why it says none.
 #[tactic(auto, unfolding(crate::specs::Given::given_tileset_at))]
-pub fn given_tileset(alloc: Global, text: &str) -> Result<Tileset, MapFault>
-    ensures value { Gives result (given_tileset_at text.now) }
+pub fn given_tileset(alloc: Global, fractions: Fractions, text: &str) -> Result<Tileset, MapFault>
+    ensures value { Gives result (given_tileset_at fractions text.now) }
     ensures sound { IfOk result IsTileset }
 {
-    let members = json_words(alloc, text)?;
+    let members = members_said(alloc, fractions, Place::Elsewhere, text)?;
     Tileset::read(alloc, ANY_SIZE, members.into_value(), &mut NoTrail)
 }
 
 /// The property that a JSON text of a line says, or why it says none. Any owner can have it.
 #[tactic(auto, unfolding(crate::specs::Given::given_property_at))]
-pub fn given_property(alloc: Global, text: &str) -> Result<Property, MapFault>
-    ensures value { Gives result (given_property_at text.now) }
+pub fn given_property(alloc: Global, fractions: Fractions, text: &str) -> Result<Property, MapFault>
+    ensures value { Gives result (given_property_at fractions text.now) }
     ensures sound { (tier : ℕ) → tier ≤ object_tier deepest_tier → IfOk result (IsProperty (property_tier tier)) }
 {
-    let members = json_words(alloc, text)?;
+    let members = members_said(alloc, fractions, Place::Elsewhere, text)?;
     Property::read(alloc, ANY_SIZE, members.into_value(), &mut NoTrail)
 }
 
 /// The text that a JSON text of a line says, or why it says none.
 #[tactic(auto, unfolding(crate::specs::Given::given_text_at))]
-pub fn given_text(alloc: Global, text: &str) -> Result<String, MapFault>
-    ensures { GivesBy string_bytes result (given_text_at text.now) }
+pub fn given_text(alloc: Global, fractions: Fractions, text: &str) -> Result<String, MapFault>
+    ensures { GivesBy string_bytes result (given_text_at fractions text.now) }
 {
-    match json_word(alloc, text)? {
+    match json_word(alloc, fractions, Place::Elsewhere, text)? {
         Value::String(said) => Ok(said),
         _ => Err(MapFault::Refused(MapRefusal::MemberOfAnotherKind)),
     }

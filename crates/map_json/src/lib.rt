@@ -15,7 +15,7 @@ mod tileset;
 
 // no number may have a fraction, and ids and names must differ.
 mod doubles;
-mod fractions;
+mod floats;
 
 // A map is written,
 mod map_text;
@@ -35,6 +35,7 @@ mod object_head;
 mod same_head;
 mod word;
 
+pub use fractions::{Fractions, Place};
 pub use given::{GivenObject, given_object, given_property, given_text, given_tileset};
 pub use layer_head::{is_layer_head, is_layer_member, layer_head_members, read_layer_head};
 pub use map_head::{is_map_head, is_map_member, map_head_members, read_map_head};

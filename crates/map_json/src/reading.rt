@@ -5,7 +5,7 @@ ghost use Rattle.map_values.specs.Presence.{Gives};
 ghost use Rattle.map_json.specs.Maps.{is_map_type, parts_of, consistent, map_of, Says};
 
 use crate::doubles::{are_below_next, ids_are_unique, ids_of_map};
-use crate::fractions::has_fraction;
+use crate::floats::has_fraction;
 use crate::layer::map_layers;
 use crate::property::properties_or_none;
 use crate::size::Size;

@@ -1,11 +1,13 @@
 // A JSON object while a map is read or written.
 ghost use Rattle.std.specs.Prelude.{◌≡◌, option_map, OnOk, IfOk};
-ghost use Rattle.serde_json.specs.Data.{object, put as with_member};
+ghost use Rattle.fractions.specs.Lines.{members_said, put_words, remove_word};
+ghost use Rattle.serde_json.specs.Data.{member, no_members, object, put as with_member};
 ghost use Rattle.serde_json.specs.Find.{get_member, as_object};
 ghost use Rattle.serde_json.specs.View.{view as data_of, members_view};
 ghost use Rattle.json_members.specs.Members.{without, put_all, put_some};
 
 use crate::trail::{Segment, Trail};
+use fractions::{Fractions, Place};
 use map_model::Kept;
 use serde_json::{Map, Value};
 use std::alloc::{AllocError, Global};
@@ -109,6 +111,62 @@ impl JsonObject {
     {
         let JsonObject { members } = more;
         put_each(&mut self.members, alloc, members)
+    }
+
+    /// Puts each of these members in, which a line says of an owner at a place. After an error the members are any.
+    pub fn put_words(
+        &mut self,
+        alloc: Global,
+        fractions: Fractions,
+        place: Place,
+        words: JsonObject,
+    ) -> Result<(), AllocError>
+        ensures { OnOk result (self.new ≡ put_words fractions place words self.old) }
+    {
+        let JsonObject { members } = words;
+        fractions::put_words(alloc, fractions, place, &mut self.members, members)
+    }
+
+    /// Puts one member in, which a line says of an owner at a place. After an error the members are any.
+    pub fn put_word(
+        &mut self,
+        alloc: Global,
+        fractions: Fractions,
+        place: Place,
+        name: &str,
+        value: Value,
+    ) -> Result<(), AllocError>
+        ensures { OnOk result (self.new ≡ put_words fractions place (member name.now (data_of value) no_members) self.old) }
+    {
+        fractions::put_word(alloc, fractions, place, &mut self.members, name, value)
+    }
+
+    /// Takes a member out, as a line of an owner at a place does. After an error the members are any.
+    pub fn remove_word(
+        &mut self,
+        alloc: Global,
+        fractions: Fractions,
+        place: Place,
+        name: &str,
+    ) -> Result<(), AllocError>
+        ensures { OnOk result (self.new ≡ remove_word fractions place name.now self.old) }
+    {
+        fractions::remove_word(alloc, fractions, place, &mut self.members, name)
+    }
+
+    /// The members that a line says of an object at a place, as the map has them.
+    pub fn said(
+        self,
+        alloc: Global,
+        fractions: Fractions,
+        place: Place,
+    ) -> Result<JsonObject, AllocError>
+        ensures { IfOk result (λ said. said ≡ members_said fractions place self) }
+    {
+        let JsonObject { members } = self;
+        Ok(JsonObject {
+            members: fractions::members_said(alloc, fractions, place, members)?,
+        })
     }
 
     /// The members, in the order of their names.

@@ -1,12 +1,13 @@
 -- The document after own members of an owner were set, or one was taken out, or why they were not.
 use Rattle.std.specs.Prelude.{◌≡◌, ℕ, List, Bool, true, false, if◌then◌else◌, Result, Ok, Err, IfErr, is_some}
 use Rattle.std.specs.Option.{ok_or}
-use Rattle.serde_json.specs.Data.{Data, Members}
-use Rattle.serde_json.specs.Data as trees
+use Rattle.serde_json.specs.Data.{Data, Members, member, no_members}
 use Rattle.serde_json.specs.Find.{get_member}
 use Rattle.map_model.specs.Document.{DocumentParts}
 use Rattle.map_model.specs.Lens.{put}
-use Rattle.json_members.specs.Members.{put_all, without}
+use Rattle.fractions.specs.declared.lines.Fractions.{Fractions}
+use Rattle.fractions.specs.declared.place.Place.TheVariants as places
+use Rattle.fractions.specs.Lines.{put_words, remove_word}
 use Rattle.map_json.specs.Words.{all_named, word_at, words_at}
 use Rattle.map_values.specs.declared.fault.MapFault.{MapFault}
 use Rattle.map_values.specs.declared.fault.MapFault.TheVariants as map_faults
@@ -47,28 +48,28 @@ abbrev pub after_members : {H : Type 0} → HeadParts H → DocumentParts → �
 after_members p d id ms = said (p.read d ms) >>= after_head p d id
 
 -- one own member gets the value that a JSON text says
-abbrev pub after_set_member : {H : Type 0} → HeadParts H → DocumentParts → ℕ → List ℕ → List ℕ → Result DocumentParts MoreFault
-after_set_member p d id name json =
+abbrev pub after_set_member : {H : Type 0} → HeadParts H → Fractions → DocumentParts → ℕ → List ℕ → List ℕ → Result DocumentParts MoreFault
+after_set_member p fractions d id name json =
     own_head p d id >>= λ own.
     check (p.is_own name) faults.MemberOfOtherLines >>= λ _.
-    said (word_at json) >>= λ value.
-    after_members p d id (trees.put name value (p.members own))
+    said (word_at fractions places.Elsewhere json) >>= λ value.
+    after_members p d id (put_words fractions p.place (member name value no_members) (p.members own))
 
 -- each own member that a JSON text names gets the value that it says, all at once
-abbrev pub after_put_members : {H : Type 0} → HeadParts H → DocumentParts → ℕ → List ℕ → Result DocumentParts MoreFault
-after_put_members p d id json =
+abbrev pub after_put_members : {H : Type 0} → HeadParts H → Fractions → DocumentParts → ℕ → List ℕ → Result DocumentParts MoreFault
+after_put_members p fractions d id json =
     own_head p d id >>= λ own.
-    said (words_at json) >>= λ words.
+    said (words_at fractions p.place json) >>= λ words.
     check (all_named p.is_own words) faults.MemberOfOtherLines >>= λ _.
-    after_members p d id (put_all words (p.members own))
+    after_members p d id (put_words fractions p.place words (p.members own))
 
 -- an own member is taken out
-abbrev pub after_remove_member : {H : Type 0} → HeadParts H → DocumentParts → ℕ → List ℕ → Result DocumentParts MoreFault
-after_remove_member p d id name =
+abbrev pub after_remove_member : {H : Type 0} → HeadParts H → Fractions → DocumentParts → ℕ → List ℕ → Result DocumentParts MoreFault
+after_remove_member p fractions d id name =
     own_head p d id >>= λ own.
     check (p.is_own name) faults.MemberOfOtherLines >>= λ _.
     check (is_some (get_member name (p.members own))) faults.NoSuchMember >>= λ _.
-    after_members p d id (without name (p.members own))
+    after_members p d id (remove_word fractions p.place name (p.members own))
 
 -- ---- refusals
 -- a refusal that needs no memory, where an edit names no member

@@ -5,7 +5,9 @@ use Rattle.map_model.specs.declared.owner.MemberOwner.{MemberOwner}
 use Rattle.map_model.specs.Document.{DocumentParts}
 use Rattle.map_model.specs.Lens.{Lens, IsLawfulLens, put}
 use Rattle.map_model.specs.WellFormed.{IsWellFormed}
-use Rattle.json_members.specs.Members.{put_all, without}
+use Rattle.fractions.specs.declared.lines.Fractions.{Fractions}
+use Rattle.fractions.specs.declared.place.Place.{Place}
+use Rattle.fractions.specs.Lines.{members_said, put_words, remove_word}
 use Rattle.map_json.specs.Words.{AreWords, all_named}
 use Rattle.refusals.specs.declared.edit_fault.EditFault.{EditFault}
 use Rattle.refusals.specs.declared.edit_fault.EditFault.TheVariants.{NoMemory}
@@ -14,12 +16,14 @@ use Rattle.command_api.specs.Heads.{ShownHead, FitsHead, head_owner, head_undone
 use Rattle.command_api.specs.Swap.{FitsBack}
 
 -- the owner with an id, its head in a document, and that head as an offer shows it; why an edit is refused where no owner has the
--- id; which members are own ones; the members of a head, and the head that members say of an owner of a document
+-- id; where such an owner stands; which members are own ones; the members of a head, and the head that members say of an owner of a
+-- document
 pub record HeadParts (H : Type 0) : Type 0 where
   pub owner : ℕ → MemberOwner
   pub lens : ℕ → Lens DocumentParts H
   pub shown : ℕ → H → ShownHead
   pub absence : EditFault
+  pub place : Place
   pub is_own : List ℕ → Bool
   pub members : H → Members
   pub read : DocumentParts → Members → Result H MapRefusal
@@ -33,7 +37,8 @@ pub record AreHeadParts {H : Type 0} (p : HeadParts H) : Type 0 where
   pub only : (id : ℕ) (s : ShownHead) → head_owner s ≡ p.owner id → (h : H) × (s ≡ p.shown id h)
   pub undone : (id : ℕ) (h : H) (d : DocumentParts) → head_undone (p.shown id h) d ≡ put (p.lens id) h d
   pub fits : (id : ℕ) (h : H) (d : DocumentParts) → FitsHead (p.shown id h) d ↔ FitsBack (p.lens id) h d
-  pub put_in : (id : ℕ) (words : Members) (own new : H) (d : DocumentParts) → IsWellFormed d.map → (p.lens id).get d ≡ Some own → AreWords words
-      → all_named p.is_own words ≡ true → p.read d (put_all words (p.members own)) ≡ Ok new → IsWellFormed (put (p.lens id) new d).map
-  pub taken_out : (id : ℕ) (name : List ℕ) (own new : H) (d : DocumentParts) → IsWellFormed d.map → (p.lens id).get d ≡ Some own
-      → p.read d (without name (p.members own)) ≡ Ok new → IsWellFormed (put (p.lens id) new d).map
+  pub put_in : (id : ℕ) (fractions : Fractions) (words : Members) (own new : H) (d : DocumentParts) → IsWellFormed d.map → (p.lens id).get d ≡ Some own
+      → AreWords (members_said fractions p.place words) → all_named p.is_own words ≡ true
+      → p.read d (put_words fractions p.place words (p.members own)) ≡ Ok new → IsWellFormed (put (p.lens id) new d).map
+  pub taken_out : (id : ℕ) (fractions : Fractions) (name : List ℕ) (own new : H) (d : DocumentParts) → IsWellFormed d.map → (p.lens id).get d ≡ Some own
+      → p.read d (remove_word fractions p.place name (p.members own)) ≡ Ok new → IsWellFormed (put (p.lens id) new d).map

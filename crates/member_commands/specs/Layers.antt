@@ -1,5 +1,6 @@
 -- The heads of layers.
 use Rattle.std.specs.Prelude.{refl}
+use Rattle.fractions.specs.declared.place.Place.TheVariants as places
 use Rattle.map_model.specs.declared.heads.LayerHead.{LayerHead}
 use Rattle.map_model.specs.declared.owner.MemberOwner.TheVariants as owners
 use Rattle.map_model.specs.Heads.{layer_head_with_id}
@@ -17,6 +18,7 @@ layer_heads = record {
   lens = layer_head_with_id;
   shown = LayersHead;
   absence = NoSuchLayer;
+  place = places.Elsewhere;
   is_own = is_layer_member;
   members = layer_head_members;
   read = λ d. layer_head_at;

@@ -1,5 +1,6 @@
 -- The heads of maps.
 use Rattle.std.specs.Prelude.{refl}
+use Rattle.fractions.specs.declared.place.Place.TheVariants as places
 use Rattle.map_model.specs.declared.heads.MapHead.{MapHead}
 use Rattle.map_model.specs.declared.owner.MemberOwner.TheVariants as owners
 use Rattle.map_model.specs.Heads.{head_of_map}
@@ -18,6 +19,7 @@ map_heads = record {
   lens = λ id. head_of_map;
   shown = λ id. MapsHead;
   absence = NoSuchLayer;
+  place = places.Elsewhere;
   is_own = is_map_member;
   members = map_head_members;
   read = λ d. map_head_at d.map;

@@ -1,6 +1,7 @@
 -- The heads of objects.
 use Rattle.std.specs.Prelude.{ℕ, List, Bool, not, ◌||◌, refl}
 use Rattle.std.specs.Str.{bytes_eq}
+use Rattle.fractions.specs.declared.place.Place.TheVariants as places
 use Rattle.map_model.specs.declared.heads.ObjectHead.{ObjectHead}
 use Rattle.map_model.specs.declared.names.TheConstants.{ID, PROPERTIES}
 use Rattle.map_model.specs.declared.owner.MemberOwner.TheVariants as owners
@@ -24,6 +25,7 @@ object_heads = record {
   lens = head_with_id;
   shown = ObjectsHead;
   absence = NoSuchObject;
+  place = places.Object;
   is_own = is_object_member;
   members = head_members;
   read = λ d. head_at;

@@ -1,5 +1,6 @@
 // The heads of owners: what a command of own members needs of each kind.
 use command_api::OwnerHead;
+use fractions::Place;
 use map_model::{Document, MemberOwner};
 use map_values::{JsonObject, MapFault};
 use refusals::EditFault;
@@ -25,6 +26,10 @@ pub trait Head: Drop {
     /// Why an edit is refused where no owner has the id.
     fn absence() -> EditFault
         ensures { result ≡ parts.absence };
+
+    /// Where such an owner stands in a map, as far as it matters to fractions.
+    fn place() -> Place
+        ensures { result ≡ parts.place };
 
     /// Whether a member of this name is the owner's own, and no lines of its own change it.
     fn is_own(name: &str) -> bool

@@ -1,6 +1,7 @@
 // The heads of layers.
 use crate::head::Head;
 use command_api::OwnerHead;
+use fractions::Place;
 use map_json::{is_layer_head, is_layer_member, layer_head_members, read_layer_head};
 use map_model::{Document, LayerHead, MemberOwner};
 use map_values::{JsonObject, MapFault};
@@ -20,6 +21,10 @@ impl Head for LayerHead {
 
     fn absence() -> EditFault {
         EditFault::NoSuchLayer
+    }
+
+    fn place() -> Place {
+        Place::Elsewhere
     }
 
     fn is_own(name: &str) -> bool {

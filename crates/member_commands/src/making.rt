@@ -9,6 +9,7 @@ ghost use Rattle.member_commands.specs.Names.{put_members_names, remove_member_n
 
 use crate::head::Head;
 use crate::set_head::{MemberEdit, SetHead};
+use fractions::{Fractions, Place};
 use map_json::{MapFault, json_word, json_words};
 use map_model::{Document, MapText};
 use map_values::JsonObject;
@@ -74,7 +75,8 @@ impl<H: Head> SetHead<H> {
     }
 
     /// The command that gives the own member of the owner with an id that has this name the value that a JSON text says, not made
-    /// yet. It holds all that its turns will need. The document stays as it is.
+    /// yet. It holds all that its turns will need. The document stays as it is. Where fractions are set aside, an object's coordinate
+    /// leaves the object with its own note alone.
     ///
     /// Refused where there is no such owner, then where the owner has no own member of this name, then for what the text says, and
     /// then for what a file with it would say.
@@ -85,9 +87,10 @@ impl<H: Head> SetHead<H> {
         name: &str,
         json: &str,
         follows: bool,
+        fractions: Fractions,
     ) -> Result<SetHead<H>, MoreFault>
-        ensures command { IfOk result (λ c. Makes (set_member_names (H.parts.owner id) name.now follows) document.now (after_set_member H.parts document.now id name.now json.now) (set_head_change H.parts c)) }
-        ensures refusal { IfErr result (IsMoreRefusalOf is_early_named (after_set_member H.parts document.now id name.now json.now)) }
+        ensures command { IfOk result (λ c. Makes (set_member_names (H.parts.owner id) name.now follows) document.now (after_set_member H.parts fractions document.now id name.now json.now) (set_head_change H.parts c)) }
+        ensures refusal { IfErr result (IsMoreRefusalOf is_early_named (after_set_member H.parts fractions document.now id name.now json.now)) }
     {
         if !H::is_there(document, id) {
             return Err(MoreFault::Edit(H::absence()));
@@ -95,14 +98,17 @@ impl<H: Head> SetHead<H> {
         if !H::is_own(name) {
             return Err(MoreFault::MemberOfOtherLines);
         }
-        let value = match json_word(alloc, json) {
+        let value = match json_word(alloc, fractions, Place::Elsewhere, json) {
             Ok(value) => value,
             Err(fault) => return Err(more_fault(fault)),
         };
         let Ok(mut members) = H::members(alloc, document, id) else {
             return Err(MoreFault::Edit(EditFault::NoMemory));
         };
-        if members.put(alloc, name, value).is_err() {
+        if members
+            .put_word(alloc, fractions, H::place(), name, value)
+            .is_err()
+        {
             return Err(MoreFault::Edit(EditFault::NoMemory));
         }
         let Ok(name) = String::from_str(alloc, name) else {
@@ -123,14 +129,15 @@ impl<H: Head> SetHead<H> {
         id: u32,
         json: &str,
         follows: bool,
+        fractions: Fractions,
     ) -> Result<SetHead<H>, MoreFault>
-        ensures command { IfOk result (λ c. Makes (put_members_names (H.parts.owner id) follows) document.now (after_put_members H.parts document.now id json.now) (set_head_change H.parts c)) }
-        ensures refusal { IfErr result (IsMoreRefusalOf is_early (after_put_members H.parts document.now id json.now)) }
+        ensures command { IfOk result (λ c. Makes (put_members_names (H.parts.owner id) follows) document.now (after_put_members H.parts fractions document.now id json.now) (set_head_change H.parts c)) }
+        ensures refusal { IfErr result (IsMoreRefusalOf is_early (after_put_members H.parts fractions document.now id json.now)) }
     {
         if !H::is_there(document, id) {
             return Err(MoreFault::Edit(H::absence()));
         }
-        let words = match json_words(alloc, json) {
+        let words = match json_words(alloc, fractions, H::place(), json) {
             Ok(words) => words,
             Err(fault) => return Err(more_fault(fault)),
         };
@@ -140,7 +147,10 @@ impl<H: Head> SetHead<H> {
         let Ok(mut members) = H::members(alloc, document, id) else {
             return Err(MoreFault::Edit(EditFault::NoMemory));
         };
-        if members.put_all(alloc, words).is_err() {
+        if members
+            .put_words(alloc, fractions, H::place(), words)
+            .is_err()
+        {
             return Err(MoreFault::Edit(EditFault::NoMemory));
         }
         SetHead::saying(alloc, document, id, MemberEdit::Put, follows, members)
@@ -156,9 +166,10 @@ impl<H: Head> SetHead<H> {
         document: &Document,
         id: u32,
         name: &str,
+        fractions: Fractions,
     ) -> Result<SetHead<H>, MoreFault>
-        ensures command { IfOk result (λ c. Makes remove_member_names document.now (after_remove_member H.parts document.now id name.now) (set_head_change H.parts c)) }
-        ensures refusal { IfErr result (IsMoreRefusalOf is_early_named (after_remove_member H.parts document.now id name.now)) }
+        ensures command { IfOk result (λ c. Makes remove_member_names document.now (after_remove_member H.parts fractions document.now id name.now) (set_head_change H.parts c)) }
+        ensures refusal { IfErr result (IsMoreRefusalOf is_early_named (after_remove_member H.parts fractions document.now id name.now)) }
     {
         if !H::is_there(document, id) {
             return Err(MoreFault::Edit(H::absence()));
@@ -172,7 +183,12 @@ impl<H: Head> SetHead<H> {
         if members.get(name).is_none() {
             return Err(MoreFault::NoSuchMember);
         }
-        members.remove(name);
+        if members
+            .remove_word(alloc, fractions, H::place(), name)
+            .is_err()
+        {
+            return Err(MoreFault::Edit(EditFault::NoMemory));
+        }
         SetHead::saying(alloc, document, id, MemberEdit::Remove, false, members)
     }
 }

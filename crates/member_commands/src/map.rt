@@ -1,6 +1,7 @@
 // The heads of maps.
 use crate::head::Head;
 use command_api::OwnerHead;
+use fractions::Place;
 use map_json::{is_map_head, is_map_member, map_head_members, read_map_head};
 use map_model::{Document, MapHead, MemberOwner};
 use map_values::{JsonObject, MapFault};
@@ -21,6 +22,10 @@ impl Head for MapHead {
     // (a document has a map, so nothing is refused as this)
     fn absence() -> EditFault {
         EditFault::NoSuchLayer
+    }
+
+    fn place() -> Place {
+        Place::Elsewhere
     }
 
     fn is_own(name: &str) -> bool {

@@ -4,6 +4,7 @@ ghost use Rattle.member_commands.specs.Objects.{is_object_member};
 
 use crate::head::Head;
 use command_api::OwnerHead;
+use fractions::Place;
 use json_trees::RESERVED_NAME;
 use map_json::{is_object_head, object_head_members, read_object_head};
 use map_model::{Document, MemberOwner, ObjectHead, names};
@@ -31,6 +32,10 @@ impl Head for ObjectHead {
 
     fn absence() -> EditFault {
         EditFault::NoSuchObject
+    }
+
+    fn place() -> Place {
+        Place::Object
     }
 
     fn is_own(name: &str) -> bool {

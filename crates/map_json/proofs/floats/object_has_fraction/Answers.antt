@@ -7,7 +7,7 @@ use Rattle.map_model.specs.declared.names.TheConstants.{VERSION}
 use Rattle.json_members.specs.Members.{without}
 use Rattle.map_json.specs.Maps.{version_has_fraction}
 use Rattle.map_json.proofs.Walks.{has_fraction-object}
-use Rattle.map_json.proofs.fractions.object_has_fraction.Goals as goal
+use Rattle.map_json.proofs.floats.object_has_fraction.Goals as goal
 
 pub returns-else-others_have_fraction : goal.returns-else-others_have_fraction
 returns-else-others_have_fraction g c =

@@ -1,0 +1,69 @@
+-- Members that a line says: put among an owner's with their fractions set aside, or taken out with the note of a fraction.
+use Rattle.std.specs.Prelude.{ℕ, List, Bool, true, false, ◌||◌, if◌then◌else◌, unwrap_or}
+use Rattle.serde_json.specs.Data.{Data, Members, no_members, member}
+use Rattle.fractions.specs.declared.lines.Fractions.{Fractions}
+use Rattle.fractions.specs.declared.lines.Fractions.TheVariants.{Refused, SetAside}
+use Rattle.fractions.specs.declared.place.Place.{Place}
+use Rattle.fractions.specs.declared.place.Place.TheVariants.{Map, Layer, Object, Coordinate, Version, Elsewhere}
+use Rattle.json_members.specs.Members.{put_all, without}
+use Rattle.fractions.specs.Places.{below}
+use Rattle.fractions.specs.Aside.{reserved_name, aside, members_aside, notes_of, with_notes}
+use Rattle.fractions.specs.Back.{notes_in}
+
+-- ---- what a line says
+-- a value at a place, as the map has it
+abbrev pub said : Fractions → Place → Data → Data
+said Refused p d = d
+said SetAside p d = aside p d
+
+-- the members of an object at a place, as the map has them
+abbrev pub members_said : Fractions → Place → Members → Members
+members_said Refused p ms = ms
+members_said SetAside p ms = with_notes (notes_of p ms) (members_aside p ms)
+
+-- ---- notes
+-- whether an object notes a fraction that stands here
+abbrev pub is_noted : Place → Bool
+is_noted Map = false
+is_noted Layer = false
+is_noted Object = false
+is_noted Coordinate = true
+is_noted Version = false
+is_noted Elsewhere = false
+
+-- whether one of these members is such
+abbrev pub has_noted : Place → Members → Bool
+has_noted p no_members = false
+has_noted p (member k d ms) = is_noted (below p k) || has_noted p ms
+
+-- the notes that an owner has
+abbrev pub notes_at : Members → Members
+notes_at ms = unwrap_or (notes_in ms) no_members
+
+-- an owner's members, with these notes in place of those that it has
+abbrev pub with_own_notes : Members → Members → Members
+with_own_notes ns ms = with_notes ns (without reserved_name ms)
+
+-- the members but those that others name
+abbrev pub without_named : Members → Members → Members
+without_named no_members ms = ms
+without_named (member k d words) ms = without_named words (without k ms)
+
+-- an owner's members, in whose notes stands what these words ask to be noted; where they name no coordinate, all stays
+abbrev pub renoted : Place → Members → Members → Members
+renoted p words ms = if has_noted p words then with_own_notes (put_all (notes_of p words) (without_named words (notes_at ms))) ms else ms
+
+-- an owner's members without the note of one of them
+abbrev pub unnoted : Place → List ℕ → Members → Members
+unnoted p k ms = if is_noted (below p k) then with_own_notes (without k (notes_at ms)) ms else ms
+
+-- ---- what lines do
+-- the members of an owner at a place, with each of these that a line says put in
+abbrev pub put_words : Fractions → Place → Members → Members → Members
+put_words Refused p words ms = put_all words ms
+put_words SetAside p words ms = put_all (members_aside p words) (renoted p words ms)
+
+-- the members of an owner at a place without the one of this name
+abbrev pub remove_word : Fractions → Place → List ℕ → Members → Members
+remove_word Refused p k ms = without k ms
+remove_word SetAside p k ms = without k (unnoted p k ms)
