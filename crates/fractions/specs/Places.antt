@@ -1,5 +1,5 @@
 -- Where in a map's tree a value stands.
-use Rattle.std.specs.Prelude.{ℕ, List, codes, Bool, ◌||◌, if◌then◌else◌}
+use Rattle.std.specs.Prelude.{ℕ, List, codes, Bool, true, false, ◌||◌, if◌then◌else◌}
 use Rattle.std.specs.Str.{bytes_eq}
 use Rattle.fractions.specs.declared.place.Place.{Place}
 use Rattle.fractions.specs.declared.place.Place.TheVariants.{Map, Layer, Object, Coordinate, Version, Elsewhere}
@@ -29,3 +29,12 @@ inside Object = Object
 inside Coordinate = Elsewhere
 inside Version = Elsewhere
 inside Elsewhere = Elsewhere
+
+-- whether it is neither the root nor its version, which alone may be a fraction
+abbrev pub is_inner : Place → Bool
+is_inner Map = false
+is_inner Layer = true
+is_inner Object = true
+is_inner Coordinate = true
+is_inner Version = false
+is_inner Elsewhere = true

@@ -123,14 +123,16 @@ module _ {tier : ℕ} {unread : List (List ℕ)} (own : Own) (kept : Members) (a
       AreFineMembers-read (MAX_DEPTH - tier) (put_all words (with_own own kept)) (put_all_readable words (with_own own kept) given.readable members_readable)
       (put_all_whole words (with_own own kept) given.whole plain.0) (omega arith)
 
-  -- without one of them
-  pub rest_fine : (name : List ℕ) → AreFineMembers (MAX_DEPTH - tier) (without name (with_own own kept))
-  rest_fine name =
+  pub own_fine : AreFineMembers (MAX_DEPTH - tier) (with_own own kept)
+  own_fine =
       let plain = own_flat own kept flat are.whole in
       let own_deep = plain.1 in
       let kept_deep = are.shallow in
-      AreFineMembers-without (MAX_DEPTH - tier) name (with_own own kept)
-      (AreFineMembers-read (MAX_DEPTH - tier) (with_own own kept) members_readable plain.0 (omega arith))
+      AreFineMembers-read (MAX_DEPTH - tier) (with_own own kept) members_readable plain.0 (omega arith)
+
+  -- without one of them
+  pub rest_fine : (name : List ℕ) → AreFineMembers (MAX_DEPTH - tier) (without name (with_own own kept))
+  rest_fine name = AreFineMembers-without (MAX_DEPTH - tier) name (with_own own kept) own_fine
 
 -- ---- names that members lack
 -- members that a line names are none of these

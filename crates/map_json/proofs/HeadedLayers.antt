@@ -1,5 +1,5 @@
 -- The head of a layer with an id, in a document: the map is well formed with a head that was read from its members.
-use Rattle.std.proofs.Common.{◌≡◌, ℕ, List, ◌+◌, ◌≤◌, Option, Some, None, option_and_then, true, Ok, refl, sym, ◌∙◌, arith}
+use Rattle.std.proofs.Common.{◌≡◌, ℕ, List, ◌+◌, ◌≤◌, Option, Some, None, option_and_then, true, Ok, refl, sym, ap, ◌∙◌, arith}
 use Rattle.serde_json.specs.Data.{Members}
 use Rattle.map_model.specs.declared.heads.LayerHead.{LayerHead}
 use Rattle.map_model.specs.declared.limits.TheConstants.{MAX_DEPTH}
@@ -12,11 +12,14 @@ use Rattle.map_model.specs.Properties.{tier_of}
 use Rattle.map_model.specs.WellFormed.{IsWellFormed}
 use Rattle.map_model.proofs.Keeps.{changed-keeps, layer-Stands, layer_of-IsLayer, object_ids-IsReplaced, tier_of-found}
 use Rattle.map_model.proofs.LensLaws.{some-eq}
-use Rattle.json_members.specs.Members.{put_all, without}
+use Rattle.fractions.specs.declared.lines.Fractions.{Fractions}
+use Rattle.fractions.specs.declared.place.Place.TheVariants as places
+use Rattle.fractions.specs.Lines.{members_said, put_words, remove_word}
 use Rattle.map_json.specs.declared.word.TheConstants.{MAX_WORD_DEPTH}
 use Rattle.map_json.specs.LayerHeads.{IsLayerHead, is_layer_member, layer_head_at, layer_head_members}
 use Rattle.map_json.specs.Words.{AreWords, all_named}
 use Rattle.map_json.proofs.LayerHeadLaws.{layer_drop_sound, layer_put_sound}
+use Rattle.map_json.proofs.Noting.{all_named-elsewhere, put_words-elsewhere, remove_word-elsewhere}
 
 -- a document whose layer has a head
 pub record HasLayerHead (id : ℕ) (d : DocumentParts) (h : LayerHead) : Type 0 where
@@ -51,16 +54,20 @@ with_head id d own new h has sound =
     (rw (r.1.1.now ∙ sym r.1.1.was) h.layers.object_ids) h
 
 -- ---- heads that were read
-pub layer_put-well_formed : (id : ℕ) (words : Members) (own new : LayerHead) (d : DocumentParts) → IsWellFormed d.map
-    → (layer_head_with_id id).get d ≡ Some own → AreWords words → all_named is_layer_member words ≡ true
-    → layer_head_at (put_all words (layer_head_members own)) ≡ Ok new → IsWellFormed (put (layer_head_with_id id) new d).map
-layer_put-well_formed id words own new d h given are named e =
+pub layer_put-well_formed : (id : ℕ) (f : Fractions) (words : Members) (own new : LayerHead) (d : DocumentParts) → IsWellFormed d.map
+    → (layer_head_with_id id).get d ≡ Some own → AreWords (members_said f places.Elsewhere words) → all_named is_layer_member words ≡ true
+    → layer_head_at (put_words f places.Elsewhere words (layer_head_members own)) ≡ Ok new → IsWellFormed (put (layer_head_with_id id) new d).map
+layer_put-well_formed id f words own new d h given are named e =
     let has = has_layer_head id d own given in
-    with_head id d own new h has (λ is. layer_put_sound (tier_of d.map id) has.layer.body words own new (words_fit id d has.layer has.at) are named is e)
+    let said = members_said f places.Elsewhere words in
+    let read = ap layer_head_at (sym (put_words-elsewhere f words (layer_head_members own))) ∙ e in
+    with_head id d own new h has (λ is. layer_put_sound (tier_of d.map id) has.layer.body said own new (words_fit id d has.layer has.at) are
+    (all_named-elsewhere is_layer_member f words ∙ named) is read)
 
-pub layer_without-well_formed : (id : ℕ) (name : List ℕ) (own new : LayerHead) (d : DocumentParts) → IsWellFormed d.map
-    → (layer_head_with_id id).get d ≡ Some own → layer_head_at (without name (layer_head_members own)) ≡ Ok new
+pub layer_without-well_formed : (id : ℕ) (f : Fractions) (name : List ℕ) (own new : LayerHead) (d : DocumentParts) → IsWellFormed d.map
+    → (layer_head_with_id id).get d ≡ Some own → layer_head_at (remove_word f places.Elsewhere name (layer_head_members own)) ≡ Ok new
     → IsWellFormed (put (layer_head_with_id id) new d).map
-layer_without-well_formed id name own new d h given e =
+layer_without-well_formed id f name own new d h given e =
     let has = has_layer_head id d own given in
-    with_head id d own new h has (λ is. layer_drop_sound (tier_of d.map id) has.layer.body name own new (words_fit id d has.layer has.at) is e)
+    let read = ap layer_head_at (sym (remove_word-elsewhere f name (layer_head_members own))) ∙ e in
+    with_head id d own new h has (λ is. layer_drop_sound (tier_of d.map id) has.layer.body name own new (words_fit id d has.layer has.at) is read)

@@ -1,5 +1,5 @@
 -- The head of an object with an id, in a document: the map is well formed with a head that was read from its members.
-use Rattle.std.proofs.Common.{◌≡◌, ℕ, List, ◌+◌, ◌≤◌, Option, Some, None, IsSome, option_and_then, Ok, refl, sym, ◌∙◌, subst, arith}
+use Rattle.std.proofs.Common.{◌≡◌, ℕ, List, Bool, true, false, ◌+◌, ◌≤◌, Option, Some, None, IsSome, option_and_then, Ok, refl, sym, ◌∙◌, subst, arith}
 use Rattle.std.specs.List.{slice_get}
 use Rattle.serde_json.specs.Data.{Members}
 use Rattle.map_model.specs.declared.heads.ObjectHead.{ObjectHead}
@@ -20,10 +20,13 @@ use Rattle.map_model.proofs.FoundLaws.{found-get, found-update}
 use Rattle.map_model.proofs.Keeps.{layer-Stands, tier_of-found}
 use Rattle.map_model.proofs.LensLaws.{of_object-get, some-eq}
 use Rattle.map_model.proofs.ObjectKeeps.{object_at-IsObject, with_object-keeps_there}
-use Rattle.json_members.specs.Members.{put_all, without}
+use Rattle.fractions.specs.declared.lines.Fractions.{Fractions}
+use Rattle.fractions.specs.declared.place.Place.TheVariants as places
+use Rattle.fractions.specs.Aside.{reserved_name}
+use Rattle.fractions.specs.Lines.{members_said, put_words, remove_word}
 use Rattle.map_json.specs.declared.word.TheConstants.{MAX_WORD_DEPTH}
 use Rattle.map_json.specs.ObjectHeads.{IsObjectHead, head_at, head_members}
-use Rattle.map_json.specs.Words.{AreWords}
+use Rattle.map_json.specs.Words.{AreWords, all_named}
 use Rattle.map_json.proofs.ObjectHeadLaws.{head_drop_sound, head_put_sound}
 
 -- ---- how deep an object stands
@@ -102,10 +105,14 @@ with_head id d own new h e sound =
     subst (λ (x : DocumentParts). IsWellFormed x.map) (head-put id has.place d has.stands new) keeps
 
 -- ---- heads that were read
-pub put-well_formed : (id : ℕ) (words : Members) (own new : ObjectHead) (d : DocumentParts) → IsWellFormed d.map → (head_with_id id).get d ≡ Some own
-    → AreWords words → head_at (put_all words (head_members own)) ≡ Ok new → IsWellFormed (put (head_with_id id) new d).map
-put-well_formed id words own new d h given are e = with_head id d own new h given (λ tier room is. head_put_sound tier words own new room are is e)
+pub put-well_formed : (is_own : List ℕ → Bool) → is_own reserved_name ≡ false → (id : ℕ) (f : Fractions) (words : Members) (own new : ObjectHead)
+    (d : DocumentParts) → IsWellFormed d.map → (head_with_id id).get d ≡ Some own → AreWords (members_said f places.Object words)
+    → all_named is_own words ≡ true → head_at (put_words f places.Object words (head_members own)) ≡ Ok new
+    → IsWellFormed (put (head_with_id id) new d).map
+put-well_formed is_own reserved id f words own new d h given are named e =
+    with_head id d own new h given (λ tier room is. head_put_sound is_own reserved tier f words own new room are named is e)
 
-pub without-well_formed : (id : ℕ) (name : List ℕ) (own new : ObjectHead) (d : DocumentParts) → IsWellFormed d.map → (head_with_id id).get d ≡ Some own
-    → head_at (without name (head_members own)) ≡ Ok new → IsWellFormed (put (head_with_id id) new d).map
-without-well_formed id name own new d h given e = with_head id d own new h given (λ tier room is. head_drop_sound tier name own new room is e)
+pub without-well_formed : (id : ℕ) (f : Fractions) (name : List ℕ) (own new : ObjectHead) (d : DocumentParts) → IsWellFormed d.map
+    → (head_with_id id).get d ≡ Some own → head_at (remove_word f places.Object name (head_members own)) ≡ Ok new
+    → IsWellFormed (put (head_with_id id) new d).map
+without-well_formed id f name own new d h given e = with_head id d own new h given (λ tier room is. head_drop_sound tier f name own new room is e)

@@ -43,3 +43,5 @@ pub mod LayerHeadLaws
 pub mod HeadedLayers
 pub mod MapHeadLaws
 pub mod GivenLaws
+pub mod Asides
+pub mod Noting

@@ -1,5 +1,5 @@
 -- A map is well formed with a head that was read from the members of its own, with some put in or taken out.
-use Rattle.std.proofs.Common.{◌≡◌, ℕ, ◌+◌, ◌-◌, ◌≤◌, List, [], ◌∷◌, bytes_eq, true, false, Some, None, refl, subst, ap, ◌∙◌, arith}
+use Rattle.std.proofs.Common.{◌≡◌, ℕ, ◌+◌, ◌-◌, ◌≤◌, List, [], ◌∷◌, bytes_eq, true, false, Some, None, refl, sym, subst, ap, ◌∙◌, arith}
 use Rattle.std.specs.Prelude.{Ok, nat_lt}
 use Rattle.std.specs.List.{list_all, list_any}
 use Rattle.std.proofs.lemmas.Bool.{and_parts}
@@ -19,6 +19,9 @@ use Rattle.map_model.specs.Lists.{Each}
 use Rattle.map_model.specs.WellFormed.{IsWellFormed, layer_ids, object_ids}
 use Rattle.map_model.proofs.LensLaws.{some-eq}
 use Rattle.json_members.specs.Members.{put_all, without, without_all}
+use Rattle.fractions.specs.declared.lines.Fractions.{Fractions}
+use Rattle.fractions.specs.declared.place.Place.TheVariants as places
+use Rattle.fractions.specs.Lines.{members_said, put_words, remove_word}
 use Rattle.map_values.specs.Presence.{required}
 use Rattle.map_values.specs.Scalars.{whole_at}
 use Rattle.map_json.specs.Distinctness.{are_below_next}
@@ -29,6 +32,7 @@ use Rattle.map_json.proofs.Apart.{Each-IsId-next}
 use Rattle.map_json.proofs.Fine.{AreFineMembers}
 use Rattle.map_json.proofs.HeadWords.{AreFlat, put_all_lacks_each, rest_fine, with_own_lacks_each, without_lacks_each, words_fine}
 use Rattle.map_json.proofs.Lacking.{LacksAll, LacksAll-without_all, absent_from_all}
+use Rattle.map_json.proofs.Noting.{all_named-elsewhere, put_words-elsewhere, remove_word-elsewhere}
 use Rattle.map_json.proofs.Own.{names}
 use Rattle.map_json.proofs.Sound.{by_bind, by_check, kept_sound, ok_is, required_whole_sound}
 use Rattle.map_json.proofs.WrittenTrees.{AreReadableOwn, number_below}
@@ -178,23 +182,27 @@ read-well_formed n room m ms new h fine lacks e =
 own_lacks : (m : MapParts) → IsWellFormed m → LacksAll other_names (map_head_members (map_head m))
 own_lacks m h = with_own_lacks_each (map_head_own (map_head m)) other_names (others-apart (map_head m)) m.kept (others_kept m.kept h.kept.unread)
 
-pub map_put-well_formed : (words : Members) (own new : MapHead) (d : DocumentParts) → IsWellFormed d.map → head_of_map.get d ≡ Some own → AreWords words
-    → all_named is_map_member words ≡ true → map_head_at d.map (put_all words (map_head_members own)) ≡ Ok new
-    → IsWellFormed (put head_of_map new d).map
-map_put-well_formed words own new d h given are named e =
+pub map_put-well_formed : (f : Fractions) (words : Members) (own new : MapHead) (d : DocumentParts) → IsWellFormed d.map → head_of_map.get d ≡ Some own
+    → AreWords (members_said f places.Elsewhere words) → all_named is_map_member words ≡ true
+    → map_head_at d.map (put_words f places.Elsewhere words (map_head_members own)) ≡ Ok new → IsWellFormed (put head_of_map new d).map
+map_put-well_formed f words own new d h given are named e =
     let is : map_head d.map ≡ own = some-eq (map_head d.map) own given in
     let head = map_head d.map in
-    let read = ap (λ x. map_head_at d.map (put_all words (map_head_members x))) is ∙ e in
-    let fine = words_fine (map_head_own head) head.kept h.kept (own_readable head (map_head_is d.map h)) (own_flat head) words (omega arith) are in
-    read-well_formed (MAX_DEPTH - map_tier) (omega arith) d.map (put_all words (map_head_members head)) new h fine
-    (put_all_lacks_each is_map_member other_names others-fixed words (map_head_members head) named (own_lacks d.map h)) read
+    let said = members_said f places.Elsewhere words in
+    let read = ap (map_head_at d.map) (sym (put_words-elsewhere f words (map_head_members head)))
+    ∙ (ap (λ x. map_head_at d.map (put_words f places.Elsewhere words (map_head_members x))) is ∙ e) in
+    let fine = words_fine (map_head_own head) head.kept h.kept (own_readable head (map_head_is d.map h)) (own_flat head) said (omega arith) are in
+    read-well_formed (MAX_DEPTH - map_tier) (omega arith) d.map (put_all said (map_head_members head)) new h fine
+    (put_all_lacks_each is_map_member other_names others-fixed said (map_head_members head) (all_named-elsewhere is_map_member f words ∙ named)
+    (own_lacks d.map h)) read
 
-pub map_without-well_formed : (name : List ℕ) (own new : MapHead) (d : DocumentParts) → IsWellFormed d.map → head_of_map.get d ≡ Some own
-    → map_head_at d.map (without name (map_head_members own)) ≡ Ok new → IsWellFormed (put head_of_map new d).map
-map_without-well_formed name own new d h given e =
+pub map_without-well_formed : (f : Fractions) (name : List ℕ) (own new : MapHead) (d : DocumentParts) → IsWellFormed d.map → head_of_map.get d ≡ Some own
+    → map_head_at d.map (remove_word f places.Elsewhere name (map_head_members own)) ≡ Ok new → IsWellFormed (put head_of_map new d).map
+map_without-well_formed f name own new d h given e =
     let is : map_head d.map ≡ own = some-eq (map_head d.map) own given in
     let head = map_head d.map in
-    let read = ap (λ x. map_head_at d.map (without name (map_head_members x))) is ∙ e in
+    let read = ap (map_head_at d.map) (sym (remove_word-elsewhere f name (map_head_members head)))
+    ∙ (ap (λ x. map_head_at d.map (remove_word f places.Elsewhere name (map_head_members x))) is ∙ e) in
     let fine = rest_fine (map_head_own head) head.kept h.kept (own_readable head (map_head_is d.map h)) (own_flat head) name in
     read-well_formed (MAX_DEPTH - map_tier) (omega arith) d.map (without name (map_head_members head)) new h fine
     (without_lacks_each other_names name (map_head_members head) (own_lacks d.map h)) read

@@ -1,5 +1,5 @@
 -- A head that was read from the members of another one, with some put in or taken out, is one of an object at the same tier.
-use Rattle.std.proofs.Common.{◌≡◌, ℕ, ◌+◌, ◌-◌, ◌≤◌, List, refl, subst, arith}
+use Rattle.std.proofs.Common.{◌≡◌, ℕ, suc, ◌+◌, ◌-◌, ◌≤◌, List, Bool, true, false, refl, sym, subst, arith}
 use Rattle.std.specs.Prelude.{Ok}
 use Rattle.serde_json.specs.Data.{Members}
 use Rattle.serde_json.specs.Find.{get_member}
@@ -8,15 +8,21 @@ use Rattle.map_model.specs.declared.limits.TheConstants.{MAX_DEPTH}
 use Rattle.map_model.specs.declared.names.TheConstants.{NAME, VISIBLE, GID}
 use Rattle.map_model.specs.Format.{object_names}
 use Rattle.map_model.specs.WellFormed.{IsTileValue}
-use Rattle.json_members.specs.Members.{put_all, without, without_all}
+use Rattle.json_members.specs.Members.{without_all}
+use Rattle.fractions.specs.declared.lines.Fractions.{Fractions}
+use Rattle.fractions.specs.declared.place.Place.TheVariants as places
+use Rattle.fractions.specs.Aside.{reserved_name}
+use Rattle.fractions.specs.Lines.{members_said, put_words, remove_word}
 use Rattle.map_values.specs.Presence.{optional}
 use Rattle.map_values.specs.Scalars.{text_at, truth_at, whole_at}
 use Rattle.map_json.specs.ObjectHeads.{IsObjectHead, head_at, head_members, head_own}
 use Rattle.map_json.specs.Reading.{placing_of}
-use Rattle.map_json.specs.Words.{AreWords}
+use Rattle.map_json.specs.Words.{AreWords, all_named}
 use Rattle.map_json.specs.declared.word.TheConstants.{MAX_WORD_DEPTH}
 use Rattle.map_json.proofs.Fine.{AreFineMembers}
-use Rattle.map_json.proofs.HeadWords.{AreFlat, gid_flat, pixels_flat, rest_fine, text_flat, truth_flat, words_fine}
+use Rattle.map_json.proofs.FineLemmas.{AreFineMembers-read}
+use Rattle.map_json.proofs.HeadWords.{AreFlat, gid_flat, own_fine, pixels_flat, text_flat, truth_flat}
+use Rattle.map_json.proofs.Noting.{fine_put_words, fine_remove_word}
 use Rattle.map_json.proofs.Owners.{gid_sound, optional_sound, placing_sound}
 use Rattle.map_json.proofs.Sound.{by_bind, kept_sound, ok_is, optional_text_sound}
 use Rattle.map_json.proofs.WrittenTrees.{AreReadableOwn, gid_readable, pixels_readable, text_readable, truth_readable}
@@ -66,18 +72,30 @@ head_at_sound tier n room ms h fine e =
     subst (IsObjectHead tier) (ok_is (record { placing = placing; name = name; visible = visible; gid = gid; kept = without_all object_names ms }) h e4)
     made))))
 
--- the head that its members say with others put in, where lines can say those and there is room for them
-pub head_put_sound : (tier : ℕ) (words : Members) (h new : ObjectHead) → tier + MAX_WORD_DEPTH ≤ MAX_DEPTH → AreWords words → IsObjectHead tier h
-    → head_at (put_all words (head_members h)) ≡ Ok new → IsObjectHead tier new
-head_put_sound tier words h new room are is e =
-    let there : tier + (MAX_DEPTH - tier) ≤ MAX_DEPTH = omega arith in
-    let fine = words_fine (head_own h) h.kept is.kept (own_readable tier h is) (own_flat tier h is) words room are in
-    head_at_sound tier (MAX_DEPTH - tier) there (put_all words (head_members h)) new fine e
+-- ---- lines
+-- the members of a head, at a tier where there is room for a text of a line
+members_fine : (tier : ℕ) (h : ObjectHead) → IsObjectHead tier h → AreFineMembers (MAX_DEPTH - tier) (head_members h)
+members_fine tier h is = own_fine (head_own h) h.kept is.kept (own_readable tier h is) (own_flat tier h is)
+
+-- the head that its members say with others put in, where lines can say those, and none has the reserved name
+pub head_put_sound : (is_own : List ℕ → Bool) → is_own reserved_name ≡ false → (tier : ℕ) (f : Fractions) (words : Members) (h new : ObjectHead)
+    → tier + MAX_WORD_DEPTH ≤ MAX_DEPTH → AreWords (members_said f places.Object words) → all_named is_own words ≡ true → IsObjectHead tier h
+    → head_at (put_words f places.Object words (head_members h)) ≡ Ok new → IsObjectHead tier new
+head_put_sound is_own reserved tier f words h new room are named is e =
+    let deep = are.shallow in
+    let n = MAX_DEPTH - tier - 1 in
+    let next : suc n ≡ MAX_DEPTH - tier = omega arith in
+    let said = AreFineMembers-read (suc n) (members_said f places.Object words) are.readable are.whole (omega arith) in
+    let own = subst (λ k. AreFineMembers k (head_members h)) (sym next) (members_fine tier h is) in
+    let fine = fine_put_words is_own reserved n places.Object f words (head_members h) said named own in
+    head_at_sound tier (suc n) (omega arith) (put_words f places.Object words (head_members h)) new fine e
 
 -- the head that its members say without one of them
-pub head_drop_sound : (tier : ℕ) (name : List ℕ) (h new : ObjectHead) → tier + MAX_WORD_DEPTH ≤ MAX_DEPTH → IsObjectHead tier h
-    → head_at (without name (head_members h)) ≡ Ok new → IsObjectHead tier new
-head_drop_sound tier name h new room is e =
-    let there : tier + (MAX_DEPTH - tier) ≤ MAX_DEPTH = omega arith in
-    let fine = rest_fine (head_own h) h.kept is.kept (own_readable tier h is) (own_flat tier h is) name in
-    head_at_sound tier (MAX_DEPTH - tier) there (without name (head_members h)) new fine e
+pub head_drop_sound : (tier : ℕ) (f : Fractions) (name : List ℕ) (h new : ObjectHead) → tier + MAX_WORD_DEPTH ≤ MAX_DEPTH → IsObjectHead tier h
+    → head_at (remove_word f places.Object name (head_members h)) ≡ Ok new → IsObjectHead tier new
+head_drop_sound tier f name h new room is e =
+    let n = MAX_DEPTH - tier - 1 in
+    let next : suc n ≡ MAX_DEPTH - tier = omega arith in
+    let own = subst (λ k. AreFineMembers k (head_members h)) (sym next) (members_fine tier h is) in
+    head_at_sound tier (suc n) (omega arith) (remove_word f places.Object name (head_members h)) new
+    (fine_remove_word n places.Object f name (head_members h) own) e

@@ -1,8 +1,9 @@
 // A JSON text in a line.
-ghost use Rattle.std.specs.Prelude.{◌≡◌, ◌||◌, nat_le, not, IfOk};
+ghost use Rattle.std.specs.Prelude.{◌≡◌, ◌||◌, nat_le, not, IfOk, IsTrue};
 ghost use Rattle.serde_json.specs.Data.{depth, object};
 ghost use Rattle.serde_json.specs.View.{view as data_of};
 ghost use Rattle.serde_json.specs.Written.{has_float};
+ghost use Rattle.fractions.specs.Places.{is_inner};
 ghost use Rattle.fractions.specs.Lines.{members_said as said_members, said};
 ghost use Rattle.map_values.specs.Presence.{Gives, GivesBy};
 ghost use Rattle.map_json.specs.Words.{members_at, word_at, are_set_aside, words_at, AreWords, IsWord};
@@ -45,8 +46,8 @@ fn is_shallow(
     }
 }
 
-/// The value that a JSON text of a line says, which is to stand at a place of the map, or why it says none. Nothing is set aside in
-/// it yet.
+/// The value that a JSON text of a line says, which is to stand at a place inside of the map, or why it says none. Nothing is set
+/// aside in it yet.
 #[tactic(auto, unfolding(crate::specs::Words::word_at))]
 pub fn json_word(
     alloc: Global,
@@ -54,6 +55,7 @@ pub fn json_word(
     place: Place,
     text: &str,
 ) -> Result<Value, MapFault>
+    requires { IsTrue (is_inner place) }
     ensures value { GivesBy data_of result (word_at fractions place text.now) }
     ensures word { IfOk result (λ value. IsWord (said fractions place (data_of value))) }
 {
@@ -79,8 +81,8 @@ pub fn json_word(
     Ok(value)
 }
 
-/// The members that a JSON text of a line says, which are to stand in an object at a place of the map, or why it says none. Nothing
-/// is set aside in them yet.
+/// The members that a JSON text of a line says, which are to stand in an object at a place inside of the map, or why it says none.
+/// Nothing is set aside in them yet.
 #[tactic(auto, unfolding(crate::specs::Words::words_at))]
 pub fn json_words(
     alloc: Global,
@@ -88,6 +90,7 @@ pub fn json_words(
     place: Place,
     text: &str,
 ) -> Result<JsonObject, MapFault>
+    requires { IsTrue (is_inner place) }
     ensures members { Gives result (words_at fractions place text.now) }
     ensures words { IfOk result (λ words. AreWords (said_members fractions place words)) }
 {
@@ -98,7 +101,7 @@ pub fn json_words(
     }
 }
 
-/// The members that a JSON text of a line says, as the map has them in an object at a place, or why it says none.
+/// The members that a JSON text of a line says, as the map has them in an object at a place inside of it, or why it says none.
 #[tactic(auto, unfolding(crate::specs::Words::members_at))]
 pub fn members_said(
     alloc: Global,
@@ -106,6 +109,7 @@ pub fn members_said(
     place: Place,
     text: &str,
 ) -> Result<JsonObject, MapFault>
+    requires { IsTrue (is_inner place) }
     ensures members { Gives result (members_at fractions place text.now) }
     ensures words { IfOk result AreWords }
 {

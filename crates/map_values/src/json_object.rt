@@ -4,7 +4,7 @@ ghost use Rattle.fractions.specs.Lines.{members_said, put_words, remove_word};
 ghost use Rattle.serde_json.specs.Data.{member, no_members, object, put as with_member};
 ghost use Rattle.serde_json.specs.Find.{get_member, as_object};
 ghost use Rattle.serde_json.specs.View.{view as data_of, members_view};
-ghost use Rattle.json_members.specs.Members.{without, put_all, put_some};
+ghost use Rattle.json_members.specs.Members.{without, put_some};
 
 use crate::trail::{Segment, Trail};
 use fractions::{Fractions, Place};
@@ -105,14 +105,6 @@ impl JsonObject {
         }
     }
 
-    /// Puts each of these members in.
-    pub fn put_all(&mut self, alloc: Global, more: JsonObject) -> Result<(), AllocError>
-        ensures { OnOk result (self.new ≡ put_all more self.old) }
-    {
-        let JsonObject { members } = more;
-        put_each(&mut self.members, alloc, members)
-    }
-
     /// Puts each of these members in, which a line says of an owner at a place. After an error the members are any.
     pub fn put_words(
         &mut self,
@@ -191,21 +183,6 @@ impl JsonObject {
         let JsonObject { members } = self;
         Value::from(members)
     }
-}
-
-// Puts each of these members in.
-fn put_each(
-    members: &mut Map<String, Value>,
-    alloc: Global,
-    more: Map<String, Value>,
-) -> Result<(), AllocError>
-    ensures { OnOk result (members_view members.new.entries
-        ≡ put_all (members_view more.entries) (members_view members.old.entries)) }
-{
-    for (name, value) in more {
-        serde_json::put(members, alloc, name.as_str(), value)?;
-    }
-    Ok(())
 }
 
 // A copy of members.

@@ -1,16 +1,15 @@
 -- What edits of own members ask of the heads of owners, and what their names and their offers say.
 use Rattle.std.proofs.Common.{◌≡◌, ◌≢◌, ℕ, List, Bool, true, false, not, Option, Some, None, Result, Ok, Err, IsSome, IsSomeAnd, true≢false, refl, sym, ap, ◌∙◌}
-use Rattle.std.specs.Prelude.{◌↔◌, IsTrue, OnOk, is_err, is_some}
-use Rattle.serde_json.specs.Data.{Data, Members, no_members, member}
-use Rattle.serde_json.specs.Data as trees
-use Rattle.serde_json.specs.Find.{get_member}
+use Rattle.std.specs.Prelude.{◌↔◌, IsTrue, OnOk, is_err}
+use Rattle.serde_json.specs.Data.{Members}
 use Rattle.map_model.specs.declared.owner.MemberOwner.{MemberOwner}
 use Rattle.map_model.specs.Document.{DocumentParts}
 use Rattle.map_model.specs.Lens.{put}
 use Rattle.map_model.specs.WellFormed.{IsWellFormed}
 use Rattle.map_model.proofs.LensLaws.{some-eq}
-use Rattle.json_members.specs.Members.{put_all, without}
-use Rattle.map_json.specs.Words.{AreWords, all_named, word_at, words_at}
+use Rattle.fractions.specs.declared.lines.Fractions.{Fractions}
+use Rattle.fractions.specs.Lines.{members_said, put_words, remove_word}
+use Rattle.map_json.specs.Words.{AreWords, all_named}
 use Rattle.refusals.specs.declared.more_fault.MoreFault.{MoreFault}
 use Rattle.refusals.specs.declared.more_fault.MoreFault.TheVariants as faults
 use Rattle.refusals.specs.declared.edit_fault.EditFault.{EditFault}
@@ -23,7 +22,7 @@ use Rattle.command_api.proofs.Swaps.{held_made, held_swapped}
 use Rattle.member_commands.specs.declared.set_head.MemberEdit.{MemberEdit}
 use Rattle.member_commands.specs.declared.set_head.MemberEdit.TheVariants.{Set, Put, Remove}
 use Rattle.member_commands.specs.Changes.{member_names}
-use Rattle.member_commands.specs.Edits.{IsMoreRefusalOf, after_head, after_members, after_put_members, after_remove_member, after_set_member}
+use Rattle.member_commands.specs.Edits.{IsMoreRefusalOf, after_head}
 use Rattle.member_commands.specs.Heads.{HeadParts, AreHeadParts}
 
 pub member-WhenEqual : (e : MemberEdit) (owner : MemberOwner) (follows : Bool) → (member_names e owner follows).vanishing ≡ WhenEqual
@@ -39,62 +38,27 @@ some_and (Some x) P h = (x, refl, h)
 some_is : {X : Type 0} (o : Option X) (x : X) → o ≡ Some x → IsSome o
 some_is o x e = rw e refl
 
-module _ {H : Type 0} (p : HeadParts H) (laws : AreHeadParts p) (id : ℕ) (d : DocumentParts) (well_formed : IsWellFormed d.map) where
+module _ {H : Type 0} (p : HeadParts H) (laws : AreHeadParts p) (id : ℕ) (f : Fractions) (d : DocumentParts) (well_formed : IsWellFormed d.map) where
   -- a head that was read with words put in fits, and so does one that was read without a member
-  pub put_fits : (words before : Members) → IsSomeAnd ((p.lens id).get d) (λ own. before ≡ p.members own) → AreWords words
-      → all_named p.is_own words ≡ true → (h : H) → p.read d (put_all words before) ≡ Ok h → FitsBack (p.lens id) h d
+  pub put_fits : (words before : Members) → IsSomeAnd ((p.lens id).get d) (λ own. before ≡ p.members own) → AreWords (members_said f p.place words)
+      → all_named p.is_own words ≡ true → (h : H) → p.read d (put_words f p.place words before) ≡ Ok h → FitsBack (p.lens id) h d
   put_fits words before there are named h e =
       let own = some_and ((p.lens id).get d) (λ o. before ≡ p.members o) there in
       record {
         well_formed = well_formed;
         there = some_is ((p.lens id).get d) own.0 own.1;
-        back = laws.put_in id words own.0 h d well_formed own.1 are named (ap (λ ms. p.read d (put_all words ms)) (sym own.2) ∙ e);
+        back = laws.put_in id f words own.0 h d well_formed own.1 are named (ap (λ ms. p.read d (put_words f p.place words ms)) (sym own.2) ∙ e);
       }
 
   pub drop_fits : (name : List ℕ) (before : Members) → IsSomeAnd ((p.lens id).get d) (λ own. before ≡ p.members own)
-      → (h : H) → p.read d (without name before) ≡ Ok h → FitsBack (p.lens id) h d
+      → (h : H) → p.read d (remove_word f p.place name before) ≡ Ok h → FitsBack (p.lens id) h d
   drop_fits name before there h e =
       let own = some_and ((p.lens id).get d) (λ o. before ≡ p.members o) there in
       record {
         well_formed = well_formed;
         there = some_is ((p.lens id).get d) own.0 own.1;
-        back = laws.taken_out id name own.0 h d well_formed own.1 (ap (λ ms. p.read d (without name ms)) (sym own.2) ∙ e);
+        back = laws.taken_out id f name own.0 h d well_formed own.1 (ap (λ ms. p.read d (remove_word f p.place name ms)) (sym own.2) ∙ e);
       }
-
--- ---- where an edit leads, whose first looks it has passed
-module _ {H : Type 0} (p : HeadParts H) (d : DocumentParts) (id : ℕ) (own : H) (given : (p.lens id).get d ≡ Some own) where
-  set_from : (name json : List ℕ) (value : Data) → p.is_own name ≡ true → word_at json ≡ Ok value
-      → after_set_member p d id name json ≡ after_members p d id (trees.put name value (p.members own))
-  set_from name json value is says = rw (given, is, says) refl
-
-  put_from : (json : List ℕ) (words : Members) → words_at json ≡ Ok words → all_named p.is_own words ≡ true
-      → after_put_members p d id json ≡ after_members p d id (put_all words (p.members own))
-  put_from json words says is = rw (given, says, is) refl
-
-  remove_from : (name : List ℕ) → p.is_own name ≡ true → is_some (get_member name (p.members own)) ≡ true
-      → after_remove_member p d id name ≡ after_members p d id (without name (p.members own))
-  remove_from name is has = rw (given, is, has) refl
-
-module _ {H : Type 0} (p : HeadParts H) (d : DocumentParts) (id : ℕ) (before : Members)
-    (there : IsSomeAnd ((p.lens id).get d) (λ own. before ≡ p.members own)) where
-  pub set_leads : (name json : List ℕ) (value : Data) → p.is_own name ≡ true → word_at json ≡ Ok value
-      → after_set_member p d id name json ≡ after_members p d id (trees.put name value before)
-  set_leads name json value is says =
-      let found = some_and ((p.lens id).get d) (λ o. before ≡ p.members o) there in
-      set_from p d id found.0 found.1 name json value is says ∙ ap (λ ms. after_members p d id (trees.put name value ms)) (sym found.2)
-
-  pub put_leads : (json : List ℕ) (words : Members) → words_at json ≡ Ok words → all_named p.is_own words ≡ true
-      → after_put_members p d id json ≡ after_members p d id (put_all words before)
-  put_leads json words says is =
-      let found = some_and ((p.lens id).get d) (λ o. before ≡ p.members o) there in
-      put_from p d id found.0 found.1 json words says is ∙ ap (λ ms. after_members p d id (put_all words ms)) (sym found.2)
-
-  pub remove_leads : (name : List ℕ) → p.is_own name ≡ true → is_some (get_member name before) ≡ true
-      → after_remove_member p d id name ≡ after_members p d id (without name before)
-  remove_leads name is has =
-      let found = some_and ((p.lens id).get d) (λ o. before ≡ p.members o) there in
-      remove_from p d id found.0 found.1 name is (ap (λ ms. is_some (get_member name ms)) (sym found.2) ∙ has)
-      ∙ ap (λ ms. after_members p d id (without name ms)) (sym found.2)
 
 -- ---- refusals
 -- there is no such owner

@@ -6,7 +6,7 @@ use Rattle.serde_json.specs.Find.{get_member}
 use Rattle.map_model.specs.Document.{DocumentParts}
 use Rattle.map_model.specs.Lens.{put}
 use Rattle.fractions.specs.declared.lines.Fractions.{Fractions}
-use Rattle.fractions.specs.declared.place.Place.TheVariants as places
+use Rattle.fractions.specs.Places.{below}
 use Rattle.fractions.specs.Lines.{put_words, remove_word}
 use Rattle.map_json.specs.Words.{all_named, word_at, words_at}
 use Rattle.map_values.specs.declared.fault.MapFault.{MapFault}
@@ -52,7 +52,7 @@ abbrev pub after_set_member : {H : Type 0} → HeadParts H → Fractions → Doc
 after_set_member p fractions d id name json =
     own_head p d id >>= λ own.
     check (p.is_own name) faults.MemberOfOtherLines >>= λ _.
-    said (word_at fractions places.Elsewhere json) >>= λ value.
+    said (word_at fractions (below p.place name) json) >>= λ value.
     after_members p d id (put_words fractions p.place (member name value no_members) (p.members own))
 
 -- each own member that a JSON text names gets the value that it says, all at once

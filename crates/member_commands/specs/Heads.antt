@@ -7,6 +7,7 @@ use Rattle.map_model.specs.Lens.{Lens, IsLawfulLens, put}
 use Rattle.map_model.specs.WellFormed.{IsWellFormed}
 use Rattle.fractions.specs.declared.lines.Fractions.{Fractions}
 use Rattle.fractions.specs.declared.place.Place.{Place}
+use Rattle.fractions.specs.Places.{is_inner}
 use Rattle.fractions.specs.Lines.{members_said, put_words, remove_word}
 use Rattle.map_json.specs.Words.{AreWords, all_named}
 use Rattle.refusals.specs.declared.edit_fault.EditFault.{EditFault}
@@ -32,6 +33,7 @@ pub record HeadParts (H : Type 0) : Type 0 where
 -- map of a well-formed one; and what an offer shows is the owner, and its head put back
 pub record AreHeadParts {H : Type 0} (p : HeadParts H) : Type 0 where
   pub absence : p.absence ≢ NoMemory
+  pub inner : is_inner p.place ≡ true
   pub lawful : (id : ℕ) → IsLawfulLens (p.lens id)
   pub owned : (id : ℕ) (h : H) → head_owner (p.shown id h) ≡ p.owner id
   pub only : (id : ℕ) (s : ShownHead) → head_owner s ≡ p.owner id → (h : H) × (s ≡ p.shown id h)

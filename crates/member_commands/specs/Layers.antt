@@ -27,6 +27,7 @@ layer_heads = record {
 pub layer_heads-laws : AreHeadParts layer_heads
 layer_heads-laws = record {
   absence = λ e. cc;
+  inner = refl;
   lawful = layer_head-laws;
   owned = λ id h. refl;
   only = head_owner-Layer;

@@ -28,6 +28,7 @@ map_heads = record {
 pub map_heads-laws : AreHeadParts map_heads
 map_heads-laws = record {
   absence = λ e. cc;
+  inner = refl;
   lawful = λ id. map_head-laws;
   owned = λ id h. refl;
   only = λ id. head_owner-Map;

@@ -34,11 +34,12 @@ object_heads = record {
 pub object_heads-laws : AreHeadParts object_heads
 object_heads-laws = record {
   absence = λ e. cc;
+  inner = refl;
   lawful = head_with_id-laws;
   owned = λ id h. refl;
   only = head_owner-Object;
   undone = λ id h d. refl;
   fits = λ id h d. (λ f. f, λ f. f);
-  put_in = λ id words own new d h given are named e. put-well_formed id words own new d h given are e;
+  put_in = put-well_formed is_object_member refl;
   taken_out = without-well_formed;
 }

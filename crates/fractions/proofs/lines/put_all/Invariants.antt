@@ -1,7 +1,7 @@
 use Rattle.std.proofs.Common.{◌≡◌}
 use Rattle.serde_json.specs.View.{members_view}
 use Rattle.json_members.specs.Members.{put_all}
-use Rattle.map_values.proofs.json_object.put_each.Given as goal
+use Rattle.fractions.proofs.lines.put_all.Given as goal
 
 abbrev pub invariant-loop-name : goal.invariant-loop-name
 invariant-loop-name l =
