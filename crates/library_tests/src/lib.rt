@@ -13,6 +13,8 @@ mod entries;
 #[cfg(test)]
 mod free;
 #[cfg(test)]
+mod line_fractions;
+#[cfg(test)]
 mod looks;
 #[cfg(test)]
 mod paints;
