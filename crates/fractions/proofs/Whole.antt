@@ -125,7 +125,7 @@ mutual
   items_have_fraction-items_aside p no_items = refl
   items_have_fraction-items_aside p (item d ds) = neither _ _ (has_fraction-aside p d) (items_have_fraction-items_aside p ds)
 
-  members_have_fraction-members_aside : (p : Place) (ms : Members) → members_have_fraction p (members_aside p ms) ≡ false
+  pub members_have_fraction-members_aside : (p : Place) (ms : Members) → members_have_fraction p (members_aside p ms) ≡ false
   members_have_fraction-members_aside p no_members = refl
   members_have_fraction-members_aside p (member k d ms) = neither _ _ (has_fraction-aside (below p k) d) (members_have_fraction-members_aside p ms)
 

@@ -3,12 +3,15 @@ ghost use Rattle.std.specs.Prelude.{◌≡◌, IfOk, option_map};
 ghost use Rattle.serde_json.specs.Find.{to_float};
 ghost use Rattle.serde_json.specs.View.{view as data_of, number_view};
 ghost use Rattle.fractions.specs.Aside.{stand_in, whole_part, fraction_of, fraction_at};
+ghost use Rattle.fractions.specs.Lines.{further};
 ghost use Rattle.fractions.specs.Back.{half, of_halves, number_of_halves, still_is};
 
 use json_trees::RESERVED_NAME;
 use serde_json::{Map, Number, Value};
 use std::alloc::{AllocError, Global};
-use std::num::{f64_from_bits_with_nan, f64_to_bits_with_nan, saturating_f64_to_i64};
+use std::num::{
+    f64_from_bits_with_nan, f64_to_bits_with_nan, nearest_i64_to_f64, saturating_f64_to_i64,
+};
 
 /// How many values a half of the bits has. A whole number below 2^53 is one for readers in JavaScript, too.
 const HALF: u64 = 4_294_967_296;
@@ -44,6 +47,17 @@ pub fn to_float(number: &Number) -> f64
     match number.as_f64() {
         Some(x) => x,
         None => 0.0,
+    }
+}
+
+/// A number so many pixels further.
+pub fn further(pixels: i64, x: f64) -> f64
+    ensures { result ≡ further pixels x }
+{
+    if pixels == 0 {
+        x
+    } else {
+        x + nearest_i64_to_f64(pixels)
     }
 }
 

@@ -1,6 +1,7 @@
 // Members that a line says, among an owner's.
-ghost use Rattle.std.specs.Prelude.{◌≡◌, IfOk, OnOk};
+ghost use Rattle.std.specs.Prelude.{◌≡◌, unwrap_or, IfOk, OnOk};
 ghost use Rattle.serde_json.specs.Data.{member, no_members};
+ghost use Rattle.serde_json.specs.Find.{as_object};
 ghost use Rattle.serde_json.specs.View.{view as data_of, members_view};
 ghost use Rattle.json_members.specs.Members.{put_all, without};
 ghost use Rattle.fractions.specs.Places.{below};
@@ -9,7 +10,7 @@ ghost use Rattle.fractions.specs.Aside.{members_aside};
 ghost use Rattle.fractions.specs.Lines.{has_noted, is_noted, members_said, notes_at, put_words, remove_word, renoted, unnoted, without_named};
 
 use crate::place::Place;
-use crate::setting_aside::{aside, notes_of, object_aside, put_notes};
+use crate::setting_aside::{aside, moved_notes, object_aside, put_notes};
 use json_members::{remove, take};
 use json_trees::RESERVED_NAME;
 use serde_json::{Map, Value};
@@ -24,19 +25,30 @@ pub enum Fractions {
     SetAside,
 }
 
+/// How many pixels further than it stands an object is saved, as in a map that was infinite.
+#[derive(Clone, Copy, PartialEq, Eq, Debug)]
+pub struct Moved {
+    pub x: i64,
+    pub y: i64,
+}
+
+/// An object that is saved where it stands.
+pub const UNMOVED: Moved = Moved { x: 0, y: 0 };
+
 /// The members of an object that a line says at a place, as the map has them.
 pub fn members_said(
     alloc: Global,
     fractions: Fractions,
     place: Place,
+    moved: Moved,
     members: Map<String, Value>,
 ) -> Result<Map<String, Value>, AllocError>
     ensures { IfOk result (λ said. members_view said.entries
-        ≡ members_said fractions place (members_view members.entries)) }
+        ≡ members_said fractions place moved (members_view members.entries)) }
 {
     match fractions {
         Fractions::Refused => Ok(members),
-        Fractions::SetAside => object_aside(alloc, place, &members),
+        Fractions::SetAside => object_aside(alloc, moved, place, &members),
     }
 }
 
@@ -61,6 +73,16 @@ fn has_noted(place: Place, members: &Map<String, Value>) -> bool
     false
 }
 
+// The members of a value, or none where it is no object.
+fn members_of(alloc: Global, value: Value) -> Map<String, Value>
+    ensures { members_view result.entries ≡ unwrap_or (as_object (data_of value)) no_members }
+{
+    match value {
+        Value::Object(members) => members,
+        _ => Map::new(alloc),
+    }
+}
+
 // Takes the notes of an owner out, if it has any.
 fn take_notes(alloc: Global, members: &mut Map<String, Value>) -> Map<String, Value>
     ensures notes { members_view result.entries ≡ notes_at (members_view members.old.entries) }
@@ -68,8 +90,8 @@ fn take_notes(alloc: Global, members: &mut Map<String, Value>) -> Map<String, Va
         ≡ without RESERVED_NAME.now (members_view members.old.entries) }
 {
     match take(members, RESERVED_NAME) {
-        Some(Value::Object(notes)) => notes,
-        _ => Map::new(alloc),
+        Some(notes) => members_of(alloc, notes),
+        None => Map::new(alloc),
     }
 }
 
@@ -119,18 +141,19 @@ fn put_aside(
 fn note(
     alloc: Global,
     place: Place,
+    moved: Moved,
     members: &mut Map<String, Value>,
     words: &Map<String, Value>,
 ) -> Result<(), AllocError>
     ensures { OnOk result (members_view members.new.entries
-        ≡ renoted place (members_view words.now.entries) (members_view members.old.entries)) }
+        ≡ renoted place moved (members_view words.now.entries) (members_view members.old.entries)) }
 {
     if !has_noted(place, words) {
         return Ok(());
     }
     let mut notes = take_notes(alloc, members);
     remove_named(&mut notes, words);
-    put_all(alloc, &mut notes, notes_of(alloc, place, words)?)?;
+    put_all(alloc, &mut notes, moved_notes(alloc, moved, place, words)?)?;
     put_notes(alloc, members, notes)
 }
 
@@ -140,16 +163,17 @@ pub fn put_words(
     alloc: Global,
     fractions: Fractions,
     place: Place,
+    moved: Moved,
     members: &mut Map<String, Value>,
     words: Map<String, Value>,
 ) -> Result<(), AllocError>
     ensures { OnOk result (members_view members.new.entries
-        ≡ put_words fractions place (members_view words.entries) (members_view members.old.entries)) }
+        ≡ put_words fractions place moved (members_view words.entries) (members_view members.old.entries)) }
 {
     match fractions {
         Fractions::Refused => put_all(alloc, members, words),
         Fractions::SetAside => {
-            note(alloc, place, members, &words)?;
+            note(alloc, place, moved, members, &words)?;
             put_aside(alloc, place, members, &words)
         }
     }
@@ -160,19 +184,20 @@ pub fn put_word(
     alloc: Global,
     fractions: Fractions,
     place: Place,
+    moved: Moved,
     members: &mut Map<String, Value>,
     name: &str,
     value: Value,
 ) -> Result<(), AllocError>
     ensures { OnOk result (members_view members.new.entries
-        ≡ put_words fractions place (member name.now (data_of value) no_members) (members_view members.old.entries)) }
+        ≡ put_words fractions place moved (member name.now (data_of value) no_members) (members_view members.old.entries)) }
 {
     match fractions {
         Fractions::Refused => serde_json::put(members, alloc, name, value),
         Fractions::SetAside => {
             let mut words = Map::new(alloc);
             serde_json::put(&mut words, alloc, name, value)?;
-            put_words(alloc, fractions, place, members, words)
+            put_words(alloc, fractions, place, moved, members, words)
         }
     }
 }

@@ -2,9 +2,11 @@
 ghost use Rattle.std.specs.Prelude.{◌≡◌, IfOk, OnOk};
 ghost use Rattle.serde_json.specs.View.{view as data_of, number_view, items_view, members_view};
 ghost use Rattle.json_members.specs.Members.{put_some};
-ghost use Rattle.fractions.specs.Aside.{aside, items_aside, members_aside, fraction_aside, number_aside, note_of, notes_of, with_notes};
+ghost use Rattle.fractions.specs.Aside.{aside, items_aside, members_aside, fraction_aside, number_aside, notes_of, with_notes};
+ghost use Rattle.fractions.specs.Lines.{further_note, moved_notes};
 
-use crate::fraction::{fraction_at, stand_in, to_float, whole_part};
+use crate::fraction::{fraction_at, further, stand_in, to_float, whole_part};
+use crate::lines::{Moved, UNMOVED};
 use crate::place::Place;
 use json_members::found;
 use json_trees::RESERVED_NAME;
@@ -34,26 +36,52 @@ fn number_aside(alloc: Global, place: Place, number: &Number) -> Result<Value, A
     }
 }
 
-// Puts the note of a coordinate among the notes, if it is a fraction.
+// Puts the note of a coordinate, which is saved so many pixels further, among the notes, if it is a fraction.
 fn put_note(
     alloc: Global,
     notes: &mut Map<String, Value>,
     name: &str,
+    pixels: i64,
     members: &Map<String, Value>,
 ) -> Result<(), AllocError>
     ensures { OnOk result (members_view notes.new.entries
-        ≡ put_some name.now (note_of name.now (members_view members.now.entries)) (members_view notes.old.entries)) }
+        ≡ put_some name.now (further_note pixels name.now (members_view members.now.entries)) (members_view notes.old.entries)) }
 {
     if let Some(value) = found(members, name) {
         if let Some(number) = fraction_at(value) {
-            serde_json::put(notes, alloc, name, stand_in(alloc, to_float(&number))?)?;
+            let x = further(pixels, to_float(&number));
+            serde_json::put(notes, alloc, name, stand_in(alloc, x)?)?;
         }
     }
     Ok(())
 }
 
-/// The notes of an object's coordinates.
-pub fn notes_of(
+/// The notes of an object's coordinates, where it is saved.
+pub fn moved_notes(
+    alloc: Global,
+    moved: Moved,
+    place: Place,
+    members: &Map<String, Value>,
+) -> Result<Map<String, Value>, AllocError>
+    ensures { IfOk result (λ notes. members_view notes.entries
+        ≡ moved_notes moved place (members_view members.now.entries)) }
+{
+    let mut notes = Map::new(alloc);
+    match place {
+        Place::Object => {
+            put_note(alloc, &mut notes, "height", 0, members)?;
+            put_note(alloc, &mut notes, "width", 0, members)?;
+            put_note(alloc, &mut notes, "y", moved.y, members)?;
+            put_note(alloc, &mut notes, "x", moved.x, members)?;
+        }
+        Place::Map | Place::Layer | Place::Coordinate | Place::Version | Place::Elsewhere => {}
+    }
+    Ok(notes)
+}
+
+// The notes of an object's coordinates.
+#[tactic(auto, using(crate::proofs::Unmoved::notes_of-unmoved))]
+fn notes_of(
     alloc: Global,
     place: Place,
     members: &Map<String, Value>,
@@ -61,17 +89,7 @@ pub fn notes_of(
     ensures { IfOk result (λ notes. members_view notes.entries
         ≡ notes_of place (members_view members.now.entries)) }
 {
-    let mut notes = Map::new(alloc);
-    match place {
-        Place::Object => {
-            put_note(alloc, &mut notes, "height", members)?;
-            put_note(alloc, &mut notes, "width", members)?;
-            put_note(alloc, &mut notes, "y", members)?;
-            put_note(alloc, &mut notes, "x", members)?;
-        }
-        Place::Map | Place::Layer | Place::Coordinate | Place::Version | Place::Elsewhere => {}
-    }
-    Ok(notes)
+    moved_notes(alloc, UNMOVED, place, members)
 }
 
 /// Puts notes among the members, if there are any.
@@ -136,16 +154,17 @@ fn members_aside(
     Ok(all)
 }
 
-/// The members of an object that stands at a place, with their fractions set aside.
+/// The members of an object that stands at a place, with their fractions set aside, and with its notes where it is saved.
 pub fn object_aside(
     alloc: Global,
+    moved: Moved,
     place: Place,
     members: &Map<String, Value>,
 ) -> Result<Map<String, Value>, AllocError>
     ensures { IfOk result (λ m. members_view m.entries
-        ≡ with_notes (notes_of place (members_view members.now.entries)) (members_aside place (members_view members.now.entries))) }
+        ≡ with_notes (moved_notes moved place (members_view members.now.entries)) (members_aside place (members_view members.now.entries))) }
 {
-    let notes = notes_of(alloc, place, members)?;
+    let notes = moved_notes(alloc, moved, place, members)?;
     let mut all = members_aside(alloc, place, members)?;
     put_notes(alloc, &mut all, notes)?;
     Ok(all)

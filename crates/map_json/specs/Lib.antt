@@ -12,5 +12,6 @@ pub mod PartTexts
 pub mod ObjectHeads
 pub mod LayerHeads
 pub mod MapHeads
+pub mod Moves
 pub mod Words
 pub mod Given

@@ -7,6 +7,7 @@ use Rattle.serde_json.specs.Read.{read}
 use Rattle.serde_json.specs.Written.{has_float, members_have_float}
 use Rattle.fractions.specs.declared.lines.Fractions.{Fractions}
 use Rattle.fractions.specs.declared.lines.Fractions.TheVariants.{Refused, SetAside}
+use Rattle.fractions.specs.declared.lines.Moved.{Moved}
 use Rattle.fractions.specs.declared.place.Place.{Place}
 use Rattle.fractions.specs.Lines.{members_said, said}
 use Rattle.map_model.specs.Readable.{IsReadable, AreReadableMembers}
@@ -39,10 +40,10 @@ words_at fractions place text = do
   ok_or (as_object d) MemberOfAnotherKind
 
 -- and those, as the map has them
-unfoldable pub members_at : Fractions → Place → List ℕ → Result Members MapRefusal
-members_at fractions place text = do
+unfoldable pub members_at : Fractions → Place → Moved → List ℕ → Result Members MapRefusal
+members_at fractions place moved text = do
   ms ← words_at fractions place text
-  Ok (members_said fractions place ms)
+  Ok (members_said fractions place moved ms)
 
 -- a value that a line can say, as far as an owner asks
 pub record IsWord (d : Data) : Type 0 where

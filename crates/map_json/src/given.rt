@@ -10,10 +10,11 @@ ghost use Rattle.map_json.specs.Given.{given_object_at, given_property_at, given
 
 use crate::doubles::names_are_distinct;
 use crate::elements::Element;
+use crate::moved::moved_in;
 use crate::size::Size;
 use crate::word::{json_word, members_said};
-use fractions::{Fractions, Place};
-use map_model::{Object, Property, Tileset, names};
+use fractions::{Fractions, Place, UNMOVED};
+use map_model::{Map, Object, Property, Tileset, names};
 use map_values::{JsonObject, MapFault, NoTrail};
 use refusals::MapRefusal;
 use serde_json::Value;
@@ -45,20 +46,27 @@ fn put_id(alloc: Global, members: &mut JsonObject) -> Result<bool, AllocError>
     Ok(false)
 }
 
-/// The object that a JSON text of a line says, with or without its id, or why it says none. Any object layer can hold it.
+/// The object that a JSON text of a line says of a map, with or without its id, or why it says none. Any object layer can hold it.
 ///
 /// It is read as an object of a file. Then no name may stand twice among its properties.
 #[tactic(auto, unfolding(crate::specs::Given::given_object_at))]
 pub fn given_object(
     alloc: Global,
     fractions: Fractions,
+    map: &Map,
     text: &str,
 ) -> Result<GivenObject, MapFault>
-    ensures value { Gives result (given_object_at fractions text.now) }
+    ensures value { Gives result (given_object_at fractions map.now text.now) }
     ensures id { IfOk result (λ given. IsId MAX_NEXT_ID given.object.id) }
     ensures sound { (tier : ℕ) → tier ≤ deepest_tier → IfOk result (λ given. IsObject (object_tier tier) given.object) }
 {
-    let mut members = members_said(alloc, fractions, Place::Object, text)?;
+    let mut members = members_said(
+        alloc,
+        fractions,
+        Place::Object,
+        moved_in(fractions, map),
+        text,
+    )?;
     let has_id = put_id(alloc, &mut members)?;
     let object = Object::read(alloc, ANY_SIZE, members.into_value(), &mut NoTrail)?;
     if !names_are_distinct(alloc, &object.properties, &mut NoTrail)? {
@@ -73,7 +81,7 @@ pub fn given_tileset(alloc: Global, fractions: Fractions, text: &str) -> Result<
     ensures value { Gives result (given_tileset_at fractions text.now) }
     ensures sound { IfOk result IsTileset }
 {
-    let members = members_said(alloc, fractions, Place::Elsewhere, text)?;
+    let members = members_said(alloc, fractions, Place::Elsewhere, UNMOVED, text)?;
     Tileset::read(alloc, ANY_SIZE, members.into_value(), &mut NoTrail)
 }
 
@@ -83,7 +91,7 @@ pub fn given_property(alloc: Global, fractions: Fractions, text: &str) -> Result
     ensures value { Gives result (given_property_at fractions text.now) }
     ensures sound { (tier : ℕ) → tier ≤ object_tier deepest_tier → IfOk result (IsProperty (property_tier tier)) }
 {
-    let members = members_said(alloc, fractions, Place::Elsewhere, text)?;
+    let members = members_said(alloc, fractions, Place::Elsewhere, UNMOVED, text)?;
     Property::read(alloc, ANY_SIZE, members.into_value(), &mut NoTrail)
 }
 

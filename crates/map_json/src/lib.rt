@@ -31,16 +31,18 @@ mod part_text;
 mod given;
 mod layer_head;
 mod map_head;
+mod moved;
 mod object_head;
 mod same_head;
 mod word;
 
-pub use fractions::{Fractions, Place};
+pub use fractions::{Fractions, Moved, Place};
 pub use given::{GivenObject, given_object, given_property, given_text, given_tileset};
 pub use layer_head::{is_layer_head, is_layer_member, layer_head_members, read_layer_head};
 pub use map_head::{is_map_head, is_map_member, map_head_members, read_map_head};
 pub use map_text::{saved_is_opened, write_map, write_outline, written_is_read};
 pub use map_values::{MapFault, NoTrail, Segment, Trail};
+pub use moved::moved_in;
 pub use object_head::{object_head_members, read_object_head};
 pub use part_text::{
     write_layer_head, write_map_head, write_object, write_properties, write_property, write_tileset,

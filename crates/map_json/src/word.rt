@@ -3,13 +3,14 @@ ghost use Rattle.std.specs.Prelude.{◌≡◌, ◌||◌, nat_le, not, IfOk, IsTr
 ghost use Rattle.serde_json.specs.Data.{depth, object};
 ghost use Rattle.serde_json.specs.View.{view as data_of};
 ghost use Rattle.serde_json.specs.Written.{has_float};
+ghost use Rattle.fractions.specs.declared.lines.Moved.{Moved};
 ghost use Rattle.fractions.specs.Places.{is_inner};
 ghost use Rattle.fractions.specs.Lines.{members_said as said_members, said};
 ghost use Rattle.map_values.specs.Presence.{Gives, GivesBy};
 ghost use Rattle.map_json.specs.Words.{members_at, word_at, are_set_aside, words_at, AreWords, IsWord};
 
 use crate::floats::has_float;
-use fractions::{Fractions, Place, aside};
+use fractions::{Fractions, Moved, Place, aside};
 use json_trees::{RESERVED_NAME, has_name, is_within};
 use map_values::{JsonObject, MapFault, NoTrail};
 use refusals::MapRefusal;
@@ -92,7 +93,7 @@ pub fn json_words(
 ) -> Result<JsonObject, MapFault>
     requires { IsTrue (is_inner place) }
     ensures members { Gives result (words_at fractions place text.now) }
-    ensures words { IfOk result (λ words. AreWords (said_members fractions place words)) }
+    ensures words { (moved : Moved) → IfOk result (λ words. AreWords (said_members fractions place moved words)) }
 {
     let value = json_word(alloc, fractions, place, text)?;
     match JsonObject::from_value(value) {
@@ -101,18 +102,20 @@ pub fn json_words(
     }
 }
 
-/// The members that a JSON text of a line says, as the map has them in an object at a place inside of it, or why it says none.
+/// The members that a JSON text of a line says, as the map has them in an object at a place inside of it, which is saved so much
+/// further than it stands, or why it says none.
 #[tactic(auto, unfolding(crate::specs::Words::members_at))]
 pub fn members_said(
     alloc: Global,
     fractions: Fractions,
     place: Place,
+    moved: Moved,
     text: &str,
 ) -> Result<JsonObject, MapFault>
     requires { IsTrue (is_inner place) }
-    ensures members { Gives result (members_at fractions place text.now) }
+    ensures members { Gives result (members_at fractions place moved text.now) }
     ensures words { IfOk result AreWords }
 {
     let words = json_words(alloc, fractions, place, text)?;
-    Ok(words.said(alloc, fractions, place)?)
+    Ok(words.said(alloc, fractions, place, moved)?)
 }

@@ -7,7 +7,7 @@ ghost use Rattle.serde_json.specs.View.{view as data_of, members_view};
 ghost use Rattle.json_members.specs.Members.{without, put_some};
 
 use crate::trail::{Segment, Trail};
-use fractions::{Fractions, Place};
+use fractions::{Fractions, Moved, Place};
 use map_model::Kept;
 use serde_json::{Map, Value};
 use std::alloc::{AllocError, Global};
@@ -111,12 +111,13 @@ impl JsonObject {
         alloc: Global,
         fractions: Fractions,
         place: Place,
+        moved: Moved,
         words: JsonObject,
     ) -> Result<(), AllocError>
-        ensures { OnOk result (self.new ≡ put_words fractions place words self.old) }
+        ensures { OnOk result (self.new ≡ put_words fractions place moved words self.old) }
     {
         let JsonObject { members } = words;
-        fractions::put_words(alloc, fractions, place, &mut self.members, members)
+        fractions::put_words(alloc, fractions, place, moved, &mut self.members, members)
     }
 
     /// Puts one member in, which a line says of an owner at a place. After an error the members are any.
@@ -125,12 +126,21 @@ impl JsonObject {
         alloc: Global,
         fractions: Fractions,
         place: Place,
+        moved: Moved,
         name: &str,
         value: Value,
     ) -> Result<(), AllocError>
-        ensures { OnOk result (self.new ≡ put_words fractions place (member name.now (data_of value) no_members) self.old) }
+        ensures { OnOk result (self.new ≡ put_words fractions place moved (member name.now (data_of value) no_members) self.old) }
     {
-        fractions::put_word(alloc, fractions, place, &mut self.members, name, value)
+        fractions::put_word(
+            alloc,
+            fractions,
+            place,
+            moved,
+            &mut self.members,
+            name,
+            value,
+        )
     }
 
     /// Takes a member out, as a line of an owner at a place does. After an error the members are any.
@@ -152,12 +162,13 @@ impl JsonObject {
         alloc: Global,
         fractions: Fractions,
         place: Place,
+        moved: Moved,
     ) -> Result<JsonObject, AllocError>
-        ensures { IfOk result (λ said. said ≡ members_said fractions place self) }
+        ensures { IfOk result (λ said. said ≡ members_said fractions place moved self) }
     {
         let JsonObject { members } = self;
         Ok(JsonObject {
-            members: fractions::members_said(alloc, fractions, place, members)?,
+            members: fractions::members_said(alloc, fractions, place, moved, members)?,
         })
     }
 

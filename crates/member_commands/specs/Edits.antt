@@ -53,7 +53,7 @@ after_set_member p fractions d id name json =
     own_head p d id >>= λ own.
     check (p.is_own name) faults.MemberOfOtherLines >>= λ _.
     said (word_at fractions (below p.place name) json) >>= λ value.
-    after_members p d id (put_words fractions p.place (member name value no_members) (p.members own))
+    after_members p d id (put_words fractions p.place (p.moved fractions d) (member name value no_members) (p.members own))
 
 -- each own member that a JSON text names gets the value that it says, all at once
 abbrev pub after_put_members : {H : Type 0} → HeadParts H → Fractions → DocumentParts → ℕ → List ℕ → Result DocumentParts MoreFault
@@ -61,7 +61,7 @@ after_put_members p fractions d id json =
     own_head p d id >>= λ own.
     said (words_at fractions p.place json) >>= λ words.
     check (all_named p.is_own words) faults.MemberOfOtherLines >>= λ _.
-    after_members p d id (put_words fractions p.place words (p.members own))
+    after_members p d id (put_words fractions p.place (p.moved fractions d) words (p.members own))
 
 -- an own member is taken out
 abbrev pub after_remove_member : {H : Type 0} → HeadParts H → Fractions → DocumentParts → ℕ → List ℕ → Result DocumentParts MoreFault

@@ -6,6 +6,7 @@ use Rattle.map_model.specs.Document.{DocumentParts}
 use Rattle.map_model.specs.Lens.{Lens, IsLawfulLens, put}
 use Rattle.map_model.specs.WellFormed.{IsWellFormed}
 use Rattle.fractions.specs.declared.lines.Fractions.{Fractions}
+use Rattle.fractions.specs.declared.lines.Moved.{Moved}
 use Rattle.fractions.specs.declared.place.Place.{Place}
 use Rattle.fractions.specs.Places.{is_inner}
 use Rattle.fractions.specs.Lines.{members_said, put_words, remove_word}
@@ -17,7 +18,7 @@ use Rattle.command_api.specs.Heads.{ShownHead, FitsHead, head_owner, head_undone
 use Rattle.command_api.specs.Swap.{FitsBack}
 
 -- the owner with an id, its head in a document, and that head as an offer shows it; why an edit is refused where no owner has the
--- id; where such an owner stands; which members are own ones; the members of a head, and the head that members say of an owner of a
+-- id; where such an owner stands, and how much further it is saved; which members are own ones; the members of a head, and the head that members say of an owner of a
 -- document
 pub record HeadParts (H : Type 0) : Type 0 where
   pub owner : ℕ → MemberOwner
@@ -25,6 +26,7 @@ pub record HeadParts (H : Type 0) : Type 0 where
   pub shown : ℕ → H → ShownHead
   pub absence : EditFault
   pub place : Place
+  pub moved : Fractions → DocumentParts → Moved
   pub is_own : List ℕ → Bool
   pub members : H → Members
   pub read : DocumentParts → Members → Result H MapRefusal
@@ -39,8 +41,8 @@ pub record AreHeadParts {H : Type 0} (p : HeadParts H) : Type 0 where
   pub only : (id : ℕ) (s : ShownHead) → head_owner s ≡ p.owner id → (h : H) × (s ≡ p.shown id h)
   pub undone : (id : ℕ) (h : H) (d : DocumentParts) → head_undone (p.shown id h) d ≡ put (p.lens id) h d
   pub fits : (id : ℕ) (h : H) (d : DocumentParts) → FitsHead (p.shown id h) d ↔ FitsBack (p.lens id) h d
-  pub put_in : (id : ℕ) (fractions : Fractions) (words : Members) (own new : H) (d : DocumentParts) → IsWellFormed d.map → (p.lens id).get d ≡ Some own
-      → AreWords (members_said fractions p.place words) → all_named p.is_own words ≡ true
-      → p.read d (put_words fractions p.place words (p.members own)) ≡ Ok new → IsWellFormed (put (p.lens id) new d).map
+  pub put_in : (id : ℕ) (fractions : Fractions) (moved : Moved) (words : Members) (own new : H) (d : DocumentParts) → IsWellFormed d.map
+      → (p.lens id).get d ≡ Some own → AreWords (members_said fractions p.place moved words) → all_named p.is_own words ≡ true
+      → p.read d (put_words fractions p.place moved words (p.members own)) ≡ Ok new → IsWellFormed (put (p.lens id) new d).map
   pub taken_out : (id : ℕ) (fractions : Fractions) (name : List ℕ) (own new : H) (d : DocumentParts) → IsWellFormed d.map → (p.lens id).get d ≡ Some own
       → p.read d (remove_word fractions p.place name (p.members own)) ≡ Ok new → IsWellFormed (put (p.lens id) new d).map

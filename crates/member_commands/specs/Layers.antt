@@ -1,6 +1,7 @@
 -- The heads of layers.
 use Rattle.std.specs.Prelude.{refl}
 use Rattle.fractions.specs.declared.place.Place.TheVariants as places
+use Rattle.fractions.specs.Lines.{unmoved}
 use Rattle.map_model.specs.declared.heads.LayerHead.{LayerHead}
 use Rattle.map_model.specs.declared.owner.MemberOwner.TheVariants as owners
 use Rattle.map_model.specs.Heads.{layer_head_with_id}
@@ -19,6 +20,7 @@ layer_heads = record {
   shown = LayersHead;
   absence = NoSuchLayer;
   place = places.Elsewhere;
+  moved = λ f d. unmoved;
   is_own = is_layer_member;
   members = layer_head_members;
   read = λ d. layer_head_at;

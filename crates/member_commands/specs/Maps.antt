@@ -1,6 +1,7 @@
 -- The heads of maps.
 use Rattle.std.specs.Prelude.{refl}
 use Rattle.fractions.specs.declared.place.Place.TheVariants as places
+use Rattle.fractions.specs.Lines.{unmoved}
 use Rattle.map_model.specs.declared.heads.MapHead.{MapHead}
 use Rattle.map_model.specs.declared.owner.MemberOwner.TheVariants as owners
 use Rattle.map_model.specs.Heads.{head_of_map}
@@ -20,6 +21,7 @@ map_heads = record {
   shown = λ id. MapsHead;
   absence = NoSuchLayer;
   place = places.Elsewhere;
+  moved = λ f d. unmoved;
   is_own = is_map_member;
   members = map_head_members;
   read = λ d. map_head_at d.map;

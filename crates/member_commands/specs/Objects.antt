@@ -6,6 +6,7 @@ use Rattle.map_model.specs.declared.heads.ObjectHead.{ObjectHead}
 use Rattle.map_model.specs.declared.names.TheConstants.{ID, PROPERTIES}
 use Rattle.map_model.specs.declared.owner.MemberOwner.TheVariants as owners
 use Rattle.map_model.specs.Heads.{head_with_id}
+use Rattle.map_json.specs.Moves.{moved_in}
 use Rattle.map_json.specs.ObjectHeads.{head_at, head_members}
 use Rattle.json_trees.specs.declared.names.TheConstants.{RESERVED_NAME}
 use Rattle.refusals.specs.declared.edit_fault.EditFault.TheVariants.{NoSuchObject}
@@ -26,6 +27,7 @@ object_heads = record {
   shown = ObjectsHead;
   absence = NoSuchObject;
   place = places.Object;
+  moved = λ f d. moved_in f d.map;
   is_own = is_object_member;
   members = head_members;
   read = λ d. head_at;

@@ -1,6 +1,6 @@
 // The heads of owners: what a command of own members needs of each kind.
 use command_api::OwnerHead;
-use fractions::Place;
+use fractions::{Fractions, Moved, Place};
 use map_model::{Document, MemberOwner};
 use map_values::{JsonObject, MapFault};
 use refusals::EditFault;
@@ -30,6 +30,10 @@ pub trait Head: Drop {
     /// Where such an owner stands in a map, as far as it matters to fractions.
     fn place() -> Place
         ensures { result ≡ parts.place };
+
+    /// How many pixels further than it stands such an owner of a document is saved, where fractions are set aside.
+    fn moved(fractions: Fractions, document: &Document) -> Moved
+        ensures { result ≡ parts.moved fractions document.now };
 
     /// Whether a member of this name is the owner's own, and no lines of its own change it.
     fn is_own(name: &str) -> bool

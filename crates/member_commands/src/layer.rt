@@ -1,7 +1,7 @@
 // The heads of layers.
 use crate::head::Head;
 use command_api::OwnerHead;
-use fractions::Place;
+use fractions::{Fractions, Moved, Place, UNMOVED};
 use map_json::{is_layer_head, is_layer_member, layer_head_members, read_layer_head};
 use map_model::{Document, LayerHead, MemberOwner};
 use map_values::{JsonObject, MapFault};
@@ -25,6 +25,10 @@ impl Head for LayerHead {
 
     fn place() -> Place {
         Place::Elsewhere
+    }
+
+    fn moved(_fractions: Fractions, _document: &Document) -> Moved {
+        UNMOVED
     }
 
     fn is_own(name: &str) -> bool {

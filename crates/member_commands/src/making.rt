@@ -105,8 +105,9 @@ impl<H: Head> SetHead<H> {
         let Ok(mut members) = H::members(alloc, document, id) else {
             return Err(MoreFault::Edit(EditFault::NoMemory));
         };
+        let moved = H::moved(fractions, document);
         if members
-            .put_word(alloc, fractions, H::place(), name, value)
+            .put_word(alloc, fractions, H::place(), moved, name, value)
             .is_err()
         {
             return Err(MoreFault::Edit(EditFault::NoMemory));
@@ -147,8 +148,9 @@ impl<H: Head> SetHead<H> {
         let Ok(mut members) = H::members(alloc, document, id) else {
             return Err(MoreFault::Edit(EditFault::NoMemory));
         };
+        let moved = H::moved(fractions, document);
         if members
-            .put_words(alloc, fractions, H::place(), words)
+            .put_words(alloc, fractions, H::place(), moved, words)
             .is_err()
         {
             return Err(MoreFault::Edit(EditFault::NoMemory));

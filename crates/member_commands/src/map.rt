@@ -1,7 +1,7 @@
 // The heads of maps.
 use crate::head::Head;
 use command_api::OwnerHead;
-use fractions::Place;
+use fractions::{Fractions, Moved, Place, UNMOVED};
 use map_json::{is_map_head, is_map_member, map_head_members, read_map_head};
 use map_model::{Document, MapHead, MemberOwner};
 use map_values::{JsonObject, MapFault};
@@ -26,6 +26,10 @@ impl Head for MapHead {
 
     fn place() -> Place {
         Place::Elsewhere
+    }
+
+    fn moved(_fractions: Fractions, _document: &Document) -> Moved {
+        UNMOVED
     }
 
     fn is_own(name: &str) -> bool {

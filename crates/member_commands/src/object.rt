@@ -4,9 +4,9 @@ ghost use Rattle.member_commands.specs.Objects.{is_object_member};
 
 use crate::head::Head;
 use command_api::OwnerHead;
-use fractions::Place;
+use fractions::{Fractions, Moved, Place};
 use json_trees::RESERVED_NAME;
-use map_json::{is_object_head, object_head_members, read_object_head};
+use map_json::{is_object_head, moved_in, object_head_members, read_object_head};
 use map_model::{Document, MemberOwner, ObjectHead, names};
 use map_values::{JsonObject, MapFault};
 use refusals::EditFault;
@@ -36,6 +36,10 @@ impl Head for ObjectHead {
 
     fn place() -> Place {
         Place::Object
+    }
+
+    fn moved(fractions: Fractions, document: &Document) -> Moved {
+        moved_in(fractions, document.map())
     }
 
     fn is_own(name: &str) -> bool {
