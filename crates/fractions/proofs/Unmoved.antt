@@ -6,10 +6,10 @@ use Rattle.fractions.specs.declared.place.Place.TheVariants.{Map, Layer, Object,
 use Rattle.fractions.specs.Aside.{notes_of}
 use Rattle.fractions.specs.Lines.{moved_notes, unmoved}
 
-pub notes_of-unmoved : (p : Place) (ms : Members) → moved_notes unmoved p ms ≡ notes_of p ms
-notes_of-unmoved Map ms = refl
-notes_of-unmoved Layer ms = refl
-notes_of-unmoved Object ms = refl
-notes_of-unmoved Coordinate ms = refl
-notes_of-unmoved Version ms = refl
-notes_of-unmoved Elsewhere ms = refl
+pub notes_unmoved : (p : Place) (ms : Members) → moved_notes unmoved p ms ≡ notes_of p ms
+notes_unmoved Map ms = refl
+notes_unmoved Layer ms = refl
+notes_unmoved Object ms = refl
+notes_unmoved Coordinate ms = refl
+notes_unmoved Version ms = refl
+notes_unmoved Elsewhere ms = refl

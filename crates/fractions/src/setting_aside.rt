@@ -80,7 +80,7 @@ pub fn moved_notes(
 }
 
 // The notes of an object's coordinates.
-#[tactic(auto, using(crate::proofs::Unmoved::notes_of-unmoved))]
+#[tactic(auto, using(crate::proofs::Unmoved::notes_unmoved))]
 fn notes_of(
     alloc: Global,
     place: Place,

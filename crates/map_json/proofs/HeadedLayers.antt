@@ -13,6 +13,7 @@ use Rattle.map_model.specs.WellFormed.{IsWellFormed}
 use Rattle.map_model.proofs.Keeps.{changed-keeps, layer-Stands, layer_of-IsLayer, object_ids-IsReplaced, tier_of-found}
 use Rattle.map_model.proofs.LensLaws.{some-eq}
 use Rattle.fractions.specs.declared.lines.Fractions.{Fractions}
+use Rattle.fractions.specs.declared.lines.Moved.{Moved}
 use Rattle.fractions.specs.declared.place.Place.TheVariants as places
 use Rattle.fractions.specs.Lines.{members_said, put_words, remove_word}
 use Rattle.map_json.specs.declared.word.TheConstants.{MAX_WORD_DEPTH}
@@ -54,15 +55,15 @@ with_head id d own new h has sound =
     (rw (r.1.1.now ∙ sym r.1.1.was) h.layers.object_ids) h
 
 -- ---- heads that were read
-pub layer_put-well_formed : (id : ℕ) (f : Fractions) (words : Members) (own new : LayerHead) (d : DocumentParts) → IsWellFormed d.map
-    → (layer_head_with_id id).get d ≡ Some own → AreWords (members_said f places.Elsewhere words) → all_named is_layer_member words ≡ true
-    → layer_head_at (put_words f places.Elsewhere words (layer_head_members own)) ≡ Ok new → IsWellFormed (put (layer_head_with_id id) new d).map
-layer_put-well_formed id f words own new d h given are named e =
+pub layer_put-well_formed : (id : ℕ) (f : Fractions) (m : Moved) (words : Members) (own new : LayerHead) (d : DocumentParts) → IsWellFormed d.map
+    → (layer_head_with_id id).get d ≡ Some own → AreWords (members_said f places.Elsewhere m words) → all_named is_layer_member words ≡ true
+    → layer_head_at (put_words f places.Elsewhere m words (layer_head_members own)) ≡ Ok new → IsWellFormed (put (layer_head_with_id id) new d).map
+layer_put-well_formed id f m words own new d h given are named e =
     let has = has_layer_head id d own given in
-    let said = members_said f places.Elsewhere words in
-    let read = ap layer_head_at (sym (put_words-elsewhere f words (layer_head_members own))) ∙ e in
+    let said = members_said f places.Elsewhere m words in
+    let read = ap layer_head_at (sym (put_words-elsewhere f m words (layer_head_members own))) ∙ e in
     with_head id d own new h has (λ is. layer_put_sound (tier_of d.map id) has.layer.body said own new (words_fit id d has.layer has.at) are
-    (all_named-elsewhere is_layer_member f words ∙ named) is read)
+    (all_named-elsewhere is_layer_member f m words ∙ named) is read)
 
 pub layer_without-well_formed : (id : ℕ) (f : Fractions) (name : List ℕ) (own new : LayerHead) (d : DocumentParts) → IsWellFormed d.map
     → (layer_head_with_id id).get d ≡ Some own → layer_head_at (remove_word f places.Elsewhere name (layer_head_members own)) ≡ Ok new

@@ -21,6 +21,7 @@ use Rattle.map_model.proofs.Keeps.{layer-Stands, tier_of-found}
 use Rattle.map_model.proofs.LensLaws.{of_object-get, some-eq}
 use Rattle.map_model.proofs.ObjectKeeps.{object_at-IsObject, with_object-keeps_there}
 use Rattle.fractions.specs.declared.lines.Fractions.{Fractions}
+use Rattle.fractions.specs.declared.lines.Moved.{Moved}
 use Rattle.fractions.specs.declared.place.Place.TheVariants as places
 use Rattle.fractions.specs.Aside.{reserved_name}
 use Rattle.fractions.specs.Lines.{members_said, put_words, remove_word}
@@ -105,12 +106,12 @@ with_head id d own new h e sound =
     subst (λ (x : DocumentParts). IsWellFormed x.map) (head-put id has.place d has.stands new) keeps
 
 -- ---- heads that were read
-pub put-well_formed : (is_own : List ℕ → Bool) → is_own reserved_name ≡ false → (id : ℕ) (f : Fractions) (words : Members) (own new : ObjectHead)
-    (d : DocumentParts) → IsWellFormed d.map → (head_with_id id).get d ≡ Some own → AreWords (members_said f places.Object words)
-    → all_named is_own words ≡ true → head_at (put_words f places.Object words (head_members own)) ≡ Ok new
+pub put-well_formed : (is_own : List ℕ → Bool) → is_own reserved_name ≡ false → (id : ℕ) (f : Fractions) (m : Moved) (words : Members) (own new : ObjectHead)
+    (d : DocumentParts) → IsWellFormed d.map → (head_with_id id).get d ≡ Some own → AreWords (members_said f places.Object m words)
+    → all_named is_own words ≡ true → head_at (put_words f places.Object m words (head_members own)) ≡ Ok new
     → IsWellFormed (put (head_with_id id) new d).map
-put-well_formed is_own reserved id f words own new d h given are named e =
-    with_head id d own new h given (λ tier room is. head_put_sound is_own reserved tier f words own new room are named is e)
+put-well_formed is_own reserved id f m words own new d h given are named e =
+    with_head id d own new h given (λ tier room is. head_put_sound is_own reserved tier f m words own new room are named is e)
 
 pub without-well_formed : (id : ℕ) (f : Fractions) (name : List ℕ) (own new : ObjectHead) (d : DocumentParts) → IsWellFormed d.map
     → (head_with_id id).get d ≡ Some own → head_at (remove_word f places.Object name (head_members own)) ≡ Ok new

@@ -20,6 +20,7 @@ use Rattle.map_model.specs.WellFormed.{IsWellFormed, layer_ids, object_ids}
 use Rattle.map_model.proofs.LensLaws.{some-eq}
 use Rattle.json_members.specs.Members.{put_all, without, without_all}
 use Rattle.fractions.specs.declared.lines.Fractions.{Fractions}
+use Rattle.fractions.specs.declared.lines.Moved.{Moved}
 use Rattle.fractions.specs.declared.place.Place.TheVariants as places
 use Rattle.fractions.specs.Lines.{members_said, put_words, remove_word}
 use Rattle.map_values.specs.Presence.{required}
@@ -182,18 +183,18 @@ read-well_formed n room m ms new h fine lacks e =
 own_lacks : (m : MapParts) → IsWellFormed m → LacksAll other_names (map_head_members (map_head m))
 own_lacks m h = with_own_lacks_each (map_head_own (map_head m)) other_names (others-apart (map_head m)) m.kept (others_kept m.kept h.kept.unread)
 
-pub map_put-well_formed : (f : Fractions) (words : Members) (own new : MapHead) (d : DocumentParts) → IsWellFormed d.map → head_of_map.get d ≡ Some own
-    → AreWords (members_said f places.Elsewhere words) → all_named is_map_member words ≡ true
-    → map_head_at d.map (put_words f places.Elsewhere words (map_head_members own)) ≡ Ok new → IsWellFormed (put head_of_map new d).map
-map_put-well_formed f words own new d h given are named e =
+pub map_put-well_formed : (f : Fractions) (m : Moved) (words : Members) (own new : MapHead) (d : DocumentParts) → IsWellFormed d.map → head_of_map.get d ≡ Some own
+    → AreWords (members_said f places.Elsewhere m words) → all_named is_map_member words ≡ true
+    → map_head_at d.map (put_words f places.Elsewhere m words (map_head_members own)) ≡ Ok new → IsWellFormed (put head_of_map new d).map
+map_put-well_formed f m words own new d h given are named e =
     let is : map_head d.map ≡ own = some-eq (map_head d.map) own given in
     let head = map_head d.map in
-    let said = members_said f places.Elsewhere words in
-    let read = ap (map_head_at d.map) (sym (put_words-elsewhere f words (map_head_members head)))
-    ∙ (ap (λ x. map_head_at d.map (put_words f places.Elsewhere words (map_head_members x))) is ∙ e) in
+    let said = members_said f places.Elsewhere m words in
+    let read = ap (map_head_at d.map) (sym (put_words-elsewhere f m words (map_head_members head)))
+    ∙ (ap (λ x. map_head_at d.map (put_words f places.Elsewhere m words (map_head_members x))) is ∙ e) in
     let fine = words_fine (map_head_own head) head.kept h.kept (own_readable head (map_head_is d.map h)) (own_flat head) said (omega arith) are in
     read-well_formed (MAX_DEPTH - map_tier) (omega arith) d.map (put_all said (map_head_members head)) new h fine
-    (put_all_lacks_each is_map_member other_names others-fixed said (map_head_members head) (all_named-elsewhere is_map_member f words ∙ named)
+    (put_all_lacks_each is_map_member other_names others-fixed said (map_head_members head) (all_named-elsewhere is_map_member f m words ∙ named)
     (own_lacks d.map h)) read
 
 pub map_without-well_formed : (f : Fractions) (name : List ℕ) (own new : MapHead) (d : DocumentParts) → IsWellFormed d.map → head_of_map.get d ≡ Some own

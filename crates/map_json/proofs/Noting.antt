@@ -12,11 +12,12 @@ use Rattle.json_members.specs.Members.{put_all, without}
 use Rattle.json_members.proofs.MembersLemmas.{skips}
 use Rattle.fractions.specs.declared.lines.Fractions.{Fractions}
 use Rattle.fractions.specs.declared.lines.Fractions.TheVariants.{Refused, SetAside}
+use Rattle.fractions.specs.declared.lines.Moved.{Moved}
 use Rattle.fractions.specs.declared.place.Place.{Place}
 use Rattle.fractions.specs.declared.place.Place.TheVariants.{Elsewhere}
 use Rattle.fractions.specs.Places.{below}
-use Rattle.fractions.specs.Aside.{reserved_name, notes_of, with_notes, members_aside}
-use Rattle.fractions.specs.Lines.{has_noted, is_noted, members_said, notes_at, put_words, remove_word, renoted, unnoted, with_own_notes, without_named}
+use Rattle.fractions.specs.Aside.{reserved_name, with_notes, members_aside}
+use Rattle.fractions.specs.Lines.{has_noted, is_noted, members_said, moved_notes, notes_at, put_words, remove_word, renoted, unnoted, with_own_notes, without_named}
 use Rattle.map_json.specs.Words.{all_named}
 use Rattle.map_json.proofs.Fine.{IsFine, AreFineMembers}
 use Rattle.map_json.proofs.FineLemmas.{AreFineMembers-read, AreFineMembers-without, AreReadableMembers-fine, IsFine-get_member, IsReadable-fine, depth-fine}
@@ -66,12 +67,12 @@ either : (b : Bool) (n : ℕ) (a c : Members) → AreFineMembers n a → AreFine
 either true n a c h g = h
 either false n a c h g = g
 
-fine_renoted : (n : ℕ) (p : Place) (words ms : Members) → AreFineMembers n (notes_of p words) → AreFineMembers (suc n) ms
-    → AreFineMembers (suc n) (renoted p words ms)
-fine_renoted n p words ms h g =
-    either (has_noted p words) (suc n) (with_own_notes (put_all (notes_of p words) (without_named words (notes_at ms))) ms) ms
-    (fine_with_own_notes n (put_all (notes_of p words) (without_named words (notes_at ms))) ms
-    (fine_put_all n (notes_of p words) (without_named words (notes_at ms)) h (fine_without_named n words (notes_at ms) (fine_notes_at n ms g))) g) g
+fine_renoted : (n : ℕ) (p : Place) (m : Moved) (words ms : Members) → AreFineMembers n (moved_notes m p words) → AreFineMembers (suc n) ms
+    → AreFineMembers (suc n) (renoted p m words ms)
+fine_renoted n p m words ms h g =
+    either (has_noted p words) (suc n) (with_own_notes (put_all (moved_notes m p words) (without_named words (notes_at ms))) ms) ms
+    (fine_with_own_notes n (put_all (moved_notes m p words) (without_named words (notes_at ms))) ms
+    (fine_put_all n (moved_notes m p words) (without_named words (notes_at ms)) h (fine_without_named n words (notes_at ms) (fine_notes_at n ms g))) g) g
 
 fine_unnoted : (n : ℕ) (p : Place) (k : List ℕ) (ms : Members) → AreFineMembers (suc n) ms → AreFineMembers (suc n) (unnoted p k ms)
 fine_unnoted n p k ms g =
@@ -105,14 +106,14 @@ said_parts n (member k d ns) ms absent h =
       subst (AreFineMembers (suc n)) (without-put reserved_name note ms absent) (AreFineMembers-without (suc n) reserved_name (put reserved_name note ms) h),
     )
 
-module _ (is_own : List ℕ → Bool) (reserved : is_own reserved_name ≡ false) (n : ℕ) (p : Place) where
-  pub fine_put_words : (f : Fractions) (words ms : Members) → AreFineMembers (suc n) (members_said f p words) → all_named is_own words ≡ true
-      → AreFineMembers (suc n) ms → AreFineMembers (suc n) (put_words f p words ms)
+module _ (is_own : List ℕ → Bool) (reserved : is_own reserved_name ≡ false) (n : ℕ) (p : Place) (m : Moved) where
+  pub fine_put_words : (f : Fractions) (words ms : Members) → AreFineMembers (suc n) (members_said f p m words) → all_named is_own words ≡ true
+      → AreFineMembers (suc n) ms → AreFineMembers (suc n) (put_words f p m words ms)
   fine_put_words Refused words ms h named g = fine_put_all (suc n) words ms h g
   fine_put_words SetAside words ms h named g =
       let absent = named_absent is_own reserved_name reserved (members_aside p words) (all_named-aside is_own p words ∙ named) in
-      let parts = said_parts n (notes_of p words) (members_aside p words) absent h in
-      fine_put_all (suc n) (members_aside p words) (renoted p words ms) parts.1 (fine_renoted n p words ms parts.0 g)
+      let parts = said_parts n (moved_notes m p words) (members_aside p words) absent h in
+      fine_put_all (suc n) (members_aside p words) (renoted p m words ms) parts.1 (fine_renoted n p m words ms parts.0 g)
 
 pub fine_remove_word : (n : ℕ) (p : Place) (f : Fractions) (k : List ℕ) (ms : Members) → AreFineMembers (suc n) ms
     → AreFineMembers (suc n) (remove_word f p k ms)
@@ -124,14 +125,15 @@ none_noted : (words : Members) → has_noted Elsewhere words ≡ false
 none_noted no_members = refl
 none_noted (member k d words) = none_noted words
 
-pub put_words-elsewhere : (f : Fractions) (words ms : Members) → put_words f Elsewhere words ms ≡ put_all (members_said f Elsewhere words) ms
-put_words-elsewhere Refused words ms = refl
-put_words-elsewhere SetAside words ms = rw (none_noted words) refl
+pub put_words-elsewhere : (f : Fractions) (m : Moved) (words ms : Members)
+    → put_words f Elsewhere m words ms ≡ put_all (members_said f Elsewhere m words) ms
+put_words-elsewhere Refused m words ms = refl
+put_words-elsewhere SetAside m words ms = rw (none_noted words) refl
 
-pub all_named-elsewhere : (is_own : List ℕ → Bool) (f : Fractions) (words : Members)
-    → all_named is_own (members_said f Elsewhere words) ≡ all_named is_own words
-all_named-elsewhere is_own Refused words = refl
-all_named-elsewhere is_own SetAside words = all_named-aside is_own Elsewhere words
+pub all_named-elsewhere : (is_own : List ℕ → Bool) (f : Fractions) (m : Moved) (words : Members)
+    → all_named is_own (members_said f Elsewhere m words) ≡ all_named is_own words
+all_named-elsewhere is_own Refused m words = refl
+all_named-elsewhere is_own SetAside m words = all_named-aside is_own Elsewhere words
 
 pub remove_word-elsewhere : (f : Fractions) (k : List ℕ) (ms : Members) → remove_word f Elsewhere k ms ≡ without k ms
 remove_word-elsewhere Refused k ms = refl

@@ -10,6 +10,7 @@ use Rattle.map_model.specs.Format.{object_names}
 use Rattle.map_model.specs.WellFormed.{IsTileValue}
 use Rattle.json_members.specs.Members.{without_all}
 use Rattle.fractions.specs.declared.lines.Fractions.{Fractions}
+use Rattle.fractions.specs.declared.lines.Moved.{Moved}
 use Rattle.fractions.specs.declared.place.Place.TheVariants as places
 use Rattle.fractions.specs.Aside.{reserved_name}
 use Rattle.fractions.specs.Lines.{members_said, put_words, remove_word}
@@ -78,17 +79,17 @@ members_fine : (tier : ℕ) (h : ObjectHead) → IsObjectHead tier h → AreFine
 members_fine tier h is = own_fine (head_own h) h.kept is.kept (own_readable tier h is) (own_flat tier h is)
 
 -- the head that its members say with others put in, where lines can say those, and none has the reserved name
-pub head_put_sound : (is_own : List ℕ → Bool) → is_own reserved_name ≡ false → (tier : ℕ) (f : Fractions) (words : Members) (h new : ObjectHead)
-    → tier + MAX_WORD_DEPTH ≤ MAX_DEPTH → AreWords (members_said f places.Object words) → all_named is_own words ≡ true → IsObjectHead tier h
-    → head_at (put_words f places.Object words (head_members h)) ≡ Ok new → IsObjectHead tier new
-head_put_sound is_own reserved tier f words h new room are named is e =
+pub head_put_sound : (is_own : List ℕ → Bool) → is_own reserved_name ≡ false → (tier : ℕ) (f : Fractions) (m : Moved) (words : Members) (h new : ObjectHead)
+    → tier + MAX_WORD_DEPTH ≤ MAX_DEPTH → AreWords (members_said f places.Object m words) → all_named is_own words ≡ true → IsObjectHead tier h
+    → head_at (put_words f places.Object m words (head_members h)) ≡ Ok new → IsObjectHead tier new
+head_put_sound is_own reserved tier f m words h new room are named is e =
     let deep = are.shallow in
     let n = MAX_DEPTH - tier - 1 in
     let next : suc n ≡ MAX_DEPTH - tier = omega arith in
-    let said = AreFineMembers-read (suc n) (members_said f places.Object words) are.readable are.whole (omega arith) in
+    let said = AreFineMembers-read (suc n) (members_said f places.Object m words) are.readable are.whole (omega arith) in
     let own = subst (λ k. AreFineMembers k (head_members h)) (sym next) (members_fine tier h is) in
-    let fine = fine_put_words is_own reserved n places.Object f words (head_members h) said named own in
-    head_at_sound tier (suc n) (omega arith) (put_words f places.Object words (head_members h)) new fine e
+    let fine = fine_put_words is_own reserved n places.Object m f words (head_members h) said named own in
+    head_at_sound tier (suc n) (omega arith) (put_words f places.Object m words (head_members h)) new fine e
 
 -- the head that its members say without one of them
 pub head_drop_sound : (tier : ℕ) (f : Fractions) (name : List ℕ) (h new : ObjectHead) → tier + MAX_WORD_DEPTH ≤ MAX_DEPTH → IsObjectHead tier h

@@ -8,6 +8,7 @@ use Rattle.map_model.specs.Lens.{put}
 use Rattle.map_model.specs.WellFormed.{IsWellFormed}
 use Rattle.map_model.proofs.LensLaws.{some-eq}
 use Rattle.fractions.specs.declared.lines.Fractions.{Fractions}
+use Rattle.fractions.specs.declared.lines.Moved.{Moved}
 use Rattle.fractions.specs.Lines.{members_said, put_words, remove_word}
 use Rattle.map_json.specs.Words.{AreWords, all_named}
 use Rattle.refusals.specs.declared.more_fault.MoreFault.{MoreFault}
@@ -40,14 +41,14 @@ some_is o x e = rw e refl
 
 module _ {H : Type 0} (p : HeadParts H) (laws : AreHeadParts p) (id : ℕ) (f : Fractions) (d : DocumentParts) (well_formed : IsWellFormed d.map) where
   -- a head that was read with words put in fits, and so does one that was read without a member
-  pub put_fits : (words before : Members) → IsSomeAnd ((p.lens id).get d) (λ own. before ≡ p.members own) → AreWords (members_said f p.place words)
-      → all_named p.is_own words ≡ true → (h : H) → p.read d (put_words f p.place words before) ≡ Ok h → FitsBack (p.lens id) h d
-  put_fits words before there are named h e =
+  pub put_fits : (m : Moved) (words before : Members) → IsSomeAnd ((p.lens id).get d) (λ own. before ≡ p.members own) → AreWords (members_said f p.place m words)
+      → all_named p.is_own words ≡ true → (h : H) → p.read d (put_words f p.place m words before) ≡ Ok h → FitsBack (p.lens id) h d
+  put_fits m words before there are named h e =
       let own = some_and ((p.lens id).get d) (λ o. before ≡ p.members o) there in
       record {
         well_formed = well_formed;
         there = some_is ((p.lens id).get d) own.0 own.1;
-        back = laws.put_in id f words own.0 h d well_formed own.1 are named (ap (λ ms. p.read d (put_words f p.place words ms)) (sym own.2) ∙ e);
+        back = laws.put_in id f m words own.0 h d well_formed own.1 are named (ap (λ ms. p.read d (put_words f p.place m words ms)) (sym own.2) ∙ e);
       }
 
   pub drop_fits : (name : List ℕ) (before : Members) → IsSomeAnd ((p.lens id).get d) (λ own. before ≡ p.members own)

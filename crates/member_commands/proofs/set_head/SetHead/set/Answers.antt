@@ -3,8 +3,9 @@ use Rattle.serde_json.specs.Data.{member, no_members}
 use Rattle.serde_json.specs.View.{view}
 use Rattle.fractions.specs.Places.{below, is_inner}
 use Rattle.fractions.specs.Lines.{put_words, said}
-use Rattle.map_json.specs.Words.{IsWord}
-use Rattle.map_json.proofs.Asides.{inner_below, member-AreWords, word_at-read}
+use Rattle.std.proofs.Common.{◌≡◌, Ok}
+use Rattle.map_json.specs.Words.{IsWord, word_at}
+use Rattle.map_json.proofs.Asides.{inner_below, member-AreWords}
 use Rattle.member_commands.specs.Edits.{after_set_member, is_early_named}
 use Rattle.member_commands.proofs.Members.{absent-refused, ok_then, put_fits}
 use Rattle.member_commands.proofs.set_head.SetHead.set.Goals as goal
@@ -22,13 +23,16 @@ pub saying-requires : goal.saying-requires
 saying-requires g c = λ head e.
     let p = g.H.Head.parts in
     let f = c.args.fractions in
+    let m = p.moved f c.args.document.now in
     let name = c.args.name.now in
-    let words = member name (view c.in-Ok.value) no_members in
+    let value = c.in-Ok.value in
+    let words = member name (view value) no_members in
     let at = c.below.ensures ∙ ap (λ q. below q name) c.place.ensures in
-    let said = subst (λ q. IsWord (said f q (view c.in-Ok.value))) at c.in-Ok.ensures.word in
-    let text = word_at-read f (c.below.result) c.args.json.now (view c.in-Ok.value) c.in-Ok.ensures.value in
+    let says = subst (λ q. word_at f q c.args.json.now ≡ Ok (view value)) at c.in-Ok.ensures.value in
+    let said = subst (λ q. IsWord (said f q (view value))) at c.in-Ok.ensures.word in
     let is = ok_then c.put_word.result _ c.put_word.ensures c.if-is_err.ensures.value in
-    let put = is ∙ ap (λ q. put_words f q words c.in-Ok-members.members) c.place-2.ensures in
-    put_fits p g.met.H.Head.laws c.args.id f c.args.document.now c.is_there.ensures.well_formed words c.in-Ok-members.members c.in-Ok-members.ensures
-    (member-AreWords f p.place name c.args.json.now c.in-Ok.value c.utf8.name g.met.H.Head.laws.inner text said)
+    let put = is ∙ ap (λ q. put_words f q c.moved.result words c.in-Ok-members.members) c.place-2.ensures
+    ∙ ap (λ n. put_words f p.place n words c.in-Ok-members.members) c.moved.ensures in
+    put_fits p g.met.H.Head.laws c.args.id f c.args.document.now c.is_there.ensures.well_formed m words c.in-Ok-members.members c.in-Ok-members.ensures
+    (member-AreWords f p.place m name c.args.json.now value c.utf8.name g.met.H.Head.laws.inner says said)
     (rw (sym c.is_own.ensures ∙ c.if-not-is_own.false) refl) head (ap (p.read c.args.document.now) (sym put) ∙ e)
