@@ -19,7 +19,7 @@ use lib.Signed.{mag}
 use Rattle.json.proofs.Printed.Utf8.{IsUtf8-are_ascii}
 use Rattle.serde_json.specs.Data.{Num, unsigned, negative, float, Data, null, boolean, number, string, array, object, Items, no_items, item, Members}
 use Rattle.serde_json.specs.Data.{no_members, member, put, depth, members_depth}
-use Rattle.serde_json.specs.Find.{get_member, is_float, of_integer, to_float}
+use Rattle.serde_json.specs.Find.{as_object, get_member, is_float, of_integer, to_float}
 use Rattle.serde_json.specs.Read.{read}
 use Rattle.serde_json.specs.View.{view}
 use Rattle.serde_json.specs.Written.{has_float, items_have_float, members_have_float}
@@ -333,25 +333,39 @@ aside_lacks p k no_members h = refl
 aside_lacks p k (member l d ms) h =
     aside_lacks_at (slice_cmp nat_cmp k l) (get_member k (members_aside p ms)) (get_member k ms) (aside (below p l) d) d (aside_lacks p k ms) h
 
-pub said-AreWords : (f : Fractions) (p : Place) (m : Moved) (text : List ℕ) (v : Value) (ms : Members) → is_inner p ≡ true → word_at f p text ≡ Ok (view v)
+as_object_is : (d : Data) (ms : Members) → as_object d ≡ Some ms → d ≡ object ms
+as_object_is null ms e = absurd cc
+as_object_is (boolean b) ms e = absurd cc
+as_object_is (number n) ms e = absurd cc
+as_object_is (string s) ms e = absurd cc
+as_object_is (array ds) ms e = absurd cc
+as_object_is (object ns) ms e = let same : ns ≡ ms = cc in ap object same
+
+said-members : (f : Fractions) (p : Place) (m : Moved) (text : List ℕ) (v : Value) (ms : Members) → is_inner p ≡ true → word_at f p text ≡ Ok (view v)
     → view v ≡ object ms → IsWord (said f p (object ms)) → AreWords (members_said f p m ms)
-said-AreWords Refused p m text v ms inner e same is = words-AreWords ms is
-said-AreWords SetAside p m text v ms inner e same is =
-    let text_read = word_at-parts SetAside p text (view v) e in
-    let free = unless (has_name RESERVED_NAME.now (view v)) text_read.1 in
-    let readable = subst IsReadable same (IsReadable-read text v text_read.0) in
-    let was = subst IsReadTree same (IsReadTree-read text (view v) text_read.0) in
+said-members Refused p m text v ms inner e same is = words-AreWords ms is
+said-members SetAside p m text v ms inner e same is =
+    let word = word_at-parts SetAside p text (view v) e in
+    let free = unless (has_name RESERVED_NAME.now (view v)) word.1 in
+    let readable = subst IsReadable same (IsReadable-read text v word.0) in
+    let was = subst IsReadTree same (IsReadTree-read text (view v) word.0) in
     let none = aside_lacks p reserved_name ms (absent reserved_name ms (subst (λ d. has_name reserved_name d ≡ false) same free)) in
     let under = under_notes (notes_of p ms) (members_aside p ms) none in
     let deep = is.shallow in
     words_aside p m ms inner readable was (omega (arith, under, deep))
+
+pub said-AreWords : (f : Fractions) (p : Place) (m : Moved) (text : List ℕ) (v : Value) (ms : Members) → is_inner p ≡ true → word_at f p text ≡ Ok (view v)
+    → as_object (view v) ≡ Some ms → IsWord (said f p (view v)) → AreWords (members_said f p m ms)
+said-AreWords f p m text v ms inner e found is =
+    let same = as_object_is (view v) ms found in
+    said-members f p m text v ms inner e same (subst (λ d. IsWord (said f p d)) same is)
 
 -- one member of an object at a place
 pub member-AreWords : (f : Fractions) (p : Place) (m : Moved) (name text : List ℕ) (v : Value) → IsUtf8 name → is_inner p ≡ true
     → word_at f (below p name) text ≡ Ok (view v) → IsWord (said f (below p name) (view v)) → AreWords (members_said f p m (member name (view v) no_members))
 member-AreWords Refused p m name text v utf8 inner e is = word-AreWords name (view v) utf8 is
 member-AreWords SetAside p m name text v utf8 inner e is =
-    let text_read = word_at-parts SetAside (below p name) text (view v) e in
+    let word = word_at-parts SetAside (below p name) text (view v) e in
     let deep = is.shallow in
-    words_aside p m (member name (view v) no_members) inner (utf8, tt, IsReadable-read text v text_read.0, tt)
-    (IsReadTree-read text (view v) text_read.0, tt, tt) (omega (arith, deep))
+    words_aside p m (member name (view v) no_members) inner (utf8, tt, IsReadable-read text v word.0, tt)
+    (IsReadTree-read text (view v) word.0, tt, tt) (omega (arith, deep))

@@ -39,7 +39,7 @@ fn is_shallow(
     value: &Value,
 ) -> Result<bool, AllocError>
     ensures { IfOk result (λ shallow. shallow
-        ≡ nat_le (depth (said fractions place (data_of value.now))) MAX_WORD_DEPTH.now) }
+        ≡ nat_le (depth (said fractions place (data_of value.now))) MAX_WORD_DEPTH) }
 {
     match fractions {
         Fractions::Refused => Ok(is_within(MAX_WORD_DEPTH, value)),
