@@ -24,6 +24,17 @@ fn first_line(bytes: &[u8]) -> (&[u8], usize)
     }
 }
 
+// Copies a body to where it goes. Most replies have none, and then nothing is called.
+#[inline(always)]
+fn copy_body(body: &[u8], place: &mut [u8])
+    requires { length place.old ≡ length body.now }
+    ensures { place.new ≡ body.now }
+{
+    if !body.is_empty() {
+        place.copy_from_slice(body);
+    }
+}
+
 // Puts a head, a body and an end at the front of a buffer, where it has room for all of them. Gives their size.
 #[inline(always)]
 fn put_pieces(head: &[u8], body: &[u8], end: &[u8], buffer: &mut [u8]) -> usize
@@ -37,10 +48,7 @@ fn put_pieces(head: &[u8], body: &[u8], end: &[u8], buffer: &mut [u8]) -> usize
         let (prefix, rest) = buffer.split_at_mut(head.len());
         prefix.copy_from_slice(head);
         let (middle, rest) = rest.split_at_mut(body.len());
-        // Most replies are a head alone.
-        if !body.is_empty() {
-            middle.copy_from_slice(body);
-        }
+        copy_body(body, middle);
         let (last, _) = rest.split_at_mut(end.len());
         last.copy_from_slice(end);
     }
