@@ -136,14 +136,29 @@ impl Listening {
         self.is_many && self.block.has_other_documents()
     }
 
+    /// Whether the call has done several lines.
+    #[inline(always)]
+    pub fn is_many(&self) -> bool {
+        self.is_many
+    }
+
+    /// A further line of a call is to be done, and the one before it changed nothing.
+    #[inline(always)]
+    pub fn passes(&mut self) {
+        self.pushed = None;
+    }
+
     /// A further line of a call is to be done. The documents stand so before it, and this is the stack of the active one.
     #[inline(always)]
     pub fn goes_on(&mut self, now: Standing, stack: Option<&Stack<Edit>>) {
         let before = self.last;
-        if !self.is_many || !self.block.takes(&before, &now, self.pushed) {
+        if self.is_many && self.block.takes(&before, &now, self.pushed) {
+            // The rest stands as it stood.
+            self.last.index = now.index;
+        } else {
             self.look_back(now, stack);
+            self.last = now;
         }
-        self.last = now;
         self.pushed = None;
     }
 

@@ -1,5 +1,6 @@
 use crate::listening::Listening;
 use crate::rectangle::{Rectangle, copy_cells};
+use arrayvec::ArrayString;
 use document_lines::Dialect;
 use editor::{Edit, Editor};
 use map_json::write_outline;
@@ -20,7 +21,9 @@ pub struct MemoryEditor {
     pub(crate) editor: Editor<Edit>,
     store: MemoryStore,
     // The reply to the last line, where it had one.
-    reply: Option<Reply>,
+    pub(crate) reply: Option<Reply>,
+    // Where a reply is written before it is copied, made once: to make it takes more than to write most replies.
+    pub(crate) head: ArrayString<512>,
     // What is kept of the last line to tell what it did.
     pub(crate) listening: Listening,
     // Which lines it reads.
@@ -73,6 +76,7 @@ impl MemoryEditor {
             editor: Editor::new(alloc, limit),
             store: MemoryStore::new(alloc),
             reply: None,
+            head: ArrayString::new(),
             listening: Listening::new(),
             dialect,
             alloc,

@@ -126,10 +126,21 @@ impl MemoryEditor {
         if is_first {
             let standing = self.standing();
             self.listening.begins(standing);
-        } else if !self.listening.is_settled() {
+        } else if self.may_have_changed() {
             let standing = self.standing();
             self.listening
                 .goes_on(standing, self.editor.group().active());
+        } else {
+            self.listening.passes();
+        }
+    }
+
+    // Whether what is told of the lines of a call may be more with the last one: what asks, is refused or is quiet changes nothing.
+    #[inline(always)]
+    fn may_have_changed(&self) -> bool {
+        match self.reply {
+            Some(Reply::State { .. }) | Some(Reply::NoDocument) => !self.listening.is_settled(),
+            _ => !self.listening.is_many(),
         }
     }
 

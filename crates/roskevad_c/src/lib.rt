@@ -112,7 +112,7 @@ pub extern "C" fn roskevad_step(
         return CLOSED;
     };
     boxed.step(line);
-    let size = copy_reply(boxed.reply(), reply);
+    let size = copy_reply(&mut boxed, reply);
     *editor = CEditor::of_box(boxed);
     size
 }
@@ -124,10 +124,10 @@ pub extern "C" fn roskevad_reply(alloc: Global, editor: &mut CEditor, reply: &mu
     ensures size { result ≡ told_size (option_map last_reply editor.old.held.held_editor) }
     ensures copied { reply.new ≡ told_bytes (option_map last_reply editor.old.held.held_editor) reply.old }
 {
-    let Some(boxed) = editor.take(alloc) else {
+    let Some(mut boxed) = editor.take(alloc) else {
         return CLOSED;
     };
-    let size = copy_reply(boxed.reply(), reply);
+    let size = copy_reply(&mut boxed, reply);
     *editor = CEditor::of_box(boxed);
     size
 }

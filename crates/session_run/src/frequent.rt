@@ -9,10 +9,12 @@ pub enum FrequentLine {
     Undo,
     Redo,
     Status,
+    UndoText,
+    RedoText,
 }
 
 /// The bytes of the longest such line.
-const LONGEST: usize = 6;
+const LONGEST: usize = 8;
 
 /// The frequent line that these bytes are, if they are one.
 #[inline(always)]
@@ -27,6 +29,8 @@ pub fn frequent_line(line: &[u8]) -> Option<FrequentLine>
         b"undo" => Some(FrequentLine::Undo),
         b"redo" => Some(FrequentLine::Redo),
         b"status" => Some(FrequentLine::Status),
+        b"undotext" => Some(FrequentLine::UndoText),
+        b"redotext" => Some(FrequentLine::RedoText),
         _ => None,
     }
 }

@@ -210,6 +210,8 @@ pub fn step_told<C: Command, S: MapStore, F: Fn(Edit) -> Option<C>, T: Tell>(
         Some(FrequentLine::Undo) => Some(editor.undo()),
         Some(FrequentLine::Redo) => Some(editor.redo()),
         Some(FrequentLine::Status) => Some(editor.status()),
+        Some(FrequentLine::UndoText) => Some(editor.undo_text(alloc)),
+        Some(FrequentLine::RedoText) => Some(editor.redo_text(alloc)),
         None => step_parsed(alloc, editor, store, dialect, line, put, tell),
     }
 }

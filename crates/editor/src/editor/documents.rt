@@ -281,8 +281,9 @@ impl<C: Command> Editor<C> {
         }
     }
 
-    // The text for undo.
-    fn undo_text(&self, alloc: Global) -> Reply
+    /// The action text of what `undo` would do: the reply to the line `undotext`, or that memory is out.
+    #[inline(always)]
+    pub fn undo_text(&self, alloc: Global) -> Reply
         requires { IsHeld C.change self.now }
         ensures { TellsText undo_text_of (machine_of C.change self.now) (Some result) (machine_of C.change self.now) }
     {
@@ -292,8 +293,9 @@ impl<C: Command> Editor<C> {
         }
     }
 
-    // The text for redo.
-    fn redo_text(&self, alloc: Global) -> Reply
+    /// The action text of what `redo` would do: the reply to the line `redotext`, or that memory is out.
+    #[inline(always)]
+    pub fn redo_text(&self, alloc: Global) -> Reply
         requires { IsHeld C.change self.now }
         ensures { TellsText redo_text_of (machine_of C.change self.now) (Some result) (machine_of C.change self.now) }
     {

@@ -1,7 +1,7 @@
 use Rattle.std.proofs.Common.{◌≡◌, ◌∙◌, Ok, ap, arith, rules}
 use Rattle.std.specs.Prelude.{codes}
 use Rattle.std.proofs.lemmas.Slice.Eq.{text_from_reads}
-use Rattle.session.specs.declared.line.Line.TheVariants.{Undo, Redo, Status}
+use Rattle.session.specs.declared.line.Line.TheVariants.{Undo, Redo, Status, UndoText, RedoText}
 use Rattle.session.specs.Grammar.{line_of}
 use Rattle.session.proofs.Laws.{spelled_is_read}
 use Rattle.session_run.proofs.frequent.frequent_line.Goals as goal
@@ -20,3 +20,13 @@ pub returns-in-status : goal.returns-in-status
 returns-in-status c =
     let is = text_from_reads c.args.line.now (codes "status") (omega (arith, c.in-status.len_at_least, c.in-status.len_below)) (search rules) in
     ap line_of is ∙ spelled_is_read Status (search rules)
+
+pub returns-in-undotext : goal.returns-in-undotext
+returns-in-undotext c =
+    let is = text_from_reads c.args.line.now (codes "undotext") (omega (arith, c.in-undotext.len_at_least, c.in-undotext.len_below)) (search rules) in
+    ap line_of is ∙ spelled_is_read UndoText (search rules)
+
+pub returns-in-redotext : goal.returns-in-redotext
+returns-in-redotext c =
+    let is = text_from_reads c.args.line.now (codes "redotext") (omega (arith, c.in-redotext.len_at_least, c.in-redotext.len_below)) (search rules) in
+    ap line_of is ∙ spelled_is_read RedoText (search rules)
