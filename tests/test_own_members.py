@@ -31,6 +31,8 @@ OF_OTHER_LINES = {
     'map': ['width', 'height', 'infinite', 'chunks', 'data', 'objects', 'layers', 'tilesets', 'properties', 'type', 'version'],
 }
 DEEP = functools.reduce(lambda inner, _: [inner], range(88), 0)
+# A fraction nests two deep more, as what stands for it does.
+DEEP_HALF = functools.reduce(lambda inner, _: [inner], range(87), 0.5)
 
 
 def owners(document):
@@ -108,13 +110,14 @@ def test_typed_values_that_no_line_says():
 
 # The name and a value that is refused, by the owner, with the code.
 REFUSED_VALUES = {
-    'object:1': [(61, 'rotation', 22.5), (63, 'x', 'left'), (63, 'visible', 1), (68, 'x', 10**12), (41, 'id', 7), (41, 'properties', [])],
-    'layer:1': [(61, 'opacity', 0.5), (63, 'name', 7), (63, 'visible', 1), (63, 'visible', None)],
-    'layer:2': [(61, 'parallaxx', 1.5), (63, 'name', None), (63, 'visible', 'yes')],
-    'map': [(61, 'parallaxoriginx', 0.5), (63, 'tilewidth', 'wide'), (63, 'nextobjectid', None), (68, 'nextlayerid', 2), (68, 'nextlayerid', 1),
+    'object:1': [(63, 'rotation', {'roskevad': [1, 2]}), (63, 'x', 'left'), (63, 'x', [1.5]), (63, 'gid', 0.5), (68, 'y', 1e9 + 1.5),
+                 (63, 'visible', 1), (68, 'x', 10**12), (41, 'id', 7), (41, 'properties', [])],
+    'layer:1': [(63, 'name', 0.5), (63, 'name', 7), (63, 'visible', 1), (63, 'visible', None)],
+    'layer:2': [(63, 'name', None), (63, 'visible', 'yes')],
+    'map': [(63, 'tilewidth', 16.5), (63, 'tilewidth', 'wide'), (63, 'nextobjectid', None), (68, 'nextlayerid', 2), (68, 'nextlayerid', 1),
             (68, 'nextobjectid', 1)],
 }
-REFUSED_ANYWHERE = [(61, 'a', [1, 0.1]), (60, 'a', [DEEP]), (63, 'a', {'roskevad': 1}), (1, 'a', 'x' * 65_535)]
+REFUSED_ANYWHERE = [(60, 'a', [DEEP]), (60, 'a', DEEP_HALF), (63, 'a', {'roskevad': 1}), (1, 'a', 'x' * 65_535)]
 
 
 def rows_of_refused(owner):
@@ -123,7 +126,7 @@ def rows_of_refused(owner):
 
 
 def test_values_that_are_refused():
-    """What the editor refuses is refused by it, and then none of several is set; a fraction is not rounded."""
+    """What the editor refuses is refused by it, and then none of several is set."""
 
     def fault_of(case):
         code, name, value = case.given[1:]
@@ -275,6 +278,117 @@ def test_what_comes_back():
         see(THINGS, things.members)
 
 
+# ---- fractions
+
+
+def saved_objects(document):
+    """The objects of the layer of things, as a file has them."""
+    return json.loads(document.save_bytes())['layers'][1]['objects']
+
+
+def test_places_off_whole_pixels():
+    """An object lies where it is set to, and one that is set to whole pixels has no fraction any more."""
+    with Editor() as editor:
+        document = made(editor)
+        door = document.objects['door']
+        with Said(editor) as lines:
+            door.x, door.y, door.width, door.height = 16.5, -0.25, 0.125, 8.75
+        see([f'member set object:1 {said}' for said in ('x 16.5', 'y -0.25', 'width 0.125', 'height 8.75')], lines)
+        see((16.5, -0.25, 0.125, 8.75), (door.x, door.y, door.width, door.height))
+        see([{**DOOR, 'x': 16.5, 'y': -0.25, 'width': 0.125, 'height': 8.75}], saved_objects(document))
+        door.x, door.height = 16, 8.0
+        see((16, -0.25, 0.125, 8), (door.x, door.y, door.width, door.height))
+        see([{**DOOR, 'x': 16, 'y': -0.25, 'width': 0.125, 'height': 8}], saved_objects(document))
+        document.undo()
+        document.undo()
+        see((16.5, 8.75), (door.x, door.height))
+        document.goto(2)
+        see([DOOR], saved_objects(document))
+
+
+def test_moves_and_sizes_off_whole_pixels():
+    """They are said as own members where a number has a fraction, or had one: so it is gone then."""
+    with Editor() as editor:
+        document = made(editor)
+        door = document.objects['door']
+        with Said(editor) as lines:
+            door.move(4, 5)
+            door.move(4.5, 5)
+            door.move(5, 5.5, merge=True)
+            door.move(5, 5)
+            door.move(5, 6, merge=True)
+            door.resize(8, 8)
+            door.resize(8.5, 9)
+            door.resize(8, 9)
+        see(['object move 1 4 5', 'member put object:1 {"x":4.5,"y":5}', 'member put+ object:1 {"x":5,"y":5.5}', 'member put object:1 {"x":5,"y":5}',
+             'object move+ 1 5 6', 'object resize 1 8 8', 'member put object:1 {"width":8.5,"height":9}', 'member put object:1 {"width":8,"height":9}'], lines)
+        see([{**DOOR, 'x': 5, 'y': 6, 'width': 8, 'height': 9}], saved_objects(document))
+        see(9, document.status.count)
+        document.goto(4)
+        see((5, 5.5), (door.x, door.y))
+
+
+def test_one_step_with_fractions():
+    """An object is moved and turned at once, and a stroke that ends where it began is no step."""
+    with Editor() as editor:
+        document = made(editor)
+        door = document.objects['door']
+        door.members.update(x=16.5, y=8, rotation=22.5)
+        see((16.5, 8, 22.5, 3), (door.x, door.y, door.rotation, document.status.count))
+        see([{**DOOR, 'x': 16.5, 'y': 8, 'rotation': 22.5}], saved_objects(document))
+        for degrees in (30.25, 45, 22.5):
+            door.members.set('rotation', degrees, merge=True)
+        see((22.5, 3), (door.rotation, document.status.count))
+        with document.macro('M'):
+            door.x, door.rotation = 16.5, 22.5
+        see(3, document.status.count)
+        with document.macro('M'):
+            door.x = 16
+        see((16, ['Add Layer', 'Add Object', 'Set Members', 'M']), (door.x, [step.text for step in document.steps]))
+
+
+def test_fractions_anywhere():
+    """In own members of each owner, in properties, in whole things, and in what is read and saved of them."""
+    with Editor() as editor:
+        document = made(editor)
+        ground, things = document.layers[1], document.layers['Things']
+        ground.opacity, things.members['parallaxx'], document.members['parallaxoriginx'] = 0.5, 1.25, -0.75
+        document.properties['speed'] = 1.25
+        document.properties['shop'] = {'open': True, 'prices': [0.5, 3]}
+        ground.properties.set('depth', 2, type='float')
+        gate = things.objects.add('gate', 1.5, 2, 3, 4.25, polygon=[(0, 0), (8.5, -8.5)], rotation=22.5, properties={'a': 0.1})
+        put = things.objects.put({'x': 0.25, 'name': 'put', 'kept': [{'x': 1e300}]})
+        art = document.tilesets.put({'firstgid': 100, 'name': 'art', 'tiles': [{'id': 0, 'probability': 0.5}]})
+        see((0.5, 1.25, -0.75, 1.25, {'open': True, 'prices': [0.5, 3]}, 2.0), (
+            ground.opacity, things.members['parallaxx'], document.members['parallaxoriginx'], document.properties['speed'], document.properties['shop'],
+            ground.properties['depth']))
+        see((1.5, 2, 3, 4.25, 22.5, 0.1), (gate.x, gate.y, gate.width, gate.height, gate.rotation, gate.properties['a']))
+        see({'id': 3, 'x': 0.25, 'name': 'put', 'kept': [{'x': 1e300}]}, put.members)
+        see(0.5, art.members['tiles'][0]['probability'])
+        told, saved = document.map(), json.loads(document.save_bytes())
+        see({**told, 'version': saved['version']}, saved)
+        see((0.5, 1.25, -0.75, 8.5), (saved['layers'][0]['opacity'], saved['layers'][1]['parallaxx'], saved['parallaxoriginx'],
+             saved['layers'][1]['objects'][1]['polygon'][1]['x']))
+        assert 'roskevad' not in json.dumps([told, saved])
+        document.goto(2)
+        assert 'roskevad' not in document.save_bytes().decode()
+
+
+def test_fractions_of_files():
+    """A map that is opened with its fractions and edited, and one that is saved and opened again."""
+    with Editor() as editor:
+        document = editor.open(maps.text_of(maps.map_of(maps.tiles(1), maps.things(2, maps.thing(1, x=10.5, y=0.25)), nextobjectid=2, nextlayerid=3)))
+        thing = document.objects[1]
+        thing.y = 7
+        see((10.5, 7), (thing.x, thing.y))
+        thing.move(10, 7)
+        see((10, 7), (thing.x, thing.y))
+        thing.members.update(x=0.1, rotation=0.3)
+        again = editor.open(document.save_bytes(), 'again')
+        see((0.1, 7, 0.3), (again.objects[1].x, again.objects[1].y, again.objects[1].rotation))
+        see(document.map(), again.map())
+
+
 # ---- values by their names
 
 
@@ -299,7 +413,8 @@ def test_values_of_a_layer():
             see(('', False, 9), (layer.class_name, 'locked' in layer.members, document.status.count))
             layer.locked = False
             see(9, document.status.count)
-            see(61, raised(Refused, setattr, layer, 'opacity', 0.5).code)
+            layer.opacity = 0.5
+            see((0.5, 10), (layer.opacity, document.status.count))
             document.goto(2)
             see(before, layer.members)
 
@@ -392,9 +507,9 @@ def test_macros():
         try:
             with document.macro('D'):
                 ground.locked = True
-                ground.opacity = 0.5
+                ground.members['name'] = 0.5
         except Refused as refusal:
-            see(61, refusal.code)
+            see(63, refusal.code)
         see((GROUND, 2), (ground.members, document.status.index))
 
 

@@ -2,6 +2,7 @@
 use Rattle.std.specs.Prelude.{◌≡◌, Some, Result, Ok, Err, ◌⊎◌, ⊤}
 use Rattle.map_model.specs.Document.{DocumentParts}
 use Rattle.refusals.specs.declared.edit_fault.EditFault.{EditFault}
+use Rattle.fractions.specs.declared.lines.Fractions.{Fractions}
 use Rattle.command_api.specs.Law.{Change, IsSame}
 use Rattle.command_api.specs.Offers.{Shown, Nothing}
 use Rattle.layer_commands.specs.Changes.{add_change, remove_change, rename_change, show_change, move_change, resize_change}
@@ -127,5 +128,5 @@ PlansOn (Edits names edit) h plan n = PlansEdit (answer_of names (edit (current 
 PlansOn rule h plan n = ⊥
 
 -- what a plan says of a line for all edits: its edit, with nothing changed yet, or its refusal
-abbrev pub PlansMore : MoreLine → History → Planned → History → Type 0
-PlansMore line h plan n = PlansEdit (answer_of_more line (current h)) (current h) plan × (n ≡ h)
+abbrev pub PlansMore : Fractions → MoreLine → History → Planned → History → Type 0
+PlansMore fractions line h plan n = PlansEdit (answer_of_more fractions line (current h)) (current h) plan × (n ≡ h)
