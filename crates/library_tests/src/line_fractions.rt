@@ -1,7 +1,7 @@
 // What lines leave of an object's members where fractions are set aside, by the rules of the page of map files: a stand-in has the
 // upper and the lower half of the float's 64 bits, 0x3FF80000_00000000 for 1.5 and 0x40040000_00000000 for 2.5.
-use fractions::{Fractions, Place};
-use map_json::{given_object, json_word, json_words};
+use fractions::{Fractions, Moved, Place, UNMOVED};
+use map_json::{given_tileset, json_word, json_words};
 use map_values::{JsonObject, MapFault};
 use refusals::MapRefusal;
 use serde_json::Value;
@@ -36,6 +36,13 @@ const PUT: [(&str, &str, &str); 7] = [
     ),
 ];
 
+/// An object of a map that was infinite, and is saved 48 pixels further to the left and 32 further down: the note of 49.5 is that of
+/// 1.5, and the note of -29.5 is that of 2.5.
+const MOVED: (&str, &str) = (
+    "{\"height\":2.5,\"x\":49.5,\"y\":-29.5}",
+    "{\"height\":2,\"roskevad\":{\"height\":{\"roskevad\":[1074003968,0]},\"x\":{\"roskevad\":[1073217536,0]},\"y\":{\"roskevad\":[1074003968,0]}},\"x\":49,\"y\":-30}",
+);
+
 /// The members of an object, the name that a line takes out, and what is left.
 const REMOVED: [(&str, &str, &str); 3] = [
     (NOTE, "x", "{}"),
@@ -61,9 +68,27 @@ fn members_go_in_with_their_notes(rt: HostRuntime) -> Result<(), Fail> {
         let Ok(words) = json_words(rt.alloc(), Fractions::SetAside, Place::Object, said) else {
             panic!(rt; "no members");
         };
-        members.put_words(rt.alloc(), Fractions::SetAside, Place::Object, words)?;
+        members.put_words(
+            rt.alloc(),
+            Fractions::SetAside,
+            Place::Object,
+            UNMOVED,
+            words,
+        )?;
         assert!(rt; is_text_of(rt, members, after)?, "{own} {after}");
     }
+    Ok(())
+}
+
+#[test]
+fn notes_are_of_the_place_where_an_object_is_saved(rt: HostRuntime) -> Result<(), Fail> {
+    let (said, wanted) = MOVED;
+    let Ok(words) = json_words(rt.alloc(), Fractions::SetAside, Place::Object, said) else {
+        panic!(rt; "no members");
+    };
+    let moved = Moved { x: -48, y: 32 };
+    let members = words.said(rt.alloc(), Fractions::SetAside, Place::Object, moved)?;
+    assert!(rt; is_text_of(rt, members, wanted)?);
     Ok(())
 }
 
@@ -88,6 +113,7 @@ fn notes_stay_where_fractions_are_refused(rt: HostRuntime) -> Result<(), Fail> {
         rt.alloc(),
         Fractions::Refused,
         Place::Object,
+        UNMOVED,
         "x",
         Value::from(2_u32),
     )?;
@@ -116,8 +142,8 @@ fn words_are_refused_in_order(rt: HostRuntime) -> Result<(), Fail> {
         refusal(rt, Fractions::SetAside, "{\"roskevad\":1.5}")
             == Some(MapRefusal::MemberOfAnotherKind)
     );
-    match given_object(rt.alloc(), Fractions::SetAside, "1.5") {
+    match given_tileset(rt.alloc(), Fractions::SetAside, "1.5") {
         Err(MapFault::Refused(MapRefusal::MemberOfAnotherKind)) => Ok(()),
-        _ => panic!(rt; "an object"),
+        _ => panic!(rt; "a tileset"),
     }
 }

@@ -1,6 +1,6 @@
 // How much further than it stands an object of a map is saved.
 ghost use Rattle.std.specs.Prelude.{◌≡◌, option_map};
-ghost use Rattle.serde_json.specs.View.{view as data_of};
+ghost use Rattle.serde_json.specs.View.{view as data_of, members_view};
 ghost use Rattle.map_json.specs.Moves.{infinite_note, moved_in, pixels};
 
 use fractions::{Fractions, Moved, UNMOVED};
@@ -8,11 +8,11 @@ use json_trees::RESERVED_NAME;
 use map_model::Map;
 use serde_json::Value;
 
-// The note by which an infinite map was made finite.
-fn infinite_note(map: &Map) -> Option<&Value>
-    ensures { option_map (λ note. data_of note.now) result ≡ infinite_note map.now }
+// The note by which an infinite map was made finite, among the members that a map keeps.
+fn infinite_note(members: &serde_json::Map<String, Value>) -> Option<&Value>
+    ensures { option_map (λ note. data_of note.now) result ≡ infinite_note (members_view members.now.entries) }
 {
-    match map.parts().kept.members().get(RESERVED_NAME) {
+    match json_members::found(members, RESERVED_NAME) {
         Some(notes) => notes.get("infinite"),
         None => None,
     }
@@ -35,7 +35,7 @@ pub fn moved_in(fractions: Fractions, map: &Map) -> Moved
 {
     match fractions {
         Fractions::Refused => UNMOVED,
-        Fractions::SetAside => match infinite_note(map) {
+        Fractions::SetAside => match infinite_note(map.parts().kept.members()) {
             Some(note) => Moved {
                 x: pixels(note.get("movedx")),
                 y: pixels(note.get("movedy")),

@@ -22,7 +22,7 @@ saying-requires g c = λ head e.
     let words = c.in-Ok.words in
     let is = ok_then c.put_words.result _ c.put_words.ensures c.if-is_err.ensures.value in
     let said = subst (λ q. AreWords (members_said f q m words)) c.place.ensures (c.in-Ok.ensures.words m) in
-    let put = is ∙ ap (λ q. put_words f q c.moved.result words c.in-Ok-members.members) c.place-2.ensures
-    ∙ ap (λ n. put_words f p.place n words c.in-Ok-members.members) c.moved.ensures in
+    let put = is ∙ ap (λ q. put_words f q c.moved-moved.result words c.in-Ok-members.members) c.place-2.ensures
+    ∙ ap (λ n. put_words f p.place n words c.in-Ok-members.members) c.moved-moved.ensures in
     put_fits p g.met.H.Head.laws c.args.id f c.args.document.now c.is_there.ensures.well_formed m words c.in-Ok-members.members c.in-Ok-members.ensures said
     (sym c.are_own.ensures ∙ c.if-not-are_own.false) head (ap (p.read c.args.document.now) (sym put) ∙ e)

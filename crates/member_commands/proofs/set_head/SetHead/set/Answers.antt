@@ -31,8 +31,8 @@ saying-requires g c = λ head e.
     let says = subst (λ q. word_at f q c.args.json.now ≡ Ok (view value)) at c.in-Ok.ensures.value in
     let said = subst (λ q. IsWord (said f q (view value))) at c.in-Ok.ensures.word in
     let is = ok_then c.put_word.result _ c.put_word.ensures c.if-is_err.ensures.value in
-    let put = is ∙ ap (λ q. put_words f q c.moved.result words c.in-Ok-members.members) c.place-2.ensures
-    ∙ ap (λ n. put_words f p.place n words c.in-Ok-members.members) c.moved.ensures in
+    let put = is ∙ ap (λ q. put_words f q c.moved-moved.result words c.in-Ok-members.members) c.place-2.ensures
+    ∙ ap (λ n. put_words f p.place n words c.in-Ok-members.members) c.moved-moved.ensures in
     put_fits p g.met.H.Head.laws c.args.id f c.args.document.now c.is_there.ensures.well_formed m words c.in-Ok-members.members c.in-Ok-members.ensures
     (member-AreWords f p.place m name c.args.json.now value c.utf8.name g.met.H.Head.laws.inner says said)
     (rw (sym c.is_own.ensures ∙ c.if-not-is_own.false) refl) head (ap (p.read c.args.document.now) (sym put) ∙ e)
