@@ -5,19 +5,19 @@ ghost use Rattle.session.specs.declared.limits.TheConstants.{MAX_COORDINATE};
 ghost use Rattle.session.specs.Words.{number_of, is_numeral_prefix, AreLeadingDigits, HasLargePrefix, IsFirst, words, distance_of, below_zero, coordinate_of, is_name, is_name_byte, is_text, is_text_byte, cut_at_bars, are_texts, pieces_left, size_left};
 
 use crate::limits::{MAX_COORDINATE, MAX_TEXT};
+use memchr::memchr;
 
 /// The largest number.
 const MAX: u64 = 4_294_967_295;
 
 /// The offset of the first separator.
-// (byte for byte, since words are short: a call of `memchr` takes longer than most of them)
 fn separator_at(bytes: &[u8], separator: u8) -> Option<usize>
     ensures within { IfSome result (λ n. n < length bytes.now) }
     ensures found { IfSome result (λ n. All (λ b. b ≢ separator) (take n bytes.now)
         × (bytes.now ≡ take n bytes.now ++ separator ∷ drop (n + 1) bytes.now)) }
     ensures none { IfNone result (All (λ b. b ≢ separator) bytes.now) }
 {
-    bytes.iter().position(|b| *b == separator)
+    memchr(separator, bytes)
 }
 
 /// The first piece, and what is left behind the separator.
