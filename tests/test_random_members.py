@@ -273,20 +273,12 @@ def session_aside(seed):
 
 
 def session_saved(seed):
-<<<<<<< HEAD
-    """One that saves its map, and goes on with the file."""
-    run = session(seed, sets_aside=True)
-    chosen = random.Random(seed)
-    run.name = f'session {seed}, saved'
-    run.hear(*BEFORE[:-1])
-=======
     """One that saves its map, which may have been infinite, and goes on with the file."""
     run = session(seed, sets_aside=True)
     chosen = random.Random(seed)
     run.name = f'session {seed}, saved'
     run.put('plane.tmj', PLANE.read_bytes())
     run.hear(*(BEFORE[:-1] if seed % 2 else ['open t plane.tmj']))
->>>>>>> f6316e98eea496b67eea10ea7baf0e8b559760a3
     for _ in range(2):
         for _ in range(LINES):
             run.hear(line_by_chance(chosen, run.document))
