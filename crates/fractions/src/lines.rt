@@ -4,7 +4,6 @@ ghost use Rattle.serde_json.specs.Data.{member, no_members};
 ghost use Rattle.serde_json.specs.Find.{as_object};
 ghost use Rattle.serde_json.specs.View.{view as data_of, members_view};
 ghost use Rattle.json_members.specs.Members.{put_all, without};
-ghost use Rattle.fractions.specs.Places.{below};
 ghost use Rattle.json_trees.specs.declared.names.TheConstants.{RESERVED_NAME};
 ghost use Rattle.fractions.specs.Aside.{members_aside};
 ghost use Rattle.fractions.specs.Lines.{has_noted, is_noted, members_said, notes_at, put_words, remove_word, renoted, unnoted, without_named};

@@ -1,6 +1,6 @@
 -- What a line says with its fractions set aside: a file can say it, no number is a float, and its notes nest no deeper than stand-ins.
 use Rattle.std.proofs.Common.{◌≡◌, IsUtf8, ℕ, suc, ◌/◌, ◌%◌, ◌^◌, ◌<◌, ◌≤◌, max, List, codes, ℤ, pos, negsuc, Option, Some, None, option_map, option_and_then}
-use Rattle.std.proofs.Common.{Ordering, Less, Equal, Greater, nat_cmp, cond, Bool, true, false, ◌||◌, not, true≢false, Float, T, to_bits, refl, sym, ap, ◌∙◌}
+use Rattle.std.proofs.Common.{Ordering, Less, Equal, Greater, nat_cmp, cond, Bool, true, false, ◌||◌, not, Float, T, to_bits, refl, sym, ap, ◌∙◌}
 use Rattle.std.proofs.Common.{subst, arith}
 use Rattle.std.specs.Prelude.{Ok, nat_le}
 use Rattle.std.specs.Option.{ok_or}
@@ -9,7 +9,7 @@ use Rattle.std.specs.Float.Ieee.{add, of_int}
 use Rattle.std.specs.Ordering.{int_eq}
 use Rattle.std.specs.Cmp.Lexicographic.{slice_cmp}
 use Rattle.std.specs.Ordering.{match_ordering}
-use Rattle.std.proofs.lemmas.Bool.{leb-true, not-true}
+use Rattle.std.proofs.lemmas.Bool.{leb-true}
 use Rattle.std.proofs.lemmas.Int.{ints}
 use lib.Ieee as Ieee
 use lib.Ieee.Bits.{to_bits-lt}
@@ -39,7 +39,7 @@ use Rattle.fractions.specs.Fractions.{is_fraction, has_fraction, items_have_frac
 use Rattle.fractions.specs.Aside.{reserved_name, stand_in, whole_part, fraction_at, notes_of, with_notes, aside, items_aside, members_aside}
 use Rattle.fractions.specs.Lines.{further, further_note, members_said, moved_notes, said, unmoved}
 use Rattle.fractions.proofs.Law.{absent}
-use Rattle.fractions.proofs.ReadTrees.{IsReadNum, IsReadTree, AreReadItems, AreReadMembers, IsReadTree-read}
+use Rattle.fractions.proofs.ReadTrees.{IsReadTree, AreReadItems, AreReadMembers, IsReadTree-read}
 use Rattle.fractions.proofs.Unmoved.{notes_unmoved}
 use Rattle.fractions.proofs.Whole.{has_fraction-aside, members_have_fraction-members_aside}
 use Rattle.map_json.specs.Words.{AreWords, IsWord, are_set_aside, word_at}

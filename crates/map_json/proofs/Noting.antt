@@ -1,5 +1,5 @@
 -- Members of an object into which a line puts some, or from which it takes one, with their notes: they are fine where they were.
-use Rattle.std.proofs.Common.{◌≡◌, ℕ, suc, ◌≤◌, List, Option, Some, None, option_and_then, Bool, true, false, ◌&&◌, bytes_eq, true≢false, refl, sym, ap, ◌∙◌, subst}
+use Rattle.std.proofs.Common.{◌≡◌, ℕ, suc, List, Option, Some, None, option_and_then, Bool, true, false, ◌&&◌, bytes_eq, true≢false, refl, sym, ap, ◌∙◌, subst}
 use Rattle.std.proofs.Common.{arith}
 use Rattle.std.specs.Prelude.{IsUtf8, if◌then◌else◌, unwrap_or}
 use Rattle.std.proofs.lemmas.Bool.{and_parts}

@@ -1,5 +1,5 @@
 -- How much further than it stands an object of a map is saved: as the note tells by which an infinite map was made finite.
-use Rattle.std.specs.Prelude.{ℕ, ℤ, pos, List, codes, Option, option_and_then, unwrap_or}
+use Rattle.std.specs.Prelude.{ℤ, pos, codes, Option, option_and_then, unwrap_or}
 use Rattle.serde_json.specs.Data.{Data, Members}
 use Rattle.serde_json.specs.Find.{as_i64, as_number, get, get_member}
 use Rattle.fractions.specs.declared.lines.Fractions.{Fractions}

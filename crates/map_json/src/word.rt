@@ -1,6 +1,6 @@
 // A JSON text in a line.
 ghost use Rattle.std.specs.Prelude.{◌≡◌, ◌||◌, nat_le, not, IfOk, IsTrue};
-ghost use Rattle.serde_json.specs.Data.{depth, object};
+ghost use Rattle.serde_json.specs.Data.{depth};
 ghost use Rattle.serde_json.specs.View.{view as data_of};
 ghost use Rattle.serde_json.specs.Written.{has_float};
 ghost use Rattle.fractions.specs.declared.lines.Moved.{Moved};

@@ -1,7 +1,7 @@
 -- The document after own members of an owner were set, or one was taken out, or why they were not.
 use Rattle.std.specs.Prelude.{◌≡◌, ℕ, List, Bool, true, false, if◌then◌else◌, Result, Ok, Err, IfErr, is_some}
 use Rattle.std.specs.Option.{ok_or}
-use Rattle.serde_json.specs.Data.{Data, Members, member, no_members}
+use Rattle.serde_json.specs.Data.{Members, member, no_members}
 use Rattle.serde_json.specs.Find.{get_member}
 use Rattle.map_model.specs.Document.{DocumentParts}
 use Rattle.map_model.specs.Lens.{put}
