@@ -50,4 +50,4 @@ pub use part_text::{
 pub use reading::{read_map, read_map_along};
 pub use refusals::MapRefusal;
 pub use same_head::is_object_head;
-pub use word::{MAX_WORD_DEPTH, json_word, json_words};
+pub use word::{MAX_WORD_DEPTH, json_member, json_word, json_words};

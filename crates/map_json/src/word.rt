@@ -4,7 +4,7 @@ ghost use Rattle.serde_json.specs.Data.{depth};
 ghost use Rattle.serde_json.specs.View.{view as data_of};
 ghost use Rattle.serde_json.specs.Written.{has_float};
 ghost use Rattle.fractions.specs.declared.lines.Moved.{Moved};
-ghost use Rattle.fractions.specs.Places.{is_inner};
+ghost use Rattle.fractions.specs.Places.{below, is_inner};
 ghost use Rattle.fractions.specs.Lines.{members_said as said_members, said};
 ghost use Rattle.map_values.specs.Presence.{Gives, GivesBy};
 ghost use Rattle.map_json.specs.Words.{members_at, word_at, are_set_aside, words_at, AreWords, IsWord};
@@ -80,6 +80,26 @@ pub fn json_word(
         return Err(MapFault::Refused(MapRefusal::MemberOfAnotherKind));
     }
     Ok(value)
+}
+
+/// The value that a JSON text of a line says of a member with a name, which an object at a place inside of the map is to have, or why
+/// it says none. Nothing is set aside in it yet.
+#[tactic(auto, unfolding(crate::specs::Words::word_at))]
+pub fn json_member(
+    alloc: Global,
+    fractions: Fractions,
+    place: Place,
+    name: &str,
+    text: &str,
+) -> Result<Value, MapFault>
+    requires { IsTrue (is_inner place) }
+    ensures value { GivesBy data_of result (word_at fractions (below place name.now) text.now) }
+    ensures word { IfOk result (λ value. IsWord (said fractions (below place name.now) (data_of value))) }
+{
+    match fractions {
+        Fractions::Refused => json_word(alloc, fractions, Place::Elsewhere, text),
+        Fractions::SetAside => json_word(alloc, fractions, place.below(name), text),
+    }
 }
 
 /// The members that a JSON text of a line says, which are to stand in an object at a place inside of the map, or why it says none.

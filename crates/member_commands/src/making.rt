@@ -10,7 +10,7 @@ ghost use Rattle.member_commands.specs.Names.{put_members_names, remove_member_n
 use crate::head::Head;
 use crate::set_head::{MemberEdit, SetHead};
 use fractions::Fractions;
-use map_json::{MapFault, json_word, json_words};
+use map_json::{MapFault, json_member, json_words};
 use map_model::{Document, MapText};
 use map_values::JsonObject;
 use refusals::{EditFault, MoreFault};
@@ -98,7 +98,7 @@ impl<H: Head> SetHead<H> {
         if !H::is_own(name) {
             return Err(MoreFault::MemberOfOtherLines);
         }
-        let value = match json_word(alloc, fractions, H::place().below(name), json) {
+        let value = match json_member(alloc, fractions, H::place(), name, json) {
             Ok(value) => value,
             Err(fault) => return Err(more_fault(fault)),
         };

@@ -5,7 +5,7 @@ use Rattle.fractions.specs.Places.{below, is_inner}
 use Rattle.fractions.specs.Lines.{put_words, said}
 use Rattle.std.proofs.Common.{◌≡◌, Ok}
 use Rattle.map_json.specs.Words.{IsWord, word_at}
-use Rattle.map_json.proofs.Asides.{inner_below, member-AreWords}
+use Rattle.map_json.proofs.Asides.{member-AreWords}
 use Rattle.member_commands.specs.Edits.{after_set_member, is_early_named}
 use Rattle.member_commands.proofs.Members.{absent-refused, ok_then, put_fits}
 use Rattle.member_commands.proofs.set_head.SetHead.set.Goals as goal
@@ -15,9 +15,8 @@ returns-then-not-is_there-clause-refusal g c =
     absent-refused g.H.Head.parts g.met.H.Head.laws c.args.document.now c.args.id c.is_there.result c.is_there.ensures.there c.if-not-is_there.true is_early_named
     (after_set_member g.H.Head.parts c.args.fractions c.args.document.now c.args.id c.args.name.now c.args.json.now) (λ e. rw e refl) c.absence.result c.absence.ensures
 
-pub json_word-requires : goal.json_word-requires
-json_word-requires g c = ap is_inner (c.below.ensures ∙ ap (λ q. below q c.args.name.now) c.place.ensures)
-    ∙ inner_below g.H.Head.parts.place c.args.name.now g.met.H.Head.laws.inner
+pub json_member-requires : goal.json_member-requires
+json_member-requires g c = ap is_inner c.place.ensures ∙ g.met.H.Head.laws.inner
 
 pub saying-requires : goal.saying-requires
 saying-requires g c = λ head e.
@@ -27,9 +26,8 @@ saying-requires g c = λ head e.
     let name = c.args.name.now in
     let value = c.in-Ok.value in
     let words = member name (view value) no_members in
-    let at = c.below.ensures ∙ ap (λ q. below q name) c.place.ensures in
-    let says = subst (λ q. word_at f q c.args.json.now ≡ Ok (view value)) at c.in-Ok.ensures.value in
-    let said = subst (λ q. IsWord (said f q (view value))) at c.in-Ok.ensures.word in
+    let says = subst (λ q. word_at f (below q name) c.args.json.now ≡ Ok (view value)) c.place.ensures c.in-Ok.ensures.value in
+    let said = subst (λ q. IsWord (said f (below q name) (view value))) c.place.ensures c.in-Ok.ensures.word in
     let is = ok_then c.put_word.result _ c.put_word.ensures c.if-is_err.ensures.value in
     let put = is ∙ ap (λ q. put_words f q c.moved-moved.result words c.in-Ok-members.members) c.place-2.ensures
     ∙ ap (λ n. put_words f p.place n words c.in-Ok-members.members) c.moved-moved.ensures in
