@@ -18,8 +18,8 @@ use Rattle.command_api.specs.Heads.{ShownHead, FitsHead, head_owner, head_undone
 use Rattle.command_api.specs.Swap.{FitsBack}
 
 -- the owner with an id, its head in a document, and that head as an offer shows it; why an edit is refused where no owner has the
--- id; where such an owner stands, and how much further it is saved; which members are own ones; the members of a head, and the head that members say of an owner of a
--- document
+-- id; where such an owner stands, and how much further it is saved; which members are own ones; the members of a head, and the head
+-- that members say of an owner of a document
 pub record HeadParts (H : Type 0) : Type 0 where
   pub owner : ℕ → MemberOwner
   pub lens : ℕ → Lens DocumentParts H

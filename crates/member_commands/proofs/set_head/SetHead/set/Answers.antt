@@ -13,7 +13,8 @@ use Rattle.member_commands.proofs.set_head.SetHead.set.Goals as goal
 pub returns-then-not-is_there-clause-refusal : goal.returns-then-not-is_there-clause-refusal
 returns-then-not-is_there-clause-refusal g c =
     absent-refused g.H.Head.parts g.met.H.Head.laws c.args.document.now c.args.id c.is_there.result c.is_there.ensures.there c.if-not-is_there.true is_early_named
-    (after_set_member g.H.Head.parts c.args.fractions c.args.document.now c.args.id c.args.name.now c.args.json.now) (λ e. rw e refl) c.absence.result c.absence.ensures
+    (after_set_member g.H.Head.parts c.args.fractions c.args.document.now c.args.id c.args.name.now c.args.json.now) (λ e. rw e refl) c.absence.result
+    c.absence.ensures
 
 pub json_member-requires : goal.json_member-requires
 json_member-requires g c = ap is_inner c.place.ensures ∙ g.met.H.Head.laws.inner
