@@ -78,8 +78,9 @@ extern "C" {
 #define ROSKEVAD_LAYOUT_COMPACT ROSKEVAD_CAST(size_t, 3)    /* as the reply to `show` is: no spaces, no lines */
 
 /* Which lines an editor reads. */
-#define ROSKEVAD_PLAIN_LINES ROSKEVAD_CAST(size_t, 0) /* those that each editor reads */
-#define ROSKEVAD_ALL_EDITS ROSKEVAD_CAST(size_t, 1)   /* the lines for all edits, too: `member set`, `object put` and the like */
+#define ROSKEVAD_PLAIN_LINES ROSKEVAD_CAST(size_t, 0)              /* those that each editor reads */
+#define ROSKEVAD_ALL_EDITS ROSKEVAD_CAST(size_t, 1)                /* the lines for all edits, too: `member set`, `object put` and the like */
+#define ROSKEVAD_ALL_EDITS_WITH_FRACTIONS ROSKEVAD_CAST(size_t, 2) /* the same, and a number in them need not be whole */
 
 /* What an editor is kept in. Its fields are the library's. */
 typedef struct roskevad_editor {
@@ -302,8 +303,9 @@ static inline size_t roskevad_editor_open(roskevad_editor *editor, size_t limit)
     return roskevad_open(editor, limit);
 }
 
-/* The same, for `edits` ROSKEVAD_PLAIN_LINES. For ROSKEVAD_ALL_EDITS the editor reads the lines for all edits, too. For another number
- * ROSKEVAD_TOO_GREAT, and all is as it was. */
+/* The same, for `edits` ROSKEVAD_PLAIN_LINES. For ROSKEVAD_ALL_EDITS the editor reads the lines for all edits, too, and refuses a number
+ * in a JSON text that is not whole. For ROSKEVAD_ALL_EDITS_WITH_FRACTIONS it sets such a number aside, as roskevad_editor_set_aside does
+ * in a file, so what is saved goes through roskevad_editor_put_back. For another number ROSKEVAD_TOO_GREAT, and all is as it was. */
 static inline size_t roskevad_editor_open_for(roskevad_editor *editor, size_t limit, size_t edits)
 {
     return roskevad_open_for(editor, limit, edits);
@@ -617,8 +619,8 @@ static inline size_t roskevad_editor_word_fault(const char *line, size_t length,
     return roskevad_word_fault(roskevad_bytes_at(line), length, word, roskevad_room_at(text), room);
 }
 
-/* The same, for `edits` ROSKEVAD_PLAIN_LINES. For ROSKEVAD_ALL_EDITS it knows the lines for all edits, too. For another number
- * ROSKEVAD_TOO_GREAT, and nothing is given out. */
+/* The same, for `edits` ROSKEVAD_PLAIN_LINES. For ROSKEVAD_ALL_EDITS and ROSKEVAD_ALL_EDITS_WITH_FRACTIONS it knows the lines for all
+ * edits, too. For another number ROSKEVAD_TOO_GREAT, and nothing is given out. */
 static inline size_t roskevad_editor_word_fault_for(size_t edits, const char *line, size_t length, roskevad_faulty_word *word, char *text,
                                                     size_t room)
 {

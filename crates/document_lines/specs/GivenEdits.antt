@@ -28,29 +28,29 @@ abbrev pub is_id_used : MapParts → GivenObject → Bool
 is_id_used m given = given.has_id && is_some (object_place m given.object.id)
 
 -- an object goes last in its layer; where it says no id, it gets the next one
-abbrev pub after_object_text : DocumentParts → ℕ → List ℕ → Result DocumentParts MoreFault
-after_object_text d layer json =
+abbrev pub after_object_text : Fractions → DocumentParts → ℕ → List ℕ → Result DocumentParts MoreFault
+after_object_text fractions d layer json =
     made (objects_or_fault (layer_of d.map layer)) >>= λ objects.
-    said (given_object_at json) >>= λ given.
+    said (given_object_at fractions json) >>= λ given.
     check (not (is_id_used d.map given)) (faults.Map IdUsedTwice) >>= λ _.
     made (after_put_object d layer given.has_id given.object)
 
 -- a tileset goes last
-abbrev pub after_tileset_text : DocumentParts → List ℕ → Result DocumentParts MoreFault
-after_tileset_text d json =
-    said (given_tileset_at json) >>= λ tileset.
+abbrev pub after_tileset_text : Fractions → DocumentParts → List ℕ → Result DocumentParts MoreFault
+after_tileset_text fractions d json =
+    said (given_tileset_at fractions json) >>= λ tileset.
     made (after_put_tileset d tileset)
 
 -- a property takes the place of the one with its name, or goes last
-abbrev pub after_property_text : DocumentParts → Owner → List ℕ → Result DocumentParts MoreFault
-after_property_text d owner json =
+abbrev pub after_property_text : Fractions → DocumentParts → Owner → List ℕ → Result DocumentParts MoreFault
+after_property_text fractions d owner json =
     made (owner_or_fault d.map owner) >>= λ place.
-    said (given_property_at json) >>= λ property.
+    said (given_property_at fractions json) >>= λ property.
     made (after_put_property d owner property)
 
 -- the property whose name a JSON text says is taken out
-abbrev pub after_take_property : DocumentParts → Owner → List ℕ → Result DocumentParts MoreFault
-after_take_property d owner json =
+abbrev pub after_take_property : Fractions → DocumentParts → Owner → List ℕ → Result DocumentParts MoreFault
+after_take_property fractions d owner json =
     made (owner_or_fault d.map owner) >>= λ place.
-    said (given_text_at json) >>= λ name.
+    said (given_text_at fractions json) >>= λ name.
     made (after_remove_property d owner name)

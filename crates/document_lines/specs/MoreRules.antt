@@ -50,25 +50,25 @@ more_names_of (PutTileset json) = add_tileset_names
 more_names_of (Extend left top right bottom) = resize_names
 
 -- the document after it, or its refusal; members of tilesets have no edit yet
-abbrev pub after_more : MoreLine → DocumentParts → Result DocumentParts MoreFault
-after_more (SetMember (owners.Object id) name json follows) d = after_set_member object_heads d id name json
-after_more (PutMembers (owners.Object id) json follows) d = after_put_members object_heads d id json
-after_more (RemoveMember (owners.Object id) name) d = after_remove_member object_heads d id name
-after_more (SetMember (owners.Layer id) name json follows) d = after_set_member layer_heads d id name json
-after_more (PutMembers (owners.Layer id) json follows) d = after_put_members layer_heads d id json
-after_more (RemoveMember (owners.Layer id) name) d = after_remove_member layer_heads d id name
-after_more (SetMember owners.Map name json follows) d = after_set_member map_heads d 0 name json
-after_more (PutMembers owners.Map json follows) d = after_put_members map_heads d 0 json
-after_more (RemoveMember owners.Map name) d = after_remove_member map_heads d 0 name
-after_more (AddLayer kind name) d = made (after_add_more d kind name)
-after_more (PutObject layer json) d = after_object_text d layer json
-after_more (ReparentObject object layer place) d = made (after_object_into d object layer place)
-after_more (ReparentLayer layer group place) d = made (after_layer_into d layer (parent_of group) place)
-after_more (PutProperty owner json) d = after_property_text d owner json
-after_more (TakeProperty owner json) d = after_take_property d owner json
-after_more (PutTileset json) d = after_tileset_text d json
-after_more (Extend left top right bottom) d = made (after_extend d left top right bottom)
-after_more line d = Err MemberOfOtherLines
+abbrev pub after_more : Fractions → MoreLine → DocumentParts → Result DocumentParts MoreFault
+after_more fractions (SetMember (owners.Object id) name json follows) d = after_set_member object_heads fractions d id name json
+after_more fractions (PutMembers (owners.Object id) json follows) d = after_put_members object_heads fractions d id json
+after_more fractions (RemoveMember (owners.Object id) name) d = after_remove_member object_heads fractions d id name
+after_more fractions (SetMember (owners.Layer id) name json follows) d = after_set_member layer_heads fractions d id name json
+after_more fractions (PutMembers (owners.Layer id) json follows) d = after_put_members layer_heads fractions d id json
+after_more fractions (RemoveMember (owners.Layer id) name) d = after_remove_member layer_heads fractions d id name
+after_more fractions (SetMember owners.Map name json follows) d = after_set_member map_heads fractions d 0 name json
+after_more fractions (PutMembers owners.Map json follows) d = after_put_members map_heads fractions d 0 json
+after_more fractions (RemoveMember owners.Map name) d = after_remove_member map_heads fractions d 0 name
+after_more fractions (AddLayer kind name) d = made (after_add_more d kind name)
+after_more fractions (PutObject layer json) d = after_object_text fractions d layer json
+after_more fractions (ReparentObject object layer place) d = made (after_object_into d object layer place)
+after_more fractions (ReparentLayer layer group place) d = made (after_layer_into d layer (parent_of group) place)
+after_more fractions (PutProperty owner json) d = after_property_text fractions d owner json
+after_more fractions (TakeProperty owner json) d = after_take_property fractions d owner json
+after_more fractions (PutTileset json) d = after_tileset_text fractions d json
+after_more fractions (Extend left top right bottom) d = made (after_extend d left top right bottom)
+after_more fractions line d = Err MemberOfOtherLines
 
 -- the step of an edit with these names, or the edit's refusal
 abbrev pub more_answer_of : Names → Result DocumentParts MoreFault → Result Step Refusal
@@ -76,31 +76,31 @@ more_answer_of names (Ok d) = Ok (step_named names d)
 more_answer_of names (Err fault) = Err (refusal_of_more fault)
 
 -- and of the line's
-abbrev pub answer_of_more : MoreLine → DocumentParts → Result Step Refusal
-answer_of_more line d = more_answer_of (more_names_of line) (after_more line d)
+abbrev pub answer_of_more : Fractions → MoreLine → DocumentParts → Result Step Refusal
+answer_of_more fractions line d = more_answer_of (more_names_of line) (after_more fractions line d)
 
 -- what a line for all edits may do; its edit may want memory
-abbrev pub MoreStep : MoreLine → Act Workspace
-MoreStep line old reply new =
-    Alone (WithActive (OrNoMemory (λ h. Pushes (answer_of_more line (current h)) h)) (active_of old.machine)) old.stored new.stored old.machine reply
+abbrev pub MoreStep : Fractions → MoreLine → Act Workspace
+MoreStep fractions line old reply new =
+    Alone (WithActive (OrNoMemory (λ h. Pushes (answer_of_more fractions line (current h)) h)) (active_of old.machine)) old.stored new.stored old.machine reply
     new.machine
 
 -- ---- any line
 -- one that is no line of the others has their fault where it begins with no word of these lines either
-abbrev pub MoreStepOf : Result MoreLine LineFault → LineFault → Act Workspace
-MoreStepOf (Ok line) fault = MoreStep line
-MoreStepOf (Err UnknownCommand) fault = Refuses (refusals.Line fault)
-MoreStepOf (Err more) fault = Refuses (refusals.Line more)
+abbrev pub MoreStepOf : Fractions → Result MoreLine LineFault → LineFault → Act Workspace
+MoreStepOf fractions (Ok line) fault = MoreStep fractions line
+MoreStepOf fractions (Err UnknownCommand) fault = Refuses (refusals.Line fault)
+MoreStepOf fractions (Err more) fault = Refuses (refusals.Line more)
 
-abbrev pub AnyStepOf : Result Line LineFault → List ℕ → Act Workspace
-AnyStepOf (Ok line) bytes = MachineStep line
-AnyStepOf (Err fault) bytes = MoreStepOf (more_line_of bytes) fault
+abbrev pub AnyStepOf : Fractions → Result Line LineFault → List ℕ → Act Workspace
+AnyStepOf fractions (Ok line) bytes = MachineStep line
+AnyStepOf fractions (Err fault) bytes = MoreStepOf fractions (more_line_of bytes) fault
 
 -- what the bytes of a line may do, where the lines for all edits are read too
-abbrev pub AnyStepIn : List ℕ → Act Workspace
-AnyStepIn bytes = AnyStepOf (line_of bytes) bytes
+abbrev pub AnyStepIn : Fractions → List ℕ → Act Workspace
+AnyStepIn fractions bytes = AnyStepOf fractions (line_of bytes) bytes
 
 -- and by which lines are read
 abbrev pub MachineStepFor : Dialect → List ℕ → Act Workspace
 MachineStepFor Plain = MachineStepIn
-MachineStepFor AllEdits = AnyStepIn
+MachineStepFor (AllEdits fractions) = AnyStepIn fractions

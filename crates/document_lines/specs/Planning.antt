@@ -127,5 +127,5 @@ PlansOn (Edits names edit) h plan n = PlansEdit (answer_of names (edit (current 
 PlansOn rule h plan n = ⊥
 
 -- what a plan says of a line for all edits: its edit, with nothing changed yet, or its refusal
-abbrev pub PlansMore : MoreLine → History → Planned → History → Type 0
-PlansMore line h plan n = PlansEdit (answer_of_more line (current h)) (current h) plan × (n ≡ h)
+abbrev pub PlansMore : Fractions → MoreLine → History → Planned → History → Type 0
+PlansMore fractions line h plan n = PlansEdit (answer_of_more fractions line (current h)) (current h) plan × (n ≡ h)

@@ -31,6 +31,7 @@ use crate::steps::{plan_answered, plan_begin, plan_limit, plan_show, plan_step_t
 use crate::tile;
 use command_api::Command;
 use edits::{Area, Selecting};
+use map_json::Fractions;
 use map_model::Owner;
 use refusals::{EditFault, Refusal};
 use session::{Line, MoreLine, Reply};
@@ -373,21 +374,26 @@ pub fn on_document<C: Command>(alloc: Global, stack: &mut Stack<C>, line: &Line<
 }
 
 /// Plans a line for all edits about a document, the active one: its edit is left to be committed.
-pub fn on_more_line<C: Command>(alloc: Global, stack: &mut Stack<C>, line: &MoreLine<'_>) -> Planned
+pub fn on_more_line<C: Command>(
+    alloc: Global,
+    stack: &mut Stack<C>,
+    line: &MoreLine<'_>,
+    fractions: Fractions,
+) -> Planned
     requires { Holds C.change stack.old }
     ensures sound { Holds C.change stack.new }
-    ensures plans { PlansMore line.now (history C.change stack.old) result (history C.change stack.new) }
+    ensures plans { PlansMore fractions line.now (history C.change stack.old) result (history C.change stack.new) }
     ensures kept { nestings stack.new ≡ nestings stack.old }
 {
     match line {
         MoreLine::SetMember { .. } | MoreLine::PutMembers { .. } | MoreLine::RemoveMember { .. } =>
-            on_members(alloc, stack, line),
+            on_members(alloc, stack, line, fractions),
         MoreLine::AddLayer { kind, name } => {
             plan_add_more_layer(alloc, stack.document(), *kind, name)
         }
         MoreLine::PutObject { layer, json } => {
             stack.seek_layer(*layer);
-            plan_put_object(alloc, stack.document(), *layer, json)
+            plan_put_object(alloc, stack.document(), *layer, json, fractions)
         }
         MoreLine::ReparentObject {
             object,
@@ -404,13 +410,15 @@ pub fn on_more_line<C: Command>(alloc: Global, stack: &mut Stack<C>, line: &More
         } => plan_reparent_layer(stack.document(), *layer, *group, *place),
         MoreLine::PutProperty { owner, json } => {
             seek_owner(stack, *owner);
-            plan_put_property(alloc, stack.document(), *owner, json)
+            plan_put_property(alloc, stack.document(), *owner, json, fractions)
         }
         MoreLine::TakeProperty { owner, json } => {
             seek_owner(stack, *owner);
-            plan_take_property(alloc, stack.document(), *owner, json)
+            plan_take_property(alloc, stack.document(), *owner, json, fractions)
         }
-        MoreLine::PutTileset { json } => plan_put_tileset(alloc, stack.document(), json),
+        MoreLine::PutTileset { json } => {
+            plan_put_tileset(alloc, stack.document(), json, fractions)
+        }
         MoreLine::Extend {
             left,
             top,

@@ -15,25 +15,25 @@ use Rattle.document_lines.specs.MoreRules.{answer_of_more}
 use Rattle.editor.specs.Kinds.{ActiveKinds, Kinds, StepKinds, StepKindsIn, UnlessRefused}
 
 -- a line for all edits with this reply
-abbrev pub MoreStepKinds : MoreLine → Machine → Option Reply → Machine → List Kinds → List Kinds → Type 0
-MoreStepKinds line m None n old new = new ≡ old
-MoreStepKinds line m (Some reply) n old new =
-    UnlessRefused reply (ActiveKinds (λ h k ks ns. EditsKinds (answer_of_more line (current h)) h k ks ns) m.group.active (active_of m) (active_of n))
+abbrev pub MoreStepKinds : Fractions → MoreLine → Machine → Option Reply → Machine → List Kinds → List Kinds → Type 0
+MoreStepKinds fractions line m None n old new = new ≡ old
+MoreStepKinds fractions line m (Some reply) n old new =
+    UnlessRefused reply (ActiveKinds (λ h k ks ns. EditsKinds (answer_of_more fractions line (current h)) h k ks ns) m.group.active (active_of m) (active_of n))
     old new
 
-abbrev pub MoreStepKindsOf : Result MoreLine LineFault → Machine → Option Reply → Machine → List Kinds → List Kinds → Type 0
-MoreStepKindsOf (Ok line) m reply n old new = MoreStepKinds line m reply n old new
-MoreStepKindsOf (Err fault) m reply n old new = new ≡ old
+abbrev pub MoreStepKindsOf : Fractions → Result MoreLine LineFault → Machine → Option Reply → Machine → List Kinds → List Kinds → Type 0
+MoreStepKindsOf fractions (Ok line) m reply n old new = MoreStepKinds fractions line m reply n old new
+MoreStepKindsOf fractions (Err fault) m reply n old new = new ≡ old
 
-abbrev pub AnyStepKindsOf : Result Line LineFault → List ℕ → Machine → Option Reply → Machine → List Kinds → List Kinds → Type 0
-AnyStepKindsOf (Ok line) bytes m reply n old new = StepKinds line m reply n old new
-AnyStepKindsOf (Err fault) bytes m reply n old new = MoreStepKindsOf (more_line_of bytes) m reply n old new
+abbrev pub AnyStepKindsOf : Fractions → Result Line LineFault → List ℕ → Machine → Option Reply → Machine → List Kinds → List Kinds → Type 0
+AnyStepKindsOf fractions (Ok line) bytes m reply n old new = StepKinds line m reply n old new
+AnyStepKindsOf fractions (Err fault) bytes m reply n old new = MoreStepKindsOf fractions (more_line_of bytes) m reply n old new
 
 -- what the bytes of any line make of the lists, beside the step from m to n
-abbrev pub AnyStepKindsIn : List ℕ → Machine → Option Reply → Machine → List Kinds → List Kinds → Type 0
-AnyStepKindsIn bytes = AnyStepKindsOf (line_of bytes) bytes
+abbrev pub AnyStepKindsIn : Fractions → List ℕ → Machine → Option Reply → Machine → List Kinds → List Kinds → Type 0
+AnyStepKindsIn fractions bytes = AnyStepKindsOf fractions (line_of bytes) bytes
 
 -- and by which lines are read
 abbrev pub StepKindsFor : Dialect → List ℕ → Machine → Option Reply → Machine → List Kinds → List Kinds → Type 0
 StepKindsFor Plain = StepKindsIn
-StepKindsFor AllEdits = AnyStepKindsIn
+StepKindsFor (AllEdits fractions) = AnyStepKindsIn fractions

@@ -8,6 +8,6 @@ use Rattle.document_lines.specs.MoreRules.{answer_of_more}
 use Rattle.document_lines.specs.Planning.{PlansEdit, refused}
 
 -- with no active document it is refused, and else it is the plan of an edit of that document
-abbrev pub PlansMoreIn : MoreLine → Option History → Planned → Type 0
-PlansMoreIn line None plan = plan ≡ refused NoActiveDocument
-PlansMoreIn line (Some h) plan = PlansEdit (answer_of_more line (current h)) (current h) plan
+abbrev pub PlansMoreIn : Fractions → MoreLine → Option History → Planned → Type 0
+PlansMoreIn fractions line None plan = plan ≡ refused NoActiveDocument
+PlansMoreIn fractions line (Some h) plan = PlansEdit (answer_of_more fractions line (current h)) (current h) plan

@@ -129,17 +129,22 @@ impl<C: Command> Editor<C> {
     }
 
     /// Plans the edit that a line for all edits asks for, which is left to be put into a box and committed. The editor is as it was.
-    pub fn plan_more(&mut self, alloc: Global, line: &MoreLine<'_>) -> Planned
+    pub fn plan_more(
+        &mut self,
+        alloc: Global,
+        line: &MoreLine<'_>,
+        fractions: Fractions,
+    ) -> Planned
         requires { IsHeld C.change self.old }
         ensures held { IsHeld C.change self.new }
         ensures sound { IsSound C.change self.old → IsSound C.change self.new }
         ensures machine { machine_of C.change self.new ≡ machine_of C.change self.old }
         ensures kinds { kinds_in self.new ≡ kinds_in self.old }
         ensures fits { FitsPlan (machine_of C.change self.new) result }
-        ensures plans { PlansMoreIn line.now (active_of (machine_of C.change self.old)) result }
+        ensures plans { PlansMoreIn fractions line.now (active_of (machine_of C.change self.old)) result }
     {
         match self.group.active_mut() {
-            Some(stack) => on_more_line(alloc, stack, line),
+            Some(stack) => on_more_line(alloc, stack, line, fractions),
             None => refused(Refusal::NoActiveDocument),
         }
     }

@@ -63,7 +63,7 @@ fn cells_within(map: &Map, cells: Cells) -> Cells {
 fn bad_word(dialect: Dialect, line: &[u8]) -> Option<u32> {
     let fault = match dialect {
         Dialect::Plain => word_fault(line),
-        Dialect::AllEdits => any_word_fault(line),
+        Dialect::AllEdits(_) => any_word_fault(line),
     };
     match fault {
         Some(fault) => Some(fault.place),

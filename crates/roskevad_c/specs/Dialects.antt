@@ -5,4 +5,5 @@ use Rattle.document_lines.specs.declared.dialect.Dialect.TheVariants.{Plain, All
 
 -- the dialect of a number
 abbrev pub dialect_at : ℕ → Option Dialect
-dialect_at n = if n == 0 then Some Plain else (if n == 1 then Some AllEdits else None)
+dialect_at n =
+    if n == 0 then Some Plain else (if n == 1 then Some (AllEdits Refused) else (if n == 2 then Some (AllEdits SetAside) else None))

@@ -42,5 +42,5 @@ TellsAnyWord line = TellsWordIf (is_at_word_of_any (line_of line) (more_line_of 
 -- by which lines are read, where there is such a dialect
 abbrev pub TellsWordFor : Option Dialect → List ℕ → ℕ → FaultyWord → FaultyWord → List ℕ → List ℕ → Type 0
 TellsWordFor (Some Plain) line = TellsWord line
-TellsWordFor (Some AllEdits) line = TellsAnyWord line
+TellsWordFor (Some (AllEdits fractions)) line = TellsAnyWord line
 TellsWordFor None line = GivesNothing TOO_GREAT

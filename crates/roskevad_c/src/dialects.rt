@@ -2,7 +2,7 @@
 ghost use Rattle.std.specs.Prelude.{◌≡◌};
 ghost use Rattle.roskevad_c.specs.Dialects.{dialect_at};
 
-use document_lines::Dialect;
+use document_lines::{Dialect, Fractions};
 
 /// The dialect of a number. `include/roskevad.h` gives out the same ones, which are fixed for callers that are built already.
 pub fn dialect_of(number: usize) -> Option<Dialect>
@@ -10,7 +10,8 @@ pub fn dialect_of(number: usize) -> Option<Dialect>
 {
     match number {
         0 => Some(Dialect::Plain),
-        1 => Some(Dialect::AllEdits),
+        1 => Some(Dialect::AllEdits(Fractions::Refused)),
+        2 => Some(Dialect::AllEdits(Fractions::SetAside)),
         _ => None,
     }
 }

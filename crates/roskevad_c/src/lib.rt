@@ -78,8 +78,9 @@ pub extern "C" fn roskevad_open(alloc: Global, editor: &mut CEditor, limit: usiz
     open(alloc, editor, limit, Dialect::Plain)
 }
 
-/// As `roskevad_open`. The editor reads the plain lines where `edits` is 0, and those for all edits, too, where it is 1. For another
-/// number it answers `TOO_GREAT`, and all is as it was.
+/// As `roskevad_open`. The editor reads the plain lines where `edits` is 0, and those for all edits, too, where it is 1 or 2. In a JSON
+/// text of theirs a number that is not whole is refused where it is 1, and set aside, as `roskevad_set_aside` does, where it is 2. For
+/// another number it answers `TOO_GREAT`, and all is as it was.
 #[unsafe(no_mangle)]
 pub extern "C" fn roskevad_open_for(
     alloc: Global,

@@ -60,8 +60,8 @@ pub extern "C" fn roskevad_word_fault(line: &[u8], word: &mut FaultyWord, text: 
     give(word_fault(line), word, text)
 }
 
-/// As `roskevad_word_fault`, where `edits` is 0. Where it is 1, the lines for all edits are read, too. For another number it answers
-/// `TOO_GREAT`, and gives nothing out.
+/// As `roskevad_word_fault`, where `edits` is 0. Where it is 1 or 2, the lines for all edits are read, too. For another number it
+/// answers `TOO_GREAT`, and gives nothing out.
 #[unsafe(no_mangle)]
 pub extern "C" fn roskevad_word_fault_for(
     edits: usize,
@@ -73,7 +73,7 @@ pub extern "C" fn roskevad_word_fault_for(
 {
     match dialect_of(edits) {
         Some(Dialect::Plain) => give(word_fault(line), word, text),
-        Some(Dialect::AllEdits) => give(any_word_fault(line), word, text),
+        Some(Dialect::AllEdits(_)) => give(any_word_fault(line), word, text),
         None => TOO_GREAT,
     }
 }

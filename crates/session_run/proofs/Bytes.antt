@@ -55,34 +55,35 @@ module _ {C : Type 0} (change : C → Change) (dialect : Dialect) (bytes : List 
   )
 
 -- ---- a line for all edits
-module _ {C : Type 0} (change : C → Change) (bytes : List ℕ) (fault : LineFault) (line : MoreLine) (unread : line_of bytes ≡ Err fault)
-    (read : more_line_of bytes ≡ Ok line) where
-  pub more_plan : (old new : Machine) (stored : StoreParts) (plan : Planned) → new ≡ old → PlansMoreIn line (active_of old) plan
-      → PlansBytes change AllEdits bytes (workspace old stored) plan (workspace new stored)
-  more_plan old new stored planned.Quiet left p = absurd (more_quiet line (active_of old) p)
+module _ {C : Type 0} (change : C → Change) (fractions : Fractions) (bytes : List ℕ) (fault : LineFault) (line : MoreLine)
+    (unread : line_of bytes ≡ Err fault) (read : more_line_of bytes ≡ Ok line) where
+  pub more_plan : (old new : Machine) (stored : StoreParts) (plan : Planned) → new ≡ old → PlansMoreIn fractions line (active_of old) plan
+      → PlansBytes change (AllEdits fractions) bytes (workspace old stored) plan (workspace new stored)
+  more_plan old new stored planned.Quiet left p = absurd (more_quiet fractions line (active_of old) p)
   more_plan old new stored (planned.Reply reply) left p =
-      more_step bytes fault line (workspace old stored) (Some reply) (workspace new stored) unread read (more_refused line old new stored reply left p)
+      more_step fractions bytes fault line (workspace old stored) (Some reply) (workspace new stored) unread read
+      (more_refused fractions line old new stored reply left p)
   more_plan old new stored (planned.Push edit) left p = (
     rw left refl,
     (λ command reply after same done.
-        more_step bytes fault line (workspace old stored) (Some reply) (workspace after stored) unread read
-        (more_commit_step line old old after stored edit (change command) reply refl p same done)),
-    more_step bytes fault line (workspace old stored) (Some (Refused NoMemory)) (workspace old stored) unread read
-        (more_uncommitted line old old stored edit refl p),
+        more_step fractions bytes fault line (workspace old stored) (Some reply) (workspace after stored) unread read
+        (more_commit_step fractions line old old after stored edit (change command) reply refl p same done)),
+    more_step fractions bytes fault line (workspace old stored) (Some (Refused NoMemory)) (workspace old stored) unread read
+        (more_uncommitted fractions line old old stored edit refl p),
   )
 
-  pub more_plan_kinds : (old new : Machine) (plan : Planned) (os ns : List Kinds) → new ≡ old → ns ≡ os → PlansMoreIn line (active_of old) plan
-      → PlansKinds change AllEdits bytes old plan new os ns
-  more_plan_kinds old new planned.Quiet os ns left still p = absurd (more_quiet line (active_of old) p)
+  pub more_plan_kinds : (old new : Machine) (plan : Planned) (os ns : List Kinds) → new ≡ old → ns ≡ os → PlansMoreIn fractions line (active_of old) plan
+      → PlansKinds change (AllEdits fractions) bytes old plan new os ns
+  more_plan_kinds old new planned.Quiet os ns left still p = absurd (more_quiet fractions line (active_of old) p)
   more_plan_kinds old new (planned.Reply reply) os ns left still p =
-      more_kinds bytes fault line old (Some reply) new os ns unread read (more_refused_kinds line old new reply os ns p still)
+      more_kinds fractions bytes fault line old (Some reply) new os ns unread read (more_refused_kinds fractions line old new reply os ns p still)
   more_plan_kinds old new (planned.Push edit) os ns left still p = (
     left,
     still,
     (λ command reply after ks same done.
-        more_kinds bytes fault line old (Some reply) after os ks unread read
-        (more_commit_kinds line old old after edit (change command) reply os os ks refl refl p same done)),
-    more_kinds bytes fault line old (Some (Refused NoMemory)) old os os unread read refl,
+        more_kinds fractions bytes fault line old (Some reply) after os ks unread read
+        (more_commit_kinds fractions line old old after edit (change command) reply os os ks refl refl p same done)),
+    more_kinds fractions bytes fault line old (Some (Refused NoMemory)) old os os unread read refl,
   )
 
 -- ---- an edit that was planned

@@ -7,7 +7,7 @@ mod running;
 mod strict;
 mod writing;
 
-pub use document_lines::Dialect;
+pub use document_lines::{Dialect, Fractions};
 pub use laws::{journals_lead_to_the_same_documents, runs_are_one, runs_have_journals};
 pub use running::{RunFault, Summary, run, run_all_edits, step, step_told};
 pub use strict::{Report, StrictFault, Unsaved, run_strict, run_strict_all_edits};

@@ -21,7 +21,7 @@ use crate::strict::{End, Nobody, Report, end_over, end_refused, ending};
 use crate::writing::write_reply;
 use arrayvec::ArrayString;
 use command_api::Command;
-use document_lines::Dialect;
+use document_lines::{Dialect, Fractions};
 use editor::{Edit, Editor, NoTell, Planned, Tell};
 use lines::{Found, LineReader};
 use map_store::MapStore;
@@ -108,8 +108,8 @@ fn plan_refused<C: Command>(
 {
     match dialect {
         Dialect::Plain => Err(Refusal::Line(fault)),
-        Dialect::AllEdits => match &parse_more_line(line) {
-            Ok(own) => match editor.plan_more(alloc, own) {
+        Dialect::AllEdits(fractions) => match &parse_more_line(line) {
+            Ok(own) => match editor.plan_more(alloc, own, fractions) {
                 Planned::Push(edit) => Ok(edit),
                 Planned::Reply(Reply::Refused(refusal)) => Err(refusal),
                 Planned::Reply(_) => unreachable!(),
@@ -437,31 +437,33 @@ pub fn run<R: Read, W: Write, S: MapStore>(
     }
 }
 
-/// As `run`, and reads the lines for all edits too.
+/// As `run`, and reads the lines for all edits too. `fractions` says what becomes of a number in them that is not whole; it is to
+/// be set aside only where the store puts back what is.
 pub fn run_all_edits<R: Read, W: Write, S: MapStore>(
     alloc: Global,
     reader: &mut R,
     writer: &mut W,
     store: &mut S,
     limit: usize,
+    fractions: Fractions,
 ) -> Result<Summary, RunFault>
     requires { limit ≤ MAX_LIMIT }
 
     // All lines of the input were handled, and the replies and the files are those of the machine.
     ensures ok { IfOk result (λ summary. IfSome (R.remaining reader.old) (λ input.
-        RunsAll AnyStepIn (workspace (started_machine limit) (S.stored store.old)) input (W.contents writer.old) (W.contents writer.new) (S.stored store.new)
+        RunsAll (AnyStepIn fractions) (workspace (started_machine limit) (S.stored store.old)) input (W.contents writer.old) (W.contents writer.new) (S.stored store.new)
         summary.lines summary.replies)) }
 
     // All whole lines that were taken from the reader are done, files and all, and the replies to them were written whole. What
     // came of a line not whole and what the reader still has are the rest of the input.
     ensures read { IsErrOf result RunFault.Read → IfSome (R.remaining reader.old) (λ input.
-        RunsToUnread AnyStepIn (workspace (started_machine limit) (S.stored store.old)) input (R.remaining reader.new) (W.contents writer.old) (W.contents writer.new) (S.stored store.new)) }
+        RunsToUnread (AnyStepIn fractions) (workspace (started_machine limit) (S.stored store.old)) input (R.remaining reader.new) (W.contents writer.old) (W.contents writer.new) (S.stored store.new)) }
 
     // A flush failed before a read: all is as at a read fault. Or a write failed: all replies before the one that could not be
     // written were written whole, its line is done too, files and all, and of it the beginning was written, and not all.
     ensures write { IsErrOf result RunFault.Write → IfSome (R.remaining reader.old) (λ input.
-        RunsToUnread AnyStepIn (workspace (started_machine limit) (S.stored store.old)) input (R.remaining reader.new) (W.contents writer.old) (W.contents writer.new) (S.stored store.new)
-        ⊎ RunsToWrite AnyStepIn (workspace (started_machine limit) (S.stored store.old)) input (W.contents writer.old) (W.contents writer.new) (S.stored store.new)) }
+        RunsToUnread (AnyStepIn fractions) (workspace (started_machine limit) (S.stored store.old)) input (R.remaining reader.new) (W.contents writer.old) (W.contents writer.new) (S.stored store.new)
+        ⊎ RunsToWrite (AnyStepIn fractions) (workspace (started_machine limit) (S.stored store.old)) input (W.contents writer.old) (W.contents writer.new) (S.stored store.new)) }
 
     // For the line buffer alone, and before anything was read or written.
     ensures memory { IsErrOf result RunFault.Memory → (writer.new ≡ writer.old) × (reader.new ≡ reader.old) × (store.new ≡ store.old) }
@@ -473,7 +475,7 @@ pub fn run_all_edits<R: Read, W: Write, S: MapStore>(
         writer,
         store,
         limit,
-        Dialect::AllEdits,
+        Dialect::AllEdits(fractions),
         false,
         &mut nobody,
     ) {

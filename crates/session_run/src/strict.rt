@@ -16,7 +16,7 @@ ghost use Rattle.session_run.specs.WithinRuns.{EndsOver};
 use crate::running::{RunFault, Summary, run_lines};
 use crate::writing::WriteFault;
 use command_api::Command;
-use document_lines::Dialect;
+use document_lines::{Dialect, Fractions};
 use lines::LineReader;
 use map_store::MapStore;
 use refusals::{LineFault, Refusal};
@@ -240,41 +240,42 @@ pub fn run_strict<R: Read, W: Write, S: MapStore>(
     }
 }
 
-/// As `run_strict`, and reads the lines for all edits too.
+/// As `run_strict`, and reads the lines for all edits too, as `run_all_edits` does.
 pub fn run_strict_all_edits<R: Read, W: Write, S: MapStore>(
     alloc: Global,
     reader: &mut R,
     writer: &mut W,
     store: &mut S,
     limit: usize,
+    fractions: Fractions,
     report: &mut dyn Report,
 ) -> Result<Summary, StrictFault>
     requires { limit ≤ MAX_LIMIT }
 
     // All lines of the input were handled, none was refused, and each document is clean. Nothing is told.
     ensures ok { IfOk result (λ summary. IfSome (R.remaining reader.old) (λ input.
-        RunsClean AnyStepIn (workspace (started_machine limit) (S.stored store.old)) input (W.contents writer.old) (W.contents writer.new) (S.stored store.new)
+        RunsClean (AnyStepIn fractions) (workspace (started_machine limit) (S.stored store.old)) input (W.contents writer.old) (W.contents writer.new) (S.stored store.new)
         summary.lines summary.replies)) }
     ensures quiet { OnOk result (Tells (told report.old) (told report.new) []) }
 
     // As `run`, and no line was refused before.
     ensures read { IsErrOf result (StrictFault.Run RunFault.Read) → IfSome (R.remaining reader.old) (λ input.
-        RunsStrictlyToUnread AnyStepIn (workspace (started_machine limit) (S.stored store.old)) input (R.remaining reader.new) (W.contents writer.old) (W.contents writer.new) (S.stored store.new)) }
+        RunsStrictlyToUnread (AnyStepIn fractions) (workspace (started_machine limit) (S.stored store.old)) input (R.remaining reader.new) (W.contents writer.old) (W.contents writer.new) (S.stored store.new)) }
 
     // As `run`, and no line was refused before; or the flush failed behind the first line that was refused.
     ensures write { IsErrOf result (StrictFault.Run RunFault.Write) → IfSome (R.remaining reader.old) (λ input.
-        RunsStrictlyToUnread AnyStepIn (workspace (started_machine limit) (S.stored store.old)) input (R.remaining reader.new) (W.contents writer.old) (W.contents writer.new) (S.stored store.new)
-        ⊎ RunsToRefused AnyStepIn (workspace (started_machine limit) (S.stored store.old)) input (W.contents writer.old) (W.contents writer.new) (S.stored store.new)
-        ⊎ RunsStrictlyToWrite AnyStepIn (workspace (started_machine limit) (S.stored store.old)) input (W.contents writer.old) (W.contents writer.new) (S.stored store.new)) }
+        RunsStrictlyToUnread (AnyStepIn fractions) (workspace (started_machine limit) (S.stored store.old)) input (R.remaining reader.new) (W.contents writer.old) (W.contents writer.new) (S.stored store.new)
+        ⊎ RunsToRefused (AnyStepIn fractions) (workspace (started_machine limit) (S.stored store.old)) input (W.contents writer.old) (W.contents writer.new) (S.stored store.new)
+        ⊎ RunsStrictlyToWrite (AnyStepIn fractions) (workspace (started_machine limit) (S.stored store.old)) input (W.contents writer.old) (W.contents writer.new) (S.stored store.new)) }
     ensures memory { IsErrOf result (StrictFault.Run RunFault.Memory) → (writer.new ≡ writer.old) × (reader.new ≡ reader.old) × (store.new ≡ store.old) }
 
     // The lines up to and with the first that was refused are done, and that one is told, by its number, its text and the refusal.
     ensures refused { IsErrOf result StrictFault.Refused → IfSome (R.remaining reader.old) (λ input.
-        TellsRefused AnyStepIn (workspace (started_machine limit) (S.stored store.old)) input (W.contents writer.old) (W.contents writer.new) (S.stored store.new) (told report.old) (told report.new)) }
+        TellsRefused (AnyStepIn fractions) (workspace (started_machine limit) (S.stored store.old)) input (W.contents writer.old) (W.contents writer.new) (S.stored store.new) (told report.old) (told report.new)) }
 
     // All lines are done, and exactly the documents that are not clean are told, each with the reason.
     ensures unsaved { IsErrOf result StrictFault.Unsaved → IfSome (R.remaining reader.old) (λ input.
-        TellsUnsaved AnyStepIn (workspace (started_machine limit) (S.stored store.old)) input (W.contents writer.old) (W.contents writer.new) (S.stored store.new) (told report.old) (told report.new)) }
+        TellsUnsaved (AnyStepIn fractions) (workspace (started_machine limit) (S.stored store.old)) input (W.contents writer.old) (W.contents writer.new) (S.stored store.new) (told report.old) (told report.new)) }
 
     // Whether or not the reader tells its bytes: of a fault of `run` nothing is told, of a refused line one, and else documents.
     ensures told { IfErr result (λ fault. TellsFault fault (told report.old) (told report.new)) }
@@ -285,7 +286,7 @@ pub fn run_strict_all_edits<R: Read, W: Write, S: MapStore>(
         writer,
         store,
         limit,
-        Dialect::AllEdits,
+        Dialect::AllEdits(fractions),
         true,
         report,
     ) {

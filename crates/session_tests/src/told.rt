@@ -1,5 +1,5 @@
 // What lines did is told: it is compared with what really differs, over many random lines.
-use document_lines::{Cells, Dialect, Subject};
+use document_lines::{Cells, Dialect, Fractions, Subject};
 use memory_editor::{Became, MemoryEditor, Status, Told};
 use std::alloc::{AllocError, Global};
 use std::test::Fail;
@@ -207,7 +207,7 @@ const LINES: u32 = 400;
 
 fn stepped(alloc: Global, seed: u64, limit: u16, tally: &mut Tally) -> Found {
     let limit = usize::from(limit);
-    let mut editor = MemoryEditor::for_dialect(alloc, limit, Dialect::AllEdits);
+    let mut editor = MemoryEditor::for_dialect(alloc, limit, Dialect::AllEdits(Fractions::SetAside));
     let mut random = Random::new(seed);
     step_lines(alloc, &mut editor, &mut random, limit, tally)
 }

@@ -1,14 +1,25 @@
 // A run, as a command line chooses it.
-ghost use Rattle.std.specs.Prelude.{◌≤◌};
+ghost use Rattle.std.specs.Prelude.{◌≡◌, ◌≤◌, if◌then◌else◌};
 ghost use Rattle.undo_stack.specs.declared.limits.TheConstants.{MAX_LIMIT};
 
 use crate::choices::Options;
 use map_store::MapStore;
 use session_run::{
-    Report, RunFault, StrictFault, Summary, run, run_all_edits, run_strict, run_strict_all_edits,
+    Fractions, Report, RunFault, StrictFault, Summary, run, run_all_edits, run_strict, run_strict_all_edits,
 };
 use std::alloc::Global;
 use std::io::{Read, Write};
+
+// What becomes of a number in a line that is not whole: it is set aside where the store sets aside those of files, and puts them back.
+fn fractions_of(chosen: &Options<'_>) -> Fractions
+    ensures { result ≡ (if chosen.now.opens_all_maps then SetAside else Refused) }
+{
+    if chosen.opens_all_maps {
+        Fractions::SetAside
+    } else {
+        Fractions::Refused
+    }
+}
 
 // A run that the first refused line ends.
 fn run_strictly<R: Read, W: Write, S: MapStore>(
@@ -22,7 +33,8 @@ fn run_strictly<R: Read, W: Write, S: MapStore>(
     requires { chosen.now.limit ≤ MAX_LIMIT }
 {
     if chosen.does_all_edits {
-        run_strict_all_edits(alloc, reader, writer, store, chosen.limit, report)
+        let fractions = fractions_of(chosen);
+        run_strict_all_edits(alloc, reader, writer, store, chosen.limit, fractions, report)
     } else {
         run_strict(alloc, reader, writer, store, chosen.limit, report)
     }
@@ -39,7 +51,8 @@ fn run_on<R: Read, W: Write, S: MapStore>(
     requires { chosen.now.limit ≤ MAX_LIMIT }
 {
     if chosen.does_all_edits {
-        run_all_edits(alloc, reader, writer, store, chosen.limit)
+        let fractions = fractions_of(chosen);
+        run_all_edits(alloc, reader, writer, store, chosen.limit, fractions)
     } else {
         run(alloc, reader, writer, store, chosen.limit)
     }

@@ -16,7 +16,7 @@ ghost use Rattle.document_lines.specs.Planning.{PlansEdit, more_plan_of};
 use crate::planned::{Edit, Planned};
 use crate::planning::{planned, refused};
 use layer_commands::AddLayer;
-use map_json::{given_object, given_property, given_text, given_tileset};
+use map_json::{Fractions, given_object, given_property, given_text, given_tileset};
 use map_model::{Document, MoreLayerKind, Owner};
 use member_commands::more_fault;
 use object_commands::{AddObject, objects_of_layer};
@@ -53,15 +53,16 @@ fn put_object(
     document: &Document,
     layer: u32,
     json: &str,
+    fractions: Fractions,
 ) -> Result<AddObject, MoreFault>
-    ensures command { IfOk result (λ c. Makes add_object_names document.now (after_object_text document.now layer json.now) (add_object_change c)) }
-    ensures refusal { IfErr result (IsMoreRefusalOf (λ fault. false) (after_object_text document.now layer json.now)) }
+    ensures command { IfOk result (λ c. Makes add_object_names document.now (after_object_text fractions document.now layer json.now) (add_object_change c)) }
+    ensures refusal { IfErr result (IsMoreRefusalOf (λ fault. false) (after_object_text fractions document.now layer json.now)) }
 {
     let map = document.map();
     if let Err(fault) = objects_of_layer(map, layer) {
         return Err(MoreFault::Edit(fault));
     }
-    let given = match given_object(alloc, json) {
+    let given = match given_object(alloc, json, fractions) {
         Ok(given) => given,
         Err(fault) => return Err(more_fault(fault)),
     };
@@ -75,18 +76,29 @@ fn put_object(
 }
 
 #[inline(never)]
-pub fn plan_put_object(alloc: Global, document: &Document, layer: u32, json: &Text<'_>) -> Planned
-    ensures { PlansEdit (more_answer_of add_object_names (after_object_text document.now layer json.now)) document.now result }
+pub fn plan_put_object(
+    alloc: Global,
+    document: &Document,
+    layer: u32,
+    json: &Text<'_>,
+    fractions: Fractions,
+) -> Planned
+    ensures { PlansEdit (more_answer_of add_object_names (after_object_text fractions document.now layer json.now)) document.now result }
 {
-    planned_more(put_object(alloc, document, layer, json.as_str()).map(Edit::AddObject))
+    planned_more(put_object(alloc, document, layer, json.as_str(), fractions).map(Edit::AddObject))
 }
 
 // The command that puts in the tileset that a JSON text says.
-fn put_tileset(alloc: Global, document: &Document, json: &str) -> Result<AddTileset, MoreFault>
-    ensures command { IfOk result (λ c. Makes add_tileset_names document.now (after_tileset_text document.now json.now) (add_tileset_change c)) }
-    ensures refusal { IfErr result (IsMoreRefusalOf (λ fault. false) (after_tileset_text document.now json.now)) }
+fn put_tileset(
+    alloc: Global,
+    document: &Document,
+    json: &str,
+    fractions: Fractions,
+) -> Result<AddTileset, MoreFault>
+    ensures command { IfOk result (λ c. Makes add_tileset_names document.now (after_tileset_text fractions document.now json.now) (add_tileset_change c)) }
+    ensures refusal { IfErr result (IsMoreRefusalOf (λ fault. false) (after_tileset_text fractions document.now json.now)) }
 {
-    let tileset = match given_tileset(alloc, json) {
+    let tileset = match given_tileset(alloc, json, fractions) {
         Ok(tileset) => tileset,
         Err(fault) => return Err(more_fault(fault)),
     };
@@ -97,10 +109,15 @@ fn put_tileset(alloc: Global, document: &Document, json: &str) -> Result<AddTile
 }
 
 #[inline(never)]
-pub fn plan_put_tileset(alloc: Global, document: &Document, json: &Text<'_>) -> Planned
-    ensures { PlansEdit (more_answer_of add_tileset_names (after_tileset_text document.now json.now)) document.now result }
+pub fn plan_put_tileset(
+    alloc: Global,
+    document: &Document,
+    json: &Text<'_>,
+    fractions: Fractions,
+) -> Planned
+    ensures { PlansEdit (more_answer_of add_tileset_names (after_tileset_text fractions document.now json.now)) document.now result }
 {
-    planned_more(put_tileset(alloc, document, json.as_str()).map(Edit::AddTileset))
+    planned_more(put_tileset(alloc, document, json.as_str(), fractions).map(Edit::AddTileset))
 }
 
 // The command that puts in the property that a JSON text says.
@@ -109,14 +126,15 @@ fn put_property(
     document: &Document,
     owner: Owner,
     json: &str,
+    fractions: Fractions,
 ) -> Result<PutProperty, MoreFault>
-    ensures command { IfOk result (λ c. Makes put_property_names document.now (after_property_text document.now owner json.now) (put_property_change c)) }
-    ensures refusal { IfErr result (IsMoreRefusalOf (λ fault. false) (after_property_text document.now owner json.now)) }
+    ensures command { IfOk result (λ c. Makes put_property_names document.now (after_property_text fractions document.now owner json.now) (put_property_change c)) }
+    ensures refusal { IfErr result (IsMoreRefusalOf (λ fault. false) (after_property_text fractions document.now owner json.now)) }
 {
     if let Err(fault) = place_of(document.map(), owner) {
         return Err(MoreFault::Edit(fault));
     }
-    let property = match given_property(alloc, json) {
+    let property = match given_property(alloc, json, fractions) {
         Ok(property) => property,
         Err(fault) => return Err(more_fault(fault)),
     };
@@ -132,10 +150,11 @@ pub fn plan_put_property(
     document: &Document,
     owner: Owner,
     json: &Text<'_>,
+    fractions: Fractions,
 ) -> Planned
-    ensures { PlansEdit (more_answer_of put_property_names (after_property_text document.now owner json.now)) document.now result }
+    ensures { PlansEdit (more_answer_of put_property_names (after_property_text fractions document.now owner json.now)) document.now result }
 {
-    planned_more(put_property(alloc, document, owner, json.as_str()).map(Edit::PutProperty))
+    planned_more(put_property(alloc, document, owner, json.as_str(), fractions).map(Edit::PutProperty))
 }
 
 // The command that takes out the property whose name a JSON text says.
@@ -144,14 +163,15 @@ fn take_property(
     document: &Document,
     owner: Owner,
     json: &str,
+    fractions: Fractions,
 ) -> Result<RemoveProperty, MoreFault>
-    ensures command { IfOk result (λ c. Makes remove_property_names document.now (after_take_property document.now owner json.now) (remove_property_change c)) }
-    ensures refusal { IfErr result (IsMoreRefusalOf (λ fault. false) (after_take_property document.now owner json.now)) }
+    ensures command { IfOk result (λ c. Makes remove_property_names document.now (after_take_property fractions document.now owner json.now) (remove_property_change c)) }
+    ensures refusal { IfErr result (IsMoreRefusalOf (λ fault. false) (after_take_property fractions document.now owner json.now)) }
 {
     if let Err(fault) = place_of(document.map(), owner) {
         return Err(MoreFault::Edit(fault));
     }
-    let name = match given_text(alloc, json) {
+    let name = match given_text(alloc, json, fractions) {
         Ok(name) => name,
         Err(fault) => return Err(more_fault(fault)),
     };
@@ -167,8 +187,9 @@ pub fn plan_take_property(
     document: &Document,
     owner: Owner,
     json: &Text<'_>,
+    fractions: Fractions,
 ) -> Planned
-    ensures { PlansEdit (more_answer_of remove_property_names (after_take_property document.now owner json.now)) document.now result }
+    ensures { PlansEdit (more_answer_of remove_property_names (after_take_property fractions document.now owner json.now)) document.now result }
 {
-    planned_more(take_property(alloc, document, owner, json.as_str()).map(Edit::RemoveProperty))
+    planned_more(take_property(alloc, document, owner, json.as_str(), fractions).map(Edit::RemoveProperty))
 }

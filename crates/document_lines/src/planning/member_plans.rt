@@ -12,6 +12,7 @@ use crate::planned::Planned;
 use crate::planning::edited_head::EditedHead;
 use crate::planning::refused;
 use command_api::Command;
+use map_json::Fractions;
 use map_model::{Document, LayerHead, MapHead, MemberOwner, ObjectHead};
 use member_commands::SetHead;
 use refusals::{MoreFault, Refusal};
@@ -40,10 +41,12 @@ fn plan_set<H: EditedHead>(
     name: &Text<'_>,
     json: &Text<'_>,
     follows: bool,
+    fractions: Fractions,
 ) -> Planned
-    ensures { PlansEdit (more_answer_of (set_member_names (H.parts.owner id) name.now follows) (after_set_member H.parts document.now id name.now json.now)) document.now result }
+    ensures { PlansEdit (more_answer_of (set_member_names (H.parts.owner id) name.now follows) (after_set_member H.parts fractions document.now id name.now json.now)) document.now result }
 {
-    let command = SetHead::<H>::set(alloc, document, id, name.as_str(), json.as_str(), follows);
+    let (name, json) = (name.as_str(), json.as_str());
+    let command = SetHead::<H>::set(alloc, document, id, name, json, follows, fractions);
     planned(alloc, command)
 }
 
@@ -54,10 +57,11 @@ fn plan_put<H: EditedHead>(
     id: u32,
     json: &Text<'_>,
     follows: bool,
+    fractions: Fractions,
 ) -> Planned
-    ensures { PlansEdit (more_answer_of (put_members_names (H.parts.owner id) follows) (after_put_members H.parts document.now id json.now)) document.now result }
+    ensures { PlansEdit (more_answer_of (put_members_names (H.parts.owner id) follows) (after_put_members H.parts fractions document.now id json.now)) document.now result }
 {
-    let command = SetHead::<H>::put(alloc, document, id, json.as_str(), follows);
+    let command = SetHead::<H>::put(alloc, document, id, json.as_str(), follows, fractions);
     planned(alloc, command)
 }
 
@@ -67,19 +71,25 @@ fn plan_remove<H: EditedHead>(
     document: &Document,
     id: u32,
     name: &Text<'_>,
+    fractions: Fractions,
 ) -> Planned
-    ensures { PlansEdit (more_answer_of remove_member_names (after_remove_member H.parts document.now id name.now)) document.now result }
+    ensures { PlansEdit (more_answer_of remove_member_names (after_remove_member H.parts fractions document.now id name.now)) document.now result }
 {
-    let command = SetHead::<H>::remove(alloc, document, id, name.as_str());
+    let command = SetHead::<H>::remove(alloc, document, id, name.as_str(), fractions);
     planned(alloc, command)
 }
 
 /// Plans a line of own members about a document, the active one: its edit is left to be committed.
-pub fn on_members<C: Command>(alloc: Global, stack: &mut Stack<C>, line: &MoreLine<'_>) -> Planned
+pub fn on_members<C: Command>(
+    alloc: Global,
+    stack: &mut Stack<C>,
+    line: &MoreLine<'_>,
+    fractions: Fractions,
+) -> Planned
     requires sound { Holds C.change stack.old }
     requires about { IsOfMembers line.now }
     ensures sound { Holds C.change stack.new }
-    ensures plans { PlansMore line.now (history C.change stack.old) result (history C.change stack.new) }
+    ensures plans { PlansMore fractions line.now (history C.change stack.old) result (history C.change stack.new) }
     ensures kept { nestings stack.new ≡ nestings stack.old }
 {
     match line {
@@ -90,7 +100,7 @@ pub fn on_members<C: Command>(alloc: Global, stack: &mut Stack<C>, line: &MoreLi
             follows,
         } => {
             stack.seek_object(*object);
-            plan_set::<ObjectHead>(alloc, stack.document(), *object, name, json, *follows)
+            plan_set::<ObjectHead>(alloc, stack.document(), *object, name, json, *follows, fractions)
         }
         MoreLine::PutMembers {
             owner: MemberOwner::Object(object),
@@ -98,45 +108,45 @@ pub fn on_members<C: Command>(alloc: Global, stack: &mut Stack<C>, line: &MoreLi
             follows,
         } => {
             stack.seek_object(*object);
-            plan_put::<ObjectHead>(alloc, stack.document(), *object, json, *follows)
+            plan_put::<ObjectHead>(alloc, stack.document(), *object, json, *follows, fractions)
         }
         MoreLine::RemoveMember {
             owner: MemberOwner::Object(object),
             name,
         } => {
             stack.seek_object(*object);
-            plan_remove::<ObjectHead>(alloc, stack.document(), *object, name)
+            plan_remove::<ObjectHead>(alloc, stack.document(), *object, name, fractions)
         }
         MoreLine::SetMember {
             owner: MemberOwner::Layer(layer),
             name,
             json,
             follows,
-        } => plan_set::<LayerHead>(alloc, stack.document(), *layer, name, json, *follows),
+        } => plan_set::<LayerHead>(alloc, stack.document(), *layer, name, json, *follows, fractions),
         MoreLine::PutMembers {
             owner: MemberOwner::Layer(layer),
             json,
             follows,
-        } => plan_put::<LayerHead>(alloc, stack.document(), *layer, json, *follows),
+        } => plan_put::<LayerHead>(alloc, stack.document(), *layer, json, *follows, fractions),
         MoreLine::RemoveMember {
             owner: MemberOwner::Layer(layer),
             name,
-        } => plan_remove::<LayerHead>(alloc, stack.document(), *layer, name),
+        } => plan_remove::<LayerHead>(alloc, stack.document(), *layer, name, fractions),
         MoreLine::SetMember {
             owner: MemberOwner::Map,
             name,
             json,
             follows,
-        } => plan_set::<MapHead>(alloc, stack.document(), 0, name, json, *follows),
+        } => plan_set::<MapHead>(alloc, stack.document(), 0, name, json, *follows, fractions),
         MoreLine::PutMembers {
             owner: MemberOwner::Map,
             json,
             follows,
-        } => plan_put::<MapHead>(alloc, stack.document(), 0, json, *follows),
+        } => plan_put::<MapHead>(alloc, stack.document(), 0, json, *follows, fractions),
         MoreLine::RemoveMember {
             owner: MemberOwner::Map,
             name,
-        } => plan_remove::<MapHead>(alloc, stack.document(), 0, name),
+        } => plan_remove::<MapHead>(alloc, stack.document(), 0, name, fractions),
         // Own members of tilesets have no edits yet.
         _ => refused(Refusal::MemberOfOtherLines),
     }

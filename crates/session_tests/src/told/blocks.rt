@@ -2,7 +2,7 @@
 use super::random_lines::Random;
 use super::snapshot::{Change, Snapshot};
 use super::{Found, begin, is_quiet_if_refused, is_true, one_more};
-use document_lines::{Cells, Dialect};
+use document_lines::{Cells, Dialect, Fractions};
 use memory_editor::{Became, MemoryEditor, Told};
 use std::alloc::{AllocError, Global};
 use std::test::Fail;
@@ -141,7 +141,7 @@ fn run_blocks(
     let mut twin = MemoryEditor::for_dialect(
         alloc,
         usize::from(editor_limit(most)),
-        Dialect::AllEdits,
+        Dialect::AllEdits(Fractions::SetAside),
     );
     begin(editor);
     begin(&mut twin);
@@ -174,7 +174,7 @@ fn run_session(alloc: Global, seed: u64, most: u32, tally: &mut Tally) -> Found 
     let mut editor = MemoryEditor::for_dialect(
         alloc,
         usize::from(editor_limit(most)),
-        Dialect::AllEdits,
+        Dialect::AllEdits(Fractions::SetAside),
     );
     let mut random = Random::new(seed);
     run_blocks(alloc, &mut random, most, &mut editor, tally)

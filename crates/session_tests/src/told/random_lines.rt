@@ -212,11 +212,12 @@ impl Random {
     fn member(&mut self, alloc: Global) -> Result<Spoken, AllocError> {
         let (layer, value) = (self.layer(), self.below(3));
         let plus = self.one_of(&["", "+", "+"]);
+        let part = self.one_of(&["", ".5"]);
         let text = match self.below(7) {
-            0 => format!(in alloc; "member set{plus} object:1 rotation {value}")?,
-            1 => format!(in alloc; "member put{plus} object:1 {{\"x\":{value},\"name\":\"n\"}}")?,
+            0 => format!(in alloc; "member set{plus} object:1 rotation {value}{part}")?,
+            1 => format!(in alloc; "member put{plus} object:1 {{\"x\":{value}{part},\"name\":\"n\"}}")?,
             2 => format!(in alloc; "member remove object:1 rotation")?,
-            3 => format!(in alloc; "member set{plus} layer:{layer} opacity {value}")?,
+            3 => format!(in alloc; "member set{plus} layer:{layer} opacity {value}{part}")?,
             4 => format!(in alloc; "member remove layer:{layer} opacity")?,
             5 => format!(in alloc; "member set{plus} map tilewidth 1{value}")?,
             _ => format!(in alloc; "member set{plus} map class \"c{value}\"")?,
@@ -227,10 +228,11 @@ impl Random {
     // A line that adds a whole thing, or that sets a property or takes it out.
     fn put(&mut self, alloc: Global) -> Result<Spoken, AllocError> {
         let value = self.below(9);
+        let part = self.one_of(&["", ".5"]);
         let text = match self.below(7) {
             0 => format!(in alloc; "layer add group g{value}")?,
             1 => format!(in alloc; "layer add image i{value}")?,
-            2 => format!(in alloc; "object put 3 {{\"x\":{value},\"ellipse\":true}}")?,
+            2 => format!(in alloc; "object put 3 {{\"x\":{value}{part},\"ellipse\":true}}")?,
             3 => format!(in alloc; "object put 3 {{\"id\":{value}}}")?,
             4 => format!(in alloc; "prop take object:1 \"k\"")?,
             5 => format!(in alloc; "prop put object:1 {{\"name\":\"k\",\"value\":\"v{value}\"}}")?,

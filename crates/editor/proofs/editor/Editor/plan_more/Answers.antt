@@ -49,10 +49,10 @@ returns-in-Some-clause-fits g c =
     ∙ with_active-unchanged (history change c.in-Some.stack.now) (history change stack)
     (machine_of change c.args.self.now) c.in-Some.ensures.whole (sym c.in-Some.ensures.active) c.on_more_line.ensures.plans.1 in
     subst P (sym kept)
-    (more-FitsPlan c.args.line.now (history change c.in-Some.stack.now) (machine_of change c.args.self.now) c.on_more_line.result
+    (more-FitsPlan c.args.fractions c.args.line.now (history change c.in-Some.stack.now) (machine_of change c.args.self.now) c.on_more_line.result
     (sym c.in-Some.ensures.active) c.on_more_line.ensures.plans.0)
 
 pub returns-in-Some-clause-plans : goal.returns-in-Some-clause-plans
 returns-in-Some-clause-plans g c =
-    let P : Option History → Type 0 = λ active. PlansMoreIn c.args.line.now active c.on_more_line.result in
+    let P : Option History → Type 0 = λ active. PlansMoreIn c.args.fractions c.args.line.now active c.on_more_line.result in
     subst P c.in-Some.ensures.active c.on_more_line.ensures.plans.0
