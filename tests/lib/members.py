@@ -1,8 +1,9 @@
 # SPDX-License-Identifier: MIT OR Apache-2.0
 """What each line of own members does to a map, plainly: on the tree of its JSON text, by the rules
 of docs/session-lines.md. Objects, layers and the map have such lines."""
+from lib.asides import COORDINATE, COORDINATES, ELSEWHERE, OBJECT, RESERVED, stand_in
 from lib.edits import EDITS, LAST_ID, MOST_PIXELS, Edit, Refused, find_owner, see
-from lib.json_words import is_whole, json_word, object_word
+from lib.json_words import is_whole, json_word, object_word, sets_fractions_aside, tree_of
 from lib.maps import layers_in, objects_in
 
 MOST_VALUE, MOST_TILE_SIDE = 4_294_967_295, 65_535
@@ -56,6 +57,29 @@ def see_map(tree, draft):
 SEEN = {'object': see_object, 'layer': see_layer, 'map': see_map}
 
 
+# ---- the notes of an object's coordinates
+
+
+def moved_by(tree, name):
+    """By how many pixels objects were moved when an infinite map was made finite."""
+    note = tree.get(RESERVED, {}).get('infinite', {})
+    return note.get({'x': 'movedx', 'y': 'movedy'}.get(name), 0)
+
+
+def notes_of(tree, said):
+    """The notes of the coordinates that a JSON object says and that are fractions: of what they are where the map is saved."""
+    return {name: stand_in(said[name] - moved_by(tree, name)) for name in COORDINATES if isinstance(said.get(name), float)}
+
+
+def note_anew(item, names, notes):
+    """Gives an object the notes of the coordinates of these names, in place of those that it has of them."""
+    if not sets_fractions_aside() or not {*names} & {*COORDINATES}:
+        return
+    kept = {name: note for name, note in item.pop(RESERVED, {}).items() if name not in names}
+    if kept or notes:
+        item[RESERVED] = {**kept, **notes}
+
+
 # ---- edits
 
 
@@ -70,15 +94,21 @@ def owner_of(draft, owner):
 def set_member(draft, owner, name, text):
     kind, item = owner_of(draft, owner)
     see(name not in OTHERS[kind], 41)
-    item[name] = json_word(text)
+    is_coordinate = kind == 'object' and name in COORDINATES
+    item[name] = json_word(text, COORDINATE if is_coordinate else ELSEWHERE)
+    if kind == 'object':
+        note_anew(item, [name], notes_of(draft.tree, {name: tree_of(text)}))
     SEEN[kind](item, draft)
 
 
 def put_members(draft, owner, text):
     kind, item = owner_of(draft, owner)
-    members = object_word(text)
+    members = object_word(text, OBJECT if kind == 'object' else ELSEWHERE)
+    members.pop(RESERVED, None)
     see(not any(name in OTHERS[kind] for name in members), 41)
     item.update(members)
+    if kind == 'object':
+        note_anew(item, members, notes_of(draft.tree, tree_of(text)))
     SEEN[kind](item, draft)
 
 
@@ -87,6 +117,8 @@ def remove_member(draft, owner, name):
     see(name not in OTHERS[kind], 41)
     see(name in item, 42)
     del item[name]
+    if kind == 'object':
+        note_anew(item, [name], {})
     SEEN[kind](item, draft)
 
 

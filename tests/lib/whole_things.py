@@ -1,6 +1,7 @@
 # SPDX-License-Identifier: MIT OR Apache-2.0
 """What each line for all edits does to a map, plainly, that adds a whole thing, takes one out or moves
 one, or gives the map more room: on the tree of its JSON text, by the rules of docs/session-lines.md."""
+from lib.asides import OBJECT, RESERVED
 from lib.edits import (
     EDITS,
     LAST_FIRST_ID,
@@ -18,9 +19,10 @@ from lib.edits import (
     see,
     siblings_of,
 )
-from lib.json_words import MOST_READ, is_whole, json_word, nesting, object_word
+from lib.json_texts import depth_of
+from lib.json_words import MOST_READ, is_whole, json_word, object_word, tree_of
 from lib.maps import MOST_INSIDE, MOST_LAYERS, group, layer_of, layers_in, objects_in, text_of
-from lib.members import see_object
+from lib.members import notes_of, see_object
 
 
 def see_number(item, name, most):
@@ -54,7 +56,7 @@ def stands_right(layers, around=0):
 
 def see_depth(tree):
     """What a file had in a thing nests with it, which may be too deep at its new place."""
-    see(nesting(text_of(tree).decode()) <= MOST_READ, 39)
+    see(depth_of(text_of(tree).decode()) <= MOST_READ, 39)
 
 
 def move_layer_into(draft, number, parent, place):
@@ -95,7 +97,9 @@ def read_properties(item):
 def put_object(draft, number, text):
     tree = draft.tree
     objects = find_layer(tree, number, 'objectgroup')['objects']
-    item = object_word(text)
+    item = object_word(text, OBJECT)
+    if RESERVED in item:
+        item[RESERVED] = notes_of(tree, tree_of(text))
     has_id, next_id = 'id' in item, tree['nextobjectid']
     if has_id:
         see_number(item, 'id', LAST_ID - 1)
@@ -136,8 +140,7 @@ def put_property(draft, owner, text):
 
 def take_property(draft, owner, text):
     find_owner(draft.tree, owner)
-    name = json_word(text)
-    see(isinstance(name, str), 63)
+    name = json_word(text, is_right=lambda tree: isinstance(tree, str))
     remove_property(draft, owner, name)
 
 

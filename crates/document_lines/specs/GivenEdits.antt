@@ -6,6 +6,7 @@ use Rattle.map_model.specs.declared.parts.MapParts.{MapParts}
 use Rattle.map_model.specs.Document.{DocumentParts}
 use Rattle.map_model.specs.Lookups.{layer_of}
 use Rattle.map_model.specs.Objects.{object_place}
+use Rattle.fractions.specs.declared.lines.Fractions.{Fractions}
 use Rattle.map_json.specs.declared.given.GivenObject.{GivenObject}
 use Rattle.map_json.specs.Given.{given_object_at, given_property_at, given_text_at, given_tileset_at}
 use Rattle.edits.specs.ObjectEdits.{after_put_object, objects_or_fault}

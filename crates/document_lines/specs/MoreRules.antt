@@ -2,6 +2,7 @@
 use Rattle.std.specs.Prelude.{List, ℕ, Result, Ok, Err}
 use Rattle.map_model.specs.declared.owner.MemberOwner.TheVariants as owners
 use Rattle.map_model.specs.Document.{DocumentParts}
+use Rattle.fractions.specs.declared.lines.Fractions.{Fractions}
 use Rattle.command_api.specs.Names.{Names}
 use Rattle.edits.specs.LayerEdits.{after_add_more, after_layer_into}
 use Rattle.edits.specs.ObjectEdits.{after_object_into}

@@ -2,6 +2,7 @@
 use Rattle.std.specs.Prelude.{◌≡◌, Some, Result, Ok, Err, ◌⊎◌, ⊤}
 use Rattle.map_model.specs.Document.{DocumentParts}
 use Rattle.refusals.specs.declared.edit_fault.EditFault.{EditFault}
+use Rattle.fractions.specs.declared.lines.Fractions.{Fractions}
 use Rattle.command_api.specs.Law.{Change, IsSame}
 use Rattle.command_api.specs.Offers.{Shown, Nothing}
 use Rattle.layer_commands.specs.Changes.{add_change, remove_change, rename_change, show_change, move_change, resize_change}

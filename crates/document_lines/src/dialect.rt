@@ -1,4 +1,4 @@
-use map_json::Fractions;
+use fractions::Fractions;
 
 /// Which lines an editor reads.
 #[derive(Clone, Copy, PartialEq, Eq, Debug)]

@@ -12,6 +12,7 @@ mod tile;
 
 pub use dialect::Dialect;
 pub use differences::{Cells, Differences};
+pub use fractions::Fractions;
 pub use planned::{Edit, Planned};
 pub use planning::{on_document, on_more_line, refused};
 pub use steps::{answered, state_of, text_reply};

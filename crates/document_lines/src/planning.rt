@@ -31,7 +31,7 @@ use crate::steps::{plan_answered, plan_begin, plan_limit, plan_show, plan_step_t
 use crate::tile;
 use command_api::Command;
 use edits::{Area, Selecting};
-use map_json::Fractions;
+use fractions::Fractions;
 use map_model::Owner;
 use refusals::{EditFault, Refusal};
 use session::{Line, MoreLine, Reply};

@@ -1,5 +1,6 @@
 -- The step of a line for all edits, which was planned as an edit.
 use Rattle.std.proofs.Common.{◌≡◌, List, Bool, Option, Some, None, Result, refl, sym, subst, inl, inr}
+use Rattle.fractions.specs.declared.lines.Fractions.{Fractions}
 use Rattle.map_model.specs.Document.{DocumentParts}
 use Rattle.map_store.specs.Files.{StoreParts}
 use Rattle.command_api.specs.Law.{Change, IsSame}

@@ -1,5 +1,6 @@
 -- Of each step of all open documents whether it is a macro, and what a line makes of that where the lines for all edits are read too.
 use Rattle.std.specs.Prelude.{◌≡◌, ℕ, List, Option, Some, None, Result, Ok, Err}
+use Rattle.fractions.specs.declared.lines.Fractions.{Fractions}
 use Rattle.undo_stack.specs.History.{current}
 use Rattle.session.specs.declared.line.Line.{Line}
 use Rattle.session.specs.declared.more_line.MoreLine.{MoreLine}

@@ -1,5 +1,6 @@
 -- What planning a line for all edits says.
 use Rattle.std.specs.Prelude.{◌≡◌, Option, None, Some}
+use Rattle.fractions.specs.declared.lines.Fractions.{Fractions}
 use Rattle.undo_stack.specs.History.{History, current}
 use Rattle.refusals.specs.declared.refusal.Refusal.TheVariants.{NoActiveDocument}
 use Rattle.session.specs.declared.more_line.MoreLine.{MoreLine}

@@ -24,7 +24,7 @@ mod files;
 
 use crate::tell::{NoTell, Tell};
 use command_api::Command;
-use document_lines::{Planned, answered, on_document, on_more_line, refused, state_of};
+use document_lines::{Fractions, Planned, answered, on_document, on_more_line, refused, state_of};
 use map_store::MapStore;
 use refusals::Refusal;
 use session::{Line, MoreLine, Reply};

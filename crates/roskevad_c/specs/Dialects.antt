@@ -1,5 +1,6 @@
 -- Which lines an editor reads, by C's numbers.
 use Rattle.std.specs.Prelude.{ℕ, ◌==◌, Option, None, Some, if◌then◌else◌}
+use Rattle.fractions.specs.declared.lines.Fractions.TheVariants.{Refused, SetAside}
 use Rattle.document_lines.specs.declared.dialect.Dialect.{Dialect}
 use Rattle.document_lines.specs.declared.dialect.Dialect.TheVariants.{Plain, AllEdits}
 

@@ -1,5 +1,6 @@
 -- From the plans of lines to those of their bytes, and from these to steps.
 use Rattle.std.proofs.Common.{◌≡◌, ℕ, List, None, Some, Ok, Err, refl, subst, sym}
+use Rattle.fractions.specs.declared.lines.Fractions.{Fractions}
 use Rattle.map_store.specs.Files.{StoreParts}
 use Rattle.command_api.specs.Law.{Change, IsSame}
 use Rattle.refusals.specs.declared.line_fault.LineFault.{LineFault}

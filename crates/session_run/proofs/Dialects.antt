@@ -1,6 +1,7 @@
 -- What the bytes of a line may do, by which lines are read.
 use Rattle.std.proofs.Common.{◌≡◌, ℕ, ◌^◌, ◌≤◌, List, length, Option, Some, Ok, Err, refl, arith}
 use Rattle.std.proofs.lemmas.Bool.{lt-ltb}
+use Rattle.fractions.specs.declared.lines.Fractions.{Fractions}
 use Rattle.session.specs.declared.limits.TheConstants.{MAX_LINE}
 use Rattle.session.specs.declared.line.Line.{Line}
 use Rattle.session.specs.declared.more_line.MoreLine.{MoreLine}

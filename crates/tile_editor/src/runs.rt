@@ -1,5 +1,6 @@
 // A run, as a command line chooses it.
 ghost use Rattle.std.specs.Prelude.{◌≡◌, ◌≤◌, if◌then◌else◌};
+ghost use Rattle.fractions.specs.declared.lines.Fractions.TheVariants.{Refused, SetAside};
 ghost use Rattle.undo_stack.specs.declared.limits.TheConstants.{MAX_LIMIT};
 
 use crate::choices::Options;

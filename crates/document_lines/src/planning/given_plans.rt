@@ -15,8 +15,9 @@ ghost use Rattle.document_lines.specs.Planning.{PlansEdit, more_plan_of};
 
 use crate::planned::{Edit, Planned};
 use crate::planning::{planned, refused};
+use fractions::Fractions;
 use layer_commands::AddLayer;
-use map_json::{Fractions, given_object, given_property, given_text, given_tileset};
+use map_json::{given_object, given_property, given_text, given_tileset};
 use map_model::{Document, MoreLayerKind, Owner};
 use member_commands::more_fault;
 use object_commands::{AddObject, objects_of_layer};

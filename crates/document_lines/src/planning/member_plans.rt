@@ -12,7 +12,7 @@ use crate::planned::Planned;
 use crate::planning::edited_head::EditedHead;
 use crate::planning::refused;
 use command_api::Command;
-use map_json::Fractions;
+use fractions::Fractions;
 use map_model::{Document, LayerHead, MapHead, MemberOwner, ObjectHead};
 use member_commands::SetHead;
 use refusals::{MoreFault, Refusal};

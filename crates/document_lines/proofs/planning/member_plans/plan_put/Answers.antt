@@ -10,4 +10,4 @@ returns g c =
     let command = rw (c.as_str.ensures) at c.put-command.ensures.command in
     let refusal = rw (c.as_str.ensures) at c.put-command.ensures.refusal in
     made-PlansEdit (set_head_change p) (put_members_names (p.owner c.args.id) c.args.follows) c.args.document.now is_early
-    (after_put_members p c.args.document.now c.args.id c.args.json.now) c.put-command.result c.planned.result command refusal c.planned.ensures
+    (after_put_members p c.args.fractions c.args.document.now c.args.id c.args.json.now) c.put-command.result c.planned.result command refusal c.planned.ensures

@@ -10,5 +10,5 @@ returns g c =
     let command = rw (c.as_str.ensures) at c.remove-command.ensures.command in
     let refusal = rw (c.as_str.ensures) at c.remove-command.ensures.refusal in
     made-PlansEdit (set_head_change p) remove_member_names c.args.document.now is_early_named
-    (after_remove_member p c.args.document.now c.args.id c.args.name.now) c.remove-command.result c.planned.result command refusal
+    (after_remove_member p c.args.fractions c.args.document.now c.args.id c.args.name.now) c.remove-command.result c.planned.result command refusal
     c.planned.ensures
