@@ -1,17 +1,19 @@
 # SPDX-License-Identifier: MIT OR Apache-2.0
 """Runs the session files of `sessions/`, those without a limit, through the Python package and the
 library in `lib/`, line by line and many lines in a call: they must give the replies and the files
-that stand there."""
+that stand there. In a session with fractions what was set aside is put back in the files first."""
 import ctypes
 import sys
 
-from lib.cases import check_in_processes
+from lib.asides import exact_text
+from lib.cases import check_in_processes, see, unlike
 from lib.places import TOP
-from lib.sessions import fault_of_files, fault_of_replies, runs_of_files
+from lib.sessions import ALL_MAPS, fault_of_files, fault_of_replies, runs_of_files
 
 sys.path.insert(0, str(TOP / 'python'))
 from roskevad import Editor  # noqa: E402
-from roskevad.library import LIBRARY, LinesDone  # noqa: E402
+from roskevad.library import ALL_EDITS, DONE, LIBRARY, LinesDone  # noqa: E402
+from roskevad.tiled_maps import put_back  # noqa: E402
 
 IS_LONG = True
 
@@ -54,14 +56,25 @@ def replies_by_many(editor, session):
     return b''.join(replies)
 
 
+def fault_of_put_back(wanted, given):
+    """How the trees of files with all put back differ from those that are wanted, or None."""
+    trees = {name: exact_text(put_back(data, b'', name)) for name, data in given.items()}
+    return unlike({name: exact_text(data) for name, data in wanted.items()}, trees)
+
+
 def fault_of(run, replies_of):
     """How a run of a session file through the library differs from its file, or None."""
+    sets_aside = ALL_MAPS in run.options
     with Editor() as editor:
+        # The package's own editor sets fractions aside.
+        if not sets_aside:
+            see(DONE, LIBRARY.roskevad_open_for(editor._c_editor, 0, ALL_EDITS))
         for name, data in run.before.items():
             editor.put_file(name, data)
         given = replies_of(editor, run.session)
         files = {name: editor.file(name) for name in editor.files()}
-    return fault_of_replies(run.session, run.replies, given) or fault_of_files(run.after, files)
+    fault_of_saved = fault_of_put_back if sets_aside else fault_of_files
+    return fault_of_replies(run.session, run.replies, given) or fault_of_saved(run.after, files)
 
 
 def fault_by_line(run):
@@ -74,7 +87,7 @@ def fault_by_many(run):
 
 def sorted_runs():
     """The longest come first, so that none is left at the end."""
-    runs = (run for run in runs_of_files() if '--limit' not in run.options)
+    runs = (run for run in runs_of_files() if '--limit' not in run.options and not (ALL_MAPS in run.options and run.before))
     return sorted(runs, key=lambda run: -len(run.session))
 
 

@@ -6,10 +6,12 @@ spelled, and maps that are refused or can't be written; and so are long sessions
 which it is slow."""
 import re
 
+from lib.asides import TiledEditor, fault_of_tiled_files
 from lib.cases import check_in_processes
+from lib.json_words import set_fractions_aside
 from lib.members import read_members
 from lib.model import Editor
-from lib.sessions import all_runs, answered, fault_of_files, fault_of_replies, joined, runs_for_all_edits
+from lib.sessions import ALL_MAPS, all_runs, answered, fault_of_files, fault_of_replies, joined, runs_for_all_edits
 from lib.whole_things import read_whole_things
 
 # The longest session that it hears, in bytes, and a line that makes a map of many columns or rows.
@@ -32,12 +34,16 @@ def limit_of(run):
 def fault_of(run):
     read_members()
     read_whole_things()
+    sets_aside = ALL_MAPS in run.options
+    set_fractions_aside(sets_aside)
     rows = list(zip(answered(run.session), run.replies.split(b'\n')))
     rows = [row for row in rows if is_read(*row)]
-    editor = Editor(run.before, limit_of(run))
+    editor = (TiledEditor if sets_aside else Editor)(run.before, limit_of(run))
     lines, wanted = (joined(column) for column in (zip(*rows) if rows else ((), ())))
     came = joined(editor.step(line.decode()).encode() for line, _ in rows)
-    return fault_of_replies(lines, wanted, came) or fault_of_files(run.after, editor.files)
+    # A float has more than one text, and a file more than one layout.
+    fault_of_saved = fault_of_tiled_files if sets_aside else fault_of_files
+    return fault_of_replies(lines, wanted, came) or fault_of_saved(run.after, editor.files)
 
 
 def test_replies_of_sessions():

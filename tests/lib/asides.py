@@ -11,9 +11,9 @@ from lib.infinite import finite_of, infinite_of
 from lib.json_texts import depth_of, text_behind, tree_of
 from lib.maps import text_of
 from lib.model import Editor, Play
+from lib.sessions import ALL_MAPS as OPTION
 from lib.sessions import fault_of_reasons, fault_of_replies, heard
 
-OPTION = '--all-maps'
 RESERVED = 'roskevad'
 NAME_TAKEN = 'a member has the reserved name "roskevad"'
 MOST_FRACTIONS, TOO_MANY_FRACTIONS = 200_000, 'it has more than 200,000 fractions'

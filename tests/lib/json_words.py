@@ -14,10 +14,10 @@ MOST_READ, MOST_DEEP = 127, 88
 _sets_aside = False
 
 
-def set_fractions_aside():
-    """From now on the model sets aside what is not whole in a line, as the program does with `--all-maps`."""
+def set_fractions_aside(sets_aside=True):
+    """From now on the model sets aside what is not whole in a line, as the program does with `--all-maps`; or refuses it."""
     global _sets_aside
-    _sets_aside = True
+    _sets_aside = sets_aside
 
 
 def sets_fractions_aside():

@@ -68,7 +68,9 @@ def moved_by(tree, name):
 
 def notes_of(tree, said):
     """The notes of the coordinates that a JSON object says and that are fractions: of what they are where the map is saved."""
-    return {name: stand_in(said[name] - moved_by(tree, name)) for name in COORDINATES if isinstance(said.get(name), float)}
+    noted = [(name, said[name], moved_by(tree, name)) for name in COORDINATES if isinstance(said.get(name), float)]
+    # A sum with 0 would be 0 of -0.
+    return {name: stand_in(number + by if by else number) for name, number, by in noted}
 
 
 def note_anew(item, names, notes):

@@ -15,7 +15,7 @@ VALUE = re.compile(rb'\{=([^{}]*)\}')
 VALUES = re.compile(rb'\{values (\d+) ([^{}]*)\}')
 TIMES = re.compile(rb'\{([^{}]*)\*(\d+)\}')
 ESCAPE = re.compile(rb'\\(x[0-9a-f]{2}|\\)')
-ALL_EDITS = '--all-edits'
+ALL_EDITS, ALL_MAPS = '--all-edits', '--all-maps'
 
 
 class Run:
@@ -154,6 +154,8 @@ class Reader:
             run.options += ['--limit', rest.decode()]
         elif row == b'@all edits':
             run.options.append(ALL_EDITS)
+        elif row == b'@all maps':
+            run.options.append(ALL_MAPS)
         elif word == b'@growths':
             run.refuses_growths = True
         elif word == b'@before':

@@ -63,7 +63,7 @@ fn put_object(
     if let Err(fault) = objects_of_layer(map, layer) {
         return Err(MoreFault::Edit(fault));
     }
-    let given = match given_object(alloc, json, fractions) {
+    let given = match given_object(alloc, fractions, json) {
         Ok(given) => given,
         Err(fault) => return Err(more_fault(fault)),
     };
@@ -99,7 +99,7 @@ fn put_tileset(
     ensures command { IfOk result (λ c. Makes add_tileset_names document.now (after_tileset_text fractions document.now json.now) (add_tileset_change c)) }
     ensures refusal { IfErr result (IsMoreRefusalOf (λ fault. false) (after_tileset_text fractions document.now json.now)) }
 {
-    let tileset = match given_tileset(alloc, json, fractions) {
+    let tileset = match given_tileset(alloc, fractions, json) {
         Ok(tileset) => tileset,
         Err(fault) => return Err(more_fault(fault)),
     };
@@ -135,7 +135,7 @@ fn put_property(
     if let Err(fault) = place_of(document.map(), owner) {
         return Err(MoreFault::Edit(fault));
     }
-    let property = match given_property(alloc, json, fractions) {
+    let property = match given_property(alloc, fractions, json) {
         Ok(property) => property,
         Err(fault) => return Err(more_fault(fault)),
     };
@@ -172,7 +172,7 @@ fn take_property(
     if let Err(fault) = place_of(document.map(), owner) {
         return Err(MoreFault::Edit(fault));
     }
-    let name = match given_text(alloc, json, fractions) {
+    let name = match given_text(alloc, fractions, json) {
         Ok(name) => name,
         Err(fault) => return Err(more_fault(fault)),
     };
