@@ -9,7 +9,7 @@ import { Owner, WithOwnMembers, refuseSettings, setMember, setOrRemove } from ".
 import { Properties } from "./properties.js";
 import { BASE, doubtful, partsOf, rowsOf } from "./rows.js";
 import { Selection } from "./selection.js";
-import { drawn, noteOf, restored, withoutPacking } from "./tiled_maps.js";
+import { drawn, hasAside, noteOf, restored, withoutPacking } from "./tiled_maps.js";
 import { Tilesets } from "./tilesets.js";
 import { ADDED, ADDED_AND_DROPPED, BECAME, GONE, standingOf } from "./told.js";
 import { Layer, Layers, Objects } from "./views.js";
@@ -39,9 +39,6 @@ export class Document extends WithOwnMembers {
   #begins = [];
   // The stroke that is under way, with whether one of its paints has made a step.
   #stroke = null;
-  // Whether anything of its map was set aside or unpacked when it was opened. Else the map is told and saved as the
-  // editor holds it.
-  #hasSetAside = false;
   // The bytes that it was opened from, or that were saved last, in whose layout it is saved; none of a new map.
   #source = NOTHING;
   // What its map says of how it was made finite, once that was asked for.
@@ -71,15 +68,6 @@ export class Document extends WithOwnMembers {
       }
       this.#editor._noteActive(this);
     }
-  }
-
-  // Whether anything of its map was set aside.
-  get _hasSetAside() {
-    return this.#hasSetAside;
-  }
-
-  _markSetAside() {
-    this.#hasSetAside = true;
   }
 
   get _source() {
@@ -145,8 +133,12 @@ export class Document extends WithOwnMembers {
   // What a call of the library says of a thing, with all put back that was set aside; null where there is none.
   _read(name, ...given) {
     this._enter();
-    const value = this.#editor._parsed(name, ...given);
-    if (value === null || !this.#hasSetAside) {
+    const text = this.#editor._text(name, ...given);
+    if (text === null) {
+      return null;
+    }
+    const value = JSON.parse(text);
+    if (!hasAside(text)) {
       return value;
     }
     const told = restored(value, this._noteNow());

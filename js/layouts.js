@@ -1,38 +1,24 @@
 // SPDX-License-Identifier: MIT OR Apache-2.0
 // How the text of a map is laid out: as that of its source, or in a layout of a name. So no save is refused for its
 // layout.
+import { hasAside } from "./tiled_maps.js";
 import * as words from "./words.js";
 
 // The numbers that the library has for layouts, but for the compact one, in which each text is that it gives.
 const NUMBERS = new Map([["tiled", 0], ["rows", 1]]);
 // That of Tiled, that with rows of cells on lines of their own, and that without lines and spaces.
 const LAYOUTS = [...NUMBERS.keys(), "compact"];
-// A member that notes what was set aside.
-const RESERVED = new TextEncoder().encode('"roskevad"');
 
 /** The name of a layout; null where none is named. Throws RangeError for any other word. */
 export function layoutOf(word) {
   return word === null ? null : words.oneOf(word, LAYOUTS, "the layout of a map");
 }
 
-/**
- * The compact text of a map in a layout; without one as its source is. What was set aside is put back already, if
- * anything was.
- */
-export function laidOut(module, text, { layout, source, hasSetAside }) {
+/** The compact text of a map in a layout; without one as its source is. What was set aside is put back already. */
+export function laidOut(module, text, { layout, source }) {
   if (layout !== null) {
     return NUMBERS.has(layout) ? module.laidOut(text, NUMBERS.get(layout)) : text;
   }
-  // Where nothing was set aside, a member of the reserved name is the map's own.
-  return !hasSetAside && has(text, RESERVED) ? module.laidOut(text, NUMBERS.get("tiled")) : module.laidOutLike(text, source);
-}
-
-// Whether some bytes stand among others.
-function has(bytes, wanted) {
-  for (let at = bytes.indexOf(wanted[0]); at >= 0; at = bytes.indexOf(wanted[0], at + 1)) {
-    if (wanted.every((byte, place) => bytes[at + place] === byte)) {
-      return true;
-    }
-  }
-  return false;
+  // What still stands under the reserved names is the map's own.
+  return hasAside(text) ? module.laidOut(text, NUMBERS.get("tiled")) : module.laidOutLike(text, source);
 }

@@ -5,6 +5,7 @@ import { Refused, refusedCall } from "./faults.js";
 import { laidOut } from "./layouts.js";
 import { faultOfFile, faultOfNoJson, isOfMap } from "./map_faults.js";
 import { bytesOf, textOf } from "./module.js";
+import { hasAside } from "./tiled_maps.js";
 
 // The largest outline for which there is room before its size is known.
 const LONGEST_GUESS = 16 * 1024 * 1024;
@@ -20,11 +21,7 @@ export async function openedMap(editor, name, data, call) {
   const text = made(editor, "set_aside", found.bytes, call);
   try {
     const reply = openBytes(editor, name, text, call);
-    const document = editor._handle(name);
-    document._keepSource(given);
-    if (text !== given) {
-      document._markSetAside();
-    }
+    editor._handle(name)._keepSource(given);
     return reply;
   } catch (fault) {
     if (fault instanceof Refused && isOfMap(fault.code)) {
@@ -60,12 +57,13 @@ export async function savedMap(editor, call, layout = null) {
   const shown = editor._shown(call);
   const name = editor._activeName();
   const document = editor._handle(name);
-  const { _source: source, _hasSetAside: hasSetAside } = document;
-  const text = hasSetAside ? made(editor, "put_back", shown, call) : shown;
+  const { _source: source } = document;
+  const isAside = hasAside(shown);
+  const text = isAside ? made(editor, "put_back", shown, call) : shown;
   editor._replyTo("clean", call);
   try {
-    const packed = hasSetAside ? await packLayers(text, source) : text;
-    const bytes = laidOut(editor._module, packed, { layout, source, hasSetAside });
+    const packed = isAside ? await packLayers(text, source) : text;
+    const bytes = laidOut(editor._module, packed, { layout, source });
     document._keepSource(bytes.slice());
     return bytes;
   } catch (fault) {

@@ -14,7 +14,7 @@ export const CLOSED = NONE - 1;
 export const NO_MEMORY = NONE - 2;
 export const BAD_NAME = NONE - 4;
 /** Which edits an editor reads: all that there are. */
-export const ALL_EDITS = 1;
+export const ALL_EDITS_WITH_FRACTIONS = 2;
 /** The numbers of what has properties, and of what is found by a name. */
 export const OWNERS = { map: 1, layer: 2, object: 3 };
 /** The kinds of layers by their numbers. */
@@ -307,7 +307,7 @@ export class Module {
     return this.holding(FAULTY_WORD_BYTES + given.length, (to) => {
       const from = to + FAULTY_WORD_BYTES;
       this.bytes().set(given, from);
-      const text = this.copyText((at, room) => this.calls.word_fault_for(ALL_EDITS, from, given.length, to, at, room));
+      const text = this.copyText((at, room) => this.calls.word_fault_for(ALL_EDITS_WITH_FRACTIONS, from, given.length, to, at, room));
       if (text === null) {
         return null;
       }

@@ -7,16 +7,16 @@ const MEMBERS = "the members of an object";
 // What a file calls otherwise.
 const MEMBERS_OF = { tile: "gid" };
 
-// A coordinate, or a width or a height, by the check of whole ones. Throws TypeError, RangeError.
-const pixels = (value, what, check) => (hasFraction(value) ? value : check(value, what));
-const hasFraction = (value) => Number.isFinite(value) && !Number.isInteger(value);
+/** Whether a value is a number that is not whole. */
+export const hasFraction = (value) => Number.isFinite(value) && !Number.isInteger(value);
+/** A coordinate. Throws TypeError where it is no number, RangeError where it is out of range. */
+export const pixels = (value, what) => (hasFraction(value) ? value : words.coordinate(value, what));
+/** The same of a width or a height, from 0. */
+export const length = (value, what) => (hasFraction(value) ? value : words.number(value, what));
 
 /** A place and a size in pixels, as a file has them. Throws TypeError where one is no number, RangeError where it is out of range. */
 export function placeOf(x, y, width, height) {
-  return {
-    x: pixels(x, "x", words.coordinate), y: pixels(y, "y", words.coordinate),
-    width: pixels(width, "a width", words.number), height: pixels(height, "a height", words.number),
-  };
+  return { x: pixels(x, "x"), y: pixels(y, "y"), width: length(width, "a width"), height: length(height, "a height") };
 }
 
 /** The line that adds an object at a place: `object add` where that can say it. */

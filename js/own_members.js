@@ -44,9 +44,9 @@ export class Owner {
     return DEFAULTS.get(this.#kind) ?? new Map();
   }
 
-  /** What the editor holds of it, by names, with which a line compares new values; nothing where it was removed. */
+  /** What its members are now, by names, with which new values are compared; nothing where it was removed. */
   get held() {
-    return new Map(Object.entries(this.document.editor._parsed(...this.#call) ?? {}));
+    return new Map(Object.entries(this.document._read(...this.#call) ?? {}));
   }
 
   /** Its own members, of what is told of it. */
@@ -77,8 +77,8 @@ export function setMember({ _owner: owner }, key, value, merge = false) {
   say(owner, `set${merge ? "+" : ""} ${owner.name} ${name} ${text}`, (held) => differ(held, [[name, JSON.parse(text)]]));
 }
 
-// Sets some own members at once.
-function putMembers({ _owner: owner }, members, merge = false) {
+/** Sets some own members at once. */
+export function putMembers({ _owner: owner }, members, merge = false) {
   const text = membersSaid(members, `the members of ${owner.name}`);
   say(owner, `put${merge ? "+" : ""} ${owner.name} ${text}`, (held) => differ(held, Object.entries(JSON.parse(text))));
 }

@@ -3,14 +3,14 @@
 //
 //   const editor = await Editor.create({ limit: 0 });
 //   editor.step("new town 4 3 16 16 town.tsj");
-import { noteOf, originOf, restored, withoutPacking } from "./tiled_maps.js";
+import { hasAside, noteOf, originOf, restored, withoutPacking } from "./tiled_maps.js";
 import { joined } from "./bytes.js";
 import { beginsMacros, partsOf, rangesOf } from "./caller_lines.js";
 import { Document } from "./document.js";
 import { Closed, NoMemory, NotFound, Refused, refusedCall } from "./faults.js";
 import { MAX_FILE_NAME, MAX_LIMIT } from "./limits.js";
 import { openedMap, savedMap } from "./map_files.js";
-import { ALL_EDITS, BAD_NAME, DONE, Module, NONE, OWNERS, bytesOf, textOf } from "./module.js";
+import { ALL_EDITS_WITH_FRACTIONS, BAD_NAME, DONE, Module, NONE, OWNERS, bytesOf, textOf } from "./module.js";
 import { REFUSALS } from "./refusals.js";
 import { reported } from "./reports.js";
 import { DIFFERS, DOCUMENTS, REFUSAL, STEP_BYTES, stepOf, toldOf } from "./told.js";
@@ -81,7 +81,7 @@ export class Editor {
     this.#module = module;
     this.#cEditor = module.take(EDITOR_BYTES);
     module.bytes().fill(0, this.#cEditor, this.#cEditor + EDITOR_BYTES);
-    if (module.calls.open_for(this.#cEditor, limit, ALL_EDITS) !== DONE) {
+    if (module.calls.open_for(this.#cEditor, limit, ALL_EDITS_WITH_FRACTIONS) !== DONE) {
       this.close();
       throw new NoMemory();
     }
@@ -426,7 +426,7 @@ export class Editor {
     if (head === null) {
       throw refusedCall(10, "origin()");
     }
-    return this._isSetAside() ? originOf(noteOf(head)) : [0, 0];
+    return originOf(noteOf(head));
   }
 
   _outlineText(asked) {
@@ -442,20 +442,11 @@ export class Editor {
   // The tree of the active document's map, of its text, in which nothing is set aside.
   _tree(text) {
     const tree = JSON.parse(text);
-    if (this._isSetAside()) {
+    if (hasAside(text)) {
       restored(tree, noteOf(tree));
       withoutPacking(tree.layers);
     }
     return tree;
-  }
-
-  // Whether anything was set aside or unpacked of the active document's map.
-  _isSetAside() {
-    if (this.#handles.size === 0) {
-      return false;
-    }
-    const handle = this.#activeHandle ?? this.#handles.get(this._activeName());
-    return handle?._hasSetAside === true;
   }
 
   /**
@@ -742,9 +733,14 @@ export class Editor {
     return this.#waiting.size > 0 && this.#waiting.has(this.#handles.get(this._activeName()));
   }
 
-  // What a call says of a thing in JSON; null where there is no such thing.
+  // What a call says of a thing in JSON, as a text; null where there is no such thing.
+  _text(name, ...words) {
+    return this.#module.copyText((to, room) => this._call(name, ...words, to, room));
+  }
+
+  // The same, parsed.
   _parsed(name, ...words) {
-    const text = this.#module.copyText((to, room) => this._call(name, ...words, to, room));
+    const text = this._text(name, ...words);
     return text === null ? null : JSON.parse(text);
   }
 

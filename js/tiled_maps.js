@@ -7,6 +7,20 @@ const RESERVED = "roskevad";
 // The names of an object's place, with what it was moved by, and of its size.
 const MOVED = [["x", "movedx"], ["y", "movedy"], ["width", null], ["height", null]];
 const HALF = 2 ** 32;
+// What a text has in it where anything stands under that name, or under the one of packed layers.
+const FRONT = `"${RESERVED}`;
+const FRONT_BYTES = new TextEncoder().encode(FRONT);
+
+/** Whether anything stands under the reserved names in the text of a map, or of a thing of it; of bytes too. */
+export function hasAside(text) {
+  return typeof text === "string" ? text.includes(FRONT) : has(text, FRONT_BYTES);
+}
+
+/** Whether the text of an object notes a fraction of one of these of its coordinates. */
+export function notesOne(text, names) {
+  const notes = hasAside(text) ? JSON.parse(text)[RESERVED] ?? {} : {};
+  return names.some((name) => Object.hasOwn(notes, name));
+}
 
 /**
  * The tree of a map, or of a thing of it, in which fractions are numbers again, and no note is left. The tree
@@ -97,6 +111,16 @@ function putCoordinates(members, notes, note) {
       put(members, name, notes[name] - by);
     }
   }
+}
+
+// Whether some bytes stand among others.
+function has(bytes, wanted) {
+  for (let at = bytes.indexOf(wanted[0]); at >= 0; at = bytes.indexOf(wanted[0], at + 1)) {
+    if (wanted.every((byte, place) => bytes[at + place] === byte)) {
+      return true;
+    }
+  }
+  return false;
 }
 
 // A member may have any name, as `__proto__`.

@@ -4,10 +4,11 @@ import { replaced, tileValue } from "./blocks.js";
 import { refusedCall } from "./faults.js";
 import * as json from "./json_values.js";
 import { KINDS } from "./module.js";
-import { given, lineOf, looksOf, placeOf, putLine, textOf } from "./new_objects.js";
-import { Owner, WithOwnMembers, refuseSettings, setMember, setOrRemove } from "./own_members.js";
+import { given, hasFraction, length, lineOf, looksOf, pixels, placeOf, putLine, textOf } from "./new_objects.js";
+import { Owner, WithOwnMembers, putMembers, refuseSettings, setMember, setOrRemove } from "./own_members.js";
 import { Properties } from "./properties.js";
 import { BASE } from "./rows.js";
+import { notesOne } from "./tiled_maps.js";
 import { absent, tileOf } from "./tilesets.js";
 import * as words from "./words.js";
 
@@ -123,16 +124,32 @@ export class MapObject extends View {
     return this._now.x ?? 0;
   }
 
+  set x(x) {
+    setMember(this, "x", pixels(x, "x"));
+  }
+
   get y() {
     return this._now.y ?? 0;
+  }
+
+  set y(y) {
+    setMember(this, "y", pixels(y, "y"));
   }
 
   get width() {
     return this._now.width ?? 0;
   }
 
+  set width(width) {
+    setMember(this, "width", length(width, "a width"));
+  }
+
   get height() {
     return this._now.height ?? 0;
+  }
+
+  set height(height) {
+    setMember(this, "height", length(height, "a height"));
   }
 
   get rotation() {
@@ -167,13 +184,22 @@ export class MapObject extends View {
   }
 
   move(x, y, { merge = false } = {}) {
-    const where = `${words.coordinate(x, "x")} ${words.coordinate(y, "y")}`;
-    this.document._edit(`object move${merge ? "+" : ""} ${this.id} ${where}`);
+    this._setPlace(`move${merge ? "+" : ""}`, { x: pixels(x, "x"), y: pixels(y, "y") }, merge);
   }
 
   resize(width, height) {
-    const size = `${words.number(width, "a width")} ${words.number(height, "a height")}`;
-    this.document._edit(`object resize ${this.id} ${size}`);
+    this._setPlace("resize", { width: length(width, "a width"), height: length(height, "a height") });
+  }
+
+  // Says the line of a move or a size; that of own members where a number of it is not whole, or was not.
+  _setPlace(verb, place, merge = false) {
+    this.document._enter();
+    const text = this.document.editor._text("object", this.id) ?? "{}";
+    if (Object.values(place).some(hasFraction) || notesOne(text, Object.keys(place))) {
+      putMembers(this, place, merge);
+    } else {
+      this.document._edit(`object ${verb} ${this.id} ${Object.values(place).join(" ")}`);
+    }
   }
 
   moveInto(layer, place = null) {
@@ -200,8 +226,7 @@ export class MapObject extends View {
 
 refuseSettings(View, "an object or a layer", { members: "setMembers(members) does" });
 refuseSettings(MapObject, "an object", {
-  type: "className does", isPoint: 'setMember("point", true) does', x: "move(x, y) does", y: "move(x, y) does",
-  width: "resize(width, height) does", height: "resize(width, height) does",
+  type: "className does", isPoint: 'setMember("point", true) does',
 });
 
 /** The first of these layers or objects that has a name: each is looked at. Null where there is none. */

@@ -3,13 +3,17 @@
 the map, put objects, properties and tilesets, take properties out, add groups and image layers, move layers and objects into
 other ones, and give the map more room. Other edits, clean marks, undos, limits and macros stand between them. Some begin with
 groups in groups, up to as many as there may be, with a full owner of properties, or with a map that has a full layer or things
-that nest too deep for others. It compares the replies of the program with those of the plain model of tests/lib/model.py."""
+that nest too deep for others. It compares the replies of the program with those of the plain model of tests/lib/model.py. 10,000
+more are heard with `--all-maps`, where fractions are set aside; 400 more save their maps, and the files are compared, too."""
 import functools
 import random
 from copy import deepcopy
 
-from lib.cases import in_processes
+from lib.asides import OPTION as ALL_MAPS
+from lib.asides import TiledPlay, fault_of_tiled_run
+from lib.cases import CORES, check_each, in_processes
 from lib.edits import MOST_ENTRIES, MOST_OBJECTS
+from lib.json_words import set_fractions_aside
 from lib.maps import MOST_INSIDE, group, layers_in, map_of, objects_in, text_of, thing, things, tiles
 from lib.members import read_members
 from lib.model import Play
@@ -19,6 +23,8 @@ from lib.whole_things import read_whole_things
 SEED, RUNS, LINES = 20261130, 20_000, 14
 # So many sessions begin with a map with a full layer, for which the model is slow, and so many with one of deep things.
 FULL_RUNS, DEEP_RUNS = 60, 1500
+# So many sessions set fractions aside, and so many of others save their map, too, with its fractions put back.
+ASIDE_RUNS, SAVING_RUNS = 10_000, 400
 # How many sessions the program hears in one run.
 AT_ONCE = 2500
 KINDS = ('group', 'objectgroup', 'tilelayer', 'imagelayer')
@@ -30,17 +36,17 @@ OTHERS = ('id', 'properties', 'roskevad', 'k.l', 'layers', 'data', 'encoding', '
 VALUES = {
     'name': ('""', '"door"', '"Tür 1"', '"a\\nb"', 'null', '7'),
     'type': ('""', '"Spawn"', '3', '{"a":[1,{}]}'),
-    'rotation': ('0', '45', '-90', ' 90', '0.5', '"x"'),
+    'rotation': ('0', '45', '-90', ' 90', '22.5', '1e3', '"x"'),
     'visible': ('true', 'false', '0'),
-    'x': ('0', '16', '-8', '1000000000', '1000000001', 'true', '1.5'),
-    'y': ('0', '8', '"8"'),
-    'width': ('0', '24', '[]'),
+    'x': ('16', '16.5', '-0.25', '0', '-8', '1000000000', '1000000001', '-0', '1000000000.5', '1e300', 'true', '[1.5]'),
+    'y': ('8', '8.75', '0', '-1000000000.5', '"8"'),
+    'width': ('24', '0.125', '0', '-0.5', '[]'),
     'gid': ('0', '3', '2147483651', '4294967295', '4294967296', '-1', '"3"'),
     'point': ('true', '[1,', '1 2'),
-    'polygon': ('[{"x":0,"y":0},{"x":8,"y":-8}]', '[]', '[1.25]', '{"roskevad":[1]}'),
-    'kept': ('[' * 88 + ']' * 88, '[' * 89 + ']' * 89, '{"b":1,"a":[null,false]}'),
-    'opacity': ('0', '1', '"x"'),
-    'tilewidth': ('8', '16', '65535', '65536', '0', '"8"'),
+    'polygon': ('[{"x":0,"y":0},{"x":8,"y":-8}]', '[{"x":0.5,"y":-8.25}]', '[]', '[1.25]', '{"roskevad":[1]}', '{"roskevad":1.5}'),
+    'kept': ('[' * 88 + ']' * 88, '[' * 86 + '0.5' + ']' * 86, '[' * 87 + '0.5' + ']' * 87, '[' * 89 + ']' * 89, '{"b":1,"a":[null,false]}'),
+    'opacity': ('0.5', '0', '1', '"x"'),
+    'tilewidth': ('8', '16', '65535', '65536', '0', '8.5', '"8"'),
     'tileheight': ('8', '1', '-1', 'null'),
     'nextlayerid': ('3', '9', '2', '0', '2147483647', '2147483648', 'true'),
     'nextobjectid': ('3', '9', '2', '0', '2147483647', '2147483648', '[]'),
@@ -86,10 +92,10 @@ GIVEN = {
     **{name: VALUES[name] for name in ('name', 'type', 'rotation', 'visible', 'x', 'y', 'width', 'gid', 'polygon')},
     'point': ('true', 'false', '[1,'),
     'kept': ('{"b":1,"a":[null,false]}', '[' * 87 + ']' * 87, '[' * 88 + ']' * 88),
-    'height': ('8', '1000000000', '1000000001', 'null'),
+    'height': ('8', '8.5', '1000000000', '1000000001', 'null'),
     'id': ('3', '9', '4', '1', '2', '5', '20', '0', '-1', '2147483646', '2147483647', '"3"', '3.5'),
     'properties': (
-        '[{"name":"a","value":1}]', '[]', '[{"name":"b c","type":"bool","value":true},{"name":"a","value":"x"}]',
+        '[{"name":"a","value":1}]', '[{"name":"a","type":"float","value":0.5}]', '[]', '[{"name":"b c","type":"bool","value":true},{"name":"a","value":"x"}]',
         '[{"name":"a","value":1},{"name":"a","value":2}]', '[{"name":"a"}]', '[{"value":1}]', '[{"name":1,"value":1}]', '{}', '[7]',
         '[{"name":"","type":"class","propertytype":"T","value":{"k":[1]}}]', '[{"name":"a","type":1,"value":1}]',
     ),
@@ -103,7 +109,7 @@ TILESETS = (
 PROPERTIES = (
     '{"name":"two words","type":"string","value":"a\\nb"}', '{"name":"two words","type":"bool","value":true}', '{"name":"a","value":1}',
     '{"name":"a","type":"int","value":1}', '{"value":"two words","name":"b"}', '{"name":"b","type":"class","propertytype":"T","value":{"k":[1]}}',
-    '{"name":"","type":"float","value":3}', '{"name":"b c","type":"list","value":[]}', '{"name":"\\u0061","value":null,"kept":{"b":1}}',
+    '{"name":"","type":"float","value":3.25}', '{"name":"b c","type":"list","value":[]}', '{"name":"\\u0061","value":null,"kept":{"b":1}}',
     '{"name":"p7","value":2}', ' {"name":"a","type":"int","value":1} ', '{"name":"x","value":' + '[' * 87 + ']' * 87 + '}',
     '{}', '[]', '7', '{"name":"a"}', '{"value":1}', '{"name":1,"value":1}', '{"name":"a","type":null,"value":1}', '{"name":"a","value":0.5}',
     '{"name":"a","value":{"roskevad":1}}', '{"name":"x","value":' + '[' * 88 + ']' * 88 + '}', '{"name":"a","value":1', '"\\ud800"',
@@ -240,21 +246,41 @@ def hear_by_chance(run, chosen):
 
 
 @functools.cache
-def begun(files, lines):
-    """A run that has heard these lines."""
+def begun(files, lines, sets_aside=False):
+    """A run that has heard these lines, perhaps with fractions set aside."""
     read_members()
     read_whole_things()
-    run = Play('begun', FILES if files else ())
+    run = (TiledPlay if sets_aside else Play)('begun', FILES if files else ())
     run.hear(*lines)
     return run
 
 
-def session(seed):
+def session(seed, sets_aside=False):
     """One session, whose replies the model tells."""
+    set_fractions_aside(sets_aside)
     chosen = random.Random(seed)
-    run = deepcopy(begun(False, BEFORE + chosen.choice(((), (), (), GROUPS, GROUPS, GROUPS, DEEP_GROUPS, FULL_OWNER))))
+    lines = BEFORE + chosen.choice(((), (), (), GROUPS, GROUPS, GROUPS, DEEP_GROUPS, FULL_OWNER))
+    run = deepcopy(begun(False, lines, sets_aside))
     run.name = f'session {seed}'
     return hear_by_chance(run, chosen)
+
+
+def session_aside(seed):
+    return session(seed, sets_aside=True)
+
+
+def session_saved(seed):
+    """One that saves its map, and goes on with the file."""
+    run = session(seed, sets_aside=True)
+    chosen = random.Random(seed)
+    run.name = f'session {seed}, saved'
+    run.hear(*BEFORE[:-1])
+    for _ in range(2):
+        for _ in range(LINES):
+            run.hear(line_by_chance(chosen, run.document))
+        run.hear(*['end'] * len(run.document.levels), 'save t.tmj', 'discard t', 'open t t.tmj', 'show')
+    run.options = [ALL_EDITS, ALL_MAPS]
+    return run
 
 
 def session_over(file, seed):
@@ -267,6 +293,15 @@ def session_over(file, seed):
 def test_random_sessions():
     seeds = range(SEED, SEED + RUNS)
     check_together(in_processes(session, seeds, chunk=500), AT_ONCE, [ALL_EDITS])
+
+
+def test_random_sessions_with_fractions():
+    seeds = range(SEED, SEED + ASIDE_RUNS)
+    check_together(in_processes(session_aside, seeds, chunk=500), AT_ONCE, [ALL_EDITS, ALL_MAPS])
+
+
+def test_saved_fractions():
+    check_each(in_processes(session_saved, range(SEED, SEED + SAVING_RUNS), chunk=20), fault_of_tiled_run, CORES)
 
 
 def test_random_sessions_over_files():

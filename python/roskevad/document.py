@@ -15,7 +15,7 @@ from .own_members import OTHERS, Owner, OwnMembers, set_member, set_or_remove
 from .properties import Properties
 from .rows import BASE, Part, doubtful, parts_of, rows_of
 from .selection import Run, Selection
-from .tiled_maps import Members, drawn, note_of, restored, without_packing
+from .tiled_maps import Members, drawn, has_aside, note_of, restored, without_packing
 from .tilesets import Tilesets
 from .told import ADDED, ADDED_AND_DROPPED, GONE, CellArea, StepRow, Told
 from .views import Layer, Layers, Objects
@@ -76,7 +76,7 @@ class Document:
     """
 
     # So that a name that it has not is never set silently.
-    __slots__ = '_editor', '_name', '_is_closed', '_stroke', '_begins', '_path', '_source', '_written', '_has_set_aside', '_note', '_encodings'
+    __slots__ = '_editor', '_name', '_is_closed', '_stroke', '_begins', '_path', '_source', '_written', '_sets_aside', '_note', '_encodings'
 
     def __init__(self, editor: 'Editor', name: str):
         """Editors make it: `new`, `open` and `documents` give it."""
@@ -91,8 +91,9 @@ class Document:
         self._source = b''
         # What was read or saved last under each path, by hashes of the bytes; and behind that what saves have begun to write since.
         self._written: dict[str, list[bytes]] = {}
-        # Whether anything of its map was set aside or unpacked when it was opened. Else the map is told and saved as the editor holds it.
-        self._has_set_aside = False
+        # Whether what stands under the reserved names in its map was set aside or unpacked. Else it is the map's own, and is told and saved
+        # as the editor holds it.
+        self._sets_aside = True
         # What its map says of how it was made finite, once that was asked for.
         self._note: Optional[Members] = None
         # How the cells of its tile layers are written in its file, by their ids, once that was asked for.
@@ -170,7 +171,7 @@ class Document:
         if text is None:
             return None
         value = json.loads(text)
-        if not self._has_set_aside:
+        if not (has_aside(text) and self._sets_aside):
             return value
         value = restored(value, self._note_now())
         return without_packing([value])[0] if name == 'layer' else value

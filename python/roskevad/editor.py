@@ -22,7 +22,7 @@ from .map_faults import refused_map
 from .names import document_name
 from .refusals import REFUSALS
 from .rooms import Room
-from .tiled_maps import Members, note_of, origin_of, restored, saved_text, set_aside, without_packing
+from .tiled_maps import Members, has_aside, note_of, origin_of, restored, saved_text, set_aside, without_packing
 from .told import DOCUMENTS, STEP_ROW, StepRow, Told, step_of, told_of
 from .turns import busy_fault, fork_fault, forks, turn
 from .unsettled import ActiveDocument, TemporaryFile, Unsettled
@@ -87,7 +87,7 @@ class Editor:
         self.folder: Path = _path(folder)
         if not 0 <= limit <= MAX_LIMIT:
             raise ValueError(f'a limit is from 0 to {MAX_LIMIT}: {limit}')
-        if LIBRARY.roskevad_open_for(self._c_editor, limit, library.ALL_EDITS) != library.DONE:
+        if LIBRARY.roskevad_open_for(self._c_editor, limit, library.ALL_EDITS_WITH_FRACTIONS) != library.DONE:
             raise MemoryError
 
     # ---- its life
@@ -363,27 +363,26 @@ class Editor:
     def _whole(self, call: str, layout: Optional[str]) -> tuple[bytes, Document]:
         """What a file has of the active document's map, as `saved_text` tells, and the document."""
         data, document = self._shown(call), self._handle(self._active_name())
-        return saved_text(data, document._has_set_aside, document._source, layout, call), document
+        return saved_text(data, document._sets_aside, document._source, layout, call), document
 
     def _tree(self, text: bytes) -> Members:
         """The tree of a map that the editor holds, in which nothing is set aside."""
         tree: Members = json.loads(text)
-        if self._is_set_aside():
+        if has_aside(text) and self._sets_aside():
             tree = restored(tree, note_of(tree))
             without_packing(tree['layers'])
         return tree
 
-    def _is_set_aside(self) -> bool:
-        """Whether anything was set aside or unpacked of the active document's map."""
+    def _sets_aside(self) -> bool:
+        """Whether what stands under the reserved names in the active document's map was set aside."""
         handle = self._active_handle or (self._handles.get(self._active_name()) if self._handles else None)
-        return handle is not None and handle._has_set_aside
+        return handle is None or handle._sets_aside
 
     def _open_any(self, document: str, data: bytes, call: str) -> str:
         """Opens a document with any map that Tiled saves as JSON: layers are unpacked, and what the format refuses is set aside."""
         text, unpacked = set_aside(data, call)
         reply = self._open_text(document, text, data, unpacked, call)
-        if text is not data:
-            self._handle(document)._has_set_aside = True
+        self._handle(document)._sets_aside = True
         return reply
 
     def _open_text(self, document: str, text: bytes, data: bytes, unpacked: 'Optional[UnpackedMap]', call: str) -> str:
@@ -393,7 +392,8 @@ class Editor:
             reply = self._open(document, text, call)
         except Refused as refusal:
             raise refused_map(refusal, data, unpacked, call) from None
-        self._handle(document)._source = data
+        handle = self._handle(document)
+        handle._source, handle._sets_aside = data, not has_aside(text)
         return reply
 
     def _open(self, document: str, data: Optional[bytes], call: str) -> str:
@@ -510,7 +510,7 @@ class Editor:
 
     def _origin(self) -> tuple[int, int]:
         head = self._copied('map_head', 'origin')
-        return origin_of(note_of(json.loads(head))) if self._is_set_aside() else (0, 0)
+        return origin_of(note_of(json.loads(head))) if self._sets_aside() else (0, 0)
 
     def _copied(self, name: str, call: str) -> bytes:
         """The text that a call of the library gives of the active document. Raises Refused, with the caller's own call."""

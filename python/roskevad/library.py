@@ -9,7 +9,7 @@ from typing import NamedTuple
 VERSION = '0.3.0'
 
 #: Which edits an editor reads: all that there are.
-ALL_EDITS = 1
+ALL_EDITS, ALL_EDITS_WITH_FRACTIONS = 1, 2
 DONE = 0
 NONE = 2**64 - 1
 CLOSED = 2**64 - 2

@@ -14,15 +14,16 @@ _MEMBERS_OF = {'tile': 'gid'}
 
 def pixels(value: Any, what: str) -> Any:
     """A coordinate: a whole number as an int. Raises TypeError where it is no number, and ValueError where it is out of range."""
-    return value if _has_fraction(value) else words.coordinate(_as_whole(value), what)
+    return value if has_fraction(value) else words.coordinate(_as_whole(value), what)
 
 
 def length(value: Any, what: str) -> Any:
     """The same of a width or a height, from 0."""
-    return value if _has_fraction(value) else words.number(_as_whole(value), what)
+    return value if has_fraction(value) else words.number(_as_whole(value), what)
 
 
-def _has_fraction(value: Any) -> bool:
+def has_fraction(value: Any) -> bool:
+    """Whether a number is not whole."""
     return isinstance(value, float) and not value.is_integer()
 
 
@@ -33,7 +34,7 @@ def _as_whole(value: Any) -> Any:
 def line_of(layer: int, name: str, place: Members, looks: Members) -> str:
     """The line that adds an object at a place: `object add` where that can say it."""
     said = json_values.text(name, _NAME)
-    if looks or not words.is_text(said) or any(map(_has_fraction, place.values())):
+    if looks or not words.is_text(said) or any(map(has_fraction, place.values())):
         whole = {'name': said, 'type': '', **place, 'rotation': 0, 'visible': True, **looks}
         return put_line(layer, text_of(whole))
     return f'object add {layer} {" ".join(map(str, place.values()))} {said}'

@@ -42,8 +42,8 @@ class Owner:
         self._call: tuple[Any, ...] = ('map_head',) if id is None else (kind, id)
 
     def held(self) -> Members:
-        """What the editor holds of it, with which a line compares new values, in a turn; nothing where it was removed."""
-        members: Members = json.loads(self.document._editor._copy_bytes(*self._call) or b'{}')
+        """What its members are now, with which new values are compared, in a turn; nothing where it was removed."""
+        members: Members = self.document._read(*self._call) or {}
         return members
 
 
@@ -77,8 +77,8 @@ class OwnMembers(dict[str, Any]):
 
     def set(self, key: str, value: Any, merge: bool = False) -> None:
         """Sets an own member, or adds one; with `merge` as one step with a setting of the same member before it. Raises TypeError for what
-        JSON has not; ValueError, also for a name with a space; Refused: 41 for a name that is none of own members, 61 for a fraction, 63
-        for a value of another kind, 68 for one that is over a limit."""
+        JSON has not; ValueError, also for a name with a space; Refused: 41 for a name that is none of own members, 63 for a value of another
+        kind, 68 for one that is over a limit."""
         set_member(self._owner, key, value, merge)
         self._read()
 
@@ -146,8 +146,12 @@ def set_member(owner: Owner, key: str, value: Any, merge: bool = False) -> None:
 def put_members(owner: Owner, members: Mapping[str, Any], merge: bool = False) -> None:
     """Says the line that sets some own members at once."""
     said = json_values.members_said(members, f'the members of {owner.name}')
-    rest = f'put{"+" if merge else ""} {owner.name} {said}'
-    owner.document._do(lambda: _say(owner, rest, lambda held: _differ(held, json.loads(said))))
+    owner.document._do(lambda: say_members(owner, said, merge))
+
+
+def say_members(owner: Owner, said: str, merge: bool) -> None:
+    """The same, of members as JSON, in a turn."""
+    _say(owner, f'put{"+" if merge else ""} {owner.name} {said}', lambda held: _differ(held, json.loads(said)))
 
 
 def remove_member(owner: Owner, key: str) -> bool:

@@ -95,7 +95,7 @@ class Properties(MutableMapping[str, Any]):
         """Sets a property: of this type, or else of the type that is there, or else of the value's own. `property_type` names the class or
         the enum of Tiled's project, and '' takes that name away. With `merge` it is one step with a setting of the same property before it,
         where `prop set` can say both. Raises OtherType where the type that is there takes no such value, TypeError where the named one does
-        not, or there is none for the value; ValueError; Refused: 61 for a fraction."""
+        not, or there is none for the value; ValueError; Refused."""
         name = words.whole_text(json_values.text(key, _NAME), _NAME)
         named = None if type is None else words.one_of(type, words.TYPES, 'the type of a property')
         class_name = None if property_type is None else json_values.text(property_type, 'the type of a property in a project')
@@ -108,8 +108,8 @@ class Properties(MutableMapping[str, Any]):
 
     def put(self, members: Mapping[str, Any]) -> None:
         """Sets a property as a file has it, of any name and type: with its `name`, its `value`, and perhaps its `type` and what is kept of
-        it. One of its name that is there has nothing else then, and keeps its place. Raises TypeError, ValueError; Refused: 61 for a
-        fraction, 62 and 63 for a member that is missing or of another kind, 40 where there are 256."""
+        it. One of its name that is there has nothing else then, and keeps its place. Raises TypeError, ValueError; Refused: 62
+        and 63 for a member that is missing or of another kind, 40 where there are 256."""
         self._document._edit(f'prop put {self._owner} {json_values.members_said(members, "the members of a property")}')
 
     def _setting_for(self, name: str, value: Any) -> tuple[str, Any]:

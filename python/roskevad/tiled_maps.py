@@ -1,5 +1,6 @@
 # SPDX-License-Identifier: MIT OR Apache-2.0
 """What the editor's format refuses of a map is set aside before it is read, and put back when it is saved."""
+import json
 import math
 import struct
 from typing import TYPE_CHECKING, Any, Iterable, Iterator, Optional
@@ -17,7 +18,8 @@ if TYPE_CHECKING:
 
 # The name under which it stands, in the map, in layers and objects.
 _RESERVED = 'roskevad'
-_RESERVED_NAME = f'"{_RESERVED}"'.encode()
+# What a text has in it where anything stands under that name, or under the one of compressed_layers.py.
+_RESERVED_FRONT = f'"{_RESERVED}'.encode()
 # The names of an object's place, with what it was moved by, and of its size.
 _MOVED = {'x': 'movedx', 'y': 'movedy', 'width': None, 'height': None}
 # Why that is refused, in the words of the program.
@@ -75,14 +77,25 @@ def _made(name: str, data: bytes, call: str) -> bytes:
     raise refused_call(_STORE_FAILED, call, _FAULTS.get(text, _TOO_LONG))
 
 
-def saved_text(data: bytes, has_set_aside: bool, source: bytes, layout: Optional[str], call: str) -> bytes:
-    """What a file has of a map that an editor holds: with all put back, if anything was set aside of it, packed as it was, and laid out as
-    its source is, or in a layout. Raises Refused, with the call: 51."""
-    text = put_back(data, source, call) if has_set_aside else data
+def has_aside(text: bytes) -> bool:
+    """Whether anything stands under the reserved names in the text of a map, or of a thing of it."""
+    return _RESERVED_FRONT in text
+
+
+def notes_one(text: bytes, names: Iterable[str]) -> bool:
+    """Whether the text of an object notes a fraction of one of these of its coordinates."""
+    notes = json.loads(text).get(_RESERVED) if has_aside(text) else None
+    return isinstance(notes, dict) and any(name in notes for name in names)
+
+
+def saved_text(data: bytes, sets_aside: bool, source: bytes, layout: Optional[str], call: str) -> bytes:
+    """What a file has of a map that an editor holds: with all put back that was set aside, packed as it was, and laid out as its source is,
+    or in a layout. Raises Refused, with the call: 51."""
+    text = put_back(data, source, call) if sets_aside and has_aside(data) else data
     if layout is not None:
         return laid_out(text, layout)
-    # Where nothing was set aside, a member of the reserved name is the map's own.
-    return laid_out(text, 'tiled') if not has_set_aside and _RESERVED_NAME in data else laid_out_like(text, source)
+    # Else a member of the reserved name is the map's own.
+    return laid_out(text, 'tiled') if not sets_aside and has_aside(data) else laid_out_like(text, source)
 
 
 # ---- trees

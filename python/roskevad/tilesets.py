@@ -278,7 +278,7 @@ class Tilesets:
 
     def put(self, members: Mapping[str, Any], renumbers: bool = False) -> Tileset:
         """Adds a tileset as a file has it, last, and gives it: with `firstgid`, and `source` or all that it is. Raises TypeError, ValueError;
-        Refused: 37 and 38 as `add` has it, 61 for a fraction, 62 where a member is missing."""
+        Refused: 37 and 38 as `add` has it, 62 where a member is missing."""
         text = _text_of(members)
         first = json.loads(text).get('firstgid')
         return self._added(first, _put_line(text), f"tilesets.put({{'firstgid': {first!r}, ..}})", renumbers)

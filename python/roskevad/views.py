@@ -7,9 +7,9 @@ from . import json_values, new_objects, words
 from .faults import Refused, refused_call
 from .kinds import AddedLayerKind, Corners, LayerKind, Rows
 from .library import KINDS, LayerRow
-from .own_members import Owner, OwnMembers, set_member, set_or_remove
+from .own_members import Owner, OwnMembers, say_members, set_member, set_or_remove
 from .properties import Properties
-from .tiled_maps import Members
+from .tiled_maps import Members, notes_one
 from .rows import BASE, replaced, tile_value
 from .tilesets import Tile, absent, is_id, tile_of
 
@@ -134,31 +134,48 @@ class MapObject(_View):
 
     @property
     def x(self) -> float:
-        """Its column in pixels, whole or with a fraction. Raises Refused."""
+        """Its column in pixels, whole or with a fraction. Set, it moves the object. Raises Refused; set, also TypeError, ValueError."""
         return self._number('x')
+
+    @x.setter
+    def x(self, x: float) -> None:
+        set_member(self._owner, 'x', new_objects.pixels(x, 'x'))
 
     @property
     def y(self) -> float:
-        """Its row in pixels, whole or with a fraction. Raises Refused."""
+        """Its row in pixels, whole or with a fraction. Set, it moves the object. Raises Refused; set, also TypeError, ValueError."""
         return self._number('y')
+
+    @y.setter
+    def y(self, y: float) -> None:
+        set_member(self._owner, 'y', new_objects.pixels(y, 'y'))
 
     @property
     def width(self) -> float:
-        """Its width in pixels. Raises Refused."""
+        """Its width in pixels, whole or with a fraction. Set, it gives the object that width. Raises Refused; set, also TypeError,
+        ValueError."""
         return self._number('width')
+
+    @width.setter
+    def width(self, width: float) -> None:
+        set_member(self._owner, 'width', new_objects.length(width, 'a width'))
 
     @property
     def height(self) -> float:
-        """Its height in pixels. Raises Refused."""
+        """Its height in pixels, whole or with a fraction. Set, it gives the object that height. Raises Refused; set, also TypeError,
+        ValueError."""
         return self._number('height')
+
+    @height.setter
+    def height(self, height: float) -> None:
+        set_member(self._owner, 'height', new_objects.length(height, 'a height'))
 
     def _number(self, name: str) -> float:
         return self._look(lambda members: cast(float, members.get(name, 0)))
 
     @property
     def rotation(self) -> float:
-        """How far it is turned, in degrees clockwise. Set, it turns the object. Raises Refused; set, also TypeError, ValueError; Refused:
-        61 for a fraction."""
+        """How far it is turned, in degrees clockwise. Set, it turns the object. Raises Refused; set, also TypeError, ValueError."""
         return self._number('rotation')
 
     @rotation.setter
@@ -196,15 +213,27 @@ class MapObject(_View):
         """Its properties, a live view."""
         return Properties(self._document, 'object', self)
 
-    def move(self, x: int, y: int, merge: bool = False) -> None:
-        """Moves it to a place in pixels; with `merge` as one step with a move of it before. Raises TypeError, ValueError; Refused."""
-        where = f'{words.coordinate(x, "x")} {words.coordinate(y, "y")}'
-        self._document._edit(f'object move{"+" if merge else ""} {self.id} {where}')
+    def move(self, x: float, y: float, merge: bool = False) -> None:
+        """Moves it to a place in pixels, whole or with a fraction; with `merge` as one step with a move of it before, between places that
+        are whole or that are not. Raises TypeError, ValueError; Refused."""
+        self._set_place(f'move{"+" if merge else ""}', {'x': new_objects.pixels(x, 'x'), 'y': new_objects.pixels(y, 'y')}, merge)
 
-    def resize(self, width: int, height: int) -> None:
-        """Gives it a size in pixels. Raises TypeError, ValueError; Refused."""
-        size = f'{words.number(width, "a width")} {words.number(height, "a height")}'
-        self._document._edit(f'object resize {self.id} {size}')
+    def resize(self, width: float, height: float) -> None:
+        """Gives it a size in pixels, whole or with a fraction. Raises TypeError, ValueError; Refused."""
+        size = {'width': new_objects.length(width, 'a width'), 'height': new_objects.length(height, 'a height')}
+        self._set_place('resize', size)
+
+    def _set_place(self, verb: str, place: Members, merge: bool = False) -> None:
+        """Says the line of a move or a size; that of own members where a number of it is not whole, or was not."""
+
+        def work() -> None:
+            text = self._document._editor._copy_bytes('object', self.id) or b'{}'
+            if any(map(new_objects.has_fraction, place.values())) or notes_one(text, place):
+                say_members(self._owner, json_values.said(place, 'a place'), merge)
+            else:
+                self._document._say_edit(f'object {verb} {self.id} {" ".join(map(str, place.values()))}')
+
+        self._document._do(work)
 
     def move_into(self, layer: 'LayerLike', place: Optional[int] = None) -> None:
         """Moves it into an object layer, which may be its own: to a place among the other objects there, from 0, or last. Its id and all that
@@ -293,7 +322,7 @@ class Objects:
     ) -> MapObject:
         """Adds an object to this layer, last, at a place and of a size in pixels, and gives it: a rectangle, or what one of `point` to `tile`
         says. Corners are counted from its place. Raises TypeError; ValueError, also for the objects of a whole document; Refused: 31 where
-        the layer is no object layer, 61 for a fraction."""
+        the layer is no object layer."""
         layer = self._own_layer()
         place = {'x': new_objects.pixels(x, 'x'), 'y': new_objects.pixels(y, 'y')}
         place |= {'width': new_objects.length(width, 'a width'), 'height': new_objects.length(height, 'a height')}
@@ -304,7 +333,7 @@ class Objects:
     def put(self, members: Mapping[str, Any]) -> MapObject:
         """Adds an object to this layer, last, as a file has it, and gives it: nothing is added to its members. It may say its id, as one that
         was removed. Raises TypeError; ValueError, also for the objects of a whole document; Refused: 31 where the layer is no object layer,
-        61 for a fraction, 67 where its id is in the map."""
+        67 where its id is in the map."""
         layer, text = self._own_layer(), new_objects.text_of(members)
         last = self._document._add('object', new_objects.put_line(layer, text))
         return MapObject(self._document, json.loads(text).get('id', last))
@@ -388,8 +417,7 @@ class Layer(_View):
 
     @property
     def opacity(self) -> float:
-        """How much it covers, from 0 to 1. Set, it makes the layer so. Raises Refused; set, also TypeError, ValueError; Refused: 61 for a
-        fraction."""
+        """How much it covers, from 0 to 1. Set, it makes the layer so. Raises Refused; set, also TypeError, ValueError."""
         return self._look(lambda members: cast(float, members.get('opacity', 1)))
 
     @opacity.setter
