@@ -192,7 +192,7 @@ export class Document {
   /**
    * Gives the map an own member, or adds one: any that Tiled writes for it, but its size in cells,
    * its properties, its layers and tilesets, and what is of the file itself, as `version`. Throws
-   * TypeError, RangeError, Refused (41, 61, 63, 68).
+   * TypeError, RangeError, Refused (41, 63, 68).
    */
   setMember(key: string, value: unknown, options?: { merge?: boolean }): void;
   /** Gives the map some own members at once, as one step. Throws TypeError, Refused (41, 63). */
@@ -369,7 +369,7 @@ export class Layer {
    * Throws TypeError.
    */
   className: string;
-  /** How opaque it is, from 0 to 1; set, it makes it so. Throws TypeError, Refused (61). */
+  /** How opaque it is, from 0 to 1; set, it makes it so. Throws TypeError. */
   opacity: number;
   /**
    * The colour that it is tinted with, as the file has it, or null; set to null, it is taken away.
@@ -393,7 +393,7 @@ export class Layer {
   readonly members: Members;
   /**
    * Gives it an own member, or adds one: any that Tiled writes for it, but its id, its type, its
-   * properties, its size and what is in it. Throws TypeError, RangeError, Refused (41, 61, 63).
+   * properties, its size and what is in it. Throws TypeError, RangeError, Refused (41, 63).
    */
   setMember(key: string, value: unknown, options?: { merge?: boolean }): void;
   /** Gives it some own members at once, as one step. Throws TypeError, Refused (41, 63). */
@@ -460,7 +460,7 @@ export class Objects {
   /**
    * Adds an object to an object layer, last, in pixels, and gives it: a rectangle, or what one of
    * `point` to `tile` says. Its name may be empty. Corners are counted from its place. Throws
-   * TypeError, RangeError, Refused (31, 39, 61, 68).
+   * TypeError, RangeError, Refused (31, 39, 68).
    */
   add(
     name: string, x: number, y: number, width?: number, height?: number, options?: {
@@ -479,7 +479,7 @@ export class Objects {
   /**
    * Adds an object to an object layer, last, as a file has it, and gives it. It may say its id, as
    * one that was removed; nothing is added to what it says. Throws TypeError, RangeError, Refused
-   * (31, 61, 63, 67, 68).
+   * (31, 63, 67, 68).
    */
   put(members: Record<string, unknown>): MapObject;
   /** What JSON has of them: the list. */
@@ -511,18 +511,23 @@ export class MapObject {
   readonly type: string;
   /** Whether it is a point of Tiled; the member `point` makes it one. */
   readonly isPoint: boolean;
-  /** Its column in pixels. */
-  readonly x: number;
-  /** Its row in pixels. */
-  readonly y: number;
-  /** Its width in pixels; 0 of a point, and of a rectangle of no size. */
-  readonly width: number;
-  /** Its height in pixels; 0 of a point, and of a rectangle of no size. */
-  readonly height: number;
   /**
-   * How far it is turned, in degrees clockwise; set, it turns the object. Throws TypeError,
-   * Refused (61).
+   * Its column in pixels; set, it moves the object. Throws TypeError, RangeError, Refused (68).
    */
+  x: number;
+  /** Its row in pixels; set, it moves the object. Throws TypeError, RangeError, Refused (68). */
+  y: number;
+  /**
+   * Its width in pixels; 0 of a point, and of a rectangle of no size. Set, it gives it that width.
+   * Throws TypeError, RangeError, Refused (68).
+   */
+  width: number;
+  /**
+   * Its height in pixels; 0 of a point, and of a rectangle of no size. Set, it gives it that
+   * height. Throws TypeError, RangeError, Refused (68).
+   */
+  height: number;
+  /** How far it is turned, in degrees clockwise; set, it turns the object. Throws TypeError. */
   rotation: number;
   /** Whether it is shown; set, it shows or hides the object. */
   visible: boolean;
@@ -538,16 +543,16 @@ export class MapObject {
   readonly members: Members;
   /**
    * Gives it an own member, or adds one: any that Tiled writes for it, but its id and its
-   * properties. Throws TypeError, RangeError, Refused (41, 61, 63, 68).
+   * properties. Throws TypeError, RangeError, Refused (41, 63, 68).
    */
   setMember(key: string, value: unknown, options?: { merge?: boolean }): void;
   /** Gives it some own members at once, as one step. Throws TypeError, Refused (41, 63). */
   setMembers(members: Record<string, unknown>, options?: { merge?: boolean }): void;
   /** Takes an own member out, and says whether there was one. Throws Refused (41). */
   removeMember(key: string): boolean;
-  /** Moves it to a place, in whole pixels. Throws TypeError, RangeError. */
+  /** Moves it to a place, in pixels. Throws TypeError, RangeError, Refused (68). */
   move(x: number, y: number, options?: { merge?: boolean }): void;
-  /** Gives it a size, in whole pixels. Throws TypeError, RangeError, Refused (39). */
+  /** Gives it a size, in pixels. Throws TypeError, RangeError, Refused (39, 68). */
   resize(width: number, height: number): void;
   /**
    * Moves it into an object layer, which may be its own: to that place among the other objects
@@ -583,7 +588,7 @@ export class Properties {
   /**
    * Sets one: of a named type, else of the type that is there, else of the value's own.
    * `propertyType` names its class or enum; an empty one takes that name away. Throws TypeError,
-   * OtherType, RangeError, Refused (40, 61).
+   * OtherType, RangeError, Refused (40).
    */
   set(
     key: string, value: SetPropertyValue, options?: { type?: SetPropertyType | null; merge?: boolean; propertyType?: string | null },
@@ -591,7 +596,7 @@ export class Properties {
   /**
    * Sets one as a file has it, of any name and type: with `name`, `value`, and perhaps `type` and
    * more. One that is there keeps its place, and nothing else. Throws TypeError, RangeError,
-   * Refused (40, 61, 62, 63).
+   * Refused (40, 62, 63).
    */
   put(members: Record<string, unknown>): void;
   /** Removes one, whatever characters its name has. */
@@ -629,7 +634,7 @@ export class Tilesets {
   add(firstId: number, source: string, options?: { renumbers?: boolean }): Tileset;
   /**
    * Adds one as a file has it, and gives it: with `firstgid`, and `source` or all that it is. Its
-   * first id is as that of `add`. Throws TypeError, RangeError, Refused (37, 38, 61, 62, 63).
+   * first id is as that of `add`. Throws TypeError, RangeError, Refused (37, 38, 62, 63).
    */
   put(members: Record<string, unknown>, options?: { renumbers?: boolean }): Tileset;
   /**
