@@ -149,12 +149,10 @@ def test_what_no_object_is():
 
 
 def test_what_is_refused_of_objects():
-    """Nothing is done then. A fraction is refused, and not rounded."""
+    """Nothing is done then."""
     rows = [
-        (61, lambda things: things.add('a', 0.5, 0)), (61, lambda things: things.add('', 0, 0, 1.5, 1)), (61, lambda things: things.add('a', 0, 0, rotation=22.5)),
-        (61, lambda things: things.add('a', 0, 0, polygon=[(0, 0), (0.5, 1)])), (61, lambda things: things.add('a', 0, 0, properties={'a': 0.5})),
-        (61, lambda things: things.add('a', 0, 0, properties={'a': {'b': [0.5]}})), (68, lambda things: things.add('', 0, 0, 2_000_000_000)),
-        (39, lambda things: things.add('a', 0, 0, 2_000_000_000)), (61, lambda things: things.put({'x': 0.5})), (63, lambda things: things.put({'x': 'a'})),
+        (68, lambda things: things.add('a', 1e9 + 0.5, 1e300)), (68, lambda things: things.add('', 0, 0, 2_000_000_000)),
+        (39, lambda things: things.add('a', 0, 0, 2_000_000_000)), (63, lambda things: things.put({'id': 2.5})), (63, lambda things: things.put({'x': 'a'})),
         (63, lambda things: things.put({'roskevad': []})), (63, lambda things: things.put({'a': [{'roskevad': 1}]})), (67, lambda things: things.put({'id': 1})),
         (68, lambda things: things.put({'y': 1_000_000_001})), (63, lambda things: things.put({'id': '7'})),
         (67, lambda things: things.put({'properties': [{'name': 'a', 'value': 1}, {'name': 'a', 'value': 2}]})),
@@ -203,9 +201,9 @@ def test_objects_in_macros():
         try:
             with document.macro('B'):
                 objects.put({'x': 1})
-                objects.put({'x': 0.5})
+                objects.put({'x': [0.5]})
         except Refused as refusal:
-            see(61, refusal.code)
+            see(63, refusal.code)
         see((1, 2), (len(objects), document.status.index))
 
 
@@ -222,8 +220,8 @@ def test_tilesets_as_a_file_has_them():
         see((Tileset(document, 100), 5), document.layers[1].tile(0, 0)[1:3])
         other = document.tilesets.put({'firstgid': 200, 'source': 'other.tsx'})
         see(('other.tsx', [1, 100, 200]), (other.source, [each.first_id for each in document.tilesets]))
-        see([38, 62, 63, 61], [raised(Refused, document.tilesets.put, members).code for members in (
-            {**ART, 'firstgid': 150}, {'name': 'a'}, {'firstgid': '300'}, {'firstgid': 300, 'opacity': 0.5})])
+        see([38, 62, 63, 63], [raised(Refused, document.tilesets.put, members).code for members in (
+            {**ART, 'firstgid': 150}, {'name': 'a'}, {'firstgid': '300'}, {'firstgid': 300.5})])
         raised(TypeError, document.tilesets.put, [('firstgid', 300)])
         raised(ValueError, document.tilesets.put, {'firstgid': 300, 'name': '\ud800'})
         see(5, document.status.count)

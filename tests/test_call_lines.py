@@ -559,11 +559,11 @@ editor.active = document;""", []),
               '"properties":[{"name":"locked","type":"bool","value":true}]}', 'object put 2 {"id":9}', 'object put 2 {"x":5}'],
              [('[each.members for each in document.objects][1:]', '[...document.objects].map((each) => each.members).slice(1)', [{'id': 9}, {'id': 10, 'x': 5}])]),
     Scenario('objects in macros', 'things = document.layers["Things"].objects\nwith document.macro("A"):\n  len(things)\nwith document.macro("B"):\n'
-             '  things.put({}).name = "a"\ntry:\n  with document.macro("C"):\n    things.put({"x": 0.5})\nexcept roskevad.Refused as refusal:\n'
-             '  assert refusal.code == 61',
+             '  things.put({}).name = "a"\ntry:\n  with document.macro("C"):\n    things.put({"x": [0.5]})\nexcept roskevad.Refused as refusal:\n'
+             '  assert refusal.code == 63',
              'const { objects } = document.layers.get("Things"); document.macro("A", () => objects.size);'
-             'document.macro("B", () => { objects.put({}).name = "a"; }); try { document.macro("C", () => objects.put({ x: 0.5 })); }'
-             ' catch (fault) { if (fault.code !== 61) throw fault; }',
+             'document.macro("B", () => { objects.put({}).name = "a"; }); try { document.macro("C", () => objects.put({ x: [0.5] })); }'
+             ' catch (fault) { if (fault.code !== 63) throw fault; }',
              ['begin B', 'object put 2 {}', 'member set object:2 name "a"', 'end', 'begin C', 'end', 'undo']),
     Scenario('tilesets as a file has them', 'art = document.tilesets.put({"firstgid": 100, "name": "art", "image": "art.png", "tilewidth": 16, "tileheight": 16,'
              ' "tilecount": 64, "columns": 8})\ndocument.tilesets.put({"firstgid": 200, "source": "other.tsj"})\ndocument.stamp(1, 0, 0, [[art.value(5)]])',

@@ -230,29 +230,32 @@ def test_trees_of_packed_maps():
 
 
 def test_what_is_set_aside_belongs_to_its_document():
-    """A map that is opened as it is has members of its own that look like stand-ins: they stay, whatever stands in another document."""
+    """A map that is opened as it is has members of its own that look like stand-ins: they stay, whatever stands in another document. In one
+    that a line opens they are stand-ins, as those of lines are."""
     halves = {'roskevad': [1072693248, 0]}
     own = {**new_map(2, 1, 16, 16, 'a.tsj'), 'a': halves, 'b': [{'roskevad_compression': 'zlib', **halves}]}
     own['layers'][0]['roskevad_compression'] = 'zlib'
     with Editor() as editor:
         fraction = editor.open(text_of(map_of(tiles(1, opacity=0.5))), 'fraction')
         editor.open_map('own', text_of(own))
-        editor.put_file('own.tmj', text_of(own))
-        editor.step('open line own.tmj')
-        for name in ('own', 'line'):
-            document = editor.documents[name]
-            saved = document.save_bytes(), editor.save_map(all_maps=True), document.save_bytes(layout='compact')
-            came = document.map(), document.layers[1].members['roskevad_compression'], document.outline()['a'], saved
-            fault = unlike((own, 'zlib', halves, (*[printed(own).encode()] * 2, text_of(own))), came)
-            assert not fault, f'{name}: {fault}'
+        document = editor.documents['own']
+        saved = document.save_bytes(), editor.save_map(all_maps=True), document.save_bytes(layout='compact')
+        came = document.map(), document.layers[1].members['roskevad_compression'], document.outline()['a'], saved
+        fault = unlike((own, 'zlib', halves, (*[printed(own).encode()] * 2, text_of(own))), came)
+        assert not fault, fault
         fault = unlike((0.5, 0.5), (fraction.map()['layers'][0]['opacity'], json.loads(fraction.save_bytes())['layers'][0]['opacity']))
         assert not fault, fault
         # A document of the same name that is opened later has nothing of the one before.
-        editor.run_lines(['discard fraction', 'open fraction own.tmj'])
-        document = editor.documents['fraction']
-        fault = unlike((own, printed(own).encode()), (document.map(), document.save_bytes()))
+        document.discard()
+        fraction.discard()
+        editor.put_file('line.tmj', text_of({**new_map(2, 1, 16, 16, 'a.tsj'), 'a': halves}))
+        editor.run_lines(['open own line.tmj'])
+        editor.open_map('fraction', text_of(own))
+        line, document = editor.documents['own'], editor.documents['fraction']
+        fault = unlike((own, printed(own).encode(), 1.0, 1.0), (
+            document.map(), document.save_bytes(), line.map()['a'], json.loads(line.save_bytes())['a']))
         assert not fault, fault
-    passed(5)
+    passed(3)
 
 
 # ---- things that are read alone

@@ -119,25 +119,21 @@ async function treesOfPackedMaps() {
   }
 }
 
-// A map that a line opens has members of its own that look like stand-ins: they stay, whatever stands in another
-// document.
-async function whatIsSetAsideBelongsToItsDocument() {
+// In a map that a line opens what stands for a fraction is one, as in a map that lines edit.
+async function fractionsThatLinesSay() {
   const editor = await Editor.create();
-  const halves = { roskevad: [1072693248, 0] };
   const written = { data: [...CELLS], height: HEIGHT, width: WIDTH };
-  const own = JSON.stringify(sorted(JSON.parse(mapOf([tiles(1, { ...written, roskevad_compression: "zlib" })], { a: halves }))));
-  const fraction = await editor.open(mapOf([tiles(1, { ...written, opacity: 0.5 })]), "fraction");
-  editor.putFile("own.tmj", own);
+  editor.putFile("own.tmj", mapOf([tiles(1, written), things(2, thing(1))], { a: { roskevad: [1072693248, 0] } }));
   editor.step("open own own.tmj");
-  const told = async (document) => [
-    document.map().a, document.outline().a, document.layers.get(1).members.roskevad_compression,
-    JSON.parse(decoder.decode(await document.saveBytes())).a, (await savedTree(editor)).layers[0].roskevad_compression,
-  ];
-  same(await told(editor.documents.get("own")), [halves, halves, "zlib", halves, "zlib"]);
-  same([fraction.map().layers[0].opacity, JSON.parse(decoder.decode(await fraction.saveBytes())).layers[0].opacity], [0.5, 0.5]);
-  // A document of the same name that is opened later has nothing of the one before.
-  editor.runLines(["discard fraction", "open fraction own.tmj"]);
-  same(await told(editor.documents.get("fraction")), [halves, halves, "zlib", halves, "zlib"]);
+  editor.runLines(["member set layer:1 opacity 0.5", "member set object:1 x 1.5", 'prop put map {"name":"b","type":"float","value":0.25}']);
+  const document = editor.documents.get("own");
+  const saved = JSON.parse(decoder.decode(await document.saveBytes()));
+  for (const tree of [document.map(), saved]) {
+    same([tree.a, tree.layers[0].opacity, tree.layers[1].objects[0].x, tree.properties[0].value], [1, 0.5, 1.5, 0.25]);
+  }
+  same([document.layers.get(1).opacity, document.objects.get(1).x, document.properties.get("b")], [0.5, 1.5, 0.25]);
+  editor.step("goto 0");
+  same([document.map().layers[0].opacity, document.objects.get(1).x], [1, 0]);
   editor.close();
 }
 
@@ -379,7 +375,7 @@ async function namesOfDocuments() {
 }
 
 export const MAP_CHECKS = [
-  mapsThatNeedNothing, packedMaps, treesOfPackedMaps, whatIsSetAsideBelongsToItsDocument, damagedData, bombs,
+  mapsThatNeedNothing, packedMaps, treesOfPackedMaps, fractionsThatLinesSay, damagedData, bombs,
   mapsThatAreRefused, mapsWithFractions, infiniteMaps,
   thingsOfInfiniteMaps, encodingsOfLayers, workWhileSaving, mapsOfClosedEditors, namesOfDocuments, placesInMaps,
 ];
