@@ -151,7 +151,7 @@ def test_what_no_object_is():
 def test_what_is_refused_of_objects():
     """Nothing is done then."""
     rows = [
-        (68, lambda things: things.add('a', 1e9 + 0.5, 1e300)), (68, lambda things: things.add('', 0, 0, 2_000_000_000)),
+        (68, lambda things: things.add('a', 0, -1e9 - 0.5)), (68, lambda things: things.add('', 0, 0, 2_000_000_000)),
         (39, lambda things: things.add('a', 0, 0, 2_000_000_000)), (63, lambda things: things.put({'id': 2.5})), (63, lambda things: things.put({'x': 'a'})),
         (63, lambda things: things.put({'roskevad': []})), (63, lambda things: things.put({'a': [{'roskevad': 1}]})), (67, lambda things: things.put({'id': 1})),
         (68, lambda things: things.put({'y': 1_000_000_001})), (63, lambda things: things.put({'id': '7'})),

@@ -277,6 +277,117 @@ def test_what_comes_back():
         see(THINGS, things.members)
 
 
+# ---- fractions
+
+
+def saved_objects(document):
+    """The objects of the layer of things, as a file has them."""
+    return json.loads(document.save_bytes())['layers'][1]['objects']
+
+
+def test_places_off_whole_pixels():
+    """An object lies where it is set to, and one that is set to whole pixels has no fraction any more."""
+    with Editor() as editor:
+        document = made(editor)
+        door = document.objects['door']
+        with Said(editor) as lines:
+            door.x, door.y, door.width, door.height = 16.5, -0.25, 0.125, 8.75
+        see([f'member set object:1 {said}' for said in ('x 16.5', 'y -0.25', 'width 0.125', 'height 8.75')], lines)
+        see((16.5, -0.25, 0.125, 8.75), (door.x, door.y, door.width, door.height))
+        see([{**DOOR, 'x': 16.5, 'y': -0.25, 'width': 0.125, 'height': 8.75}], saved_objects(document))
+        door.x, door.height = 16, 8.0
+        see((16, -0.25, 0.125, 8), (door.x, door.y, door.width, door.height))
+        see([{**DOOR, 'x': 16, 'y': -0.25, 'width': 0.125, 'height': 8}], saved_objects(document))
+        document.undo()
+        document.undo()
+        see((16.5, 8.75), (door.x, door.height))
+        document.goto(2)
+        see([DOOR], saved_objects(document))
+
+
+def test_moves_and_sizes_off_whole_pixels():
+    """They are said as own members where a number has a fraction, or had one: so it is gone then."""
+    with Editor() as editor:
+        document = made(editor)
+        door = document.objects['door']
+        with Said(editor) as lines:
+            door.move(4, 5)
+            door.move(4.5, 5)
+            door.move(5, 5.5, merge=True)
+            door.move(5, 5)
+            door.move(5, 6, merge=True)
+            door.resize(8, 8)
+            door.resize(8.5, 9)
+            door.resize(8, 9)
+        see(['object move 1 4 5', 'member put object:1 {"x":4.5,"y":5}', 'member put+ object:1 {"x":5,"y":5.5}', 'member put object:1 {"x":5,"y":5}',
+             'object move+ 1 5 6', 'object resize 1 8 8', 'member put object:1 {"width":8.5,"height":9}', 'member put object:1 {"width":8,"height":9}'], lines)
+        see([{**DOOR, 'x': 5, 'y': 6, 'width': 8, 'height': 9}], saved_objects(document))
+        see(9, document.status.count)
+        document.goto(4)
+        see((5, 5.5), (door.x, door.y))
+
+
+def test_one_step_with_fractions():
+    """An object is moved and turned at once, and a stroke that ends where it began is no step."""
+    with Editor() as editor:
+        document = made(editor)
+        door = document.objects['door']
+        door.members.update(x=16.5, y=8, rotation=22.5)
+        see((16.5, 8, 22.5, 3), (door.x, door.y, door.rotation, document.status.count))
+        see([{**DOOR, 'x': 16.5, 'y': 8, 'rotation': 22.5}], saved_objects(document))
+        for degrees in (30.25, 45, 22.5):
+            door.members.set('rotation', degrees, merge=True)
+        see((22.5, 3), (door.rotation, document.status.count))
+        with document.macro('M'):
+            door.x, door.rotation = 16.5, 22.5
+        see(3, document.status.count)
+        with document.macro('M'):
+            door.x = 16
+        see((16, ['Add Layer', 'Add Object', 'Set Members', 'M']), (door.x, [step.text for step in document.steps]))
+
+
+def test_fractions_anywhere():
+    """In own members of each owner, in properties, in whole things, and in what is read and saved of them."""
+    with Editor() as editor:
+        document = made(editor)
+        ground, things = document.layers[1], document.layers['Things']
+        ground.opacity, things.members['parallaxx'], document.members['parallaxoriginx'] = 0.5, 1.25, -0.75
+        document.properties['speed'] = 1.25
+        document.properties['shop'] = {'open': True, 'prices': [0.5, 3]}
+        ground.properties.set('depth', 2, type='float')
+        gate = things.objects.add('gate', 1.5, 2, 3, 4.25, polygon=[(0, 0), (8.5, -8.5)], rotation=22.5, properties={'a': 0.1})
+        put = things.objects.put({'x': 0.25, 'name': 'put', 'kept': [{'x': 1e300}]})
+        art = document.tilesets.put({'firstgid': 100, 'name': 'art', 'tiles': [{'id': 0, 'probability': 0.5}]})
+        see((0.5, 1.25, -0.75, 1.25, {'open': True, 'prices': [0.5, 3]}, 2.0), (
+            ground.opacity, things.members['parallaxx'], document.members['parallaxoriginx'], document.properties['speed'], document.properties['shop'],
+            ground.properties['depth']))
+        see((1.5, 2, 3, 4.25, 22.5, 0.1), (gate.x, gate.y, gate.width, gate.height, gate.rotation, gate.properties['a']))
+        see({'id': 3, 'x': 0.25, 'name': 'put', 'kept': [{'x': 1e300}]}, put.members)
+        see(0.5, art.members['tiles'][0]['probability'])
+        told, saved = document.map(), json.loads(document.save_bytes())
+        see({**told, 'version': saved['version']}, saved)
+        see((0.5, 1.25, -0.75, 8.5), (saved['layers'][0]['opacity'], saved['layers'][1]['parallaxx'], saved['parallaxoriginx'],
+             saved['layers'][1]['objects'][1]['polygon'][1]['x']))
+        assert 'roskevad' not in json.dumps([told, saved])
+        document.goto(2)
+        assert 'roskevad' not in document.save_bytes().decode()
+
+
+def test_fractions_of_files():
+    """A map that is opened with its fractions and edited, and one that is saved and opened again."""
+    with Editor() as editor:
+        document = editor.open(maps.text_of(maps.map_of(maps.tiles(1), maps.things(2, maps.thing(1, x=10.5, y=0.25)), nextobjectid=2, nextlayerid=3)))
+        thing = document.objects[1]
+        thing.y = 7
+        see((10.5, 7), (thing.x, thing.y))
+        thing.move(10, 7)
+        see((10, 7), (thing.x, thing.y))
+        thing.members.update(x=0.1, rotation=0.3)
+        again = editor.open(document.save_bytes(), 'again')
+        see((0.1, 7, 0.3), (again.objects[1].x, again.objects[1].y, again.objects[1].rotation))
+        see(document.map(), again.map())
+
+
 # ---- values by their names
 
 

@@ -24,8 +24,8 @@ WHOLE = [
     'layer add group A', 'layer into 9 9 0', 'object into 9 9 0', 'prop put map {}', 'extend 4294967295 0 0 0',
 ]
 # Which lines are asked about: what the C library's call is given, and the dialect.
-PLAIN_LINES, ALL_EDITS = 0, 1
-DIALECTS = [(PLAIN_LINES, PLAIN), (ALL_EDITS, FOR_ALL_EDITS)]
+PLAIN_LINES, ALL_EDITS, ALL_EDITS_WITH_FRACTIONS = 0, 1, 2
+DIALECTS = [(PLAIN_LINES, PLAIN), (ALL_EDITS, FOR_ALL_EDITS), (ALL_EDITS_WITH_FRACTIONS, FOR_ALL_EDITS)]
 # What the library answers.
 NONE, TOO_GREAT = 2**64 - 1, 2**64 - 4
 NO_COMMANDS = ['Undo', ' undo', 'frob 1', 'undone', 'members set object:1 rotation 45', 'member+ set object:1 rotation 45', 'Member', 'extend+ 1 0 0 0']

@@ -318,7 +318,7 @@ async function thingsThatAreNotAdded() {
   });
   same(calls.step ?? 0, 0);
   const refused = [
-    [68, () => objects.add("a", 1e9 + 0.5, 1e300)], [63, () => objects.put({ id: 2.5 })], [63, () => objects.put({ gid: 0.5 })],
+    [68, () => objects.add("a", 0, -1e9 - 0.5)], [63, () => objects.put({ id: 2.5 })], [63, () => objects.put({ gid: 0.5 })],
     [63, () => objects.put({ x: "a" })], [67, () => objects.put({ id: 1 })], [63, () => town.tilesets.put({ firstgid: 9.5 })],
     [63, () => objects.put({ roskevad: [] })], [68, () => objects.put({ y: 1e9 + 1 })], [31, () => town.layers.get(1).objects.put({})],
     [39, () => objects.add("a", 0, 0, 2e9)], [68, () => objects.add("", 0, 0, 2e9)], [62, () => town.tilesets.put({})],

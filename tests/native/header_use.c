@@ -76,6 +76,7 @@ static size_t word_told(const char *line, size_t length, char *room, size_t size
     size_t sum = roskevad_editor_word_fault(line, length, &word, room, size);
     sum += roskevad_word_fault(roskevad_bytes_at(line), length, &word, roskevad_room_at(room), size);
     sum += roskevad_editor_word_fault_for(ROSKEVAD_ALL_EDITS, line, length, &word, room, size);
+    sum += roskevad_editor_word_fault_for(ROSKEVAD_ALL_EDITS_WITH_FRACTIONS, line, length, &word, room, size);
     sum += roskevad_word_fault_for(ROSKEVAD_PLAIN_LINES, roskevad_bytes_at(line), length, &word, roskevad_room_at(room), size);
     return sum + word.place + word.at + word.length + word.is_missing;
 }
@@ -95,6 +96,7 @@ int main(void)
         sum += roskevad_words_of(faults[1])[0] == 'a' ? 1u : 0u;
     sum += roskevad_editor_open(&editor, ROSKEVAD_GREATEST_LIMIT);
     sum += roskevad_editor_open_for(&editor, 0, ROSKEVAD_PLAIN_LINES) + roskevad_editor_open_for(&editor, 0, ROSKEVAD_ALL_EDITS);
+    sum += roskevad_editor_open_for(&editor, 0, ROSKEVAD_ALL_EDITS_WITH_FRACTIONS);
     sum += roskevad_editor_step(&editor, line, sizeof line - 1, room, sizeof room);
     sum += roskevad_editor_reply(&editor, room, sizeof room);
     sum += roskevad_editor_run_lines(&editor, line, sizeof line - 1, 1, room, sizeof room, &done);
