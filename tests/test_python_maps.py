@@ -278,10 +278,15 @@ def test_things_of_infinite_maps():
         assert not fault, fault
         assert document.layers[1].members['opacity'] == 0.5
         first.move(int(first.x), 4)
-        second.move(263, int(second.y) + 1)
-        fault = unlike((266.5, 4, 263, 260), (first.x, first.y, second.x, second.y))
+        second.move(263.25, int(second.y) + 1)
+        first.y = 2.5
+        fault = unlike((266, 2.5, 263.25, 260), (first.x, first.y, second.x, second.y))
         assert not fault, fault
-    passed(3)
+        # The file has the places of the plane.
+        one, other = json.loads(document.save_bytes())['layers'][1]['objects']
+        fault = unlike((10, -253.5, 7.25, 4), (one['x'], one['y'], other['x'], other['y']))
+        assert not fault, fault
+    passed(4)
 
 
 def drawn(layers):

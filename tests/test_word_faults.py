@@ -143,7 +143,7 @@ def test_other_answers_in_c():
     """There is none where a line is read or is too long. No lines have another number, and then nothing is given out."""
     for line in ('', 'undo', '# a', 'stamp 1 0 0 1 5', 'x' * 65_536):
         assert [told_by_c(line), told_by_c(line, PLAIN_LINES), told_by_c(line, ALL_EDITS)] == [NONE] * 3, line[:40]
-    for edits in (2, 3, 2**32, 2**64 - 1):
+    for edits in (3, 4, 2**32, 2**64 - 1):
         assert [told_by_c(line, edits) for line in ('undo x', 'undo', 'frob')] == [TOO_GREAT] * 3, edits
 
 

@@ -32,7 +32,7 @@ is_id_used m given = given.has_id && is_some (object_place m given.object.id)
 abbrev pub after_object_text : Fractions → DocumentParts → ℕ → List ℕ → Result DocumentParts MoreFault
 after_object_text fractions d layer json =
     made (objects_or_fault (layer_of d.map layer)) >>= λ objects.
-    said (given_object_at fractions json) >>= λ given.
+    said (given_object_at fractions d.map json) >>= λ given.
     check (not (is_id_used d.map given)) (faults.Map IdUsedTwice) >>= λ _.
     made (after_put_object d layer given.has_id given.object)
 

@@ -63,7 +63,7 @@ fn put_object(
     if let Err(fault) = objects_of_layer(map, layer) {
         return Err(MoreFault::Edit(fault));
     }
-    let given = match given_object(alloc, fractions, json) {
+    let given = match given_object(alloc, fractions, map, json) {
         Ok(given) => given,
         Err(fault) => return Err(more_fault(fault)),
     };
