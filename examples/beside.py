@@ -6,8 +6,8 @@
 Both are orthogonal, with cells of one size, and MAP stands in the folder of LEFT. A layer of RIGHT goes into the one of its kind that stands
 at the same names in LEFT, or else into a new one over the others of its group; an image layer is always a new one. Objects come with
 their classes, shapes, tiles and properties, and so do layers and the map, which keeps what it has of the same name. A tileset that LEFT has
-not is added behind the others. Paths of files are told anew from the folder of LEFT. What can't be carried is named on standard error: a
-member or a property with a fraction; the place of an object is made whole. MAP is written all the same, and the exit status is 1 then.
+not is added behind the others. Paths of files are told anew from the folder of LEFT. What can't be carried, as a
+member that is longer than a line, is named on standard error. MAP is written all the same, and the exit status is 1 then.
 """
 import os
 import sys
@@ -58,12 +58,6 @@ def values_in(document: Document) -> Iterator[int]:
     for layer in document.layers.walk():
         yield from {value & ~FLAGS for value in (layer.cells() if layer.kind == 'tile' else ())}
     yield from (each.tile.value & ~FLAGS for each in document.objects if each.tile)
-
-
-def has_fraction(value: Any) -> bool:
-    if isinstance(value, (dict, list)):
-        return any(map(has_fraction, value.values() if isinstance(value, dict) else value))
-    return isinstance(value, float) and not value.is_integer()
 
 
 class Joining:
@@ -162,13 +156,10 @@ class Joining:
     def members_of(self, each: MapObject) -> dict[str, Any]:
         """What an object has, at its new place, without its properties."""
         members = self.with_paths(each.members.copy())
-        members['x'] = int(members.get('x', 0)) + self.column * self.left.tile_width
-        members['y'] = int(members.get('y', 0))
+        members['x'] = members.get('x', 0) + self.column * self.left.tile_width
         if 'gid' in members:
             members['gid'] = self.value(members['gid'])
-        lost = [name for name, value in each.members.items() if name not in OF_AN_OBJECT and has_fraction(value)]
-        self.lost += [f'object {each.id}: {name}: a fraction' for name in lost]
-        return {name: value for name, value in members.items() if name not in OF_AN_OBJECT and not has_fraction(value)}
+        return {name: value for name, value in members.items() if name not in OF_AN_OBJECT}
 
     def put_properties(self, owner: str, listed: list[dict[str, Any]], goal: Properties) -> None:
         """Puts properties that are not there yet, as the file has them."""

@@ -4,8 +4,7 @@
     python3 examples/rename_property.py FOLDER OLD NEW
 
 Its place, its type, its value and all else of it stay, whatever they are, and the names may be any texts. A map is one step, and is saved if
-all of it is done. It stays as it is, and the exit status is 1, where it is refused, where something has a property NEW already, and where
-the property, or one behind it, has a fraction, which no edit can say yet.
+all of it is done. It stays as it is, and the exit status is 1, where it is refused, and where something has a property NEW already.
 """
 import sys
 from pathlib import Path

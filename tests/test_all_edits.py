@@ -72,21 +72,18 @@ def test_a_limit():
 
 def test_all_maps():
     """A map with fractions is opened, and has them back when it is saved, wherever an object or a layer was
-    moved to. A fraction in a line is refused."""
+    moved to; and so have what lines say."""
     rows = things(1, thing(1, x=1.5, y=2), thing(2, x=0.25, y=3)), things(2), group(3)
     text = text_of(map_of(*rows, width=1, height=1, nextlayerid=4, nextobjectid=3))
     rows = [
         ('open a a.tmj', 'ok 0/0 clean 0'),
-        ('member set object:1 rotation 0.5', refusal(61)),
-        ('member put object:1 {"rotation":0.5}', refusal(61)),
-        ('object put 1 {"x":1.5}', refusal(61)),
-        ('tileset put {"firstgid":100,"tileoffset":{"x":0.5,"y":0}}', refusal(61)),
-        ('prop put object:1 {"name":"speed","type":"float","value":0.5}', refusal(61)),
-        ('member set object:1 rotation 90', 'ok 1/1 dirty 0'),
-        ('object put 1 {"x":7,"y":8}', 'ok 2/2 dirty 0'),
+        ('member set object:1 rotation 90.5', 'ok 1/1 dirty 0'),
+        ('object put 1 {"x":7.25,"y":8}', 'ok 2/2 dirty 0'),
         ('object into 2 2 0', 'ok 3/3 dirty 0'),
         ('layer into 2 3 0', 'ok 4/4 dirty 0'),
         ('layer into 1 3 1', 'ok 5/5 dirty 0'),
+        ('prop put layer:1 {"name":"speed","type":"float","value":0.5}', 'ok 6/6 dirty 0'),
+        ('tileset put {"firstgid":100,"tileoffset":{"x":0.5,"y":0}}', 'ok 7/7 dirty 0'),
         ('save a.tmj', None),
     ]
     session = joined(line.encode() for line, _ in rows)
@@ -96,9 +93,11 @@ def test_all_maps():
     fault = fault_of_replies(session, joined(wanted), joined(replies[:-1]))
     assert not fault, fault
     assert len(replies) == len(rows) and replies[-1].startswith(b'saved a.tmj '), replies
-    moved, row = json.loads(files['a.tmj'])['layers'][0]['layers']
+    tree = json.loads(files['a.tmj'])
+    moved, row = tree['layers'][0]['layers']
     saved, put = row['objects']
-    fault = unlike((1.5, 2, 90, 3, 7, 8), (saved['x'], saved['y'], saved['rotation'], put['id'], put['x'], put['y']))
+    fault = unlike((1.5, 2, 90.5, 3, 7.25, 8), (saved['x'], saved['y'], saved['rotation'], put['id'], put['x'], put['y']))
+    fault = fault or unlike((0.5, 0.5), (row['properties'][0]['value'], tree['tilesets'][-1]['tileoffset']['x']))
     fault = fault or unlike([(2, 0.25, 3)], [(item['id'], item['x'], item['y']) for item in moved['objects']])
     assert not fault, fault
 
