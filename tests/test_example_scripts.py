@@ -18,7 +18,7 @@ from lib.cases import Case, check_each, see, unlike
 from lib.places import EXAMPLES, EXAMPLE_MAPS, TOP
 
 sys.path[:0] = [str(TOP / 'python'), str(EXAMPLES)]
-from roskevad import Editor, Refused  # noqa: E402
+from roskevad import Editor  # noqa: E402
 
 FLAGS = 0xF0000000
 # A time of files long ago, in nanoseconds.

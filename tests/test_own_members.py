@@ -110,7 +110,8 @@ def test_typed_values_that_no_line_says():
 
 # The name and a value that is refused, by the owner, with the code.
 REFUSED_VALUES = {
-    'object:1': [(63, 'rotation', {'roskevad': [1, 2]}), (63, 'x', 'left'), (63, 'x', [1.5]), (63, 'gid', 0.5), (68, 'y', 1e9 + 1.5), (63, 'visible', 1), (68, 'x', 10**12), (41, 'id', 7), (41, 'properties', [])],
+    'object:1': [(63, 'rotation', {'roskevad': [1, 2]}), (63, 'x', 'left'), (63, 'x', [1.5]), (63, 'gid', 0.5), (68, 'y', 1e9 + 1.5),
+                 (63, 'visible', 1), (68, 'x', 10**12), (41, 'id', 7), (41, 'properties', [])],
     'layer:1': [(63, 'name', 0.5), (63, 'name', 7), (63, 'visible', 1), (63, 'visible', None)],
     'layer:2': [(63, 'name', None), (63, 'visible', 'yes')],
     'map': [(63, 'tilewidth', 16.5), (63, 'tilewidth', 'wide'), (63, 'nextobjectid', None), (68, 'nextlayerid', 2), (68, 'nextlayerid', 1),
