@@ -401,6 +401,30 @@ editor.active = document;""", []),
              ['member set object:1 name ""', r'member set object:1 type "a \"b\"\n\\ ü"', 'member set object:1 rotation -90'],
              [('[document.objects[1].name, document.objects[1].class_name]', '[document.objects.get(1).name, document.objects.get(1).className]',
                ['', 'a "b"\n\\ ü'])]),
+    Scenario('an object off whole pixels', 'door = document.objects["door"]\ndoor.x = 16.5\ndoor.y = -0.25\ndoor.width, door.height = 8.5, 9.0\n'
+             'door.move(4.5, 5)\ndoor.move(4, 5.5, merge=True)\ndoor.move(4, 5)\ndoor.move(5, 5)\ndoor.resize(8, 9.5)\ndoor.rotation = 22.5\n'
+             'document.layers[1].opacity = 0.5\ndoor.properties["speed"] = 1.25',
+             'const door = document.objects.get("door"); door.x = 16.5; door.y = -0.25; door.width = 8.5; door.height = 9; door.move(4.5, 5);'
+             'door.move(4, 5.5, { merge: true }); door.move(4, 5); door.move(5, 5); door.resize(8, 9.5); door.rotation = 22.5;'
+             'document.layers.get(1).opacity = 0.5; door.properties.set("speed", 1.25);',
+             ['member set object:1 x 16.5', 'member set object:1 y -0.25', 'member set object:1 width 8.5', 'member set object:1 height 9',
+              'member put object:1 {"x":4.5,"y":5}', 'member put+ object:1 {"x":4,"y":5.5}', 'member put object:1 {"x":4,"y":5}', 'object move 1 5 5',
+              'member put object:1 {"width":8,"height":9.5}', 'member set object:1 rotation 22.5', 'member set layer:1 opacity 0.5',
+              'prop put object:1 {"name":"speed","type":"float","value":1.25}'],
+             [('[[each.x, each.y, each.width, each.height, each.rotation, each.properties["speed"]] for each in document.objects][0]',
+               '[...document.objects].map((each) => [each.x, each.y, each.width, each.height, each.rotation, each.properties.get("speed")])[0]',
+               [5, 5, 8, 9.5, 22.5, 1.25]),
+              ('[document.layers[1].opacity, [each["x"] for each in document.map()["layers"][1]["objects"]][0]]',
+               '[document.layers.get(1).opacity, document.map().layers[1].objects[0].x]', [0.5, 5])]),
+    Scenario('own members at once, with fractions', 'members = document.objects[1].members\nmembers.put({"x": 1.5, "rotation": 0.5})\n'
+             'for degrees in (1.5, 2.5, 0.5):\n  members.set("rotation", degrees, merge=True)\nmembers.update(x=1, kept=[0.1, {"a": 1e300}])',
+             'const door = document.objects.get(1); door.setMembers({ x: 1.5, rotation: 0.5 });'
+             'for (const degrees of [1.5, 2.5, 0.5]) { door.setMember("rotation", degrees, { merge: true }); }'
+             'door.setMembers({ x: 1, kept: [0.1, { a: 1e300 }] });',
+             ['member put object:1 {"x":1.5,"rotation":0.5}', 'member set+ object:1 rotation 1.5', 'member set+ object:1 rotation 2.5',
+              'member set+ object:1 rotation 0.5', 'member put object:1 {"x":1,"kept":[0.1,{"a":1e300}]}'],
+             [('[document.objects[1].members[name] for name in ("x", "rotation", "kept")]',
+               '["x", "rotation", "kept"].map((name) => document.objects.get(1).members[name])', [1, 0.5, [0.1, {'a': 1e300}]])]),
     Scenario('a tile of another object, and none', 'key = document.layers["Things"].objects.add("key", 0, 0)\nkey.tile = 7\ndoor = document.objects["door"]\n'
              'door.tile = key.tile\nkey.tile = None\nkey.tile = None\ndoor.tile = 0',
              'const key = document.layers.get("Things").objects.add("key", 0, 0); key.tile = 7; const door = document.objects.get("door");'
