@@ -17,6 +17,7 @@ from lib.json_words import set_fractions_aside
 from lib.maps import MOST_INSIDE, group, layers_in, map_of, objects_in, text_of, thing, things, tiles
 from lib.members import read_members
 from lib.model import Play
+from lib.places import SESSIONS
 from lib.sessions import ALL_EDITS, check_together
 from lib.whole_things import read_whole_things
 
@@ -149,6 +150,8 @@ def full_map():
 
 
 FILES = {'deep.tmj': text_of(deep_map()), 'full.tmj': text_of(full_map())}
+# An infinite map with two objects.
+PLANE = SESSIONS / 'all_edits' / 'maps' / 'plane.tmj'
 
 
 def member_line(chosen):
@@ -270,11 +273,12 @@ def session_aside(seed):
 
 
 def session_saved(seed):
-    """One that saves its map, and goes on with the file."""
+    """One that saves its map, which may have been infinite, and goes on with the file."""
     run = session(seed, sets_aside=True)
     chosen = random.Random(seed)
     run.name = f'session {seed}, saved'
-    run.hear(*BEFORE[:-1])
+    run.put('plane.tmj', PLANE.read_bytes())
+    run.hear(*(BEFORE[:-1] if seed % 2 else ['open t plane.tmj']))
     for _ in range(2):
         for _ in range(LINES):
             run.hear(line_by_chance(chosen, run.document))
