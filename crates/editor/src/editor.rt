@@ -129,12 +129,7 @@ impl<C: Command> Editor<C> {
     }
 
     /// Plans the edit that a line for all edits asks for, which is left to be put into a box and committed. The editor is as it was.
-    pub fn plan_more(
-        &mut self,
-        alloc: Global,
-        line: &MoreLine<'_>,
-        fractions: Fractions,
-    ) -> Planned
+    pub fn plan_more(&mut self, alloc: Global, line: &MoreLine<'_>, fractions: Fractions) -> Planned
         requires { IsHeld C.change self.old }
         ensures held { IsHeld C.change self.new }
         ensures sound { IsSound C.change self.old → IsSound C.change self.new }

@@ -207,7 +207,11 @@ const LINES: u32 = 400;
 
 fn stepped(alloc: Global, seed: u64, limit: u16, tally: &mut Tally) -> Found {
     let limit = usize::from(limit);
-    let mut editor = MemoryEditor::for_dialect(alloc, limit, Dialect::AllEdits(Fractions::SetAside));
+    let mut editor = MemoryEditor::for_dialect(
+        alloc,
+        limit,
+        Dialect::AllEdits(Fractions::SetAside),
+    );
     let mut random = Random::new(seed);
     step_lines(alloc, &mut editor, &mut random, limit, tally)
 }

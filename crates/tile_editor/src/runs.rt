@@ -6,7 +6,8 @@ ghost use Rattle.undo_stack.specs.declared.limits.TheConstants.{MAX_LIMIT};
 use crate::choices::Options;
 use map_store::MapStore;
 use session_run::{
-    Fractions, Report, RunFault, StrictFault, Summary, run, run_all_edits, run_strict, run_strict_all_edits,
+    Fractions, Report, RunFault, StrictFault, Summary, run, run_all_edits, run_strict,
+    run_strict_all_edits,
 };
 use std::alloc::Global;
 use std::io::{Read, Write};
@@ -35,7 +36,15 @@ fn run_strictly<R: Read, W: Write, S: MapStore>(
 {
     if chosen.does_all_edits {
         let fractions = fractions_of(chosen);
-        run_strict_all_edits(alloc, reader, writer, store, chosen.limit, fractions, report)
+        run_strict_all_edits(
+            alloc,
+            reader,
+            writer,
+            store,
+            chosen.limit,
+            fractions,
+            report,
+        )
     } else {
         run_strict(alloc, reader, writer, store, chosen.limit, report)
     }

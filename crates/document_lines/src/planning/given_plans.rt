@@ -155,7 +155,9 @@ pub fn plan_put_property(
 ) -> Planned
     ensures { PlansEdit (more_answer_of put_property_names (after_property_text fractions document.now owner json.now)) document.now result }
 {
-    planned_more(put_property(alloc, document, owner, json.as_str(), fractions).map(Edit::PutProperty))
+    planned_more(put_property(alloc, document, owner, json.as_str(), fractions).map(
+        Edit::PutProperty,
+    ))
 }
 
 // The command that takes out the property whose name a JSON text says.
@@ -192,5 +194,7 @@ pub fn plan_take_property(
 ) -> Planned
     ensures { PlansEdit (more_answer_of remove_property_names (after_take_property fractions document.now owner json.now)) document.now result }
 {
-    planned_more(take_property(alloc, document, owner, json.as_str(), fractions).map(Edit::RemoveProperty))
+    planned_more(take_property(alloc, document, owner, json.as_str(), fractions).map(
+        Edit::RemoveProperty,
+    ))
 }

@@ -100,7 +100,15 @@ pub fn on_members<C: Command>(
             follows,
         } => {
             stack.seek_object(*object);
-            plan_set::<ObjectHead>(alloc, stack.document(), *object, name, json, *follows, fractions)
+            plan_set::<ObjectHead>(
+                alloc,
+                stack.document(),
+                *object,
+                name,
+                json,
+                *follows,
+                fractions,
+            )
         }
         MoreLine::PutMembers {
             owner: MemberOwner::Object(object),
@@ -122,7 +130,15 @@ pub fn on_members<C: Command>(
             name,
             json,
             follows,
-        } => plan_set::<LayerHead>(alloc, stack.document(), *layer, name, json, *follows, fractions),
+        } => plan_set::<LayerHead>(
+            alloc,
+            stack.document(),
+            *layer,
+            name,
+            json,
+            *follows,
+            fractions,
+        ),
         MoreLine::PutMembers {
             owner: MemberOwner::Layer(layer),
             json,

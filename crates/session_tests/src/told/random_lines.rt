@@ -215,7 +215,9 @@ impl Random {
         let part = self.one_of(&["", ".5"]);
         let text = match self.below(7) {
             0 => format!(in alloc; "member set{plus} object:1 rotation {value}{part}")?,
-            1 => format!(in alloc; "member put{plus} object:1 {{\"x\":{value}{part},\"name\":\"n\"}}")?,
+            1 => format!(in alloc;
+                "member put{plus} object:1 {{\"x\":{value}{part},\"name\":\"n\"}}"
+            )?,
             2 => format!(in alloc; "member remove object:1 rotation")?,
             3 => format!(in alloc; "member set{plus} layer:{layer} opacity {value}{part}")?,
             4 => format!(in alloc; "member remove layer:{layer} opacity")?,
