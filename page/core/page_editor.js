@@ -285,6 +285,12 @@ export class PageEditor extends EventTarget {
     return this.map.take(found, this.editor.lastObjectId() + 1, layer => active._ids("object_ids", layer));
   }
 
+  // The own members of a layer of the active map, and its properties.
+  layerMembersOf(id) {
+    const { _owner: owner, _now: members } = this.editor.active.layers.get(id);
+    return { own: owner.own(members), properties: members.properties ?? [] };
+  }
+
   // All that the active map says of an object: the page's own map has no more than what it shows.
   membersOf(id) {
     return this.editor.active.objects.get(id).members;

@@ -4,7 +4,8 @@ import { NO_MAP, allow, button, byId, element } from "./dom.js";
 import { iconButton, showIcon } from "./icons.js";
 import { KINDS } from "../core/kinds.js";
 import { isLocked, lockLine, lockedGroupOf } from "../tools/barred_layers.js";
-import { LayerDrag } from "./layer_drag.js";
+import { LayerActs } from "./layer_acts.js";
+import { INDENT, LayerDrag } from "./layer_drag.js";
 import { putRows } from "./list_rows.js";
 import { renameLine } from "../core/member_lines.js";
 import { saidOf } from "../core/refusals.js";
@@ -33,6 +34,7 @@ export class LayerPanel {
     this.list.onclick = event => this.click(event);
     this.list.ondblclick = event => this.rowOf(event) && !event.target.closest("button, input") && this.rename();
     this.drag = new LayerDrag(this);
+    this.acts = new LayerActs(bench, kind => this.proposedName(kind));
     // Where the panel gets another height, the current layer stays in sight.
     new ResizeObserver(() => this.list.querySelector(".now")?.scrollIntoView({ block: "nearest" })).observe(this.list);
     byId("layer-actions").append(
@@ -122,7 +124,7 @@ export class LayerPanel {
     name.textContent = layer.data.name || "(no name)";
     name.title = layer.data.name;
     kind.textContent = LAYER_KINDS[layer.type] ?? layer.type;
-    row.style.paddingLeft = `${2 + layer.depth * 14}px`;
+    row.style.paddingLeft = `${2 + layer.depth * INDENT}px`;
     row.classList.toggle("now", layer.id === this.bench.layerId);
     row.classList.toggle("hidden", !layer.isSeen);
     return row;
