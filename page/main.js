@@ -144,6 +144,7 @@ class Page {
   async showMap(parts) {
     const { active } = this.editor.openDocuments;
     const isOther = active !== this.shownDocument;
+    const { shift } = this.editor;
     this.shownDocument = active;
     if (isOther) this.bench.tell("document");
     const kept = isOther ? this.layouts.enter(active) : null;
@@ -153,7 +154,7 @@ class Page {
     // Where the map of a document cannot be shown, no hand is on it.
     this.view.box.inert = active !== null && !this.editor.map;
     if (isOther && !kept) this.showFirst();
-    this.view.takeMap(isOther ? null : parts);
+    this.view.takeMap(isOther ? null : parts, isOther ? null : shift);
     this.showNotDrawn();
     this.overlay.redraw();
     await this.editor.during(this.showTilesets());

@@ -13,6 +13,7 @@ import { OutsideChanges } from "../files/outside_changes.js";
 import { IN_XML, isXmlMapName } from "../files/places.js";
 import { saidOf } from "./refusals.js";
 import { thrownWords } from "./thrown_words.js";
+import { resizeFields } from "../panels/resize_fields.js";
 import { Tabs, titleOf } from "../panels/tabs.js";
 
 // Sizes of a new map, in cells, and of its tiles, in pixels.
@@ -182,12 +183,7 @@ export class Documents {
   async resize() {
     const map = this.bench.map;
     if (!map) return;
-    await ask("Another size of the map", [
-      { name: "width", label: "Columns", value: map.width, kind: KINDS.cells },
-      { name: "height", label: "Rows", value: map.height, kind: KINDS.cells },
-      { name: "right", label: "Move the map right by", value: 0, kind: KINDS.coordinate },
-      { name: "down", label: "and down by", value: 0, kind: KINDS.coordinate },
-    ], ["OK"], ({ width, height, right, down }) => {
+    await ask("Another size of the map", resizeFields(map), ["OK"], ({ width, height, right, down }) => {
       const words = whyTooMany(width, height);
       return words ? { words } : this.bench.attempt([`resize ${width} ${height} ${right} ${down}`]);
     });

@@ -1,0 +1,22 @@
+// SPDX-License-Identifier: MIT OR Apache-2.0
+// By how many columns and rows lines move all that is in a map: those that give it another size, done, undone or done again. So what is seen
+// stays where it is.
+import { wordOf } from "./line_kinds.js";
+
+const STAYS = [0, 0];
+
+const sum = all => all.reduce(([x, y], [right, down]) => [x + right, y + down], STAYS);
+
+function ofLine(line) {
+  const words = line.split(" ");
+  if (wordOf(line) === "extend") return [Number(words[1]), Number(words[2])];
+  return wordOf(line) === "resize" ? [Number(words[3]), Number(words[4])] : STAYS;
+}
+
+// Of an accepted line, by what is told of it, and by the lines of the steps of its document.
+export function shiftOf(line, { became, before, index }, steps) {
+  if (became !== "turned") return ofLine(line);
+  const lines = steps.linesOf(Math.min(before, index), Math.max(before, index)) ?? [];
+  const sign = index < before ? -1 : 1;
+  return sum(lines.flat().map(ofLine)).map(by => by * sign);
+}
