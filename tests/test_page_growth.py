@@ -29,6 +29,13 @@ def infinite(*chunks, layers=1, size=None, **members):
             'layers': [*tiles, things], **settings, **members}
 
 
+def to_middle(page):
+    """Shows the first chunk in the middle of the window, at its size."""
+    page.js('const {view} = roskevad, by = (length, origin) => Math.round(length / 2 - origin - 128);'
+            'view.zoomTo(1); view.panBy(by(view.canvas.width, view.originX), by(view.canvas.height, view.originY))')
+    page.settle()
+
+
 class Plane:
     """The page over a map that is infinite, of which less than all of the window is taken."""
 
@@ -39,9 +46,7 @@ class Plane:
         page = self.bench.__enter__()
         (self.bench.folder / 'plane.tmj').write_text(json.dumps(self.told))
         page.choose_files(*self.bench.folder.glob('tiles.ts?'), *self.bench.folder.glob('*.png'), self.bench.folder / 'plane.tmj')
-        page.js('roskevad.view.zoomTo(1)')
-        page.js('const {view} = roskevad; view.panBy(Math.round(view.canvas.width / 2 - view.originX - 128), Math.round(view.canvas.height / 2 - view.originY - 128))')
-        page.settle()
+        to_middle(page)
         take_tile(page, (3, 1))
         page.keys('b')
         return page

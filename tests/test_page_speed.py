@@ -2,8 +2,8 @@
 """Measures how long the page takes in Chromium on a map of eight layers of 1,024 by 1,024 cells: from
 the hand, or from the key, to the picture, and how much of that is its work; a stamp of a whole layer
 takes as few lines as have room for it, and is one step. And how long it works on an arrow key that moves
-one of 4,000 objects, on a stroke beside a list of 450 steps, and on one in which a map grows. docs/speed.md has what it measures on a machine that does nothing else; here it may
-take longer, and is tried several times."""
+one of 4,000 objects, on a stroke beside a list of 450 steps, and on one in which a map grows. docs/speed.md has what
+it measures on a machine that does nothing else; here it may take longer, and is tried several times."""
 import json
 
 from page.bench import Bench, standing, take_tile

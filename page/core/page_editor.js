@@ -33,6 +33,8 @@ const MOST_BEHIND = 10_000;
 // How long a part of lines takes that are played, and how often it is looked whether something has ended, in milliseconds.
 const SHORT = 40;
 const SOON = 20;
+// The number of Tiled's layout of a map's text.
+const TILED = 0;
 // By how many steps the ends of those that are listed move.
 const LISTED = 50;
 
@@ -367,7 +369,7 @@ export class PageEditor extends EventTarget {
 
   // Opens the bytes that a file had. `instead` names the document whose place and file the new one takes. A map that cannot be shown is
   // closed again, and the journal never has it.
-  async openFound(name, word, { bytes, mark }, instead = null) {
+  async openFound(name, word, { bytes, mark, isMade = false }, instead = null) {
     const line = `open ${name} ${word}`;
     const path = this.names.pathOf(word);
     await this.ready();
@@ -381,13 +383,21 @@ export class PageEditor extends EventTarget {
     const { reply, refusal, why } = came;
     const unshown = refusal ? "" : this.whyUnshown();
     if (unshown) return this.notOpened(line, name, path, unshown);
-    this.list(line, came);
+    const gesture = isMade ? "made" : null;
+    this.list(line, came, gesture);
     if (!refusal) {
-      this.take({ line, reply, file: { path, bytes, ...mark }, ...(instead && { instead }) });
+      this.take({ line, reply, file: { path: isMade ? null : path, bytes, ...mark }, ...(instead && { instead }), ...(gesture && { gesture }) });
       this.changes = new Changes(true);
     }
     this.settle();
     return { replies: [reply], isAccepted: refusal === null, refusal, why };
+  }
+
+  // Opens a map that the page has made, of its members, in Tiled's layout. No file has it yet.
+  async openMade(name, members) {
+    const bytes = this.module.laidOut(new TextEncoder().encode(JSON.stringify(members)), TILED);
+    const mark = { hash: await hashOf(bytes), size: bytes.length, time: 0 };
+    return this.during(this.openFound(name, `${name}.tmj`, { bytes, mark, isMade: true }));
   }
 
   // Why the map that is active in the editor cannot be shown; "" where it can.
