@@ -79,6 +79,7 @@ class Page {
     this.palette = new Palette(bench, this.tilesets);
     this.pictures = new PictureChoice(bench, file => this.panel.keepPicture(file));
     this.documents.newMap = new NewMap(bench, this.pictures);
+    this.layers.askPicture = () => this.pictures.ask("A picture for a new image layer", false);
     this.tilesetPanel = new TilesetPanel(bench, this.tilesets, this.palette, this.pictures);
     this.status = new StatusBar(bench, this.tilesets);
     this.properties = new PropertyPanel(bench);

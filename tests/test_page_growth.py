@@ -5,7 +5,7 @@ farther, and says so."""
 import json
 
 from lib.maps import layers_in
-from page.bench import Bench, choose, layer_of, spelled, standing, take_tile
+from page.bench import Bench, choose, colours_now, layer_of, spelled, standing, take_tile
 from page.browser import ActionChains, Keys
 
 NEEDS_BROWSER = True
@@ -113,7 +113,7 @@ def test_to_the_left_and_up():
         page.drag([(1, 3), (-2, 3)])
         assert size(page) == (32, 16) and standing(page) == (1, 1) and seen(page, (16, 0)) == corner
         [told] = page.notices()
-        assert 'stays at 0, 0 in the file' in told and '16 columns to the right' in told
+        assert 'stays at 0, 0 in the file' in told and '16 columns to the right' in told and 'fractions' not in told
         page.answer('OK')
         page.drag([(20, -1)])
         assert size(page) == (32, 32) and seen(page, (16, 16)) == corner and page.notices() == []
@@ -127,6 +127,22 @@ def test_to_the_left_and_up():
         assert seen(page, (0, 0)) == corner and page.editor.map() == before
         page.ctrl('y')
         assert seen(page, (16, 0)) == corner and size(page) == (32, 16)
+
+
+def test_objects_at_fractions():
+    """Objects at fractions of a pixel lose these where all moves, which is said; an undo gives them back."""
+    told = infinite(chunk(0, 0))
+    told['layers'][-1]['objects'][0].update(x=40.5, y=24)
+    with Plane(told) as page:
+        page.drag([(20, -1)])
+        assert 'fractions' not in page.notices()[0], 'it has none down the map'
+        page.answer('OK')
+        page.ctrl('z')
+    with Plane(told) as page:
+        page.drag([(-1, 3)])
+        assert page.notices()[0].split('\n')[0].endswith('An object lay at fractions of a pixel, and now on whole ones.')
+        page.ctrl('z')
+        assert page.js('return roskevad.editor.map.object(1).object.x') == 40.5
 
 
 def test_all_sides_at_once():
@@ -145,6 +161,30 @@ def test_all_sides_at_once():
         page.ctrl('v')
         page.drag([(24, 11)])
         assert standing(page)[0] == standing(page)[1] and size(page) == (32, 16)
+
+
+def test_before_it_grows():
+    """What would be drawn past an edge is shown there before, under the brush and while a rectangle is dragged; the map grows
+    behind that."""
+    with Plane(infinite(chunk(0, 0))) as page:
+        page.keys('p')
+        points = [page.point(each) for each in ((10, 10), (12, 12), (19, 18))]
+        chain = ActionChains(page.driver, duration=30)
+        hand = chain.w3c_actions.pointer_action
+        hand.move_to_location(*points[0])
+        hand.pointer_down(button=0)
+        for point in points[1:]:
+            hand.move_to_location(*point)
+        chain.perform()
+        page.settle()
+        looks = [[x, y + 3] for x, y in (page.point(each) for each in ((12, 12), (18, 12), (12, 17), (30, 30)))]
+        inside, right, below, beside = colours_now(page, looks)
+        assert right == below and right not in (beside, inside) and size(page) == (16, 16) and spelled(page) == []
+        chain = ActionChains(page.driver, duration=30)
+        chain.w3c_actions.pointer_action.pointer_up(button=0)
+        chain.perform()
+        page.settle()
+        assert size(page) == (32, 32)
 
 
 def test_escape():

@@ -32,7 +32,8 @@ def drop(page, name, data):
 
 
 def set_choice(page, name, value):
-    page.js('const at = document.querySelector(`dialog [name=${arguments[0]}]`); at.value = arguments[1]; at.dispatchEvent(new Event("change", {bubbles: true}))', name, value)
+    page.js('const at = document.querySelector(`dialog [name=${arguments[0]}]`);'
+            'at.value = arguments[1]; at.dispatchEvent(new Event("change", {bubbles: true}))', name, value)
     page.js('return new Promise(done => setTimeout(done, 100))')
     page.settle()
 
@@ -177,6 +178,29 @@ def test_dropped():
         assert (told['width'], told['height'], told['tilewidth']) == (10, 8, 16) and members(page)['image'] == 'tiles.png' and standing(page) == (0, 0)
 
 
+def test_image_layer():
+    """A new image layer has the picture that is chosen for it, as one step; or none yet. Cancel adds none."""
+    with Bench() as page:
+        number, count = page.editor.map()['nextlayerid'], len(page.editor.map()['layers'])
+        choose(page, 'Ground')
+        begin(page, '#add-image-layer')
+        page.fill_in('Cancel')
+        assert not page.texts('#layers .new') and spelled(page) == []
+        begin(page, '#add-image-layer')
+        page.fill_in(file='smoke.png')
+        page.wait(lambda: page.js('return document.activeElement.className') == 'row-field', 'a name is asked for')
+        page.driver.switch_to.active_element.send_keys('Mist', Keys.ENTER)
+        page.settle()
+        assert layer_of(page, 'Mist')['image'] == 'smoke.png' and standing(page) == (1, 1)
+        assert spelled(page)[1:-1] == ['layer add image Mist', f'layer move {number} 1', f'member set layer:{number} image "smoke.png"']
+        begin(page, '#add-image-layer')
+        page.click('#without-picture')
+        page.wait(lambda: page.js('return document.activeElement.className') == 'row-field', 'a name is asked for')
+        page.driver.switch_to.active_element.send_keys(Keys.ENTER)
+        page.settle()
+        assert standing(page) == (2, 2) and len(page.editor.map()['layers']) == count + 2 and layer_of(page, 'Image Layer 2')['image'] == ''
+
+
 def test_uses():
     """Over a tile of the palette it is told whether the map uses it; a tileset that is used says where, and is not removed."""
     with Bench() as page:
@@ -259,7 +283,8 @@ def test_new_maps_of_other_kinds():
         page.fill_in(file='plane.tmj')
         saved = bench.saved('plane.tmj').decode()
         assert json.loads(saved)['infinite'] is True and saved.startswith('{ "compressionlevel":-1,\n "height":'), saved[:60]
-        for kind, more in (('staggered', {'staggeraxis': 'y', 'staggerindex': 'odd'}), ('hexagonal', {'staggeraxis': 'y', 'staggerindex': 'odd', 'hexsidelength': 12})):
+        stagger = {'staggeraxis': 'y', 'staggerindex': 'odd'}
+        for kind, more in (('staggered', stagger), ('hexagonal', {**stagger, 'hexsidelength': 12})):
             begin(page, '#new')
             set_choice(page, 'tiles', '')
             set_choice(page, 'orientation', kind)

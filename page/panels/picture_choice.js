@@ -8,6 +8,8 @@ import { thrownWords } from "../core/thrown_words.js";
 
 const NONE = "There is no picture here: a PNG, JPEG, GIF, WebP or BMP, in the folder or among the chosen files.";
 
+export const NO_PICTURE = Symbol("no picture");
+
 // Words for a picture: its size.
 async function look(place, path) {
   const { width, height } = await pictureIn(place, path);
@@ -20,13 +22,21 @@ export class PictureChoice {
     Object.assign(this, { bench, editor: bench.editor, keep });
   }
 
-  // Asks for a picture, and gives it as { path, bytes, width, height }; null where none was wanted, or it is wrong, which is said.
-  async ask(title) {
+  // Asks for a picture, and gives it as { path, bytes, width, height }; null where none was wanted, or it is wrong, which is said. Where it is
+  // not needed it is `NO_PICTURE` that may be chosen, too.
+  async ask(title, isNeeded = true) {
     const { place } = this.editor;
     const files = (await place.names().catch(() => [])).filter(({ path }) => isPictureName(path));
-    const list = new FileList(title, files, { look: path => look(place, path), none: NONE, fields: place.kind === "served" ? [] : [this.ownField(() => list)] });
+    const list = new FileList(title, files, { look: path => look(place, path), none: NONE, fields: this.fields(() => list, isNeeded) });
     const path = await list.ask();
+    if (list.isWithout) return NO_PICTURE;
     return path ? this.picture(path) : null;
+  }
+
+  fields(listNow, isNeeded) {
+    const own = this.editor.place.kind === "served" ? [] : [this.ownField(listNow)];
+    const without = () => Object.assign(listNow(), { isWithout: true }).dialog.close("");
+    return isNeeded ? own : [...own, element("div", { className: "presets" }, button("Without a picture", "One can be set later", without, { id: "without-picture" }))];
   }
 
   // The button for a picture of this machine.

@@ -36,10 +36,23 @@ export function whyNotGrown(map, { left, top, right, bottom }) {
   return `The map cannot grow there: all its tile layers together have at most ${grouped(MOST_OF_LAYERS)} cells.`;
 }
 
+// How many objects lie at fractions of a pixel that are lost where all moves to the right, or down.
+function fractionsIn(map, right, down) {
+  const isLost = ({ x = 0, y = 0 }) => (right > 0 && !Number.isInteger(x)) || (down > 0 && !Number.isInteger(y));
+  return map.layers.flatMap(layer => layer.data.objects ?? []).filter(isLost).length;
+}
+
 export class MapGrowth {
   constructor(bench) {
     // Whether a macro is open that has a growth and what is drawn there, and the open documents whose growth has moved them, of which that was said.
-    Object.assign(this, { bench, editor: bench.editor, isOpen: false, told: new WeakSet() });
+    Object.assign(this, { bench, editor: bench.editor, isOpen: false, told: new WeakSet(), asked: null, isInfinite: false });
+  }
+
+  // Whether the active map grows where tiles are drawn outside of it.
+  get grows() {
+    const { map } = this.bench;
+    if (map && this.asked !== map) Object.assign(this, { asked: map, isInfinite: this.editor.chunks() !== null });
+    return Boolean(map) && this.isInfinite && !map.selected;
   }
 
   // Has an infinite map grow so that it has a rectangle of cells. `stroke` is the stroke that goes on there: what it has drawn becomes a part of
@@ -55,10 +68,11 @@ export class MapGrowth {
   }
 
   grow({ left, top, right, bottom }, chunks, stroke) {
+    const rounded = fractionsIn(this.bench.map, left, top);
     const lines = [...this.opening(stroke), `extend ${left} ${top} ${right} ${bottom}`];
     const done = this.bench.sayRefusal(this.editor.doLines(lines, { stroke }));
     if (!done.isAccepted) return { moved: [0, 0], why: this.bench.bubble.words };
-    if (left || top) this.note(chunks, left, top);
+    if (left || top) this.note(chunks, left, top, rounded);
     return { moved: [left, top], why: "" };
   }
 
@@ -87,13 +101,14 @@ export class MapGrowth {
   }
 
   // Lines count columns and rows from the corner, which keeps its place on the plane. So a map that grows before it moves there, which is said
-  // once.
-  note({ x, y }, left, top) {
+  // once, and what objects lose each time.
+  note({ x, y }, left, top, rounded) {
     const { document } = this.editor.openDocuments;
-    if (this.told.has(document)) return;
+    if (this.told.has(document) && !rounded) return;
     this.told.add(document);
     const ways = [left && `${left} columns to the right`, top && `${top} rows down`].filter(Boolean).join(" and ");
-    const words = `The map has grown before its first cell, which stays at ${x}, ${y} in the file: there all that was drawn has moved ${ways}. All stays beside each other.`;
-    notice(ABOUT, words, [["OK", () => {}]], "mild");
+    const words = `The map has grown before its first cell, which stays at ${x}, ${y} in the file: there all that was drawn has moved ${ways}.`;
+    const more = rounded ? ` ${rounded === 1 ? "An object" : `${rounded} objects`} lay at fractions of a pixel, and now on whole ones.` : "";
+    notice(ABOUT, words + more, [["OK", () => {}]], "mild");
   }
 }

@@ -60,10 +60,10 @@ export class StrokeTool {
 
   hover(place, event) {
     const { colour, stroke } = this;
-    if (event?.shiftKey && this.start && !stroke) return { ...lineShown(cellsOnLine(this.start, place.cell), cell => this.blockAt(...cell)), colour };
+    if (event?.shiftKey && this.start && !stroke) return { ...lineShown(cellsOnLine(this.start, place.cell), cell => this.blockAt(...cell)), colour, grows: this.bench.growth.grows };
     const { x, y, width, height, values } = this.blockAt(...place.cell);
     const valueAt = values && ((column, row) => values[(row - y) * width + column - x]);
-    return { cells: [x, y, width, height], valueAt, colour };
+    return { cells: [x, y, width, height], valueAt, colour, grows: this.bench.growth.grows };
   }
 
   down(place, event) {
