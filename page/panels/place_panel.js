@@ -197,7 +197,8 @@ export class PlacePanel {
     const [first, ...others] = missing;
     const more = others.length ? ` and ${others.length} more` : "";
     const words = `Not found: ${first}${more}. ${this.editor.place.advice(first)} Its tiles are drawn as numbers.`;
-    return notice("tilesets", words, [["OK", () => {}]], "mild");
+    const find = this.editor.place.kind === "chosen" ? [["Find it", () => byId("files").click(), "Choose the file, and its image"]] : [];
+    return notice("tilesets", words, [...find, ["OK", () => {}]], "mild");
   }
 }
 

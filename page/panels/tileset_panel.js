@@ -99,7 +99,7 @@ export class TilesetPanel {
   // The field of the first id, folded where it is as clear which one it is as can be.
   firstField(first) {
     const unknown = this.tilesets.all.filter(set => set.span === null).length;
-    const doubt = unknown ? ` Of ${unknown} of them it is not known how many tiles they have.` : "";
+    const doubt = unknown ? ` Of ${unknown} of them it is not known how many tiles they have: the last one has room for whole thousands.` : "";
     const words = element("span", { textContent: `Its tiles are counted from this number on, behind those of the others.${doubt}` });
     return element("details", { open: unknown > 0 }, element("summary", { textContent: "Number of its first tile" }), element("label", {}, words, first));
   }
