@@ -5,7 +5,7 @@ farther, and says so."""
 import json
 
 from lib.maps import layers_in
-from page.bench import Bench, choose, colours_now, layer_of, spelled, standing, take_tile
+from page.bench import Bench, choose, colours_now, layer_of, see_colours, spelled, standing, take_tile
 from page.browser import ActionChains, Keys
 
 NEEDS_BROWSER = True
@@ -117,6 +117,7 @@ def test_to_the_left_and_up():
         page.answer('OK')
         page.drag([(20, -1)])
         assert size(page) == (32, 32) and seen(page, (16, 16)) == corner and page.notices() == []
+        see_colours(page, [(13, 19), (14, 19), (16, 19), (17, 19), (18, 19), (20, 15), (28, 28), (31, 31)])
         saved = plane.saved(page)
         drawn = {(x, 19) for x in range(14, 18)} | {(20, 15)}
         assert plane_of(saved) == {**{(x, y): 3 for x in range(16, 32) for y in range(16, 32)}, **dict.fromkeys(drawn, TILE)}
