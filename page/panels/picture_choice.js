@@ -36,7 +36,7 @@ export class PictureChoice {
   fields(listNow, isNeeded) {
     const own = this.editor.place.kind === "served" ? [] : [this.ownField(listNow)];
     const without = () => Object.assign(listNow(), { isWithout: true }).dialog.close("");
-    return isNeeded ? own : [...own, element("div", { className: "presets" }, button("Without a picture", "One can be set later", without, { id: "without-picture" }))];
+    return isNeeded ? own : [...own, element("div", { className: "choice" }, button("Without a picture", "One can be set later", without, { id: "without-picture" }))];
   }
 
   // The button for a picture of this machine.
@@ -50,7 +50,7 @@ export class PictureChoice {
       return list.dialog.close("OK");
     };
     const input = element("input", { type: "file", hidden: true, id: "picture-file", accept: "image/*", onchange: take });
-    return element("div", { className: "presets" }, button("A picture of this machine", "Choose one that is elsewhere", () => input.click(), { id: "own-picture" }), input);
+    return element("div", { className: "choice" }, button("A picture of this machine", "Choose one that is elsewhere", () => input.click(), { id: "own-picture" }), input);
   }
 
   // The path of a picture of this machine, which stands among the others from now on; null where that is refused, which is said.

@@ -29,7 +29,7 @@ export class TilesField {
     this.select.value = path;
     this.words = element("p", { className: "fault", role: "alert" });
     this.cut = element("div", { id: "new-map-cut" });
-    this.element = element("div", { id: "new-map-tiles" }, element("div", { className: "presets" }, element("span", { textContent: "Its tiles" }), this.select, ...this.own()), this.words, this.cut);
+    this.element = element("div", { id: "new-map-tiles" }, element("div", { className: "choice" }, element("span", { textContent: "Its tiles" }), this.select, ...this.own()), this.words, this.cut);
   }
 
   own() {
