@@ -210,13 +210,16 @@ def test_escape():
         page.drag([(15, 3), (16, 3)])
         page.click('#macro')
         assert standing(page) == (1, 1) and size(page) == (32, 16)
-        # With the eraser, and where cells are selected, nothing grows.
+        # With the eraser, by a fill, and where cells are selected, nothing grows.
+        page.keys('f')
+        page.drag([(5, -2)])
+        assert page.bubble() == 'A fill ends where the map does: the brush makes it larger.'
         page.keys('e')
-        page.drag([(31, 3), (33, 3)])
+        page.drag([(5, 0), (5, -2)])
         page.keys('r')
         page.drag([(1, 1), (2, 2)])
         page.keys('b')
-        page.drag([(31, 3), (33, 3)])
+        page.drag([(5, 0), (5, -2)])
         assert size(page) == (32, 16)
 
 

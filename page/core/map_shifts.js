@@ -7,14 +7,18 @@ const STAYS = [0, 0];
 
 const sum = all => all.reduce(([x, y], [right, down]) => [x + right, y + down], STAYS);
 
+// At which word of a line the columns stand, with the rows behind them.
+const AT = { extend: 1, resize: 3 };
+
 function ofLine(line) {
-  const words = line.split(" ");
-  if (wordOf(line) === "extend") return [Number(words[1]), Number(words[2])];
-  return wordOf(line) === "resize" ? [Number(words[3]), Number(words[4])] : STAYS;
+  const at = AT[wordOf(line)];
+  return at ? line.split(" ", at + 2).slice(at).map(Number) : STAYS;
 }
 
 // Of an accepted line, by what is told of it, and by the lines of the steps of its document.
-export function shiftOf(line, { became, before, index }, steps) {
+export function shiftOf(line, { outline, cells, became, before, index }, steps) {
+  // Another size is told so.
+  if (!outline || cells !== "all") return STAYS;
   if (became !== "turned") return ofLine(line);
   const lines = steps.linesOf(Math.min(before, index), Math.max(before, index)) ?? [];
   const sign = index < before ? -1 : 1;

@@ -17,7 +17,7 @@ export class CutPreview {
   // `numbersIn(form)` gives { side, tall, margin, spacing } of what is typed.
   constructor(picture, numbersIn) {
     Object.assign(this, { picture, numbersIn, image: null });
-    this.canvas = element("canvas", { id: "cut-preview", width: WIDTH, height: HEIGHT });
+    this.canvas = element("canvas", { id: "cut-preview", width: WIDTH, height: HEIGHT, ariaHidden: "true" });
     this.words = element("p", { id: "cut-words", role: "status" });
     this.element = element("div", {}, this.canvas, this.words);
   }

@@ -46,6 +46,7 @@ export class FillTool {
   // The editor says in its own words why it refuses a fill.
   fill([x, y]) {
     const { bench } = this;
+    if (!bench.map.isInside(x, y) && bench.growth.grows) return bench.say("A fill ends where the map does: the brush makes it larger.");
     if (bench.map.isInside(x, y) && !bench.map.isReached(x, y)) return bench.say(BARS.selection);
     return bench.act([`fill ${bench.layerId} ${x} ${y} ${bench.fillValue}`]);
   }

@@ -60,7 +60,7 @@ export class MapGrowth {
   reach(box, stroke = null) {
     const { map } = this.bench;
     const isInside = box[0] >= 0 && box[1] >= 0 && box[0] + box[2] <= map.width && box[1] + box[3] <= map.height;
-    const chunks = isInside || map.selected ? null : this.editor.chunks();
+    const chunks = isInside || !this.grows ? null : this.editor.chunks();
     if (!chunks) return { moved: [0, 0], why: "" };
     const sides = sidesFor(map, chunks, box);
     const why = whyNotGrown(map, sides);
@@ -72,7 +72,8 @@ export class MapGrowth {
     const lines = [...this.opening(stroke), `extend ${left} ${top} ${right} ${bottom}`];
     const done = this.bench.sayRefusal(this.editor.doLines(lines, { stroke }));
     if (!done.isAccepted) return { moved: [0, 0], why: this.bench.bubble.words };
-    if (left || top) this.note(chunks, left, top, rounded);
+    const { x, y } = this.editor.chunks();
+    this.note([x, y], x + left - chunks.x, y + top - chunks.y, rounded);
     return { moved: [left, top], why: "" };
   }
 
@@ -100,9 +101,10 @@ export class MapGrowth {
     return true;
   }
 
-  // Lines count columns and rows from the corner, which keeps its place on the plane. So a map that grows before it moves there, which is said
-  // once, and what objects lose each time.
-  note({ x, y }, left, top, rounded) {
+  // Where the corner of a map keeps its place on the plane, all that is in it moves there, which is said once, and what objects lose each time.
+  // `left` and `top` are by how much it has moved.
+  note([x, y], left, top, rounded) {
+    if (!left && !top) return;
     const { document } = this.editor.openDocuments;
     if (this.told.has(document) && !rounded) return;
     this.told.add(document);
