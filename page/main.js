@@ -22,11 +22,13 @@ import { handlePlaces } from "./view/object_handles.js";
 import { MOST_WHOLE, Overlay } from "./view/overlay.js";
 import { MiniMap } from "./view/mini_map.js";
 import { undrawnFeatures } from "./view/undrawn_features.js";
+import { NewMap } from "./panels/new_map.js";
 import { endNotice, notice } from "./panels/notice_bars.js";
 import { ObjectList } from "./panels/object_list.js";
 import { loadModule } from "./core/own_module.js";
 import { Palette } from "./panels/palette.js";
 import { EDGE_KEYS, Panels } from "./panels/panels.js";
+import { PictureChoice } from "./panels/picture_choice.js";
 import { PlacePanel } from "./panels/place_panel.js";
 import { ServedFiles } from "./files/places.js";
 import { Player } from "./core/player.js";
@@ -75,7 +77,10 @@ class Page {
     this.startPage = new StartPage(bench, this.documents);
     this.miniMap.isBusy = () => bench.isHeld;
     this.palette = new Palette(bench, this.tilesets);
-    this.tilesetPanel = new TilesetPanel(bench, this.tilesets, this.palette);
+    this.pictures = new PictureChoice(bench, file => this.panel.keepPicture(file));
+    this.documents.newMap = new NewMap(bench, this.pictures);
+    this.layers.askPicture = () => this.pictures.ask("A picture for a new image layer", false);
+    this.tilesetPanel = new TilesetPanel(bench, this.tilesets, this.palette, this.pictures);
     this.status = new StatusBar(bench, this.tilesets);
     this.properties = new PropertyPanel(bench);
     this.objects = new ObjectList(bench, this.tools);
@@ -113,6 +118,7 @@ class Page {
 
   listen() {
     const { bench, editor, overlay, panel, view } = this;
+    panel.onPicture = path => (this.editor.map ? this.tilesetPanel.makeOf(path) : this.documents.newMap.make(path));
     panel.onTilesets = () => this.showTilesets().catch(fault => console.warn(fault));
     editor.addEventListener("map", ({ detail }) => (this.showing = this.showMap(detail)));
     editor.addEventListener("cells", ({ detail }) => view.refresh(detail));
@@ -144,6 +150,7 @@ class Page {
   async showMap(parts) {
     const { active } = this.editor.openDocuments;
     const isOther = active !== this.shownDocument;
+    const { shift } = this.editor;
     this.shownDocument = active;
     if (isOther) this.bench.tell("document");
     const kept = isOther ? this.layouts.enter(active) : null;
@@ -153,7 +160,7 @@ class Page {
     // Where the map of a document cannot be shown, no hand is on it.
     this.view.box.inert = active !== null && !this.editor.map;
     if (isOther && !kept) this.showFirst();
-    this.view.takeMap(isOther ? null : parts);
+    this.view.takeMap(isOther ? null : parts, isOther ? null : shift);
     this.showNotDrawn();
     this.overlay.redraw();
     await this.editor.during(this.showTilesets());

@@ -121,7 +121,7 @@ def test_drag():
 
 
 def test_drag_in_a_group():
-    """A layer stays in its group: beside it nothing is sent, and the page says so. Escape ends a drag."""
+    """A layer is dragged among those of its group. Escape ends a drag."""
     with Bench() as page:
         make_room(page)
         houses = layer_of(page, 'Houses')
@@ -132,12 +132,6 @@ def test_drag_in_a_group():
         assert ids_of(layer_of(page, 'Houses')['layers']) == [*inside[1:], inside[0]]
         assert spelled(page) == [f'layer move {inside[0]} {len(inside) - 1}']
         things = layer_of(page, 'Things')['id']
-        for goal in (things, ground):
-            away = point_in(page, goal)
-            hold(page, point_in(page, inside[0]), away, [away[0], away[1] + 1])
-            assert 'no-drop' in page.find('#layers').get_attribute('class')
-            let_go(page)
-            assert len(spelled(page)) == 1 and 'stays in its group' in page.bubble()
         hold(page, point_in(page, ground), point_in(page, things), point_in(page, things, 0.1))
         page.driver.switch_to.active_element.send_keys(Keys.ESCAPE)
         let_go(page)

@@ -2,19 +2,20 @@
 """Measures how long the page takes in Chromium on a map of eight layers of 1,024 by 1,024 cells: from
 the hand, or from the key, to the picture, and how much of that is its work; a stamp of a whole layer
 takes as few lines as have room for it, and is one step. And how long it works on an arrow key that moves
-one of 4,000 objects, and on a stroke beside a list of 450 steps. docs/speed.md has what it measures on a machine that does nothing else; here it may
-take longer, and is tried several times."""
+one of 4,000 objects, on a stroke beside a list of 450 steps, and on one in which a map grows. docs/speed.md has what
+it measures on a machine that does nothing else; here it may take longer, and is tried several times."""
 import json
 
 from page.bench import Bench, standing, take_tile
 from page.browser import Keys
 from page.many_objects import crates
+from test_page_growth import Plane, chunk, infinite
 
 NEEDS_BROWSER = True
 ALONE = True
 # The most that the browser may measure, in milliseconds: docs/speed.md has what it measures on a
 # machine that does nothing else.
-STROKE, TURN, STAMP, NUDGE = 16, 50, 1500, 30
+STROKE, TURN, STAMP, NUDGE, GROWTH = 16, 50, 1500, 30, 50
 # How much longer it may take here, and how often it is tried: other steps may take the processors.
 SLACK, TRIES = 4, 5
 LAYERS, SIDE = 8, 1024
@@ -222,3 +223,26 @@ def test_many_steps():
             if len(told) > 1 and min(times[False]) <= BESIDE * min(times[True]):
                 break
         assert min(times[False]) <= BESIDE * min(times[True]), told
+
+
+GROWS = '''
+const {bench} = roskevad, found = [];
+for (let at = 0; at < arguments[0]; at++) {
+  const start = performance.now();
+  bench.growth.reach([1000, 3, 1, 1]);
+  found.push(performance.now() - start);
+  bench.growth.end(true);
+}
+return found;'''
+
+
+def test_growth():
+    """The event in which an infinite map of 1,000 by 1,000 cells with four layers grows takes at most 50 ms."""
+    chunks = [chunk(x, y, 40, 40) for x in range(0, 1000, 40) for y in range(0, 1000, 40)]
+    with Plane(infinite(*chunks, layers=4)) as page:
+        told = []
+        for _ in range(TRIES):
+            told += page.js(GROWS, TRIES)
+            if min(told) <= GROWTH:
+                break
+        assert min(told) <= GROWTH, told

@@ -171,7 +171,7 @@ def add_and_remove(bench, source):
         assert cell(page, ground, 3, 20) == 33 + 11
         count = standing(page)
         page.click('#remove-tileset')
-        assert 'has tiles of this tileset' in page.bubble() and standing(page) == count
+        assert page.bubble() == 'The map uses walls: 1 cell of Ground. Replace these or empty them first.' and standing(page) == count
         page.ctrl('z')
         page.click('#remove-tileset')
         assert spelled(page)[-1] == 'tileset remove 33' and page.texts('#tilesets option') == before
@@ -185,6 +185,29 @@ def test_add_and_remove():
 
 def test_add_and_remove_of_a_folder():
     add_and_remove(Bench(served=True), 'walls.tsj')
+
+
+def test_behind_a_lost_one():
+    """Behind a tileset that is not found, of which nobody knows how many tiles it has, another one begins at the next thousand;
+    the file that is lost is chosen from what is said of it."""
+    bench = Bench(empty=True)
+    with bench as page:
+        town = json.loads((bench.folder / 'town.tmj').read_text())
+        town['tilesets'] = [{'firstgid': 5, 'source': 'lost.tsx'}]
+        ground = next(layer for layer in town['layers'] if layer['name'] == 'Ground')
+        ground['data'][0] = 5 + 1003
+        (bench.folder / 'lost.tmj').write_text(json.dumps(town))
+        page.choose_files(bench.folder / 'lost.tmj')
+        [told] = page.notices()
+        assert 'Not found: lost.tsx' in told
+        page.js('document.getElementById("files").addEventListener("click", event => { event.preventDefault(); window.isAsked = true; })')
+        page.answer('Find it')
+        assert page.js('return window.isAsked') is True
+        page.find('#add-tileset').click()
+        page.wait(lambda: page.texts('dialog[open]'), 'a dialog')
+        assert 'room for whole thousands' in page.find('#choose-file details').text
+        page.fill_in(file='walls.tsj')
+        assert spelled(page) == ['tileset add 2005 walls.tsj']
 
 
 # ---- hostile files

@@ -89,7 +89,7 @@ def test_standing():
 def test_nothing_open():
     """Without a map Save says to open one; what can be done with a map alone is grey, and says why."""
     with Bench(empty=True) as page:
-        for css in ('#save', '#save-as', '#resize', '#undo', '#redo', '#macro', '#take', '#layer-up', '#add-tile-layer', '#remove-layer', '#add-tileset'):
+        for css in ('#save', '#save-as', '#resize', '#undo', '#redo', '#macro', '#take', '#layer-up', '#add-tile-layer', '#remove-layer', '#new-tileset'):
             at = page.find(css)
             assert not at.is_enabled() and 'Open a map first' in at.get_attribute('title'), (css, at.get_attribute('title'))
         page.ctrl('s')

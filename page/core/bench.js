@@ -5,6 +5,7 @@ import { CarriedTiles } from "../tools/carried_tiles.js";
 import { Clipboard } from "../tools/clipboard.js";
 import { isField } from "../panels/dom.js";
 import { Macros } from "./macros.js";
+import { MapGrowth } from "../tools/map_growth.js";
 import { BarredLayers, whyBarred, whyNoTiles } from "../tools/barred_layers.js";
 import { saidOf } from "./refusals.js";
 
@@ -26,6 +27,7 @@ export class Bench extends EventTarget {
     this.pickObject = () => {};
     this.clipboard = new Clipboard(this);
     this.macros = new Macros(this);
+    this.growth = new MapGrowth(this);
     // The stamp in hand: the numbers that its tiles have on the active map; and what it is, as a copy (see tile_numbers.js).
     this.stamp = null;
     this.hand = null;

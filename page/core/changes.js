@@ -13,6 +13,13 @@ export class Changes {
     Object.assign(this, { hasOutline: isAll, hasSelection: isAll, objects: new Set(), layers: new Set(), hasOwn: false });
     // Whether any cell may be another one; else by their layers the boxes in which they may, [x0, y0, x1, y1].
     Object.assign(this, { hasAllCells: isAll, boxes: new Map() });
+    // By how many columns and rows all in the map has moved.
+    this.shift = [0, 0];
+  }
+
+  // All in the map has moved, too.
+  move([right, down]) {
+    this.shift = [this.shift[0] + right, this.shift[1] + down];
   }
 
   // Takes what a line did. The cells of a line of a stroke are drawn already.

@@ -3,8 +3,6 @@
 import { NO_MAP, allow, ask, byId, destroying, element } from "../panels/dom.js";
 import { iconButton } from "../panels/icons.js";
 import { KINDS } from "./kinds.js";
-import { MAX_CELLS } from "../../js/limits.js";
-import { grouped } from "../files/image_files.js";
 import { isOfMap } from "./map_refusals.js";
 import { FileList } from "../files/file_list.js";
 import { MapProbe } from "../files/map_probe.js";
@@ -13,11 +11,9 @@ import { OutsideChanges } from "../files/outside_changes.js";
 import { IN_XML, isXmlMapName } from "../files/places.js";
 import { saidOf } from "./refusals.js";
 import { thrownWords } from "./thrown_words.js";
+import { whyTooMany } from "../panels/new_map.js";
+import { resizeFields } from "../panels/resize_fields.js";
 import { Tabs, titleOf } from "../panels/tabs.js";
-
-// Sizes of a new map, in cells, and of its tiles, in pixels.
-const SIZES = [["Room 20 × 15", 20, 15], ["Screen 40 × 30", 40, 30], ["World 100 × 100", 100, 100]];
-const SIDES = [8, 16, 32, 64];
 
 // What may be answered where a document is closed.
 const SAVE = "Save and close";
@@ -25,16 +21,12 @@ const DISCARD = destroying("Discard");
 const WAIT = "Wait, then close";
 const LEAVE = destroying("Leave it");
 
-// Why a map has too many cells for its columns and rows; "" where it has not.
-function whyTooMany(width, height) {
-  const count = width * height;
-  return count > MAX_CELLS ? `A map has at most ${grouped(MAX_CELLS)} cells: ${grouped(width)} columns and ${grouped(height)} rows make ${grouped(count)}.` : "";
-}
-
 export class Documents {
   constructor(bench) {
     this.bench = bench;
     this.editor = bench.editor;
+    // The dialog for a new map: the page sets it.
+    this.newMap = null;
     byId("file-actions").append(
       iconButton("new", "New", "New map", () => this.make(), { id: "new" }),
       iconButton("open", "Open", "Open a map (Ctrl+O)", () => this.open(), { id: "open" }),
@@ -62,28 +54,8 @@ export class Documents {
     byId("folder").title = `Where the maps are: ${this.editor.place.title}`;
   }
 
-  async make() {
-    await ask("A new map", [
-      { name: "name", label: "Name", value: "map", kind: KINDS.document },
-      { label: "Size", presets: SIZES.map(([text, width, height]) => [text, { width, height }]) },
-      { name: "width", label: "Columns", value: 40, kind: KINDS.cells },
-      { name: "height", label: "Rows", value: 30, kind: KINDS.cells },
-      { label: "Tiles", presets: SIDES.map(side => [`${side} × ${side}`, { side, tall: side }]) },
-      { name: "side", label: "Width of a tile in pixels", value: 16, kind: KINDS.side },
-      { name: "tall", label: "Height of a tile in pixels", value: 16, kind: KINDS.side },
-      { name: "source", label: "Its tileset", value: this.bench.map?.data.tilesets.find(set => set.source)?.source ?? "tiles.tsx", kind: KINDS.text },
-    ], ["OK"], made => this.made(made));
-  }
-
-  // Makes a map for the dialog. It would be saved under its name, which no file may have.
-  async made({ name, width, height, side, tall, source }) {
-    const words = whyTooMany(width, height);
-    if (words) return { words };
-    const file = `${name}.tmj`;
-    const names = await this.editor.during(this.editor.place.names().catch(() => []));
-    const isOpen = this.editor.openDocuments.byName.has(name);
-    if (!isOpen && names.some(({ path }) => path === file)) return { words: `The file ${file} is there already. Choose another name.`, field: "name" };
-    return this.bench.attempt([`new ${name} ${width} ${height} ${side} ${tall} ${source}`], { 11: "name" });
+  make() {
+    return this.newMap.make();
   }
 
   // ---- opening
@@ -182,12 +154,7 @@ export class Documents {
   async resize() {
     const map = this.bench.map;
     if (!map) return;
-    await ask("Another size of the map", [
-      { name: "width", label: "Columns", value: map.width, kind: KINDS.cells },
-      { name: "height", label: "Rows", value: map.height, kind: KINDS.cells },
-      { name: "right", label: "Move the map right by", value: 0, kind: KINDS.coordinate },
-      { name: "down", label: "and down by", value: 0, kind: KINDS.coordinate },
-    ], ["OK"], ({ width, height, right, down }) => {
+    await ask("Another size of the map", resizeFields(map), ["OK"], ({ width, height, right, down }) => {
       const words = whyTooMany(width, height);
       return words ? { words } : this.bench.attempt([`resize ${width} ${height} ${right} ${down}`]);
     });

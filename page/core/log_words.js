@@ -35,6 +35,7 @@ const OF_GESTURES = {
   cut: ([, layer, , , width, height], names) => `Cut from ${names.layer(layer)}: ${width} × ${height}`,
   empty: ([, layer], names) => `Empty the selected cells of ${names.layer(layer)}`,
   paste: () => "Drop the selection, to paste",
+  made: ([, name]) => `New map ${name}`,
 };
 
 const OF_WORDS = {

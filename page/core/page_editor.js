@@ -4,6 +4,7 @@
 // Lines are done at once, in the order in which they come. Of `open` and `save` the file is read and written beside them: these lines are
 // read before they are done, and those that close a document, so that none is closed whose save has not ended.
 import { Editor, FORMS, NoMemory, VERSION, documentName } from "../../js/roskevad.js";
+import { noteOf } from "../../js/tiled_maps.js";
 import { Changes } from "./changes.js";
 import { FreshEditor } from "./fresh_editor.js";
 import { Journal } from "./journal.js";
@@ -11,6 +12,7 @@ import { takesFractions } from "./fractions.js";
 import { cellsIn } from "./log_words.js";
 import { isAboutDocuments, isLook, isTurn, wordOf } from "./line_kinds.js";
 import { MapModel } from "./map_model.js";
+import { shiftOf } from "./map_shifts.js";
 import { hashOf } from "../files/hashes.js";
 import { FileNames, folderOf, freeName } from "../files/names.js";
 import { OpenDocuments } from "./open_documents.js";
@@ -31,6 +33,8 @@ const MOST_BEHIND = 10_000;
 // How long a part of lines takes that are played, and how often it is looked whether something has ended, in milliseconds.
 const SHORT = 40;
 const SOON = 20;
+// The number of Tiled's layout of a map's text.
+const TILED = 0;
 // By how many steps the ends of those that are listed move.
 const LISTED = 50;
 
@@ -80,6 +84,8 @@ export class PageEditor extends EventTarget {
     Object.assign(this, { isUnshown: false, isAside: false });
     this.steps = 200;
     this.lineCount = 0;
+    // By how many columns and rows all in the map has moved that is told next.
+    this.shift = [0, 0];
     this.listed = [];
     this.changes = new Changes();
     // Writes that have not ended, by their paths, and how many calls wait for something.
@@ -200,7 +206,10 @@ export class PageEditor extends EventTarget {
   take(entry, told = null, isDrawn = false) {
     this.openDocuments.note(entry, () => told);
     this.journal.add(entry);
-    if (told) this.changes.take(told, isDrawn);
+    if (!told) return;
+    this.changes.take(told, isDrawn);
+    const { document } = this.openDocuments;
+    if (document) this.changes.move(shiftOf(entry.line, told, document.steps));
   }
 
   // Whether a line would close a document whose save has not ended.
@@ -234,6 +243,7 @@ export class PageEditor extends EventTarget {
     if (this.listed.length) this.tell("lines", this.listed.splice(0));
     this.tell("done", stroke);
     const isOther = !replaced || changes.hasMembers || this.isUnshown !== isUnshown;
+    this.shift = changes.shift;
     if (isOther) this.tell("map", changes.parts);
     else if (changes.hasCells) this.tell("cells", changes.parts);
     if (replaced?.length && !isOther) this.tell("objects", replaced);
@@ -283,6 +293,19 @@ export class PageEditor extends EventTarget {
     const now = [...ids].map(id => [id, objects.has(id) ? objects.get(id) : null]);
     const found = now.map(([id, object]) => [id, object && { members: object.members, layer: object.layer.id }]);
     return this.map.take(found, this.editor.lastObjectId() + 1, layer => active._ids("object_ids", layer));
+  }
+
+  // How an infinite map is cut into chunks: { width, height } of each, and at which column and row of the plane the corner of the active map
+  // stands, { x, y }. null where it is none.
+  chunks() {
+    const { chunkwidth, chunkheight, x, y } = noteOf(this.editor._parsed("map_head") ?? {});
+    return chunkwidth > 0 && chunkheight > 0 ? { width: chunkwidth, height: chunkheight, x, y } : null;
+  }
+
+  // The own members of a layer of the active map, and its properties.
+  layerMembersOf(id) {
+    const { _owner: owner, _now: members } = this.editor.active.layers.get(id);
+    return { own: owner.own(members), properties: members.properties ?? [] };
   }
 
   // All that the active map says of an object: the page's own map has no more than what it shows.
@@ -346,7 +369,7 @@ export class PageEditor extends EventTarget {
 
   // Opens the bytes that a file had. `instead` names the document whose place and file the new one takes. A map that cannot be shown is
   // closed again, and the journal never has it.
-  async openFound(name, word, { bytes, mark }, instead = null) {
+  async openFound(name, word, { bytes, mark, isMade = false }, instead = null) {
     const line = `open ${name} ${word}`;
     const path = this.names.pathOf(word);
     await this.ready();
@@ -360,13 +383,21 @@ export class PageEditor extends EventTarget {
     const { reply, refusal, why } = came;
     const unshown = refusal ? "" : this.whyUnshown();
     if (unshown) return this.notOpened(line, name, path, unshown);
-    this.list(line, came);
+    const gesture = isMade ? "made" : null;
+    this.list(line, came, gesture);
     if (!refusal) {
-      this.take({ line, reply, file: { path, bytes, ...mark }, ...(instead && { instead }) });
+      this.take({ line, reply, file: { path: isMade ? null : path, bytes, ...mark }, ...(instead && { instead }), ...(gesture && { gesture }) });
       this.changes = new Changes(true);
     }
     this.settle();
     return { replies: [reply], isAccepted: refusal === null, refusal, why };
+  }
+
+  // Opens a map that the page has made, of its members, in Tiled's layout. No file has it yet.
+  async openMade(name, members) {
+    const bytes = this.module.laidOut(new TextEncoder().encode(JSON.stringify(members)), TILED);
+    const mark = { hash: await hashOf(bytes), size: bytes.length, time: 0 };
+    return this.during(this.openFound(name, `${name}.tmj`, { bytes, mark, isMade: true }));
   }
 
   // Why the map that is active in the editor cannot be shown; "" where it can.

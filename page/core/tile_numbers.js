@@ -17,6 +17,8 @@ export const DIAGONAL = 0x20000000;
 export const HEXAGON = 0x10000000;
 
 const LONGEST_NAME = 80;
+// For a multiple of how many tiles a tileset has room of which it is not known how many it has.
+const ROOM = 1000;
 
 // The tileset that has a number: the one with the greatest first id that is not above it; null where there is none. `sets` are sorted by
 // their first ids.
@@ -152,13 +154,17 @@ export class TileNumbers {
     return isHere ? (value - from.first + to.first) >>> 0 : 0;
   }
 
-  // The first id for a tileset that is added to the active map: behind all tiles of those that are there, and behind all that it uses.
+  // The first id for a tileset that is added to the active map: behind all tiles of those that are there, and behind all that it uses. Where
+  // it is not known how many tiles the last one has, it has room for whole thousands.
   nextFirst() {
     const { sets, sizes, all } = this.tilesets;
     const { map } = this.editor;
     const known = [...sets.map(set => set.first + (sizes.get(set.key) ?? 1)), ...all.map(set => set.first + (set.span ?? 1))];
     const used = map.layers.map(layer => greatestIn(map, layer) + 1);
-    return [...known, ...used].reduce((greatest, end) => Math.max(greatest, end), 1);
+    const next = [...known, ...used].reduce((greatest, end) => Math.max(greatest, end), 1);
+    const last = sets.at(-1);
+    const isKnown = !last || sizes.get(last.key) || all.find(set => set.first === last.first)?.span;
+    return isKnown ? next : last.first + Math.ceil((next - last.first) / ROOM) * ROOM;
   }
 
   // The id behind the last tile that a copy has of a tileset.

@@ -10,7 +10,7 @@ const WORDS = { width: "size", height: "size", rotation: "turn", polygon: "corne
 const isRecord = value => typeof value === "object" && value !== null;
 
 // Whether a value is a number that no line says, or has one in it.
-function hasFraction(value) {
+export function hasFraction(value) {
   if (typeof value === "number") return !Number.isSafeInteger(value);
   return isRecord(value) && Object.values(value).some(hasFraction);
 }

@@ -39,6 +39,7 @@ export class Commands {
   show() {
     const parts = PARTS.map(([head, css]) => ({ head, items: [...document.querySelectorAll(css)].filter(each => each.id !== "menu-button").map(itemOf) }));
     parts[0].items.push(...this.page.recent.items());
+    parts.find(({ head }) => head === "Layers").items.push(...this.page.layers.acts.items());
     showMenu([parts[0], { head: "Edit", items: this.editItems() }, ...parts.slice(1)], byId("menu-button"), "Menu");
   }
 
@@ -73,7 +74,7 @@ export class Commands {
       { text: "Rename", keys: "F2", picture: "rename", call: () => layers.rename() },
       { text: isSeen ? "Hide" : "Show", picture: isSeen ? "hidden" : "seen", call: () => bench.act([`layer show ${layer.id} ${isSeen ? "no" : "yes"}`]) },
       { text: locked ? "Unlock" : "Lock", picture: locked ? "unlocked" : "locked", call: () => bench.act([lockLine(layer, !locked)]) },
-      null, ...buttons(["layer-up", "layer-down"]), null,
+      null, ...buttons(["layer-up", "layer-down"]), null, ...layers.acts.items(), null,
       ...buttons(["add-tile-layer", "add-object-layer", "add-image-layer", "add-group-layer"]), null, ...buttons(["remove-layer"]),
     ];
   }

@@ -84,6 +84,7 @@ export function mark(input, words) {
 
 // ---- dialogs with fields
 function fieldOf(field) {
+  if (field.element) return field.element;
   if (field.presets) return presetsOf(field);
   const choices = field.choices?.map(choice => element("option", { value: choice }));
   const list = choices && element("datalist", { id: `choices-${field.name}` }, ...choices);
@@ -143,6 +144,7 @@ class Question {
     const buttons = all.map(({ text }) => element("button", { type: "submit", value: text, textContent: text }));
     const cancel = button("Cancel", "Esc", () => this.dialog.close(""));
     if (!fields.length) (buttons.find(each => each.value === safe) ?? cancel).autofocus = true;
+    for (const field of fields) field.begin?.(this.form);
     this.form.append(this.said, element("div", { className: "answers" }, ...buttons, cancel));
     this.form.onsubmit = event => {
       event.preventDefault();
@@ -190,7 +192,8 @@ class Question {
 }
 
 // Asks for fields, and gives what was typed by their names, with the answer that was clicked; null where nothing was wanted. A field is
-// { name, label, value, kind }, with one of KINDS, which says what it takes. An answer is a text, or a `destroying` one. `take` does what was
+// { name, label, value, kind }, with one of KINDS, which says what it takes, or an `element` of its own, for which `begin` is called with the
+// form. An answer is a text, or a `destroying` one. `take` does what was
 // asked for; where that is refused, it gives { words, field }: the dialog stays open, and marks the field. With a `refusal` it begins with one.
 export function ask(title, fields, answers = ["OK"], take = () => null, refusal = null) {
   return new Question(title, fields, answers, take).ask(refusal);

@@ -1,10 +1,18 @@
 // SPDX-License-Identifier: MIT OR Apache-2.0
-// A drag of a layer in the list: it shows where the layer would go among those of its group, and sends one line at the end.
+// A drag of a layer in the list: a line shows where the layer would go, in its group, in another one or in none, and one line of the session
+// is sent at the end.
+import { layersIn, lineTo, whyNotInto } from "../tools/layer_places.js";
 
-// How far the hand moves before a press is a drag, how near to an edge the list scrolls, and by how much: in pixels.
+// How far the hand moves before a press is a drag, how near to an edge the list scrolls, by how much, and how much farther to the right the
+// rows of a group begin: in pixels.
 const FAR = 4;
 const EDGE = 14;
 const SCROLLED = 6;
+export const INDENT = 14;
+// Which part of the row of a group, above and below its middle, is that of what goes into it.
+const INTO = 0.25;
+
+const within = (number, least, most) => Math.max(least, Math.min(most, number));
 
 export class LayerDrag {
   constructor(panel) {
@@ -29,7 +37,7 @@ export class LayerDrag {
     const frame = this.list.getBoundingClientRect();
     if (event.clientY < frame.top + EDGE) this.list.scrollTop -= SCROLLED;
     if (event.clientY > frame.bottom - EDGE) this.list.scrollTop += SCROLLED;
-    this.goal = this.goalAt(event.clientY);
+    this.goal = this.goalAt(event.clientX, event.clientY);
     this.mark();
   }
 
@@ -44,42 +52,71 @@ export class LayerDrag {
     return this.bench.map?.layer(this.from.id) ?? null;
   }
 
-  // Where the layer would go at a height: its place, and the row above or below which that is; null outside of its group.
-  goalAt(y) {
-    const { layer } = this;
+  // Where the layer would go at a place of the window: { group, place, mark, row, depth, why }, with the row at which that is shown, by the
+  // class `mark`, how deep it would stand, and why it cannot go there, or "".
+  goalAt(x, y) {
+    const { layer, panel: { listed } } = this;
     if (!layer) return null;
-    const all = this.panel.listed.filter(each => each.group === layer.group).map(each => this.blockOf(each));
-    const isOutside = y < all[0].top - FAR || y > all[all.length - 1].bottom + FAR;
-    if (layer.group && isOutside) return null;
-    const others = all.filter(block => block.layer !== layer);
-    const above = others.filter(block => (block.top + block.bottom) / 2 < y).length;
-    const place = others.length - above;
-    if (place === layer.place) return { place, row: null };
-    const isLast = above === others.length;
-    return { place, row: isLast ? others[above - 1].last : others[above].first, isBelow: isLast };
+    const frames = listed.map(each => this.rowOf(each).getBoundingClientRect());
+    const found = frames.findIndex(({ bottom }) => y < bottom);
+    const at = found < 0 ? listed.length - 1 : found;
+    const share = within((y - frames[at].top) / frames[at].height, 0, 1);
+    const isInto = listed[at].type === "group" && Math.abs(share - 0.5) < INTO;
+    const goal = isInto ? this.topOf(listed[at]) : this.gap(at + (share < 0.5 ? 0 : 1), x);
+    const isSame = listed[at] === layer || (goal.group === layer.group && goal.place === layer.place);
+    return { ...goal, isSame, why: isSame ? "" : whyNotInto(this.bench.map, layer, goal.group) };
   }
 
-  // The rows of a layer and of all in it, from top to bottom.
-  blockOf(layer) {
-    const { listed, rows } = this.panel;
-    const at = listed.indexOf(layer);
-    const next = listed.findIndex((each, place) => place > at && each.depth <= layer.depth);
-    const [first, last] = [rows.get(layer.id), rows.get(listed[(next < 0 ? listed.length : next) - 1].id)];
-    return { layer, first, last, top: first.getBoundingClientRect().top, bottom: last.getBoundingClientRect().bottom };
+  rowOf({ id }) {
+    return this.panel.rows.get(id);
+  }
+
+  // On top of all in a group.
+  topOf(group) {
+    return { group, place: this.others(group).length, row: this.rowOf(group), mark: "drop-into", depth: group.depth + 1 };
+  }
+
+  // The layers of a group but the one that is dragged.
+  others(group) {
+    return layersIn(this.bench.map, group).filter(each => each !== this.layer);
+  }
+
+  // Between a row and the one above it. Where a group ends there, the layer stays as deep as it was, or as the hand has gone to the side.
+  gap(at, x) {
+    const { listed } = this.panel;
+    const [above, below] = [listed[at - 1] ?? null, listed[at] ?? null];
+    const wanted = this.layer.depth + Math.round((x - this.from.x) / INDENT);
+    const isAtBelow = !above || (below && (below.group === above || wanted <= below.depth));
+    if (isAtBelow) return this.beside(below, 1, { row: this.rowOf(below), mark: "drop-above" });
+    let over = above;
+    while (over.depth > Math.max(wanted, below?.depth ?? 0)) over = over.group;
+    return this.beside(over, 0, { row: this.rowOf(above), mark: "drop-below" });
+  }
+
+  // Below a layer in its group, or by 1 above it.
+  beside(other, by, shown) {
+    const place = this.others(other.group).filter(each => each.place < other.place + by).length;
+    return { group: other.group, place, depth: other.depth, ...shown };
   }
 
   mark() {
-    for (const row of this.list.children) row.classList.remove("drop-above", "drop-below");
-    this.goal?.row?.classList.add(this.goal.isBelow ? "drop-below" : "drop-above");
-    this.list.classList.toggle("no-drop", this.goal === null);
+    const { goal } = this;
+    this.unmark();
+    if (goal && !goal.isSame && !goal.why) goal.row.classList.add(goal.mark);
+    this.list.style.setProperty("--drop-from", `${(goal?.depth ?? 0) * INDENT}px`);
+    this.list.classList.toggle("no-drop", Boolean(goal?.why));
+  }
+
+  unmark() {
+    for (const row of this.list.children) row.classList.remove("drop-above", "drop-below", "drop-into");
   }
 
   up() {
     const { isDragging, goal, layer } = this.from ? this : {};
     this.end();
-    if (!isDragging || !layer) return;
-    if (!goal) this.bench.say("A layer stays in its group: it cannot be moved into another one yet, or out of it.");
-    else if (goal.place !== layer.place) this.bench.act([`layer move ${layer.id} ${goal.place}`]);
+    if (!isDragging || !layer || !goal || goal.isSame) return;
+    if (goal.why) this.bench.say(goal.why);
+    else this.bench.act([lineTo(layer, goal.group, goal.place)]);
   }
 
   cancel(event) {
@@ -91,6 +128,7 @@ export class LayerDrag {
     this.from = this.goal = null;
     this.isDragging = false;
     this.list.classList.remove("dragging", "no-drop");
-    for (const row of this.list.children) row.classList.remove("drop-above", "drop-below", "dragged");
+    this.unmark();
+    for (const row of this.list.children) row.classList.remove("dragged");
   }
 }

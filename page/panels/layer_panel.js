@@ -4,9 +4,12 @@ import { NO_MAP, allow, button, byId, element } from "./dom.js";
 import { iconButton, showIcon } from "./icons.js";
 import { KINDS } from "../core/kinds.js";
 import { isLocked, lockLine, lockedGroupOf } from "../tools/barred_layers.js";
-import { LayerDrag } from "./layer_drag.js";
+import { LayerActs } from "./layer_acts.js";
+import { INDENT, LayerDrag } from "./layer_drag.js";
 import { putRows } from "./list_rows.js";
-import { renameLine } from "../core/member_lines.js";
+import { memberLine, renameLine } from "../core/member_lines.js";
+import { NO_PICTURE } from "./picture_choice.js";
+import { pathFrom } from "../files/names.js";
 import { saidOf } from "../core/refusals.js";
 import { RowField } from "./row_field.js";
 import { whyNotNamed } from "../core/unsupported_edits.js";
@@ -30,9 +33,12 @@ export class LayerPanel {
     this.folded = new Set();
     // The row of a layer that is to be added, with its field; null where there is none.
     this.draft = null;
+    // Asks for the picture of an image layer: the page sets it.
+    this.askPicture = async () => NO_PICTURE;
     this.list.onclick = event => this.click(event);
     this.list.ondblclick = event => this.rowOf(event) && !event.target.closest("button, input") && this.rename();
     this.drag = new LayerDrag(this);
+    this.acts = new LayerActs(bench, kind => this.proposedName(kind));
     // Where the panel gets another height, the current layer stays in sight.
     new ResizeObserver(() => this.list.querySelector(".now")?.scrollIntoView({ block: "nearest" })).observe(this.list);
     byId("layer-actions").append(
@@ -122,7 +128,7 @@ export class LayerPanel {
     name.textContent = layer.data.name || "(no name)";
     name.title = layer.data.name;
     kind.textContent = LAYER_KINDS[layer.type] ?? layer.type;
-    row.style.paddingLeft = `${2 + layer.depth * 14}px`;
+    row.style.paddingLeft = `${2 + layer.depth * INDENT}px`;
     row.classList.toggle("now", layer.id === this.bench.layerId);
     row.classList.toggle("hidden", !layer.isSeen);
     return row;
@@ -206,17 +212,19 @@ export class LayerPanel {
   }
 
   // A new layer is named in a row of its own, and added with that name. Escape adds none.
-  add(kind) {
-    const { map } = this.bench;
-    if (!map || this.draft) return;
+  async add(kind) {
+    const { bench } = this;
+    const { document } = bench;
+    const picture = kind === "image" && bench.map && !this.draft ? await this.askPicture() : NO_PICTURE;
+    if (!picture || !bench.map || this.draft || document !== bench.document) return;
     const proposed = this.proposedName(kind);
     const row = element("li", { className: "new" }, element("span", { className: "kind", textContent: LAYER_KINDS[ADDED[kind].type] }));
-    const take = name => this.addNow(kind, name || proposed);
+    const take = name => this.addNow(kind, name || proposed, picture);
     const field = new RowField(proposed, KINDS.label, take, () => {
       this.draft = null;
       this.renew();
     });
-    this.draft = { row, field, document: this.bench.document };
+    this.draft = { row, field, document };
     this.renew();
     this.nameIn(row, field);
   }
@@ -231,14 +239,17 @@ export class LayerPanel {
     return `${proposed} ${number}`;
   }
 
-  // Adds a layer above the one in hand, or above the group in which that stands, as one step. Gives "", or why that is refused.
-  addNow(kind, name) {
+  // Adds a layer above the one in hand, or above the group in which that stands, as one step, with a picture where it has one. Gives "", or why
+  // that is refused.
+  addNow(kind, name, picture) {
     const { map } = this.bench;
     if (map.layers.length >= MAX_LAYERS) return `A map has at most ${MAX_LAYERS} layers.`;
     const [id, below] = [map.data.nextlayerid, outermost(this.bench.layer)];
     const isOnTop = !below || below.place === below.siblings - 1;
-    const lines = [`layer add ${kind} ${name}`, ...(isOnTop ? [] : [`layer move ${id} ${below.place + 1}`])];
-    const why = this.doNow(lines, isOnTop ? null : "Add Layer || add layer");
+    const way = isOnTop ? [] : [`layer move ${id} ${below.place + 1}`];
+    const image = picture === NO_PICTURE ? [] : [memberLine(`layer:${id}`, "image", pathFrom(this.bench.editor.folder, picture.path))];
+    const lines = [`layer add ${kind} ${name}`, ...way, ...image];
+    const why = this.doNow(lines, lines.length === 1 ? null : "Add Layer || add layer");
     if (!why) this.bench.chooseLayer(id);
     return why;
   }

@@ -66,11 +66,11 @@ export class ListNavigation {
     ];
   }
 
-  // An arrow key with Shift is for nothing here.
+  // An arrow key with Shift is for nothing here; with Ctrl, too, it moves the layer.
   press(event) {
     if (!event.target.matches(this.selector)) return;
     pressed(this.calls, event);
-    if (event.shiftKey && event.key.startsWith("Arrow")) event.stopPropagation();
+    if (event.shiftKey && !event.ctrlKey && !event.metaKey && event.key.startsWith("Arrow")) event.stopPropagation();
   }
 
   go(row, by) {

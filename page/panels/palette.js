@@ -4,6 +4,7 @@
 import { byId } from "./dom.js";
 import { drawTile } from "../view/map_view.js";
 import { TILE, idIn } from "../core/tile_numbers.js";
+import { TileUses } from "../core/tile_uses.js";
 import { wordsOf } from "../core/tile_words.js";
 
 // How wide a tile may be, in pixels of the page; and how many stand in a row where no image tells.
@@ -17,8 +18,11 @@ const FRAME = { light: "#ffd34d", dark: "#10131a" };
 // The side of the picture of the stamp, in pixels of the page.
 const STAMP = 64;
 
+const wordsOfUses = count => (count ? `used ${count === 1 ? "once" : `${count.toLocaleString("en-US")} times`}` : "not used");
+
 export class Palette {
   constructor(bench, tilesets) {
+    this.uses = new TileUses(bench.editor);
     this.bench = bench;
     this.tilesets = tilesets;
     this.first = null;
@@ -261,6 +265,8 @@ export class Palette {
   // Tells which tile is under the hand, by its id.
   tell(place) {
     const tile = place && place[0] + place[1] * this.columns;
-    byId("tile-number").textContent = place && tile < this.tileset.count ? `tile ${tile}` : "";
+    const isTile = place !== null && tile < this.tileset.count;
+    byId("tile-number").textContent = isTile ? `tile ${tile}` : "";
+    byId("tile-uses").textContent = isTile ? wordsOfUses(this.uses.of(this.tileset.first + tile)) : "";
   }
 }

@@ -3,14 +3,18 @@
 import { ask, byId, element } from "./dom.js";
 import { iconButton } from "./icons.js";
 import { endNotice, notice } from "./notice_bars.js";
-import { ChosenFiles, FolderFiles, IN_XML, chosen, isMapName, isTilesetName, isXmlMapName } from "../files/places.js";
+import { ChosenFiles, Failed, FolderFiles, IN_XML, chosen, isMapName, isTilesetName, isXmlMapName } from "../files/places.js";
 import { isSameSource, sourceOf, wordsOf } from "../files/sources.js";
+import { hashOf } from "../files/hashes.js";
+import { isPictureName } from "../files/new_tilesets.js";
+import { lastOf } from "../files/names.js";
 import { thrownWords } from "../core/thrown_words.js";
 
 // What notices are about; how many files one names.
 const OTHERS = "other files";
 const SOURCE = "source";
 const PERMISSION = "permission";
+const PICTURE = "picture";
 const MOST_NAMED = 3;
 // How many maps are opened without a question.
 const MOST_UNASKED = 5;
@@ -19,8 +23,9 @@ const IMAGE = /\.(png|jpe?g|gif|webp|bmp|svg|avif)$/i;
 export class PlacePanel {
   constructor(bench, documents, tilesets) {
     Object.assign(this, { bench, documents, tilesets, editor: bench.editor });
-    // Called where the tilesets may be others, and where a folder was opened.
+    // Called where the tilesets may be others, where something is to be made of a picture, and where a folder was opened.
     this.onTilesets = () => {};
+    this.onPicture = () => {};
     this.onFolder = () => {};
   }
 
@@ -93,6 +98,7 @@ export class PlacePanel {
       return;
     }
     const place = this.editor.place.kind === "chosen" ? this.editor.place : new ChosenFiles();
+    const wanted = new Set(this.tilesets.missing.map(lastOf));
     place.take(taken);
     this.take(place);
     this.editor.journal.keepSource(taken);
@@ -100,6 +106,7 @@ export class PlacePanel {
     const isList = maps.length > MOST_UNASKED && !(await this.wantsAll(maps.length));
     if (!isList) for (const path of maps) await this.documents.openPath(path);
     this.sayOthers(taken);
+    this.offerPicture(taken.map(each => each.path).filter(path => !wanted.has(path)), taken.length);
     // Where no map is open, they stand there with pictures.
     if (isList && this.editor.openDocuments.active !== null) await this.documents.open();
   }
@@ -108,6 +115,43 @@ export class PlacePanel {
   async wantsAll(count) {
     const all = `Open all ${count}`;
     return (await ask(`${count} maps were chosen. Each that is opened has a tab.`, [], ["Choose from them", all]))?.answer === all;
+  }
+
+  // Says what can be made of a picture that has come alone, and that no tileset waited for.
+  offerPicture([path = ""], count) {
+    if (count !== 1 || !isPictureName(path)) return endNotice(PICTURE);
+    const text = this.bench.map ? "Make a tileset of it" : "Make a map with it";
+    return notice(PICTURE, `${path} is a picture.`, [[text, () => void this.onPicture(path)], ["OK", () => {}]], "mild");
+  }
+
+  // Puts pictures that were dropped into the folder, beside the map.
+  async takeIntoFolder(files) {
+    try {
+      const paths = [];
+      for (const file of files) paths.push(await this.editor.during(this.keepPicture(file)));
+      this.offerPicture(paths, paths.length);
+    } catch (fault) {
+      this.bench.say(`Not taken: ${thrownWords(fault)}.`);
+    }
+  }
+
+  // Has a picture of this machine stand beside the map's file: among the chosen files, or as a copy in the folder, where none of that name is
+  // there. Gives its path. Throws Failed.
+  async keepPicture(file) {
+    const { editor } = this;
+    const [taken] = await chosen([file]);
+    const { place } = editor;
+    if (place.kind === "chosen") {
+      place.take([taken]);
+      this.take(place);
+      editor.journal.keepSource([taken]);
+      return taken.path;
+    }
+    const path = editor.folder + taken.path;
+    const there = await place.read(path);
+    if (there && there.mark.hash !== (await hashOf(taken.bytes))) throw new Failed(`${path} is there already, and is another one`);
+    if (!there) await place.write(path, taken.bytes, null);
+    return path;
   }
 
   // Says which of the files are passed over, and what to do.
@@ -142,6 +186,7 @@ export class PlacePanel {
     const handles = await Promise.all(items.map(item => item.getAsFileSystemHandle?.() ?? null));
     const folder = handles.find(handle => handle?.kind === "directory");
     if (folder) await this.takeFolder(folder);
+    else if (files.length && this.editor.place.kind === "folder" && files.every(({ name }) => isPictureName(name))) await this.takeIntoFolder(files);
     else if (files.length) await this.takeChosen(files);
   }
 
@@ -152,7 +197,8 @@ export class PlacePanel {
     const [first, ...others] = missing;
     const more = others.length ? ` and ${others.length} more` : "";
     const words = `Not found: ${first}${more}. ${this.editor.place.advice(first)} Its tiles are drawn as numbers.`;
-    return notice("tilesets", words, [["OK", () => {}]], "mild");
+    const find = this.editor.place.kind === "chosen" ? [["Find it", () => byId("files").click(), "Choose the file, and its image"]] : [];
+    return notice("tilesets", words, [...find, ["OK", () => {}]], "mild");
   }
 }
 

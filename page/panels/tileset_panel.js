@@ -7,6 +7,8 @@ import { pathFrom } from "../files/names.js";
 import { thrownWords } from "../core/thrown_words.js";
 import { endNotice, notice } from "./notice_bars.js";
 import { checked, readTileset } from "../files/tileset_files.js";
+import { TilesetMaker } from "./tileset_maker.js";
+import { named } from "../tools/carried_tiles.js";
 
 const ABOUT = "wrong tilesets";
 // How many wrong tilesets are named, and how long a name is then.
@@ -14,11 +16,13 @@ const MOST_SAID = 3;
 const LONGEST_NAME = 60;
 
 export class TilesetPanel {
-  constructor(bench, tilesets, palette) {
-    Object.assign(this, { bench, tilesets, palette, editor: bench.editor });
+  // `pictures` asks for a picture.
+  constructor(bench, tilesets, palette, pictures) {
+    Object.assign(this, { bench, tilesets, palette, editor: bench.editor, uses: palette.uses, maker: new TilesetMaker(bench, pictures) });
     byId("tileset-actions").append(
       iconButton("minus", "Smaller tiles", "Smaller tiles: Ctrl and the wheel", () => palette.zoom(-1), { id: "palette-smaller" }),
       iconButton("plus", "Larger tiles", "Larger tiles: Ctrl and the wheel", () => palette.zoom(1), { id: "palette-larger" }),
+      iconButton("newTileset", "New tileset of a picture", "", () => this.make(), { id: "new-tileset" }),
       iconButton("files", "Add a tileset", "Add a tileset of the folder to the map", () => this.add(), { id: "add-tileset" }),
       iconButton("remove", "Remove this tileset", "Remove this tileset from the map, where nothing uses it", () => this.remove(), { id: "remove-tileset" }),
     );
@@ -42,6 +46,7 @@ export class TilesetPanel {
 
   showButtons() {
     const why = this.bench.map ? "" : NO_MAP;
+    allow(byId("new-tileset"), "New tileset of a picture: a PNG of the folder, or another one", why);
     allow(byId("add-tileset"), "Add a tileset of the folder to the map", why);
     allow(byId("remove-tileset"), "Remove this tileset from the map, where nothing uses it", why || (this.palette.tileset ? "" : "The map has no tileset"));
   }
@@ -56,6 +61,23 @@ export class TilesetPanel {
   }
 
   // ---- adding and removing
+  // Makes a tileset of a picture, and shows it.
+  async make(picture = null) {
+    const first = await this.maker.make(picture);
+    if (first !== null) await this.showNew(first);
+  }
+
+  async makeOf(path) {
+    const picture = await this.maker.pictures.picture(path);
+    if (picture) await this.make(picture);
+  }
+
+  async showNew(first) {
+    await this.tilesets.reading;
+    this.palette.choose(first);
+    this.palette.takeTiles([0, 0], [0, 0]);
+  }
+
   async add() {
     const { map } = this.bench;
     if (!map) return this.bench.say("Open a map first.");
@@ -77,7 +99,7 @@ export class TilesetPanel {
   // The field of the first id, folded where it is as clear which one it is as can be.
   firstField(first) {
     const unknown = this.tilesets.all.filter(set => set.span === null).length;
-    const doubt = unknown ? ` Of ${unknown} of them it is not known how many tiles they have.` : "";
+    const doubt = unknown ? ` Of ${unknown} of them it is not known how many tiles they have: the last one has room for whole thousands.` : "";
     const words = element("span", { textContent: `Its tiles are counted from this number on, behind those of the others.${doubt}` });
     return element("details", { open: unknown > 0 }, element("summary", { textContent: "Number of its first tile" }), element("label", {}, words, first));
   }
@@ -93,6 +115,9 @@ export class TilesetPanel {
   remove() {
     const { tileset } = this.palette;
     if (!this.bench.map || !tileset) return this.bench.say("The map has no tileset.");
+    const behind = this.tilesets.sets.find(({ first }) => first > tileset.first);
+    const where = this.uses.where(tileset.first, behind?.first ?? Infinity);
+    if (where.length) return this.bench.say(`The map uses ${tileset.name}: ${named(where)}. Replace these or empty them first.`);
     return this.bench.act([`tileset remove ${tileset.first}`]);
   }
 }

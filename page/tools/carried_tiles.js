@@ -13,7 +13,7 @@ const PAST = "tiles past the end";
 const MOST_NAMED = 3;
 const NO_TILE = { width: 1, height: 1, values: [0] };
 
-function named(all) {
+export function named(all) {
   const more = all.length - MOST_NAMED;
   return more > 0 ? `${all.slice(0, MOST_NAMED).join(", ")} and ${more} more` : listed(all);
 }

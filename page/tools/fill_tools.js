@@ -46,6 +46,7 @@ export class FillTool {
   // The editor says in its own words why it refuses a fill.
   fill([x, y]) {
     const { bench } = this;
+    if (!bench.map.isInside(x, y) && bench.growth.grows) return bench.say("A fill ends where the map does: the brush makes it larger.");
     if (bench.map.isInside(x, y) && !bench.map.isReached(x, y)) return bench.say(BARS.selection);
     return bench.act([`fill ${bench.layerId} ${x} ${y} ${bench.fillValue}`]);
   }
@@ -56,11 +57,15 @@ export class FillTool {
 }
 
 // Fills a rectangle with the stamp, repeated from its upper left corner on.
-export function fillRectangle(bench, [x, y, width, height]) {
-  const { layerId, map, stamp } = bench;
+export function fillRectangle(bench, cells) {
+  const { moved, why } = bench.growth.reach(cells);
+  if (why) return bench.say(why);
+  const [[x, y, width, height], { layerId, map, stamp }] = [[cells[0] + moved[0], cells[1] + moved[1], cells[2], cells[3]], bench];
   const [left, top, wide, high] = map.cut(x, y, width, height);
   if (!wide || !high) return bench.say(BARS.outside);
   const block = patternOver(stamp, layerId, { x: left, y: top, width: wide, height: high }, [x, y]);
   const bar = map.barOf(block);
-  return bar ? bench.say(BARS[bar]) : drawBlock(bench, block, "rectangle");
+  const done = bar ? bench.say(BARS[bar]) : drawBlock(bench, block, "rectangle");
+  bench.growth.end();
+  return done;
 }

@@ -83,6 +83,9 @@ function layerRows({ layers, toolbar, bench }) {
     [["pagedown", "Ctrl+pagedown"], "Chooses the layer below", () => layers.step(1)],
     [["Ctrl+Shift+arrowup"], "Raises the layer", () => layers.move(1)],
     [["Ctrl+Shift+arrowdown"], "Lowers the layer", () => layers.move(-1)],
+    [["Ctrl+Shift+arrowright"], "Moves the layer into the group above it, or else into the one below", () => layers.acts.act("enter")],
+    [["Ctrl+Shift+arrowleft"], "Moves the layer out of its group", () => layers.acts.act("leave")],
+    [["Ctrl+Shift+d"], "Makes a copy of the layer, with all that is in it", () => layers.acts.act("duplicate")],
     [["f2"], "Renames the chosen object, or the layer", rename],
   ];
 }

@@ -18,6 +18,7 @@ export class MapKeys {
     // A press of the mouse leaves the keys to the page.
     this.box.addEventListener("mousedown", event => event.target.closest("button, input, select, a") || event.preventDefault());
     this.box.addEventListener("focus", () => this.box.matches(":focus-visible") && this.bench.map && this.show());
+    this.bench.editor.addEventListener("map", () => this.follow(this.bench.editor.shift));
     this.box.addEventListener("blur", () => tools.held || tools.leave());
     this.group = { title: "On the map, by Tab", rows: this.rows() };
     const calls = callsOf(this.group.rows);
@@ -32,22 +33,31 @@ export class MapKeys {
     ];
   }
 
+  // All in the map has moved.
+  follow([right, down]) {
+    if (this.cell) this.cell = [this.cell[0] + right, this.cell[1] + down];
+  }
+
+  // A cell as near as the keys come to it: an infinite map has no edge.
+  kept([x, y]) {
+    const { map, editor } = this.bench;
+    return editor.chunks() ? [x, y] : [within(x, map.width), within(y, map.height)];
+  }
+
   // The cell of the keys, in the map: at first the one in the middle of the view.
   place() {
-    const { map } = this.bench;
     const frame = this.box.getBoundingClientRect();
     const middle = { clientX: frame.left + frame.width / 2, clientY: frame.top + frame.height / 2 };
     const [x, y] = this.cell ?? this.view.placeOf(middle).cell;
-    return (this.cell = [within(x, map.width), within(y, map.height)]);
+    return (this.cell = this.kept([x, y]));
   }
 
   // An object that is chosen takes the arrow keys.
   move([x, y], event) {
     if (this.tools.name === "objects" && this.bench.objectId !== null) return false;
     const by = event.shiftKey ? FAR : 1;
-    const { map } = this.bench;
     const [column, row] = this.place();
-    this.cell = [within(column + x * by, map.width), within(row + y * by, map.height)];
+    this.cell = this.kept([column + x * by, row + y * by]);
     this.show(event);
     return true;
   }

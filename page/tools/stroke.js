@@ -62,6 +62,20 @@ export class Stroke {
     Object.assign(this, { map, hasStep: false });
   }
 
+  // The stroke goes on over a map that has grown: all of it has moved by some columns and rows, and it has a step there.
+  follow(map, [right, down]) {
+    const moved = cell => cell && [cell[0] + right, cell[1] + down];
+    Object.assign(this, { map, last: moved(this.last), from: moved(this.from) });
+  }
+
+  // The rectangle of all that the way to a cell would draw.
+  boxTo(x, y) {
+    const blocks = this.cellsTo(x, y).map(([column, row]) => this.blockAt(column, row));
+    const edge = (which, name, length) => which(...blocks.map(block => block[name] + (length ? block[length] : 0)));
+    const [left, top] = [edge(Math.min, "x"), edge(Math.min, "y")];
+    return [left, top, edge(Math.max, "x", "width") - left, edge(Math.max, "y", "height") - top];
+  }
+
   // The cells from the last one to this one, so that a fast hand leaves no gaps.
   cellsTo(x, y) {
     if (this.last) return cellsOnLine(this.last, [x, y]).slice(1);

@@ -34,7 +34,13 @@ export class StrokeTool {
   constructor(bench, name, colour) {
     Object.assign(this, { bench, name, colour, stroke: null, last: null });
     // Behind a line that is not of the stroke, what comes of the stroke is a step of its own.
+    bench.editor.addEventListener("map", () => this.moveLast(bench.editor.shift));
     bench.editor.addEventListener("done", ({ detail }) => this.stroke && detail !== this.stroke && this.stroke.begin(bench.map));
+  }
+
+  // All in the map has moved.
+  moveLast([right, down]) {
+    if (this.start) this.last.cell = [this.last.cell[0] + right, this.last.cell[1] + down];
   }
 
   // The block that the hand leaves at a cell.
@@ -54,10 +60,10 @@ export class StrokeTool {
 
   hover(place, event) {
     const { colour, stroke } = this;
-    if (event?.shiftKey && this.start && !stroke) return { ...lineShown(cellsOnLine(this.start, place.cell), cell => this.blockAt(...cell)), colour };
+    if (event?.shiftKey && this.start && !stroke) return { ...lineShown(cellsOnLine(this.start, place.cell), cell => this.blockAt(...cell)), colour, grows: this.bench.growth.grows };
     const { x, y, width, height, values } = this.blockAt(...place.cell);
     const valueAt = values && ((column, row) => values[(row - y) * width + column - x]);
-    return { cells: [x, y, width, height], valueAt, colour };
+    return { cells: [x, y, width, height], valueAt, colour, grows: this.bench.growth.grows };
   }
 
   down(place, event) {
@@ -76,12 +82,14 @@ export class StrokeTool {
   up() {
     if (this.stroke?.last) this.last = { document: this.document, cell: this.stroke.last };
     this.stroke = null;
+    this.bench.growth.end();
   }
 
   // Takes the stroke back: what was there before it stays.
   cancel() {
     const { stroke, bench } = this;
     this.stroke = null;
+    if (bench.growth.end(true)) return;
     if (stroke?.hasStep && bench.editor.openDocuments.active === this.document) bench.macros.undo();
   }
 
@@ -93,13 +101,25 @@ export class StrokeTool {
   draw(place, event) {
     const { editor, view } = this.bench;
     if (editor.openDocuments.active !== this.document) return;
-    const edits = this.stroke.moveTo(...place.cell);
-    if (this.isBarred) this.sayBar(place.cell);
+    const cell = this.grownTo(place.cell);
+    if (!cell) return;
+    const edits = this.stroke.moveTo(...cell);
+    if (this.isBarred) this.sayBar(cell);
     if (!edits.length) return;
     this.isBarred = false;
     view.redrawCells(edits);
     view.measure("stroke", event.timeStamp);
     view.measure("stroke work", view.work);
+  }
+
+  // A cell of the map, which grows where it is infinite and the brush has left it. null where it cannot, which is said.
+  grownTo(cell) {
+    if (this.name !== "brush" || this.stroke.isOver) return cell;
+    const { bench, stroke } = this;
+    const { moved, why } = bench.growth.reach(stroke.boxTo(...cell), stroke);
+    if (why) return bench.say(why);
+    if (stroke.map !== bench.map) stroke.follow(bench.map, moved);
+    return [cell[0] + moved[0], cell[1] + moved[1]];
   }
 
   // Says why nothing is drawn, as long as that is so from the beginning of the stroke on.

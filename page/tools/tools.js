@@ -29,7 +29,7 @@ class RectangleTool {
 
   hover(place) {
     const cells = cellsBetween(this.first ?? place.cell, place.cell);
-    return { cells, valueAt: this.valueIn(cells), colour: COLOURS[this.name], words: this.first && `${cells[2]} × ${cells[3]}` };
+    return { cells, valueAt: this.valueIn(cells), colour: COLOURS[this.name], grows: this.bench.growth.grows, words: this.first && `${cells[2]} × ${cells[3]}` };
   }
 
   down(place, event) {

@@ -22,7 +22,7 @@ export class CellPreview {
     if (!view.map || !hand) return;
     const [right, down] = [hand.layer?.offsetX ?? 0, hand.layer?.offsetY ?? 0].map(by => Math.round(by * view.scale));
     const box = [-right, -down, view.canvas.width - right, view.canvas.height - down];
-    const part = this.partOf(hand.cells, box);
+    const part = this.partOf(hand, box);
     pen.save();
     pen.translate(right, down);
     if (hand.valueAt) this.drawTiles(hand, part, box);
@@ -30,16 +30,18 @@ export class CellPreview {
     pen.restore();
   }
 
-  // Those cells of a rectangle that are seen in a box of the screen: [x0, y0, x1, y1].
-  partOf([x, y, width, height], box) {
-    const [x0, y0, x1, y1] = this.cells.seenIn(box);
+  // Those cells of the hand that are seen in a box of the screen: [x0, y0, x1, y1].
+  partOf({ cells: [x, y, width, height], grows = false }, box) {
+    const [x0, y0, x1, y1] = grows ? this.view.map.projection.cellsIn(this.cells.onMap(box)) : this.cells.seenIn(box);
     return [Math.max(x0, x), Math.max(y0, y), Math.min(x1, x + width), Math.min(y1, y + height)];
   }
 
-  drawTiles({ isIn = () => true, valueAt }, part, box) {
+  // Where the map `grows`, outside of it, too.
+  drawTiles({ isIn = () => true, valueAt, grows = false }, part, box) {
     const { map, painter, scale } = this.view;
     const { pen } = this;
-    const found = (x, y) => (isIn(x, y) && map.isReached(x, y) ? valueAt(x, y) : 0);
+    const isReached = (x, y) => map.isReached(x, y) || (grows && !map.isInside(x, y));
+    const found = (x, y) => (isIn(x, y) && isReached(x, y) ? valueAt(x, y) : 0);
     pen.globalAlpha = SHARE;
     pen.imageSmoothingEnabled = scale < 1;
     if (painter.isFar && map.projection.isPlain) this.drawColours(found, part);

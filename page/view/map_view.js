@@ -31,6 +31,8 @@ export class MapView {
     this.scale = 2;
     this.originX = this.originY = 16;
     this.changed = null;
+    // The map that was taken last.
+    this.shownMap = null;
     // What was drawn last, of a stroke all of it: the cells from x0, y0 to x1, y1.
     this.drawn = null;
     // How many strokes were begun, and whether the last one goes on.
@@ -245,11 +247,22 @@ export class MapView {
     return [x - reach, y - reach, x + reach, y + reach];
   }
 
-  // Shows the map that the editor has. Where parts are told, it has other cells in these alone.
-  takeMap(parts = null) {
+  // Shows the map that the editor has. Where parts are told, it has other cells in these alone. Where all in it has moved by some columns and
+  // rows, that stays where it is seen; null where the map is another one.
+  takeMap(parts = null, shift = null) {
+    this.keepPlace(shift);
     this.drawn = null;
     this.cache.takeMap(this.map, parts);
     this.redraw();
+  }
+
+  keepPlace(shift) {
+    const before = this.shownMap;
+    this.shownMap = this.map;
+    if (!before || !this.map || !shift) return;
+    const [from, to] = [before.projection.corner(0, 0), this.map.projection.corner(...shift)];
+    this.originX -= Math.round((to[0] - from[0]) * this.scale);
+    this.originY -= Math.round((to[1] - from[1]) * this.scale);
   }
 
   // A stroke begins or ends. The frame of the screen that follows belongs to it.

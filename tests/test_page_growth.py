@@ -1,0 +1,285 @@
+# SPDX-License-Identifier: MIT OR Apache-2.0
+"""Draws past the edges of infinite maps on the page in Chromium: they grow by whole chunks, in one step with what is
+drawn, and all that is seen stays where it is; chunks that stay empty are not saved; past its limits a map grows no
+farther, and says so."""
+import json
+
+from lib.maps import layers_in
+from page.bench import Bench, choose, colours_now, layer_of, see_colours, spelled, standing, take_tile
+from page.browser import ActionChains, Keys
+
+NEEDS_BROWSER = True
+IS_LONG = True
+TILE = 12
+
+
+def chunk(x, y, width=16, height=16, value=3):
+    return {'x': x, 'y': y, 'width': width, 'height': height, 'data': [value] * (width * height)}
+
+
+def infinite(*chunks, layers=1, size=None, **members):
+    """An infinite map with these chunks in each layer, and an object."""
+    tiles = [{'chunks': list(chunks), 'width': 16, 'height': 16, 'startx': 0, 'starty': 0, 'id': at + 1, 'name': f'Tiles {at + 1}',
+              'opacity': 1, 'type': 'tilelayer', 'visible': True, 'x': 0, 'y': 0} for at in range(layers)]
+    things = {'id': layers + 1, 'name': 'Things', 'type': 'objectgroup', 'draworder': 'topdown', 'opacity': 1, 'visible': True, 'x': 0, 'y': 0,
+              'objects': [{'id': 1, 'name': 'well', 'type': '', 'x': 40, 'y': 24, 'width': 16, 'height': 16, 'rotation': 0, 'visible': True}]}
+    settings = {'editorsettings': {'chunksize': {'width': size[0], 'height': size[1]}}} if size else {}
+    return {'type': 'map', 'version': '1.10', 'infinite': True, 'orientation': 'orthogonal', 'renderorder': 'right-down', 'width': 16, 'height': 16,
+            'tilewidth': 16, 'tileheight': 16, 'nextlayerid': layers + 2, 'nextobjectid': 2, 'tilesets': [{'firstgid': 1, 'source': 'tiles.tsx'}],
+            'layers': [*tiles, things], **settings, **members}
+
+
+def to_middle(page):
+    """Shows the first chunk in the middle of the window, at its size."""
+    page.js('const {view} = roskevad, by = (length, origin) => Math.round(length / 2 - origin - 128);'
+            'view.zoomTo(1); view.panBy(by(view.canvas.width, view.originX), by(view.canvas.height, view.originY))')
+    page.settle()
+
+
+class Plane:
+    """The page over a map that is infinite, of which less than all of the window is taken."""
+
+    def __init__(self, told):
+        self.bench, self.told = Bench(empty=True), told
+
+    def __enter__(self):
+        page = self.bench.__enter__()
+        (self.bench.folder / 'plane.tmj').write_text(json.dumps(self.told))
+        page.choose_files(*self.bench.folder.glob('tiles.ts?'), *self.bench.folder.glob('*.png'), self.bench.folder / 'plane.tmj')
+        to_middle(page)
+        take_tile(page, (3, 1))
+        page.keys('b')
+        return page
+
+    def __exit__(self, *words):
+        self.bench.__exit__(*words)
+
+    def saved(self, page):
+        page.ctrl('s')
+        return json.loads(self.bench.saved('plane.tmj'))
+
+
+def size(page):
+    told = page.editor.map()
+    return told['width'], told['height']
+
+
+def plane_of(told, number=1):
+    """The cells of a layer of a saved map that are not empty, on the plane."""
+    layer = next(each for each in layers_in(told['layers']) if each['id'] == number)
+    return {(c['x'] + at % c['width'], c['y'] + at // c['width']): value for c in layer['chunks'] for at, value in enumerate(c['data']) if value}
+
+
+def places(told, number=1):
+    layer = next(each for each in layers_in(told['layers']) if each['id'] == number)
+    return sorted((c['x'], c['y'], c['width'], c['height']) for c in layer['chunks'])
+
+
+def seen(page, *cells):
+    return [page.point(each) for each in cells]
+
+
+def test_to_the_right_and_down():
+    """A stroke past the right edge, and one past the lower one, each make the map larger by a chunk; each is one step with
+    what is drawn, on both sides of the edge. Nothing moves, and only the chunks that were drawn on are saved."""
+    plane = Plane(infinite(chunk(0, 0)))
+    with plane as page:
+        before, corner = page.editor.map(), seen(page, (0, 0))
+        page.drag([(14, 3), (16, 3), (17, 3)])
+        assert size(page) == (32, 16) and standing(page) == (1, 1) and page.editor.state()['depth'] == 0
+        assert seen(page, (0, 0)) == corner and page.texts('#steps li .name')[-1] == 'Stamp'
+        assert [line for line in spelled(page) if line.startswith('extend')] == ['extend 0 0 16 0'] and page.notices() == []
+        page.drag([(20, 15), (20, 18)])
+        assert size(page) == (32, 32) and standing(page) == (2, 2)
+        # A stroke that stays in the map is a plain step.
+        page.drag([(1, 1), (2, 1)])
+        assert page.texts('#steps li .name')[-1] == 'Stamp · Tiles 1' and standing(page) == (3, 3)
+        told = plane.saved(page)
+        drawn = {(x, 3) for x in range(14, 18)} | {(20, y) for y in range(15, 19)} | {(1, 1), (2, 1)}
+        assert plane_of(told) == {**{(x, y): 3 for x in range(16) for y in range(16)}, **dict.fromkeys(drawn, TILE)}
+        assert places(told) == [(0, 0, 16, 16), (16, 0, 16, 16), (16, 16, 16, 16)]
+        assert told['layers'][-1]['objects'][0]['x'] == 40
+        for _ in range(3):
+            page.ctrl('z')
+        assert page.editor.map() == before and seen(page, (0, 0)) == corner
+
+
+def test_to_the_left_and_up():
+    """Before the first column and row, too: what is seen stays where it is, behind an undo and a redo as well. All stays
+    beside each other in the file, and the page says once by how much that has moved there."""
+    plane = Plane(infinite(chunk(0, 0)))
+    with plane as page:
+        before, corner = page.editor.map(), seen(page, (0, 0))
+        page.drag([(1, 3), (-2, 3)])
+        assert size(page) == (32, 16) and standing(page) == (1, 1) and seen(page, (16, 0)) == corner
+        [told] = page.notices()
+        assert 'stays at 0, 0 in the file' in told and '16 columns to the right' in told and 'fractions' not in told
+        page.answer('OK')
+        page.drag([(20, -1)])
+        assert size(page) == (32, 32) and seen(page, (16, 16)) == corner and page.notices() == []
+        see_colours(page, [(13, 19), (14, 19), (16, 19), (17, 19), (18, 19), (20, 15), (28, 28), (31, 31)])
+        saved = plane.saved(page)
+        drawn = {(x, 19) for x in range(14, 18)} | {(20, 15)}
+        assert plane_of(saved) == {**{(x, y): 3 for x in range(16, 32) for y in range(16, 32)}, **dict.fromkeys(drawn, TILE)}
+        assert (saved['layers'][-1]['objects'][0]['x'], saved['layers'][-1]['objects'][0]['y']) == (40 + 256, 24 + 256)
+        page.ctrl('z')
+        assert seen(page, (16, 0)) == corner
+        page.ctrl('z')
+        assert seen(page, (0, 0)) == corner and page.editor.map() == before
+        page.ctrl('y')
+        assert seen(page, (16, 0)) == corner and size(page) == (32, 16)
+
+
+def test_objects_at_fractions():
+    """Objects at fractions of a pixel lose these where all moves, which is said; an undo gives them back."""
+    told = infinite(chunk(0, 0))
+    told['layers'][-1]['objects'][0].update(x=40.5, y=24)
+    with Plane(told) as page:
+        page.drag([(20, -1)])
+        assert 'fractions' not in page.notices()[0], 'it has none down the map'
+        page.answer('OK')
+        page.ctrl('z')
+    with Plane(told) as page:
+        page.drag([(-1, 3)])
+        assert page.notices()[0].split('\n')[0].endswith('An object lay at fractions of a pixel, and now on whole ones.')
+        page.ctrl('z')
+        assert page.js('return roskevad.editor.map.object(1).object.x') == 40.5
+
+
+def test_all_sides_at_once():
+    """A rectangle over all four edges makes one step, with one line for all sides; so does a stamp of several tiles, as what
+    is pasted."""
+    with Plane(infinite(chunk(0, 0, 4, 4), size=(8, 4))) as page:
+        assert size(page) == (4, 4)
+        page.keys('p')
+        page.drag([(-1, -1), (8, 5)])
+        # Chunks of 8 by 4 on their multiples of the plane.
+        assert [line for line in spelled(page) if line.startswith('extend')] == ['extend 8 4 12 4'] and size(page) == (24, 12)
+        assert standing(page) == (1, 1) and page.editor.map()['layers'][0]['data'].count(TILE) == 10 * 7
+        page.keys('r')
+        page.drag([(7, 3), (9, 5)])
+        page.ctrl('c')
+        page.ctrl('v')
+        page.drag([(24, 11)])
+        assert standing(page)[0] == standing(page)[1] and size(page) == (32, 16)
+
+
+def test_before_it_grows():
+    """What would be drawn past an edge is shown there before, under the brush and while a rectangle is dragged; the map grows
+    behind that."""
+    with Plane(infinite(chunk(0, 0))) as page:
+        page.keys('p')
+        points = [page.point(each) for each in ((10, 10), (12, 12), (19, 18))]
+        chain = ActionChains(page.driver, duration=30)
+        hand = chain.w3c_actions.pointer_action
+        hand.move_to_location(*points[0])
+        hand.pointer_down(button=0)
+        for point in points[1:]:
+            hand.move_to_location(*point)
+        chain.perform()
+        page.settle()
+        looks = [[x, y + 3] for x, y in (page.point(each) for each in ((12, 12), (18, 12), (12, 17), (30, 30)))]
+        inside, right, below, beside = colours_now(page, looks)
+        assert right == below and right not in (beside, inside) and size(page) == (16, 16) and spelled(page) == []
+        chain = ActionChains(page.driver, duration=30)
+        chain.w3c_actions.pointer_action.pointer_up(button=0)
+        chain.perform()
+        page.settle()
+        assert size(page) == (32, 32)
+
+
+def test_escape():
+    """Escape in a stroke takes back what the map has grown, too."""
+    with Plane(infinite(chunk(0, 0))) as page:
+        before, corner = page.editor.map(), seen(page, (0, 0))
+        chain = ActionChains(page.driver, duration=30)
+        hand = chain.w3c_actions.pointer_action
+        for at, cell in enumerate([(14, 3), (16, 3), (18, 3)]):
+            hand.move_to_location(*page.point(cell))
+            if at == 0:
+                hand.pointer_down(button=0)
+        chain.perform()
+        page.driver.switch_to.active_element.send_keys(Keys.ESCAPE)
+        chain = ActionChains(page.driver)
+        chain.w3c_actions.pointer_action.pointer_up(button=0)
+        chain.perform()
+        page.settle()
+        assert page.editor.map() == before and page.editor.state()['depth'] == 0 and seen(page, (0, 0)) == corner
+        # In a macro that is open it is an edit of that.
+        page.click('#macro')
+        page.drag([(15, 3), (16, 3)])
+        page.click('#macro')
+        assert standing(page) == (1, 1) and size(page) == (32, 16)
+        # With the eraser, by a fill, and where cells are selected, nothing grows.
+        page.keys('f')
+        page.drag([(5, -2)])
+        assert page.bubble() == 'A fill ends where the map does: the brush makes it larger.'
+        page.keys('e')
+        page.drag([(5, 0), (5, -2)])
+        page.keys('r')
+        page.drag([(1, 1), (2, 2)])
+        page.keys('b')
+        page.drag([(5, 0), (5, -2)])
+        assert size(page) == (32, 16)
+
+
+def test_past_the_limits():
+    """A map grows up to 4,096 columns and rows and 1,048,576 cells: past that it says so and draws nothing there. A finite map
+    does not grow."""
+    with Plane(infinite(chunk(0, 0), chunk(1008, 1008))) as page:
+        assert size(page) == (1024, 1024)
+        page.drag([(-1, 3)])
+        assert page.bubble() == 'The map cannot grow there: it has at most 1,048,576 cells, and has 1024 × 1024.'
+        assert spelled(page) == [] and size(page) == (1024, 1024)
+    with Bench() as page:
+        choose(page, 'Ground')
+        page.js('roskevad.view.pan(60, 0)')
+        page.settle()
+        before = page.editor.map()
+        page.drag([(-1, 3)])
+        assert page.bubble() == 'This is outside the map.' and page.editor.map() == before
+
+
+def test_by_keys():
+    """On an infinite map the cell of the keys goes past the edges, and Enter draws there."""
+    with Plane(infinite(chunk(0, 0))) as page:
+        page.js('roskevad.view.box.focus()')
+        corner = seen(page, (0, 0))
+        for held, key in ((Keys.SHIFT, Keys.ARROW_RIGHT), (Keys.SHIFT, Keys.ARROW_UP)):
+            ActionChains(page.driver).key_down(held).send_keys(key).key_up(held).perform()
+        ActionChains(page.driver).send_keys(Keys.ENTER, Keys.ARROW_LEFT, Keys.ENTER).perform()
+        page.settle()
+        assert size(page) == (32, 32) and seen(page, (0, 16)) == corner and standing(page) == (2, 2)
+        data = page.editor.map()['layers'][0]['data']
+        drawn = {(at % 32, at // 32 - 16) for at, value in enumerate(data) if value == TILE}
+        assert len(drawn) == 2 and max(y for _, y in drawn) < 0 and min(x for x, _ in drawn) >= 16, drawn
+
+
+def places_of(page):
+    """Columns and rows by which the old map goes, in the dialog for another size."""
+    return [page.find(f'dialog [name={name}]').get_attribute('value') for name in ('right', 'down')]
+
+
+def test_another_size():
+    """The dialog for another size has nine places for the old map, a picture, and words of what comes and what is cut off.
+    Another size keeps the place; a number that is typed is none of the nine."""
+    with Bench() as page:
+        page.click('#resize')
+        assert page.texts('#old-map-place .hint') == ['The size stays as it is.']
+        buttons = page.js('return [...document.querySelectorAll("#old-map-place .places button")].map(each => each.ariaLabel)')
+        assert buttons[0] == 'Upper left' and buttons[4] == 'In the middle' and buttons[8] == 'Lower right' and len(buttons) == 9
+        for name, value in (('width', '46'), ('height', '25')):
+            page.find(f'dialog [name={name}]').clear()
+            page.find(f'dialog [name={name}]').send_keys(value)
+        assert places_of(page) == ['0', '0'] and page.texts('#old-map-place .hint') == ['Adds 6 columns at the right. Cuts off 5 rows below.']
+        page.click('#old-map-place button[aria-label="In the middle"]')
+        assert places_of(page) == ['3', '-3'] and page.find('#old-map-place .on').get_attribute('title') == 'In the middle'
+        told = 'Adds 3 columns at the left, 3 columns at the right. Cuts off 3 rows above, 2 rows below.'
+        assert page.texts('#old-map-place .hint') == [told] and page.find('#old-map-place svg').get_attribute('aria-label') == told
+        boxes = page.js('return ["kept", "new"].map(name => document.querySelector(`#old-map-place .${name}`).getBBox()).map(b => [b.x, b.y, b.width, b.height])')
+        scale = boxes[1][2] / 46
+        assert [round(side / scale) for side in (boxes[0][0] - boxes[1][0], boxes[0][1] - boxes[1][1], *boxes[0][2:])] == [3, 0, 40, 25]
+        page.click('#old-map-place button[aria-label="Lower right"]')
+        assert places_of(page) == ['6', '-5']
+        page.fill_in(right='1')
+        assert spelled(page) == ['resize 46 25 1 -5'] and layer_of(page, 'Ground')['width'] == 46
