@@ -1,6 +1,6 @@
 // SPDX-License-Identifier: MIT OR Apache-2.0
 // The properties of the map, of a layer, of an object or of several, in a table; and what else a line can set of these.
-import { button, byId, element, mark } from "./dom.js";
+import { button, byId, element, mark, putText } from "./dom.js";
 import { fieldFor, numberField, textField } from "./fields.js";
 import { KINDS, TYPES } from "../core/kinds.js";
 import { LayerRows } from "./layer_rows.js";
@@ -70,7 +70,7 @@ export class PropertyPanel {
     const owner = this.owner();
     for (const kind of OWNERS) byId(`of-${kind}`).classList.toggle("on", kind === this.kind);
     const none = this.kind === "object" ? "No object is chosen: click at one with the tool Objects." : "Nothing is open.";
-    byId("owner").textContent = owner?.title ?? none;
+    putText(byId("owner"), owner?.title ?? none);
     this.last.hidden = !owner;
     if (owner?.word !== this.shownOwner) this.unmark();
     this.shownOwner = owner?.word;
