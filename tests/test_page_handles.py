@@ -37,29 +37,6 @@ def middle(page, number):
     return page.js(code, number)
 
 
-def press_and_go(page, points, *keys):
-    """Presses at the first point and goes over the others, with keys held, and lets go of nothing."""
-    chain = ActionChains(page.driver, duration=30)
-    for key in keys:
-        chain.key_down(key)
-    hand = chain.w3c_actions.pointer_action
-    hand.move_to_location(*points[0])
-    hand.pointer_down(button=0)
-    for point in points[1:]:
-        hand.move_to_location(*point)
-    chain.perform()
-    page.settle()
-
-
-def release(page, *keys):
-    chain = ActionChains(page.driver)
-    chain.w3c_actions.pointer_action.pointer_up(button=0)
-    for key in keys:
-        chain.key_up(key)
-    chain.perform()
-    page.settle()
-
-
 def turn(page, number, degrees, *keys):
     """Drags the handle that turns around the middle of the object, by an angle."""
     (x, y), at = points_at(page, [middle(page, number)])[0], handle(page, 'turn')
@@ -98,12 +75,12 @@ def test_fields_follow():
         choose_object(page, LAKE)
         x, y = middle_of(page, LAKE)
         before = object_of(page, LAKE)
-        press_and_go(page, [[x, y], [x + 20, y], [x + 40, y + 20]])
+        page.hold([[x, y], [x + 20, y], [x + 40, y + 20]])
         shown = [int(field(page, key)) for key in ('x', 'y')]
         assert shown[0] > before['x'] + 20 and shown[1] > before['y'] + 5, shown
         assert page.js('return document.getElementById("hand-words").textContent') == f'{shown[0]}, {shown[1]}'
         page.keys(Keys.ESCAPE)
-        release(page)
+        page.let_go()
         assert [field(page, key) for key in ('x', 'y')] == [str(before['x']), str(before['y'])] and not spelled(page)
         page.drag_points([[x, y], [x + 20, y], [x + 40, y + 20]])
         now = object_of(page, LAKE)
