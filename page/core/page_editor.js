@@ -4,6 +4,7 @@
 // Lines are done at once, in the order in which they come. Of `open` and `save` the file is read and written beside them: these lines are
 // read before they are done, and those that close a document, so that none is closed whose save has not ended.
 import { Editor, FORMS, NoMemory, VERSION, documentName } from "../../js/roskevad.js";
+import { OWNERS } from "../../js/module.js";
 import { Changes } from "./changes.js";
 import { FreshEditor } from "./fresh_editor.js";
 import { Journal } from "./journal.js";
@@ -288,6 +289,12 @@ export class PageEditor extends EventTarget {
   // All that the active map says of an object: the page's own map has no more than what it shows.
   membersOf(id) {
     return this.editor.active.objects.get(id).members;
+  }
+
+  // The same of the properties of the map, a layer or an object, which is spelled as lines do.
+  propertiesOf(owner) {
+    const [kind, id = 0] = owner.split(":");
+    return this.editor.active._read("properties", OWNERS[kind], Number(id)) ?? [];
   }
 
   takeSelection() {
