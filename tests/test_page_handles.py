@@ -136,3 +136,41 @@ def test_fields():
         assert object_of(page, KEY)['visible'] is True and page.find('#properties [data-key=" visible"]').is_selected()
         page.type_into('#properties [data-key=" rotation"]', '33')
         assert object_of(page, KEY)['rotation'] == 33
+
+
+def test_fingers():
+    """A handle takes a finger in a square of 44 pixels around it, and a mouse nearer to it; in the middle of a small object a
+    finger moves that."""
+    def draw(kind, *points):
+        """Goes from the first point to the last one, by a finger or by the mouse."""
+        if kind == 'mouse':
+            return page.drag_points([list(each) for each in points])
+        told = lambda what, *at: page.driver.execute_cdp_cmd('Input.dispatchTouchEvent', {'type': what, 'touchPoints': [{'x': x, 'y': y, 'id': 1} for x, y in at]})
+        told('touchStart', points[0])
+        for each in points[1:]:
+            told('touchMove', each)
+        told('touchEnd')
+        page.settle()
+        return None
+
+    with Bench() as page:
+        page.keys('s')
+        choose_object(page, INN)
+        inn = object_of(page, INN)
+        page.js('const {view} = roskevad; view.zoomTo(3 * view.ratio); view.originX = (100 - arguments[0]) * 3; view.originY = (60 - arguments[1]) * 3; view.redraw()', inn['x'], inn['y'])
+        page.settle()
+        for kind, aside, is_taken in (('touch', 20, True), ('mouse', 4, True), ('mouse', 12, False), ('touch', 25, False)):
+            choose_object(page, INN)
+            x, y = handle(page, 'se')
+            index = standing(page)[0]
+            draw(kind, (x + aside, y + aside), (x + aside + 15, y + aside + 15), (x + aside + 30, y + aside + 30))
+            wide = object_of(page, INN)['width']
+            assert (standing(page)[0] == index + 1) is is_taken and (wide == inn['width'] + 10) is is_taken, (kind, aside, wide)
+            if is_taken:
+                page.ctrl('z')
+        choose_object(page, INN)
+        page.js('const {view} = roskevad; view.zoomTo(view.ratio); view.redraw()')
+        page.settle()
+        x, y = middle_of(page, INN)
+        draw('touch', (x, y), (x + 20, y), (x + 40, y))
+        assert object_of(page, INN) == {**inn, 'x': inn['x'] + 40}
