@@ -121,7 +121,7 @@ export class PropertyPanel {
 
   fact(name, text, why) {
     const cell = element("td", { colSpan: 2 }, element("span", { textContent: text }), element("small", { className: "barred", textContent: why }));
-    return this.kept(` ${name} ${text}`, [], () => ({ element: rowOf(name, "", why, cell), fields: [] }));
+    return this.kept(` ${name} ${text} ${why}`, [], () => ({ element: rowOf(name, "", why, cell), fields: [] }));
   }
 
   // Does for a field a line for each thing that the table is about, as one step with a name where they are several: gives null, or why it was

@@ -3,6 +3,7 @@
 // each of its members. What is set of one is set of each thing that the table is about.
 import { ask, button, element } from "./dom.js";
 import { fieldFor } from "./fields.js";
+import { inheritedProperty } from "../core/inherited.js";
 import { KINDS, TYPES, kindOfType } from "../core/kinds.js";
 import { bytesTooMany, removalLine } from "../core/member_lines.js";
 import { memberAt, membersIn, settingLine, textFrom, typeOfMember, valueFrom, withMember } from "../core/property_lines.js";
@@ -34,7 +35,18 @@ export class PropertyRows {
   }
 
   rows(owner) {
-    return (owner.data.properties ?? []).flatMap(property => this.rowsOf(owner, property));
+    return (owner.data.properties ?? []).flatMap(property => this.rowsOf(owner, property).map(row => this.ofTemplate(owner, property, row)));
+  }
+
+  // What an object has of its template is grey, and is removed there.
+  ofTemplate({ data }, { name }, row) {
+    const isGrey = inheritedProperty(data, name) !== null;
+    row.element.classList.toggle("usual", isGrey);
+    for (const { box } of row.fields) box.classList.toggle("usual", isGrey);
+    const remove = row.element.querySelector("td:last-child button");
+    if (remove && isGrey !== (row.element.dataset.isGrey === "yes")) Object.assign(remove, { disabled: isGrey, title: isGrey ? "Its template has this" : "Remove this" });
+    row.element.dataset.isGrey = isGrey ? "yes" : "no";
+    return row;
   }
 
   rowsOf(owner, property) {
@@ -86,7 +98,8 @@ export class PropertyRows {
   // Sets a property of each thing: `change` gives all of it as a file has it, from what is there of it. Gives null, or why it was refused.
   async set(name, change, isWhole = false) {
     const { editor } = this.bench;
-    const lineOf = ({ word }) => settingLine(word, change(editor.propertiesOf(word).find(each => each.name === name) ?? { name }), isWhole);
+    const known = ({ word, data }) => editor.propertiesOf(word).find(each => each.name === name) ?? inheritedProperty(data, name) ?? { name };
+    const lineOf = each => settingLine(each.word, change(known(each)), isWhole);
     const bytes = Math.max(...this.panel.owner().all.map(each => bytesTooMany(lineOf(each))));
     return bytes ? tooLong(bytes) : this.panel.sendEach(lineOf, "Set Property");
   }
