@@ -201,7 +201,7 @@ def test_name_class_and_rotation():
         field_of(page, ' rotation').send_keys(Keys.ESCAPE)
         assert value_of(page, ' rotation') == '45' and not faults(page)
         page.type_into('#properties [data-key=" name"]', 'x' * 201)
-        assert 'at most 200 bytes' in faults(page)[0] and spelled(page) == lines
+        assert 'at most 200 letters' in faults(page)[0] and spelled(page) == lines
         field_of(page, ' name').send_keys(Keys.ESCAPE)
         page.js('arguments[0].value = "a\\ud800"; arguments[0].dispatchEvent(new Event("change"))', field_of(page, ' name'))
         page.settle()

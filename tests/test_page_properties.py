@@ -153,7 +153,7 @@ def test_long_texts():
         put_text(page, 'note', 'w' * longest)
         assert property_of(page, 'note')['value'] == 'w' * longest
         put_text(page, 'note', 'x' * (longest + 2))
-        assert faults(page) == ['2 bytes longer than what can be set here'] and property_of(page, 'note')['value'] == 'w' * longest
+        assert faults(page) == ['too long by 2 letters'] and property_of(page, 'note')['value'] == 'w' * longest
         assert len(field(page, 'kept').get_property('value')) == 1025 and not field(page, 'kept').is_enabled()
         assert 'kept as it is' in page.find('#properties tr[data-property="kept"] .barred').text
         assert property_of(page, 'kept')['value'] == kept

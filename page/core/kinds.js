@@ -19,7 +19,8 @@ function labelFault(text) {
   if (CONTROL.test(text)) return "one line, without tabs";
   if (!isWhole(text)) return "whole characters: this has half of one";
   const size = encoder.encode(text).length;
-  return size > MAX_TEXT ? `at most ${MAX_TEXT} bytes; this has ${grouped(size)}` : "";
+  if (size <= MAX_TEXT) return "";
+  return `at most ${MAX_TEXT} letters; this has ${grouped(size)}${size > text.length ? ", as one that is none of a to z counts 2 to 4" : ""}`;
 }
 
 // The same of a text of a line.
@@ -92,13 +93,13 @@ function named(most) {
 const asIs = text => text;
 
 export const KINDS = {
-  text: { wanted: `a text of 1 to ${MAX_TEXT} bytes`, fault: textFault, spelled: asIs },
-  label: { wanted: `a text of at most ${MAX_TEXT} bytes`, fault: labelFault, spelled: asIs },
+  text: { wanted: `a text of 1 to ${MAX_TEXT} letters`, fault: textFault, spelled: asIs },
+  label: { wanted: `a text of at most ${MAX_TEXT} letters`, fault: labelFault, spelled: asIs },
   words: { wanted: `a text of at most ${LONGEST_TEXT} letters`, fault: wordsFault, spelled: asIs },
-  key: { wanted: `a name of 1 to ${MAX_TEXT} bytes`, fault: textFault, spelled: asIs },
+  key: { wanted: `a name of 1 to ${MAX_TEXT} letters`, fault: textFault, spelled: asIs },
   lines: { wanted: "a text, which may have several lines", fault: linesFault, spelled: asIs },
   line: { wanted: "a text of one line", fault: lineFault, spelled: asIs },
-  macro: { wanted: `a text of 1 to ${MAX_TEXT} bytes`, fault: text => (text.includes(" || ") ? "without ' || ' in it" : textFault(text)), spelled: asIs },
+  macro: { wanted: `a text of 1 to ${MAX_TEXT} letters`, fault: text => (text.includes(" || ") ? "without ' || ' in it" : textFault(text)), spelled: asIs },
   coordinate: whole(-MAX_COORDINATE, MAX_COORDINATE),
   size: whole(0, MAX_PIXELS),
   number: whole(0, MAX_NUMBER),

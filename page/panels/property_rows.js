@@ -18,7 +18,7 @@ export const FIRST = { string: "", int: 0, float: 0, bool: false, color: "", fil
 // How many letters are shown of a value that is longer than what can be set.
 const MOST_SHOWN = 1024;
 const CUT = `Only its first ${MOST_SHOWN.toLocaleString("en-US")} letters are shown: it is longer than what can be set here. It is kept as it is.`;
-const tooLong = bytes => `${bytes.toLocaleString("en-US")} ${bytes === 1 ? "byte" : "bytes"} longer than what can be set here`;
+const tooLong = count => `too long by ${count.toLocaleString("en-US")} ${count === 1 ? "letter" : "letters"}`;
 // The words of a member's type, which the map does not tell: its class stands in Tiled's project.
 const OF_MEMBERS = { float: "number", bool: "mark", string: "text" };
 const SETTABLE = Object.keys(TYPES).filter(type => type !== "class");
