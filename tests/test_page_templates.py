@@ -71,6 +71,7 @@ def test_values():
             page.type_into(f'#properties [data-key="{name}"]', value)
             assert spelled(page)[-1] == line and object_of(page, FIRST) == {**before, **members}, (name, spelled(page)[-1])
             assert shown(page, name) == (value, False)
+            assert page.js('return [...document.querySelectorAll("#properties tr[data-property]")].map(row => row.dataset.property)') == ['key', 'guard', 'open']
             page.ctrl('z')
             assert object_of(page, FIRST) == before and shown(page, name) == (wanted[name], True)
             passed()

@@ -10,9 +10,10 @@ const OWN = new Set(["id", "x", "y", "template", "properties"]);
 export function withTemplate(object, template) {
   if (!template) return object;
   const members = Object.keys(template).filter(name => !OWN.has(name) && !Object.hasOwn(object, name));
-  const named = new Set((object.properties ?? []).map(({ name }) => name));
+  const named = new Map((object.properties ?? []).map(each => [each.name, each]));
   const others = (template.properties ?? []).filter(({ name }) => !named.has(name));
-  const properties = [...(object.properties ?? []), ...others];
+  // One of its own stands where the template has it.
+  const properties = [...new Set([...(template.properties ?? []).map(each => named.get(each.name) ?? each), ...named.values()])];
   return {
     ...Object.fromEntries(members.map(name => [name, template[name]])), ...object, ...(properties.length && { properties }),
     [INHERITED]: { members: new Set(members), properties: new Map(others.map(each => [each.name, each])) },
