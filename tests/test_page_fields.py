@@ -150,7 +150,7 @@ def test_refused_values():
             page.type_into('#properties [data-key="people"]', typed or Keys.DELETE)
             assert faults(page) == ['a whole number'] and value_of(page, 'people') == typed, typed
         page.type_into('#properties [data-key="people"]', '9999999999')
-        assert faults(page) == ['a whole number from -1,000,000,000 to 1,000,000,000']
+        assert faults(page) == ['a whole number from -2,147,483,648 to 2,147,483,647']
         page.type_into('#properties [data-key="music"]', 'harp.ogg')
         assert spelled(page) == ['prop set map music file harp.ogg']
         assert value_of(page, 'people') == '9999999999' and len(faults(page)) == 1

@@ -17,8 +17,8 @@ CHEST = {'type': 'template', 'object': {'name': 'chest', 'type': 'Chest', 'gid':
 FIRST, SECOND = 901, 902
 
 
-def opened(bench, *files):
-    """The town with two objects of templates."""
+def written(bench):
+    """Writes the town with two objects of templates, and the templates."""
     town = json.loads((bench.folder / 'town.tmj').read_text())
     objects = [{'id': FIRST, 'template': 'door.tx', 'x': 200, 'y': 200}, {'id': SECOND, 'template': 'chest.tj', 'x': 300, 'y': 216}]
     layer = {'type': 'objectgroup', 'id': 900, 'name': 'Doors', 'objects': objects, 'opacity': 1, 'visible': True, 'x': 0, 'y': 0}
@@ -26,6 +26,11 @@ def opened(bench, *files):
     (bench.folder / 'doors.tmj').write_text(json.dumps(town))
     (bench.folder / 'door.tx').write_text(DOOR)
     (bench.folder / 'chest.tj').write_text(json.dumps(CHEST))
+
+
+def opened(bench, *files):
+    """The page with that map, and with some of the templates."""
+    written(bench)
     bench.page.choose_files(bench.folder / 'doors.tmj', *bench.folder.glob('*.ts?'), *bench.folder.glob('*.png'), *(bench.folder / name for name in files))
 
 
@@ -106,3 +111,15 @@ def test_without_its_file():
         page.choose_files(bench.folder / 'door.tx')
         page.wait(lambda: shown(page, ' name') == ('door', True), 'the values of the template')
         assert 'choose it, too' not in page.find('#properties').text and not page.notices(), page.notices()
+
+
+def test_served():
+    """`./tile_page` serves templates, too."""
+    bench = Bench(empty=True, served=True)
+    with bench as page:
+        written(bench)
+        page.js('roskevad.documents.openPath("doors.tmj")')
+        page.wait(lambda: page.js('return roskevad.editor.map !== null'), 'the map is open')
+        page.settle()
+        choose(page, FIRST)
+        page.wait(lambda: shown(page, ' name') == ('door', True), 'the values of the template')
