@@ -119,7 +119,10 @@ class Page {
   listen() {
     const { bench, editor, overlay, panel, view } = this;
     panel.onPicture = path => (this.editor.map ? this.tilesetPanel.makeOf(path) : this.documents.newMap.make(path));
-    panel.onTilesets = () => this.showTilesets().catch(fault => console.warn(fault));
+    panel.onTilesets = () => {
+      editor.templates.retry();
+      this.showTilesets().catch(fault => console.warn(fault));
+    };
     editor.addEventListener("map", ({ detail }) => (this.showing = this.showMap(detail)));
     editor.addEventListener("cells", ({ detail }) => view.refresh(detail));
     editor.addEventListener("objects", ({ detail }) => this.showObjects(detail));
@@ -205,8 +208,9 @@ class Page {
   }
 
   async showTilesets() {
-    const { bench, tilesets } = this;
-    if (!(await tilesets.take(this.editor.map))) return;
+    const { bench, editor, tilesets } = this;
+    if (await editor.templates.take(editor.map)) editor.renewMap();
+    if (!(await tilesets.take(editor.map))) return;
     this.tilesetPanel.show();
     this.view.images.forget();
     this.view.redraw();

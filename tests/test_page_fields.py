@@ -150,7 +150,7 @@ def test_refused_values():
             page.type_into('#properties [data-key="people"]', typed or Keys.DELETE)
             assert faults(page) == ['a whole number'] and value_of(page, 'people') == typed, typed
         page.type_into('#properties [data-key="people"]', '9999999999')
-        assert faults(page) == ['a whole number from -1,000,000,000 to 1,000,000,000']
+        assert faults(page) == ['a whole number from -2,147,483,648 to 2,147,483,647']
         page.type_into('#properties [data-key="music"]', 'harp.ogg')
         assert spelled(page) == ['prop set map music file harp.ogg']
         assert value_of(page, 'people') == '9999999999' and len(faults(page)) == 1
@@ -201,7 +201,7 @@ def test_name_class_and_rotation():
         field_of(page, ' rotation').send_keys(Keys.ESCAPE)
         assert value_of(page, ' rotation') == '45' and not faults(page)
         page.type_into('#properties [data-key=" name"]', 'x' * 201)
-        assert 'at most 200 bytes' in faults(page)[0] and spelled(page) == lines
+        assert 'at most 200 letters' in faults(page)[0] and spelled(page) == lines
         field_of(page, ' name').send_keys(Keys.ESCAPE)
         page.js('arguments[0].value = "a\\ud800"; arguments[0].dispatchEvent(new Event("change"))', field_of(page, ' name'))
         page.settle()
@@ -306,25 +306,25 @@ def test_fields_of_types():
 
 
 def test_values_that_no_line_sets():
-    """A float and a class are shown, barred, with a word; so is a name with a space. A long value
-    is seen whole, without a bar to scroll."""
+    """A list, a class with a fraction and a type that Tiled does not have are shown, barred, with a word. A long
+    value is seen whole, without a bar to scroll."""
     bench = Bench(empty=True)
     with bench as page:
         town = json.loads((bench.folder / 'town.tmj').read_text())
         long = 'the quick brown fox jumps over the lazy dog, and back again over the same dog'
         town['properties'] = [
-            {'name': 'weight', 'type': 'float', 'value': 2.5},
-            {'name': 'guard', 'type': 'class', 'value': {'speed': 3}, 'propertytype': 'Guard'},
-            {'name': 'two words', 'type': 'int', 'value': 4},
+            {'name': 'guard', 'type': 'class', 'value': {'speed': 2.5}, 'propertytype': 'Guard'},
+            {'name': 'all', 'type': 'list', 'value': [1, 2]},
+            {'name': 'odd', 'type': 'shape', 'value': 4},
             {'name': 'saying', 'type': 'string', 'value': long},
         ]
         (bench.folder / 'kinds.tmj').write_text(json.dumps(town))
         page.choose_files(bench.folder / 'kinds.tmj', *bench.folder.glob('*.ts?'))
         page.find('#of-map').click()
         for name, shown, why in (
-            ('weight', '2.5', 'float'),
-            ('guard', 'speed: 3', 'class'),
-            ('two words', '4', 'space'),
+            ('guard', 'speed: 2.5', 'speed is 2.5'),
+            ('all', '1,2', 'list'),
+            ('odd', '4', 'type shape'),
         ):
             field, row = field_of(page, name), f'#properties tr[data-property="{name}"]'
             assert field.get_attribute('value') == shown and not field.is_enabled(), name
@@ -341,16 +341,16 @@ def test_new_property():
     with Bench() as page:
         page.find('#of-map').click()
         name = page.find('#new-name')
-        name.send_keys('two words')
+        name.send_keys('n' * 201)
         page.find('#new-value').send_keys('x', Keys.ENTER)
         page.settle()
-        assert 'space' in faults(page)[0] and 'wrong' in name.get_attribute('class')
+        assert 'at most 200' in faults(page)[0] and 'wrong' in name.get_attribute('class')
         name.clear()
         name.send_keys('weather')
         assert not faults(page), 'the mark goes with the next key'
         for kind, value, why in (
-            ('string', '', 'one letter at least'),
             ('int', '1.5', 'a whole number'),
+            ('float', '1.5', '1 or 2: only whole values'),
             ('color', 'red', '#rrggbb'),
         ):
             Select(page.find('#new-type')).select_by_visible_text(kind)

@@ -223,25 +223,6 @@ def test_kept_stamps():
         assert page.js('return roskevad.bench.brushSize') == 3
 
 
-def press(page, cells, is_down=True):
-    """Moves the hand over cells, with the button down from the first one on; lets go of nothing."""
-    chain = ActionChains(page.driver, duration=30)
-    hand = chain.w3c_actions.pointer_action
-    for at, each in enumerate(cells):
-        hand.move_to_location(*page.point(each))
-        if is_down and at == 0:
-            hand.pointer_down(button=0)
-    chain.perform()
-    page.settle()
-
-
-def release(page):
-    chain = ActionChains(page.driver, duration=30)
-    chain.w3c_actions.pointer_action.pointer_up(button=0)
-    chain.perform()
-    page.settle()
-
-
 def test_escape():
     """Escape takes a stroke back, and an earlier one stays; a drag of a rectangle does nothing then;
     with nothing under way it drops the selection; a dialog goes, and nothing else."""
@@ -250,26 +231,26 @@ def test_escape():
         take_tile(page, (3, 1))
         page.drag([(3, 18), (5, 18)])
         before = page.editor.shown()
-        press(page, [(3, 20), (5, 20)])
+        page.hold_cells([(3, 20), (5, 20)])
         page.keys(Keys.ESCAPE)
-        press(page, [(8, 20)], is_down=False)
-        release(page)
+        page.hold_cells([(8, 20)], is_pressed=False)
+        page.let_go()
         assert spelled(page)[-2:] == [f'stamp+ {ground} 5 20 1 12', 'undo'] and standing(page) == (1, 2)
         assert page.editor.shown() == before and cell(page, ground, 4, 18) == 12
-        press(page, [(3, 18), (5, 18)])
+        page.hold_cells([(3, 18), (5, 18)])
         page.keys(Keys.ESCAPE)
-        release(page)
+        page.let_go()
         assert standing(page) == (1, 2), 'a stroke that has changed nothing takes no other one back'
         page.keys('p')
-        press(page, [(3, 22), (8, 25)])
+        page.hold_cells([(3, 22), (8, 25)])
         page.keys(Keys.ESCAPE)
-        release(page)
+        page.let_go()
         assert standing(page) == (1, 2)
         page.keys('r')
         page.drag([(3, 22), (8, 25)])
-        press(page, [(10, 22), (12, 25)])
+        page.hold_cells([(10, 22), (12, 25)])
         page.keys(Keys.ESCAPE)
-        release(page)
+        page.let_go()
         assert len(selected_cells(page)) == 24
         page.click('#resize')
         ActionChains(page.driver).send_keys(Keys.ESCAPE).perform()
@@ -320,7 +301,7 @@ def test_keys_in_fields():
         page.find('#line').send_keys(Keys.CONTROL, 'v')
         assert page.js('return document.getElementById("line").value').strip() == marked
         assert page.js('return roskevad.bench.stamp') == stamp
-        press(page, [(9, 20)], is_down=False)
+        page.hold_cells([(9, 20)], is_pressed=False)
         page.drag([(9, 20)])
         assert page.js('return String(getSelection())') == ''
 
@@ -369,19 +350,19 @@ def test_stroke_beside_the_map():
     with Bench() as page:
         ground = choose(page, 'Ground')
         take_tile(page, (3, 1))
-        press(page, [(-2, 3), (-1, 3)])
+        page.hold_cells([(-2, 3), (-1, 3)])
         assert 'outside' in page.bubble()
-        press(page, [(0, 3), (2, 3)], is_down=False)
+        page.hold_cells([(0, 3), (2, 3)], is_pressed=False)
         assert not page.find('#bubble').is_displayed()
-        release(page)
+        page.let_go()
         assert standing(page) == (1, 1) and cell(page, ground, 2, 3) == 12
         page.ctrl('z')
         page.say('select replace 20 20 2 2')
-        press(page, [(18, 20)])
+        page.hold_cells([(18, 20)])
         assert 'selection' in page.bubble()
-        press(page, [(20, 20)], is_down=False)
+        page.hold_cells([(20, 20)], is_pressed=False)
         assert not page.find('#bubble').is_displayed()
-        release(page)
+        page.let_go()
         assert cell(page, ground, 20, 20) == 12 and cell(page, ground, 19, 20) != 12
 
 

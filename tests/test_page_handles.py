@@ -37,29 +37,6 @@ def middle(page, number):
     return page.js(code, number)
 
 
-def press_and_go(page, points, *keys):
-    """Presses at the first point and goes over the others, with keys held, and lets go of nothing."""
-    chain = ActionChains(page.driver, duration=30)
-    for key in keys:
-        chain.key_down(key)
-    hand = chain.w3c_actions.pointer_action
-    hand.move_to_location(*points[0])
-    hand.pointer_down(button=0)
-    for point in points[1:]:
-        hand.move_to_location(*point)
-    chain.perform()
-    page.settle()
-
-
-def release(page, *keys):
-    chain = ActionChains(page.driver)
-    chain.w3c_actions.pointer_action.pointer_up(button=0)
-    for key in keys:
-        chain.key_up(key)
-    chain.perform()
-    page.settle()
-
-
 def turn(page, number, degrees, *keys):
     """Drags the handle that turns around the middle of the object, by an angle."""
     (x, y), at = points_at(page, [middle(page, number)])[0], handle(page, 'turn')
@@ -98,12 +75,12 @@ def test_fields_follow():
         choose_object(page, LAKE)
         x, y = middle_of(page, LAKE)
         before = object_of(page, LAKE)
-        press_and_go(page, [[x, y], [x + 20, y], [x + 40, y + 20]])
+        page.hold([[x, y], [x + 20, y], [x + 40, y + 20]])
         shown = [int(field(page, key)) for key in ('x', 'y')]
         assert shown[0] > before['x'] + 20 and shown[1] > before['y'] + 5, shown
         assert page.js('return document.getElementById("hand-words").textContent') == f'{shown[0]}, {shown[1]}'
         page.keys(Keys.ESCAPE)
-        release(page)
+        page.let_go()
         assert [field(page, key) for key in ('x', 'y')] == [str(before['x']), str(before['y'])] and not spelled(page)
         page.drag_points([[x, y], [x + 20, y], [x + 40, y + 20]])
         now = object_of(page, LAKE)
@@ -159,3 +136,41 @@ def test_fields():
         assert object_of(page, KEY)['visible'] is True and page.find('#properties [data-key=" visible"]').is_selected()
         page.type_into('#properties [data-key=" rotation"]', '33')
         assert object_of(page, KEY)['rotation'] == 33
+
+
+def test_fingers():
+    """A handle takes a finger in a square of 44 pixels around it, and a mouse nearer to it; in the middle of a small object a
+    finger moves that."""
+    def draw(kind, *points):
+        """Goes from the first point to the last one, by a finger or by the mouse."""
+        if kind == 'mouse':
+            return page.drag_points([list(each) for each in points])
+        told = lambda what, *at: page.driver.execute_cdp_cmd('Input.dispatchTouchEvent', {'type': what, 'touchPoints': [{'x': x, 'y': y, 'id': 1} for x, y in at]})
+        told('touchStart', points[0])
+        for each in points[1:]:
+            told('touchMove', each)
+        told('touchEnd')
+        page.settle()
+        return None
+
+    with Bench() as page:
+        page.keys('s')
+        choose_object(page, INN)
+        inn = object_of(page, INN)
+        page.js('const {view} = roskevad; view.zoomTo(3 * view.ratio); view.originX = (100 - arguments[0]) * 3; view.originY = (60 - arguments[1]) * 3; view.redraw()', inn['x'], inn['y'])
+        page.settle()
+        for kind, aside, is_taken in (('touch', 20, True), ('mouse', 4, True), ('mouse', 12, False), ('touch', 25, False)):
+            choose_object(page, INN)
+            x, y = handle(page, 'se')
+            index = standing(page)[0]
+            draw(kind, (x + aside, y + aside), (x + aside + 15, y + aside + 15), (x + aside + 30, y + aside + 30))
+            wide = object_of(page, INN)['width']
+            assert (standing(page)[0] == index + 1) is is_taken and (wide == inn['width'] + 10) is is_taken, (kind, aside, wide)
+            if is_taken:
+                page.ctrl('z')
+        choose_object(page, INN)
+        page.js('const {view} = roskevad; view.zoomTo(view.ratio); view.redraw()')
+        page.settle()
+        x, y = middle_of(page, INN)
+        draw('touch', (x, y), (x + 20, y), (x + 40, y))
+        assert object_of(page, INN) == {**inn, 'x': inn['x'] + 40}

@@ -143,23 +143,13 @@ def test_objects_seen():
         page.ctrl('z')
         page.click('#tool-objects')
         x, y = middle_of(page, number)
-        chain = ActionChains(page.driver, duration=30)
-        hand = chain.w3c_actions.pointer_action
-        hand.move_to_location(x, y)
-        hand.pointer_down(button=0)
-        hand.move_to_location(x + 10, y + 3)
-        hand.move_to_location(x + round(40 * scale), y + round(24 * scale))
-        chain.perform()
-        page.settle()
+        page.hold([[x, y], [x + 10, y + 3], [x + round(40 * scale), y + round(24 * scale)]])
         way = colours_now(page, points)
         assert way[:2] == bare[:2] and way[2] == CHOSEN and way[3] != bare[3], (way, bare)
         assert [line for line in spelled(page) if line.startswith('object')] == [] and object_of(
             page, number
         ) == was
-        chain = ActionChains(page.driver, duration=30)
-        chain.w3c_actions.pointer_action.pointer_up(button=0)
-        chain.perform()
-        page.settle()
+        page.let_go()
         assert (
             spelled(page)[-1] == f"object move {number} {was['x'] + 40} {was['y'] + 24}"
             and standing(page)[0] == 1

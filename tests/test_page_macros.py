@@ -131,13 +131,7 @@ def test_undo_in_a_macro():
         page.ctrl('y')
         assert 'Nothing of this macro is undone' in page.bubble() and cell(page, ground, 3, 20) != 12
         before = page.editor.shown()
-        points = [page.point(cell) for cell in ((3, 24), (6, 24))]
-        chain = ActionChains(page.driver, duration=30)
-        hand = chain.w3c_actions.pointer_action
-        hand.move_to_location(*points[0])
-        hand.pointer_down(button=0)
-        hand.move_to_location(*points[1])
-        chain.perform()
+        page.hold_cells([(3, 24), (6, 24)])
         page.keys(Keys.ESCAPE)
         assert page.editor.shown() == before and page.editor.state()['depth'] == 1
         page.click('#macro')

@@ -1,8 +1,10 @@
 # SPDX-License-Identifier: MIT OR Apache-2.0
 """Works with the menus of the page in Chromium: all buttons in words with their keys, menus on layers, objects, tiles,
 tabs and the map, F6 from panel to panel, keys of one's own, and what was opened lately."""
+from lib.places import EXAMPLE_MAPS
 from page.bench import Bench, choose, layer_of, middle_of, object_of, spelled, standing
-from page.browser import ActionChains, Keys
+from page.browser import ActionChains, Keys, Page, browser
+from page.own_folder import put, site, take_folder
 
 NEEDS_BROWSER = True
 IS_LONG = True
@@ -152,3 +154,45 @@ def test_recent():
         assert recent[:2] == ['house.tmj', 'town.tmj'], recent
         pick(page, 'town.tmj')
         assert page.editor.state()['active'] == 'town' and standing(page) == (0, 0)
+
+
+def recent(page, keys):
+    """What the menu has of what was opened lately: maps, or folders."""
+    page.click('#menu-button')
+    found = [word for word, each in zip(rows(page), page.texts('#menu button .keys')) if each == keys]
+    ActionChains(page.driver).send_keys(Keys.ESCAPE).perform()
+    page.settle()
+    return found
+
+
+def test_recent_folders():
+    """Folders of the browser are in the menu, the last one first, also behind a reload; a click opens one, where it asks for a
+    map of it. Maps of one folder are not offered in another one; one that is gone is named."""
+    names = ('tiles.tsx', 'tiles.png', 'town.tmj', 'house.tmj')
+    with site() as address:
+        page = Page(browser(), f'{address}/roskevad.html')
+        page.has_log = False
+        page.clear(f'{address}/blank.html')
+        page.open()
+        put(page, {f'{folder}/{name}': (EXAMPLE_MAPS / name).read_bytes() for folder in ('castle', 'village') for name in names})
+        assert recent(page, 'recent folder') == []
+        for folder, name in (('castle', 'town.tmj'), ('village', 'house.tmj')):
+            take_folder(page, folder)
+            page.fill_in(file=name)
+            page.js('roskevad.documents.close(roskevad.editor.openDocuments.active)')
+            page.settle()
+        assert recent(page, 'recent folder') == ['village', 'castle'] and recent(page, 'recent map') == ['house.tmj']
+        page.reload()
+        assert recent(page, 'recent folder') == ['village', 'castle']
+        page.click('#menu-button')
+        pick(page, 'castle')
+        page.fill_in(file='house.tmj')
+        assert page.editor.state()['active'] == 'house' and page.find('#folder').text == 'castle'
+        assert recent(page, 'recent folder') == ['castle', 'village'] and recent(page, 'recent map') == ['town.tmj']
+        gone = '''const done = arguments[0]; navigator.storage.getDirectory().then(top => top.getDirectoryHandle("castle"))
+                  .then(folder => folder.removeEntry("town.tmj")).then(done)'''
+        page.driver.execute_async_script(gone)
+        page.click('#menu-button')
+        pick(page, 'town.tmj')
+        page.wait(lambda: 'town.tmj' in page.bubble(), 'the map is named')
+        page.driver.get('about:blank')

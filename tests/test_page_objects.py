@@ -191,18 +191,10 @@ def test_handles():
         drag_handle(page, INN, 'e', 5, 5)
         assert spelled(page)[-1] == f'object resize {INN} 37 48', 'an edge moves one way'
         count, (x, y) = len(spelled(page)), middle_of(page, INN)
-        chain = ActionChains(page.driver, duration=30)
-        hand = chain.w3c_actions.pointer_action
-        hand.move_to_location(x, y)
-        hand.pointer_down(button=0)
-        hand.move_to_location(x + 30, y + 9)
-        chain.perform()
+        page.hold([[x, y], [x + 30, y + 9]])
         assert page.js('return roskevad.overlay.dragged.id') == INN
         type_keys(page, Keys.ESCAPE)
-        chain = ActionChains(page.driver, duration=30)
-        chain.w3c_actions.pointer_action.pointer_up(button=0)
-        chain.perform()
-        page.settle()
+        page.let_go()
         assert len(spelled(page)) == count, 'Escape ends a drag, which does nothing then'
 
 

@@ -13,29 +13,6 @@ PANEL = (0xF6, 0xF7, 0xF9)
 SAND, WALL, ROOF = 12, 9, 5
 
 
-def held(page, cells, *keys, is_pressed=True):
-    """Goes over cells with the button down, or up, and with keys held, and stays there."""
-    chain = ActionChains(page.driver, duration=30)
-    for key in keys:
-        chain.key_down(key)
-    hand = chain.w3c_actions.pointer_action
-    for at, cell in enumerate(cells):
-        hand.move_to_location(*page.point(cell))
-        if is_pressed and at == 0:
-            hand.pointer_down(button=0)
-    chain.perform()
-    page.settle()
-
-
-def let_go(page, *keys):
-    chain = ActionChains(page.driver)
-    chain.w3c_actions.pointer_action.pointer_up(button=0)
-    for key in keys:
-        chain.key_up(key)
-    chain.perform()
-    page.settle()
-
-
 def seen_in(page, cells):
     """The colours at two pixels of each cell, none at its edge nor under the hand's words."""
     return [colours_now(page, page.places(cells, pixel)) for pixel in ((5, 9), (12, 4))]
@@ -61,12 +38,12 @@ def new_map(page):
 def is_as_done(page, cells, show, do):
     """Whether what `show` has seen in cells is what is seen there behind `do`, but fainter: each
     differs from the ground in the same places."""
-    held(page, [(11, 8)], is_pressed=False)
+    page.hold_cells([(11, 8)], is_pressed=False)
     before = seen_in(page, cells)
     show()
     shown = seen_in(page, cells)
     do()
-    held(page, [(11, 8)], is_pressed=False)
+    page.hold_cells([(11, 8)], is_pressed=False)
     done = seen_in(page, cells)
     for empty, faint, whole in zip(sum(before, []), sum(shown, []), sum(done, [])):
         mixed = [round(0.25 * one + 0.75 * other) for one, other in zip(empty, whole)]
@@ -81,15 +58,15 @@ def test_rectangle():
         page.keys('p')
         take(page, SAND, ROOF, WALL, SAND, width=2)
         inner = [(x, y) for x in (2, 3, 4) for y in (1, 2)]
-        assert is_as_done(page, inner, lambda: held(page, [(1, 0), (6, 3)]), lambda: let_go(page))
-        held(page, [(1, 0), (6, 3)])
+        assert is_as_done(page, inner, lambda: page.hold_cells([(1, 0), (6, 3)]), lambda: page.let_go())
+        page.hold_cells([(1, 0), (6, 3)])
         assert words(page) == '6 × 4'
-        let_go(page)
+        page.let_go()
         assert words(page) == '' and standing(page) == (2, 2)
         page.keys('r')
-        held(page, [(2, 2), (4, 2)])
+        page.hold_cells([(2, 2), (4, 2)])
         assert words(page) == '3 × 1'
-        let_go(page)
+        page.let_go()
 
 
 def test_fill():
@@ -101,16 +78,16 @@ def test_fill():
         region = [(0, 0), (11, 0), (4, 4), (11, 4), (2, 2)]
         for stamp in ((SAND,), (SAND, ROOF)):
             take(page, *stamp, width=len(stamp))
-            assert is_as_done(page, region, lambda: held(page, [(7, 2)], is_pressed=False), lambda: page.drag([(7, 2)]))
+            assert is_as_done(page, region, lambda: page.hold_cells([(7, 2)], is_pressed=False), lambda: page.drag([(7, 2)]))
             page.ctrl('z')
-        held(page, [(7, 2)], is_pressed=False)
+        page.hold_cells([(7, 2)], is_pressed=False)
         assert words(page) == '60 cells'
-        held(page, [(7, 7)], is_pressed=False)
+        page.hold_cells([(7, 7)], is_pressed=False)
         assert words(page) == '36 cells'
         page.editor.lines('select replace 3 6 2 2')
-        held(page, [(3, 6)], is_pressed=False)
+        page.hold_cells([(3, 6)], is_pressed=False)
         assert words(page) == '4 cells'
-        held(page, [(7, 7)], is_pressed=False)
+        page.hold_cells([(7, 7)], is_pressed=False)
         assert words(page) == ''
 
 
@@ -123,14 +100,14 @@ def test_line():
         take(page, SAND)
         page.drag([(1, 1)])
         line = [(2, 1), (3, 1), (4, 1)]
-        show = lambda: held(page, [(6, 1)], Keys.SHIFT, is_pressed=False)
-        assert is_as_done(page, line, show, lambda: (page.drag([(6, 1)], Keys.SHIFT), let_go(page, Keys.SHIFT)))
-        held(page, [(10, 1)], is_pressed=False)
+        show = lambda: page.hold_cells([(6, 1)], Keys.SHIFT, is_pressed=False)
+        assert is_as_done(page, line, show, lambda: (page.drag([(6, 1)], Keys.SHIFT), page.let_go(Keys.SHIFT)))
+        page.hold_cells([(10, 1)], is_pressed=False)
         before = seen_in(page, [(8, 1)])
         ActionChains(page.driver).key_down(Keys.SHIFT).perform()
         page.settle()
         assert seen_in(page, [(8, 1)]) != before and words(page) == '5 cells long'
-        let_go(page, Keys.SHIFT)
+        page.let_go(Keys.SHIFT)
         assert seen_in(page, [(8, 1)]) == before
 
 
@@ -141,7 +118,7 @@ def test_still_hand():
         new_map(page)
         page.keys('b')
         take(page, SAND)
-        held(page, [(5, 2)], is_pressed=False)
+        page.hold_cells([(5, 2)], is_pressed=False)
         around = [(4, 2), (6, 2), (5, 1), (5, 3)]
         before = seen_in(page, around)
         page.keys('3')

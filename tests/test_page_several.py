@@ -209,3 +209,102 @@ def test_pick_an_object():
         page.click('#properties tr[data-property="opens"] .pick-object')
         page.drag_points([middle_of(page, 3)])
         assert object_of(page, ids[0])['properties'][0]['value'] == 3 and spelled(page)[-1] == f'prop set object:{ids[0]} opens object 3'
+
+
+def order_of(page, name='Crates'):
+    return [each['id'] for each in layer_of(page, name)['objects']]
+
+
+def do(page, text):
+    """Picks an item of the menu of the chosen objects."""
+    ActionChains(page.driver).context_click(page.find('#objects li.now')).perform()
+    page.settle()
+    page.js('[...document.querySelectorAll("#menu button")].find(each => each.querySelector(".words").textContent === arguments[0]).click()', text)
+    page.settle()
+
+
+def test_order():
+    """Raise and Lower go by one, and past no other one that is chosen; two more go to an end. All are one step, and where nothing
+    is to be done it is said."""
+    with Bench() as page:
+        ids = crates(page, 4)
+        one, two, three, four = ids
+        wanted = [
+            ([one], 'Raise', [two, one, three, four]),
+            ([one], 'Raise to the top', [two, three, four, one]),
+            ([one], 'Lower', [two, three, one, four]),
+            ([one], 'Lower to the bottom', [one, two, three, four]),
+            ([one, two], 'Raise', [three, one, two, four]),
+            ([three, two], 'Raise', [one, three, four, two]),
+            ([one, three], 'Raise to the top', [four, two, one, three]),
+            ([three, two], 'Lower to the bottom', [two, three, four, one]),
+        ]
+        for numbers, text, order in wanted:
+            page.js('roskevad.bench.chooseObjects(arguments[0])', numbers)
+            page.settle()
+            index = standing(page)[0]
+            do(page, text)
+            assert order_of(page) == order and standing(page)[0] == index + 1, (text, numbers, order_of(page))
+            assert chosen(page) == numbers
+        page.js('roskevad.bench.chooseObjects(arguments[0])', [one])
+        page.settle()
+        do(page, 'Raise')
+        assert 'above all others of its layer already' in page.bubble() and standing(page)[0] == index + 1
+        page.ctrl('z')
+        assert order_of(page) == wanted[-2][2]
+
+
+def test_other_layer():
+    """The chosen objects go to another layer by the menu, in their order, behind those that are there, with all that they have; not
+    into one that is locked."""
+    with Bench() as page:
+        ids = crates(page)
+        things = layer_of(page, 'Things')
+        before = [each['id'] for each in things['objects']]
+        page.editor.lines(f'prop set object:{ids[0]} opens int 3')
+        was = [object_of(page, number) for number in ids[:2]]
+        page.js('roskevad.bench.chooseObjects(arguments[0])', [ids[1], ids[0]])
+        page.settle()
+        index = standing(page)[0]
+        do(page, 'Move to Things')
+        assert order_of(page, 'Things') == [*before, *ids[:2]] and order_of(page) == [ids[2]] and standing(page)[0] == index + 1
+        assert [object_of(page, number) for number in ids[:2]] == was and sorted(chosen(page)) == ids[:2]
+        page.ctrl('z')
+        assert order_of(page) == ids
+        page.editor.lines(f'member set layer:{things["id"]} locked true')
+        page.js('roskevad.bench.chooseObjects(arguments[0])', ids[:1])
+        page.settle()
+        do(page, 'Move to Things')
+        assert 'locked' in page.bubble() and order_of(page) == ids
+
+
+def test_drag_in_the_list():
+    """A row is dragged to another place of its layer or into another one, with all that are chosen; Escape ends it."""
+    row = lambda page, css: page.js('const {left, top, height, width} = document.querySelector(arguments[0]).getBoundingClientRect(); return [left + width / 2, top, height]', css)
+    point = lambda page, css, share: [int(row(page, css)[0]), int(row(page, css)[1] + share * row(page, css)[2])]
+    of = lambda number: f'#objects li[data-object="{number}"]'
+    with Bench() as page:
+        one, two, three = ids = crates(page)
+        page.js('document.querySelector(arguments[0]).scrollIntoView()', of(one))
+        page.hold([point(page, of(one), 0.5), point(page, of(two), 0.5), point(page, of(three), 0.9)])
+        assert page.find(of(three)).get_attribute('class') == 'drop-below'
+        page.let_go()
+        assert order_of(page) == [two, three, one] and chosen(page) == [one]
+        assert spelled(page)[-1] == f'object into {one} {layer_of(page, "Crates")["id"]} 2'
+        page.hold([point(page, of(one), 0.5), point(page, of(three), 0.5), point(page, of(two), 0.1)])
+        page.driver.switch_to.active_element.send_keys(Keys.ESCAPE)
+        page.let_go()
+        assert order_of(page) == [two, three, one]
+        page.js('roskevad.bench.chooseObjects(arguments[0])', [two, one])
+        page.settle()
+        things = layer_of(page, 'Things')
+        first = things['objects'][0]['id']
+        page.js('document.querySelector(arguments[0]).scrollIntoView({block: "center"})', of(first))
+        page.hold([point(page, of(one), 0.5), point(page, of(first), 0.9), point(page, of(first), 0.1)])
+        page.let_go()
+        assert order_of(page, 'Things')[:3] == [two, one, first] and order_of(page) == [three] and ids
+        page.js('document.querySelector(arguments[0]).scrollIntoView({block: "center"})', of(three))
+        head = f'#objects li[data-layer="{things["id"]}"]'
+        page.hold([point(page, of(three), 0.5), point(page, head, 0.9), point(page, head, 0.5)])
+        page.let_go()
+        assert order_of(page, 'Things')[-1] == three and order_of(page) == []

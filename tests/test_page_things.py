@@ -155,8 +155,7 @@ def test_properties():
             page.click('#properties tr[data-property="weather"] button')
             assert spelled(page)[-1] == f'prop remove {kind} weather'
         index = standing(page)
-        page.type_into('#properties input#new-name', 'x')
-        page.find('#new-value').send_keys(Keys.ENTER)
+        page.find('#new-value').send_keys('x', Keys.ENTER)
         page.settle()
         assert (
             page.texts('#properties .new .fault')[-1].startswith('one letter at least')

@@ -1,6 +1,6 @@
 // SPDX-License-Identifier: MIT OR Apache-2.0
 // The open documents as tabs, and what is done with whole maps: new, open, save, close, resize.
-import { NO_MAP, allow, ask, byId, destroying, element } from "../panels/dom.js";
+import { NO_MAP, allow, ask, byId, destroying, element, putText } from "../panels/dom.js";
 import { iconButton } from "../panels/icons.js";
 import { KINDS } from "./kinds.js";
 import { isOfMap } from "./map_refusals.js";
@@ -44,13 +44,14 @@ export class Documents {
     this.tabs.show();
     document.title = active ? `${isClean ? "" : "• "}${titleOf({ name: active, path: file })} – Roskevad` : "Roskevad";
     byId("empty").hidden = Boolean(active);
+    document.querySelector("main").classList.toggle("no-map", !active);
     const why = active ? "" : NO_MAP;
     allow(byId("save"), `Save the map into ${file ? `its file, ${file}` : "a file"} (Ctrl+S)`, why);
     allow(byId("save-as"), "Save as: the map into another file (Ctrl+Shift+S)", why);
     allow(byId("resize"), "Resize: another size of the map", why);
-    byId("save-hint").textContent = this.editor.place.isDownload ? "saves are downloads" : "";
+    putText(byId("save-hint"), this.editor.place.isDownload ? "saves are downloads" : "");
     byId("save-hint").title = "The browser does not tell whether a download is kept. So a map stays in the journal of this page until it is closed.";
-    byId("folder").textContent = this.editor.place.title;
+    putText(byId("folder"), this.editor.place.title);
     byId("folder").title = `Where the maps are: ${this.editor.place.title}`;
   }
 

@@ -4,6 +4,10 @@ import { MAX_COORDINATE, MAX_DOCUMENT_NAME, MAX_FILE_NAME, MAX_NUMBER, MAX_PIXEL
 import { isWhole } from "../../js/words.js";
 import { LONGEST_TEXT } from "../files/members.js";
 
+// The largest int of Tiled, and the largest float whose neighbours are a whole number apart at most.
+const LARGEST_INT = 2_147_483_647;
+const LARGEST_FLOAT = Number.MAX_SAFE_INTEGER;
+
 const encoder = new TextEncoder();
 // eslint-disable-next-line no-control-regex
 const CONTROL = /[\u0000-\u001f\u007f]/;
@@ -15,13 +19,17 @@ function labelFault(text) {
   if (CONTROL.test(text)) return "one line, without tabs";
   if (!isWhole(text)) return "whole characters: this has half of one";
   const size = encoder.encode(text).length;
-  return size > MAX_TEXT ? `at most ${MAX_TEXT} bytes; this has ${grouped(size)}` : "";
+  if (size <= MAX_TEXT) return "";
+  return `at most ${MAX_TEXT} letters; this has ${grouped(size)}${size > text.length ? ", as one that is none of a to z counts 2 to 4" : ""}`;
 }
 
 // The same of a text of a line.
 const textFault = text => (text === "" ? "one letter at least" : labelFault(text));
 
-const keyFault = text => (text.includes(" ") ? "without a space" : textFault(text));
+// The same of a text of a property, which may have several lines, and of one that has one line. How long it may be, its line tells.
+const linesFault = text => (isWhole(text) ? "" : "whole characters: this has half of one");
+
+const lineFault = text => (CONTROL.test(text) ? "one line, without tabs" : linesFault(text));
 
 // The same of a text that is drawn, which may have several lines.
 function wordsFault(text) {
@@ -85,11 +93,13 @@ function named(most) {
 const asIs = text => text;
 
 export const KINDS = {
-  text: { wanted: `a text of 1 to ${MAX_TEXT} bytes`, fault: textFault, spelled: asIs },
-  label: { wanted: `a text of at most ${MAX_TEXT} bytes`, fault: labelFault, spelled: asIs },
+  text: { wanted: `a text of 1 to ${MAX_TEXT} letters`, fault: textFault, spelled: asIs },
+  label: { wanted: `a text of at most ${MAX_TEXT} letters`, fault: labelFault, spelled: asIs },
   words: { wanted: `a text of at most ${LONGEST_TEXT} letters`, fault: wordsFault, spelled: asIs },
-  key: { wanted: `a name of 1 to ${MAX_TEXT} bytes, without a space`, fault: keyFault, spelled: asIs },
-  macro: { wanted: `a text of 1 to ${MAX_TEXT} bytes`, fault: text => (text.includes(" || ") ? "without ' || ' in it" : textFault(text)), spelled: asIs },
+  key: { wanted: `a name of 1 to ${MAX_TEXT} letters`, fault: textFault, spelled: asIs },
+  lines: { wanted: "a text, which may have several lines", fault: linesFault, spelled: asIs },
+  line: { wanted: "a text of one line", fault: lineFault, spelled: asIs },
+  macro: { wanted: `a text of 1 to ${MAX_TEXT} letters`, fault: text => (text.includes(" || ") ? "without ' || ' in it" : textFault(text)), spelled: asIs },
   coordinate: whole(-MAX_COORDINATE, MAX_COORDINATE),
   size: whole(0, MAX_PIXELS),
   number: whole(0, MAX_NUMBER),
@@ -102,5 +112,13 @@ export const KINDS = {
   file: named(MAX_FILE_NAME),
 };
 
-// The types of properties that a line sets, each with the kind of its values.
-export const TYPES = { string: KINDS.text, int: KINDS.coordinate, bool: KINDS.bool, color: KINDS.colour, file: KINDS.text, object: KINDS.number };
+// The types of properties, each with the kind of its values: of a float where the editor takes whole numbers alone (see `kindOfType`); of a
+// class the name that it has in Tiled's project.
+export const TYPES = {
+  string: KINDS.lines, int: whole(-LARGEST_INT - 1, LARGEST_INT), float: numberKind(-LARGEST_FLOAT, LARGEST_FLOAT, false, 1), bool: KINDS.bool,
+  color: orNothing(KINDS.colour), file: KINDS.line, object: KINDS.number, class: KINDS.label,
+};
+
+const FRACTIONS = numberKind(-LARGEST_FLOAT, LARGEST_FLOAT, true, 0.1);
+
+export const kindOfType = (type, takesFractions) => (type === "float" && takesFractions ? FRACTIONS : TYPES[type]);

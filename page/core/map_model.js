@@ -1,5 +1,6 @@
 // SPDX-License-Identifier: MIT OR Apache-2.0
 // The map as the page knows it: its outline, and its cells where they are asked for.
+import { withTemplate } from "./inherited.js";
 import { LAYER, MAP, OBJECT, OddMembers, titleOfLayer, titleOfObject } from "../files/members.js";
 import { projectionOf } from "../view/projections.js";
 import { bothTints, partsOfColour } from "../view/tints.js";
@@ -57,8 +58,9 @@ function placesIn(layers) {
 }
 
 export class MapModel {
-  // `outline` is the parsed outline, and `cells(layer, x, y, width, height)` gives the cells of a rectangle.
-  constructor(outline, cells) {
+  // `outline` is the parsed outline, and `cells(layer, x, y, width, height)` gives the cells of a rectangle. `templates` has what templates say
+  // of their objects, where that is known.
+  constructor(outline, cells, templates = null) {
     // The members that are of another kind than Tiled writes.
     this.odd = new OddMembers();
     const { layers, ...data } = MAP.take(outline, this.odd, "the map");
@@ -68,12 +70,19 @@ export class MapModel {
     this.height = data.height;
     this.tileWidth = data.tilewidth;
     this.tileHeight = data.tileheight;
+    this.templates = templates;
     this.layers = flattened(layers, this.odd);
+    for (const { data: own } of this.layers) if (own.objects?.some(({ template }) => template)) own.objects = own.objects.map(each => this.whole(each));
     this.places = placesIn(this.layers);
     this.projection = projectionOf(this);
     this.isHexagonal = data.orientation === "hexagonal";
     this.runs = [];
     this.selected = null;
+  }
+
+  // An object with what it has of its template.
+  whole(object) {
+    return object?.template ? withTemplate(object, this.templates?.of(object.template, this.data.tilesets)) : object;
   }
 
   layer(id) {
@@ -127,7 +136,7 @@ export class MapModel {
     const was = this.object(id);
     const layer = now ? this.layer(now.layer) : was?.layer ?? null;
     const odd = new OddMembers();
-    const object = now && OBJECT.take(now.members, odd, titleOfObject(now.members));
+    const object = now && this.whole(OBJECT.take(now.members, odd, titleOfObject(now.members)));
     const before = was?.object ?? null;
     const isOdd = this.odd.count || this.odd.isCut || odd.count || odd.isCut;
     if (isOdd || (was && was.layer !== layer) || object?.text?.text !== before?.text?.text) return null;

@@ -5,6 +5,7 @@
 // read before they are done, and those that close a document, so that none is closed whose save has not ended.
 import { Editor, FORMS, NoMemory, VERSION, documentName } from "../../js/roskevad.js";
 import { noteOf } from "../../js/tiled_maps.js";
+import { OWNERS } from "../../js/module.js";
 import { Changes } from "./changes.js";
 import { FreshEditor } from "./fresh_editor.js";
 import { Journal } from "./journal.js";
@@ -22,6 +23,7 @@ import { whyOf } from "./refusals.js";
 import { Replay } from "./replay.js";
 import { MOST_AT_ONCE, NO_MEMORY, SAVED, answerTo, cut, opened, pause, refused } from "./replies.js";
 import { sourceOf } from "../files/sources.js";
+import { Templates } from "../files/templates.js";
 import { Said, thrownWords } from "./thrown_words.js";
 
 const OPEN = /^open ([A-Za-z0-9_][A-Za-z0-9_.-]{0,63}) ([A-Za-z0-9_][A-Za-z0-9_.-]{0,99})$/;
@@ -77,6 +79,7 @@ export class PageEditor extends EventTarget {
     this.journal.source = () => sourceOf(this.place);
     this.journal.files = () => [...(this.place.files ?? [])].map(([path, { bytes, time }]) => ({ path, bytes, time }));
     this.names = new FileNames();
+    this.templates = new Templates(this);
     this.openDocuments = new OpenDocuments();
     this.state = { change: 0, documents: [], steps: [], firstStep: 0, index: 0, count: 0, depth: 0, isClean: true, active: null, file: null };
     this.map = null;
@@ -313,6 +316,18 @@ export class PageEditor extends EventTarget {
     return this.editor.active.objects.get(id).members;
   }
 
+  // The same of the properties of the map, a layer or an object, which is spelled as lines do.
+  propertiesOf(owner) {
+    const [kind, id = 0] = owner.split(":");
+    return this.editor.active._read("properties", OWNERS[kind], Number(id)) ?? [];
+  }
+
+  // Takes the map anew, where a file that it names has come.
+  renewMap() {
+    this.takeMap();
+    this.tell("map", []);
+  }
+
   takeSelection() {
     try {
       this.map?.select(this.editor.selection());
@@ -329,7 +344,7 @@ export class PageEditor extends EventTarget {
 
   // A model of the map that is active in the editor. Throws where it cannot be shown.
   modelNow() {
-    const map = new MapModel(this.editor.outline(), (...words) => this.editor.cells(...words));
+    const map = new MapModel(this.editor.outline(), (...words) => this.editor.cells(...words), this.templates);
     map.select(this.editor.selection());
     return map;
   }

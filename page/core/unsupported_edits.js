@@ -1,6 +1,7 @@
 // SPDX-License-Identifier: MIT OR Apache-2.0
 // What is changed in Tiled alone, of a property or of a name, in words.
-import { KINDS, TYPES } from "./kinds.js";
+import { TYPES } from "./kinds.js";
+import { membersIn } from "./property_lines.js";
 import { LONGEST_NAME } from "../files/members.js";
 
 // Why a name or a class has no field, of which the page has no more than its first letters; "" where it has one.
@@ -8,11 +9,23 @@ export function whyNotNamed(text) {
   return text.length > LONGEST_NAME ? `It has more than ${LONGEST_NAME} letters: Tiled changes it.` : "";
 }
 
-// Why a property is not set here; "" where it is.
-export function whyNotSet({ name, type = "string", value }) {
-  if (typeof value === "object" && value !== null) return "A class is set in Tiled.";
-  if (type === "float") return "A float, a number with a fraction, is set in Tiled.";
-  if (!Object.hasOwn(TYPES, type)) return `The type ${type} is set in Tiled.`;
-  const fault = KINDS.key.fault(name);
-  return fault ? `Set in Tiled: a name here is ${fault}.` : "";
+// The first fraction in a class that the editor does not take, in words; "" where it has none.
+function fractionIn(value) {
+  const found = membersIn(value).find(each => typeof each.value === "number" && !Number.isSafeInteger(each.value));
+  return found ? `${found.path.join(", ")} is ${found.value}` : "";
+}
+
+// How many members of a class have fields.
+const MOST_MEMBERS = 200;
+
+// Why a property is not set here; "" where it is. All of a class is set at once, so one fraction in it bars it where none can be set.
+export function whyNotSet({ name, type = "string", value }, takesFractions) {
+  if (name === "") return "It has no name: Tiled changes it.";
+  if (name.length > LONGEST_NAME) return `Its name has more than ${LONGEST_NAME} letters: Tiled changes it.`;
+  if (Array.isArray(value)) return "A list is set in Tiled.";
+  const isClass = typeof value === "object" && value !== null;
+  if (isClass !== (type === "class") || !Object.hasOwn(TYPES, type)) return `The type ${type} is set in Tiled.`;
+  if (isClass && membersIn(value).length > MOST_MEMBERS) return `A class of more than ${MOST_MEMBERS} members is set in Tiled.`;
+  const fraction = isClass && !takesFractions ? fractionIn(value) : "";
+  return fraction ? `${fraction}: a class with a fraction is set in Tiled so far.` : "";
 }

@@ -120,7 +120,7 @@ function listOf(kind, titleOf) {
 const inside = kind => ({ ...kind, inner: (name, where) => `the ${name} of ${where}` });
 
 // ---- the tables
-const PROPERTY = record({ name: NAME, type: NAME, value: ANY });
+const PROPERTY = record({ name: NAME, type: NAME, propertytype: NAME, value: ANY });
 
 const PROPERTIES = inside(listOf(PROPERTY, (each, where) => where));
 

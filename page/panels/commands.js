@@ -5,8 +5,10 @@ import { iconButton } from "./icons.js";
 import { showMenu } from "./menu.js";
 import { isLocked, lockLine } from "../tools/barred_layers.js";
 import { memberLine } from "../core/member_lines.js";
+import { ORDERS, order, putInto } from "../tools/object_order.js";
 
 // The keys in the title of a button, as `Undo (Ctrl+Z)` has them.
+const ORDER_PICTURES = { raise: "up", lower: "down", top: null, bottom: null };
 const KEYS = /\(((?:(?:Ctrl|Shift)\+)*(?:[A-Z0-9]|F\d+|[+\-/])(?:, [^)]*)?)\)/;
 // The parts of the menu: a head, and where its buttons are.
 const PARTS = [["Files", "#file-actions button"], ["Tools", "#tools button"], ["Layers", "#layer-actions button"], ["Tiles", "#tileset-actions button"], ["The view", "#looks button"], ["The page", "#page-actions button"]];
@@ -40,7 +42,8 @@ export class Commands {
     const parts = PARTS.map(([head, css]) => ({ head, items: [...document.querySelectorAll(css)].filter(each => each.id !== "menu-button").map(itemOf) }));
     parts[0].items.push(...this.page.recent.items());
     parts.find(({ head }) => head === "Layers").items.push(...this.page.layers.acts.items());
-    showMenu([parts[0], { head: "Edit", items: this.editItems() }, ...parts.slice(1)], byId("menu-button"), "Menu");
+    const objects = { head: "Objects", items: this.orderItems(this.bench.chosenObjects.length ? "" : "Choose an object first") };
+    showMenu([parts[0], { head: "Edit", items: this.editItems() }, objects, ...parts.slice(1)], byId("menu-button"), "Menu");
   }
 
   // ---- what is edited
@@ -94,7 +97,18 @@ export class Commands {
     const lines = all.map(({ id }) => memberLine(`object:${id}`, "visible", !isSeen));
     const turn = () => (lines.length > 1 ? bench.doAsOne("Show Objects || show objects", lines) : bench.act(lines));
     const rename = { text: "Rename", keys: "F2", picture: "rename", why: all.length > 1 ? "Choose one object alone" : "", call: () => objects.renameChosen() };
-    return [rename, { text: isSeen ? "Hide" : "Show", picture: isSeen ? "hidden" : "seen", call: turn }, null, ...this.clipItems()];
+    return [rename, { text: isSeen ? "Hide" : "Show", picture: isSeen ? "hidden" : "seen", call: turn }, null, ...this.orderItems(), null, ...this.clipItems()];
+  }
+
+  // What puts the chosen objects above or below others, or into another layer.
+  orderItems(why = "") {
+    const { bench, page: { tools } } = this;
+    const onChosen = call => tools.all.objects.onChosen("moved", call);
+    const orders = Object.entries(ORDERS).map(([how, [text]]) => ({ text, why, picture: ORDER_PICTURES[how], call: () => onChosen(all => order(bench, all, how)) }));
+    const here = new Set(bench.chosenObjects.map(({ layer }) => layer));
+    const others = (bench.map?.layers ?? []).filter(layer => layer.type === "objectgroup" && !(here.size === 1 && here.has(layer))).reverse();
+    const into = layer => ({ text: `Move to ${layer.data.name || "(no name)"}`, why, picture: "objects", call: () => onChosen(all => putInto(bench, all, layer)) });
+    return [...orders, ...(here.size ? others.map(into) : [])];
   }
 
   tileItems() {

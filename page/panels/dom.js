@@ -21,6 +21,11 @@ export function button(text, title, onclick, properties = {}) {
   return element("button", { type: "button", textContent: text, title, onclick, ...properties });
 }
 
+// Puts a text where another one stands: with the same one nothing is laid out anew.
+export function putText(at, words) {
+  if (at.textContent !== words) at.textContent = words;
+}
+
 // Has a button grey where something is not done now, with why beside what it does.
 export function allow(at, words, why = "") {
   at.disabled = why !== "";

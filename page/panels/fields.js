@@ -272,7 +272,8 @@ export function fieldFor(type, value, take, around, kind = TYPES[type]) {
   if (type === "object") return new ObjectField(value, take, around);
   if (type === "color") return new ColourField(kind, value, take);
   if (type === "file") return new FileField(kind, value, take, around);
-  return type === "int" ? new NumberField(kind, value, take) : new TextField(kind, value, take);
+  if (type === "int" || type === "float") return new NumberField(kind, value, take);
+  return type === "string" ? new LinesField(kind, value, take) : new TextField(kind, value, take);
 }
 
 export const colourField = (kind, value, take) => new ColourField(kind, value, take);

@@ -3,6 +3,8 @@
 import { button, byId, element } from "./dom.js";
 
 const all = new Map();
+// What stands below the bars leaves room for them.
+const leaveRoom = () => byId("stage").classList.toggle("has-notice", all.size > 0);
 
 // Says something, with buttons: [text, what a click does, title]. A click takes the bar away, but where what it does gives `false`.
 export function notice(about, words, buttons = [], kind = "") {
@@ -15,6 +17,7 @@ export function notice(about, words, buttons = [], kind = "") {
   all.get(about)?.remove();
   all.set(about, bar);
   byId("notice-bars").append(bar);
+  leaveRoom();
 }
 
 export const hasNotice = about => all.has(about);
@@ -23,4 +26,5 @@ export const hasNotice = about => all.has(about);
 export function endNotice(about, bar = all.get(about)) {
   bar?.remove();
   if (all.get(about) === bar) all.delete(about);
+  leaveRoom();
 }

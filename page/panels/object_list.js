@@ -2,6 +2,7 @@
 // The objects of the map in a list, by their layers, with a search. It stands in the place of the tiles while a tool for objects is in hand.
 import { KINDS } from "../core/kinds.js";
 import { ask, byId, element } from "./dom.js";
+import { ObjectDrag } from "./object_drag.js";
 import { memberLine } from "../core/member_lines.js";
 import { middleOf } from "../view/object_shapes.js";
 import { whyNotNamed } from "../core/unsupported_edits.js";
@@ -30,6 +31,7 @@ export class ObjectList {
     this.search.oninput = () => this.show();
     this.search.onkeydown = event => this.key(event);
     this.list.onclick = event => this.click(event);
+    this.drag = new ObjectDrag(bench, this.list);
     this.list.ondblclick = event => this.rename(event.target.closest("[data-object]"));
     bench.addEventListener("chosen", () => this.show());
     bench.addEventListener("object chosen", () => this.list.querySelector(".now")?.scrollIntoView({ block: "nearest" }));

@@ -3,6 +3,7 @@
 // rotation, and whether it is seen. The numbers follow the hand while it is dragged.
 import { button, element } from "./dom.js";
 import { fieldFor, linesField, numberField } from "./fields.js";
+import { isInherited } from "../core/inherited.js";
 import { KINDS, numberKind } from "../core/kinds.js";
 import { memberLine } from "../core/member_lines.js";
 import { MAX_COORDINATE, MAX_PIXELS } from "../../js/limits.js";
@@ -12,6 +13,14 @@ import { ALIGNMENTS, align } from "../tools/alignments.js";
 import { wordsOf } from "../core/tile_words.js";
 
 const PARTS = { place: [["x", "x"], ["y", "y"]], size: [["width", "w"], ["height", "h"]] };
+
+// Has a row grey where the object has all of these members of its template, and each field where it has its own member of that.
+function ofTemplate(data, row, ...names) {
+  const isGrey = names.map(name => isInherited(data, name));
+  row.element.classList.toggle("usual", isGrey.every(each => each));
+  row.fields.forEach((field, at) => field.box.classList.toggle("usual", isGrey[at] ?? isGrey[0]));
+  return row;
+}
 
 export class ObjectRows {
   // `panel` is the panel of the properties, which keeps rows and sends lines.
@@ -26,16 +35,22 @@ export class ObjectRows {
     // Tiled 1.9 has it elsewhere.
     const kind = !data.type && data.class ? "class" : "type";
     return [
-      panel.memberRow(owner, "name", "name", data.name ?? ""),
-      panel.memberRow(owner, "class", kind, data[kind] ?? ""),
-      ...(data.text ? [this.textRow(owner)] : []),
+      ...(data.template ? [this.templateRow(data)] : []),
+      ofTemplate(data, panel.memberRow(owner, "name", "name", data.name ?? ""), "name"),
+      ofTemplate(data, panel.memberRow(owner, "class", kind, data[kind] ?? ""), kind),
+      ...(data.text ? [ofTemplate(data, this.textRow(owner), "text")] : []),
       this.partRow(owner, "place"),
-      this.partRow(owner, "size"),
-      this.rotationRow(owner),
-      this.visibleRow(owner),
-      ...(data.gid ? [this.tileRow(owner)] : []),
+      ofTemplate(data, this.partRow(owner, "size"), "width", "height"),
+      ofTemplate(data, this.rotationRow(owner), "rotation"),
+      ofTemplate(data, this.visibleRow(owner), "visible"),
+      ...(data.gid ? [ofTemplate(data, this.tileRow(owner), "gid")] : []),
       ...(owner.all.length > 1 && !this.bench.map.projection.isIsometric ? [this.alignRow(owner)] : []),
     ];
+  }
+
+  // The template, whose values are grey; where its file is not there, they are not known.
+  templateRow({ template }) {
+    return this.panel.fact("template", template, this.bench.editor.templates.has(template) ? "" : "Its file is not there: choose it, too.");
   }
 
   kindOf(least, most) {
@@ -47,7 +62,7 @@ export class ObjectRows {
     const { panel } = this;
     return panel.kept(` ${word} text`, [data.text.text ?? ""], () => {
       const take = text => {
-        const { text: whole } = this.bench.editor.membersOf(data.id);
+        const whole = this.bench.editor.membersOf(data.id).text ?? panel.owner().data.text;
         const isKnown = (whole.text ?? "") === (panel.owner().data.text.text ?? "");
         return isKnown ? panel.send(memberLine(word, "text", { ...whole, text })) : "this text is longer than what is shown here";
       };

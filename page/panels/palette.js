@@ -1,7 +1,7 @@
 // SPDX-License-Identifier: MIT OR Apache-2.0
 // The palette: the tiles of a tileset, to click at one or to drag over several; and the stamp that the brush has. Only what is seen of it
 // is drawn.
-import { byId } from "./dom.js";
+import { byId, putText } from "./dom.js";
 import { drawTile } from "../view/map_view.js";
 import { TILE, idIn } from "../core/tile_numbers.js";
 import { TileUses } from "../core/tile_uses.js";
@@ -183,7 +183,7 @@ export class Palette {
     const side = Math.floor(canvas.width / Math.max(width, height));
     pen.imageSmoothingEnabled = false;
     if (side > 0) values.forEach((value, at) => value && drawTile(pen, this.tilesets, value, at % width * side, Math.floor(at / width) * side, side, side));
-    byId("stamp-size").textContent = values.length === 1 ? wordsOf(values[0], this.tilesets) : `${width} × ${height}`;
+    putText(byId("stamp-size"), values.length === 1 ? wordsOf(values[0], this.tilesets) : `${width} × ${height}`);
   }
 
   // ---- the stamp

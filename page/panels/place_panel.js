@@ -4,6 +4,7 @@ import { ask, byId, element } from "./dom.js";
 import { iconButton } from "./icons.js";
 import { endNotice, notice } from "./notice_bars.js";
 import { ChosenFiles, Failed, FolderFiles, IN_XML, chosen, isMapName, isTilesetName, isXmlMapName } from "../files/places.js";
+import { isTemplateName } from "../files/templates.js";
 import { isSameSource, sourceOf, wordsOf } from "../files/sources.js";
 import { hashOf } from "../files/hashes.js";
 import { isPictureName } from "../files/new_tilesets.js";
@@ -212,7 +213,7 @@ function isMap(path, bytes) {
 // Whether a chosen file is for a map: a tileset, an image, or whatever a browser shows as one.
 function isForMaps({ path, bytes, file }) {
   if (/\.json$/i.test(path)) return textOf(bytes).includes('"tilewidth"');
-  return isTilesetName(path) || IMAGE.test(path) || (file?.type ?? "").startsWith("image/");
+  return isTilesetName(path) || isTemplateName(path) || IMAGE.test(path) || (file?.type ?? "").startsWith("image/");
 }
 
 // What is said of chosen files that are neither maps nor for maps; "" where there is none.

@@ -1,25 +1,22 @@
 // SPDX-License-Identifier: MIT OR Apache-2.0
 // The properties of the map, of a layer, of an object or of several, in a table; and what else a line can set of these.
-import { button, byId, element, mark } from "./dom.js";
+import { button, byId, element, mark, putText } from "./dom.js";
 import { fieldFor, numberField, textField } from "./fields.js";
-import { KINDS, TYPES } from "../core/kinds.js";
+import { KINDS, TYPES, kindOfType } from "../core/kinds.js";
 import { LayerRows } from "./layer_rows.js";
 import { ObjectRows } from "./object_rows.js";
-import { memberLine, removalLine } from "../core/member_lines.js";
-import { LONGEST_NAME, cutText } from "../files/members.js";
+import { memberLine } from "../core/member_lines.js";
+import { FIRST, PropertyRows } from "./property_rows.js";
 import { saidOf } from "../core/refusals.js";
 import { owned, sharedOwner, showMixed, shownOf } from "./shared_values.js";
 import { cellOf, rowOf } from "./table_rows.js";
-import { whyNotNamed, whyNotSet } from "../core/unsupported_edits.js";
+import { whyNotNamed } from "../core/unsupported_edits.js";
 
 const OWNERS = ["map", "layer", "object"];
-// What a field has where a new property is made, and nothing was typed.
-const FIRST = { int: "0", bool: "false", object: "0" };
 // The type of a new property, unless another one is chosen.
 const USUAL = "string";
-// How many letters of a value are shown.
-const MOST_SHOWN = 1024;
-const CUT = `Only its first ${MOST_SHOWN.toLocaleString("en-US")} letters are shown. To change it, remove it and set it anew.`;
+// What the field of a value tells where nothing is typed.
+const WANTED = { string: "value", file: "value", class: "class" };
 const isChoice = type => type === "bool" || type === "object";
 
 export class PropertyPanel {
@@ -37,6 +34,7 @@ export class PropertyPanel {
     this.last = this.newRow();
     this.layerRows = new LayerRows(this);
     this.objectRows = new ObjectRows(this);
+    this.propertyRows = new PropertyRows(this);
     const columns = Array.from({ length: 3 }, () => element("col"));
     byId("properties").querySelector("table").append(element("colgroup", {}, ...columns), this.body);
     byId("properties").append(this.last);
@@ -70,11 +68,11 @@ export class PropertyPanel {
     const owner = this.owner();
     for (const kind of OWNERS) byId(`of-${kind}`).classList.toggle("on", kind === this.kind);
     const none = this.kind === "object" ? "No object is chosen: click at one with the tool Objects." : "Nothing is open.";
-    byId("owner").textContent = owner?.title ?? none;
+    putText(byId("owner"), owner?.title ?? none);
     this.last.hidden = !owner;
     if (owner?.word !== this.shownOwner) this.unmark();
     this.shownOwner = owner?.word;
-    this.putRows(owner ? [...this.factRows(owner), ...(owner.data.properties ?? []).map(property => this.row(owner, property))] : []);
+    this.putRows(owner ? [...this.factRows(owner), ...this.propertyRows.rows(owner)] : []);
   }
 
   // Puts rows into the table. One that stands there already stays as it is, with what is typed in it.
@@ -123,7 +121,7 @@ export class PropertyPanel {
 
   fact(name, text, why) {
     const cell = element("td", { colSpan: 2 }, element("span", { textContent: text }), element("small", { className: "barred", textContent: why }));
-    return this.kept(` ${name} ${text}`, [], () => ({ element: rowOf(name, "", why, cell), fields: [] }));
+    return this.kept(` ${name} ${text} ${why}`, [], () => ({ element: rowOf(name, "", why, cell), fields: [] }));
   }
 
   // Does for a field a line for each thing that the table is about, as one step with a name where they are several: gives null, or why it was
@@ -138,49 +136,6 @@ export class PropertyPanel {
   // Does a line for a field: gives null, or why it was refused.
   async send(line) {
     return (await this.bench.attempt([line]))?.words ?? null;
-  }
-
-  // ---- properties
-  row(owner, property) {
-    const { name, type = "string", value } = property;
-    const whole = owner.mixed.has(`property ${name}`) ? "" : textOf(value);
-    const text = cutText(whole, MOST_SHOWN);
-    const why = text === whole ? whyNotSet(property) : CUT;
-    const key = `${owner.word} ${type} ${why} ${why && text} ${name}`;
-    return this.kept(key, [text], () => (why ? this.barredRow(owner, name, type, text, why) : this.setRow(owner, name, type, text)));
-  }
-
-  setRow(owner, name, type, text) {
-    const { word } = owner;
-    const take = value => this.sendEach(each => `prop set ${each.word} ${name} ${type} ${value}`, "Set Property");
-    const field = fieldFor(type, text, take, this.around);
-    Object.assign(field.input.dataset, { key: name, owner: word });
-    showMixed(field, owner, `property ${name}`);
-    return { element: this.propertyRow(word, name, type, field.box), fields: [field] };
-  }
-
-  // A property that no line sets: it is shown, with why.
-  barredRow({ word }, name, type, text, why) {
-    const rows = Math.min(8, text.split("\n").length);
-    const input = element("textarea", { disabled: true, value: text, title: why, rows, data: { key: name, owner: word } });
-    const box = element("div", { className: "value" }, input, element("small", { className: "barred", textContent: why }));
-    return { element: this.propertyRow(word, name, type, box), fields: [] };
-  }
-
-  propertyRow(word, name, type, box) {
-    // Of a longer name the page has its first letters.
-    const isCut = name.length > LONGEST_NAME;
-    const title = isCut ? `It has more than ${LONGEST_NAME} letters: Tiled removes it.` : "Remove this property";
-    // The second press of a double click at '+' comes to where this button is then.
-    const remove = button("×", title, event => event.detail < 2 && this.removeProperty(name), { disabled: isCut });
-    const row = rowOf(name, type, `${name}: ${type}`, element("td", {}, box), element("td", {}, remove));
-    row.dataset.property = name;
-    return row;
-  }
-
-  async removeProperty(name) {
-    const why = await this.sendEach(each => removalLine(each.word, name), "Remove Property");
-    if (why) this.bench.say(why);
   }
 
   // ---- a new property
@@ -206,14 +161,17 @@ export class PropertyPanel {
   // The field for a value of the type that is chosen, with what was typed for another one.
   newField(typed = "") {
     const type = this.fieldType = this.type.value;
-    this.field = fieldFor(type, isChoice(type) ? FIRST[type] : "", () => null, this.around);
+    const first = String(FIRST[type] ?? "");
+    this.field = fieldFor(type, isChoice(type) ? first : "", () => null, this.around, kindOfType(type, this.bench.editor.takesFractions));
     const { input } = this.field;
-    Object.assign(input, { id: "new-value", placeholder: FIRST[type] ?? "value", onkeydown: event => this.newKey(event), onchange: null });
+    Object.assign(input, { id: "new-value", placeholder: WANTED[type] ?? first, onkeydown: event => this.newKey(event), onchange: null });
     if (!isChoice(type)) input.value = typed;
     this.box.replaceChildren(this.field.box);
   }
 
+  // In a text Shift and Enter begin another line.
   newKey(event) {
+    if (event.key === "Enter" && event.shiftKey && event.target.matches("textarea")) return;
     if (event.key === "Enter") {
       event.preventDefault();
       this.add();
@@ -229,13 +187,13 @@ export class PropertyPanel {
 
   async add() {
     const { name, type, field } = this;
-    const kind = TYPES[type.value];
-    const value = field.chosen?.() ?? kind.spelled(field.input.value || (FIRST[type.value] ?? ""));
-    const faults = [[name, KINDS.key.fault(name.value)], [field.input, kind.fault(value)]];
+    const kind = kindOfType(type.value, this.bench.editor.takesFractions);
+    const text = field.chosen?.() ?? kind.spelled(field.input.value || String(FIRST[type.value] ?? ""));
+    const faults = [[name, KINDS.key.fault(name.value)], [field.input, kind.fault(text)]];
     for (const [input, fault] of faults) mark(input, fault);
     const wrong = faults.find(([, fault]) => fault);
     if (wrong) return wrong[0].focus();
-    const why = await this.sendEach(each => `prop set ${each.word} ${name.value} ${type.value} ${value}`, "Set Property");
+    const why = await this.propertyRows.make(name.value, type.value, text);
     if (why) return mark(name, why);
     this.bench.bubble.hide();
     name.value = "";
@@ -244,18 +202,4 @@ export class PropertyPanel {
     type.value = USUAL;
     return this.newField();
   }
-}
-
-// A value as it is seen: of a class its members, one below the other. Of one that is too long there is a part, longer than what is shown.
-function textOf(value) {
-  const left = [["", value]];
-  let text = "";
-  while (left.length && text.length <= MOST_SHOWN) {
-    const [title, each] = left.pop();
-    if (typeof each === "object" && each !== null) {
-      const names = Object.keys(each).slice(0, MOST_SHOWN);
-      for (let at = names.length - 1; at >= 0; at--) left.push([`${at === 0 ? title : ""}${names[at]}: `, each[names[at]]]);
-    } else text += `${text && "\n"}${title}${String(each).slice(0, MOST_SHOWN + 1).replace(/\r\n?/g, "\n")}`;
-  }
-  return text;
 }

@@ -98,7 +98,7 @@ export class Readers {
     const name = row.querySelector("td span")?.textContent ?? "";
     for (const field of row.querySelectorAll("input, select, textarea")) {
       const label = field.closest(".value")?.previousElementSibling;
-      const words = listed(name, label?.matches(".part") && label.textContent, field.type === "range" && "slider") || "type";
+      const words = listed(name, label?.matches(".part") && label.textContent, field.type === "range" && "slider", field.matches(".type") && "type") || "type";
       if (!field.placeholder || name) put(field, { "aria-label": words });
     }
   }

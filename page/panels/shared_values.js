@@ -1,7 +1,7 @@
 // SPDX-License-Identifier: MIT OR Apache-2.0
 // What several objects share: the members and properties that each of them has with the same value.
 const MEMBERS = { name: "", type: "", class: "", x: 0, y: 0, width: 0, height: 0, rotation: 0, visible: true };
-const MIXED = "several values";
+export const MIXED = "several values";
 
 // What a table is about, where that is one thing.
 export const owned = (word, data, title) => ({ word, data, title, mixed: new Set(), all: [{ word, data }] });

@@ -1,6 +1,6 @@
 // SPDX-License-Identifier: MIT OR Apache-2.0
 // The bar below the map: how the steps stand, and what is under the hand.
-import { byId } from "./dom.js";
+import { byId, putText } from "./dom.js";
 import { wordsOf } from "../core/tile_words.js";
 
 // What is said of a map that has no file.
@@ -18,7 +18,7 @@ export class StatusBar {
     const undone = depth ? 0 : count - index;
     const steps = undone ? [`${undone} ${undone === 1 ? "step" : "steps"} undone`] : [];
     const macros = depth ? [depth === 1 ? "a macro is open" : `${depth} macros are open`] : [];
-    byId("standing").textContent = active ? [...steps, ...macros, saved].join(", ") : "";
+    putText(byId("standing"), active ? [...steps, ...macros, saved].join(", ") : "");
   }
 
   // What of the map is not drawn, or otherwise than in Tiled.
@@ -30,7 +30,7 @@ export class StatusBar {
   // The cell, the pixel of the map, the layer and its tile.
   showHand() {
     const { layer, map, place } = this.bench;
-    byId("place").textContent = place && map ? this.words(map, layer, place).join(" · ") : "";
+    putText(byId("place"), place && map ? this.words(map, layer, place).join(" · ") : "");
   }
 
   words(map, layer, { cell, pixelX, pixelY }) {

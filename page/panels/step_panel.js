@@ -1,11 +1,20 @@
 // SPDX-License-Identifier: MIT OR Apache-2.0
 // The steps of the active document: those that were made, each with what it is about, the present place, the clean mark, and those that
 // were undone.
-import { button, byId, element } from "./dom.js";
+import { button, byId, element, putText } from "./dom.js";
 import { groupSteps } from "./group_steps.js";
 import { putRows } from "./list_rows.js";
 
 const MORE = 1000;
+// How many rows stay in sight where the panels are short of room.
+const MOST_IN_SIGHT = 5;
+// How many rows stand in a part of the list, and how high one is, in pixels of the page.
+const IN_PART = 25;
+const ROW_HEIGHT = 24;
+// How long the list stands as it is where edits follow one another, in milliseconds: so many times as long as its last change took.
+const SHARE = 20;
+const LEAST_TIME = 400;
+const MOST_TIME = 2000;
 
 export class StepPanel {
   constructor(bench) {
@@ -16,7 +25,11 @@ export class StepPanel {
     this.editor.addEventListener("objects", ({ detail }) => this.keepObjects(detail));
     // The rows that stand there, by their places: { row, said }, with what each shows.
     this.rows = new Map();
+    // The parts of the list in which they stand, by their places.
+    this.parts = new Map();
     this.now = null;
+    // Whether the list waits, when it was shown last, and what of.
+    Object.assign(this, { isLate: false, shownAt: -Infinity, time: LEAST_TIME, shownChange: null, shownDocument: null });
     new ResizeObserver(() => this.now?.scrollIntoView({ block: "nearest" })).observe(byId("steps"));
   }
 
@@ -35,16 +48,28 @@ export class StepPanel {
     return this.names.get(active);
   }
 
+  // Where edits follow one another quickly, the list waits for some of them: each change of it takes a frame of the screen.
   show() {
+    const { active, change } = this.editor.state;
+    if (active) this.keepNames();
+    if (change === this.shownChange) return;
+    const left = active === this.shownDocument ? this.shownAt + this.time - performance.now() : 0;
+    if (left <= 0) this.showAll();
+    else if (!this.isLate) setTimeout(() => this.showAll(), left);
+    this.isLate = left > 0;
+  }
+
+  showAll() {
     const { state } = this.editor;
+    Object.assign(this, { isLate: false, shownAt: performance.now(), shownChange: state.change, shownDocument: state.active });
     const list = byId("steps");
     if (!state.active) {
       this.rows.clear();
-      byId("panel-steps").style.setProperty("--rows", 1);
+      this.parts.clear();
+      this.keepInSight(1);
       list.replaceChildren();
       return;
     }
-    this.keepNames();
     const { steps, firstStep, count } = state;
     const later = count - firstStep - steps.length;
     const wanted = [
@@ -54,6 +79,17 @@ export class StepPanel {
     ];
     this.putRows(list, wanted);
     this.showNow();
+    this.measure(performance.now() - this.shownAt);
+  }
+
+  // Takes how long a change of the list takes: what was done, and the frame that draws it.
+  measure(done) {
+    requestAnimationFrame(() => {
+      const begun = performance.now();
+      const { port1, port2 } = new MessageChannel();
+      port1.onmessage = () => (this.time = Math.max(LEAST_TIME, Math.min(MOST_TIME, SHARE * (done + performance.now() - begun))));
+      port2.postMessage(null);
+    });
   }
 
   // Puts rows into the list. That of a place stays, and of it only what it shows otherwise is changed.
@@ -68,8 +104,37 @@ export class StepPanel {
       rows.set(key, { row: kept.row, said });
     }
     this.rows = rows;
-    putRows(list, [...rows.values()].map(each => each.row));
-    byId("panel-steps").style.setProperty("--rows", rows.size);
+    this.putParts(list);
+    this.keepInSight(rows.size);
+  }
+
+  // The rows stand in parts, by their places: what is out of sight is laid out and painted by no browser, and a row that comes changes one part.
+  putParts(list) {
+    const wanted = new Map();
+    for (const [key, { row }] of this.rows) {
+      const at = key > 0 ? Math.floor((key - 1) / IN_PART) : key;
+      if (wanted.has(at)) wanted.get(at).push(row);
+      else wanted.set(at, [row]);
+    }
+    const parts = new Map();
+    for (const [at, rows] of wanted) {
+      const part = this.parts.get(at) ?? element("ul", { role: "presentation" });
+      if (part.childElementCount !== rows.length || rows.some((row, place) => row !== part.children[place])) {
+        putRows(part, rows);
+        part.style.containIntrinsicHeight = `auto ${rows.length * ROW_HEIGHT}px`;
+      }
+      parts.set(at, part);
+    }
+    this.parts = parts;
+    putRows(list, [...parts.values()]);
+  }
+
+  // How many rows stay in sight, as style.css has it: all rows below the panel take part in what is set, so it is set where it is another one.
+  keepInSight(count) {
+    const inSight = Math.min(count, MOST_IN_SIGHT);
+    if (inSight === this.inSight) return;
+    this.inSight = inSight;
+    byId("panel-steps").style.setProperty("--rows", inSight);
   }
 
   // The row of the present place comes into sight with the next frame, which lays all out.
@@ -132,7 +197,7 @@ export class StepPanel {
     }
     const [, name, kind, clean] = row.children;
     const words = [[name, text], [kind, isOpen ? "open macro" : isMacro ? "macro" : ""], [clean, saved]];
-    for (const [part, said] of words) if (part.textContent !== said) part.textContent = said;
+    for (const [part, said] of words) putText(part, said);
     if (name.title !== text) name.title = text;
     row.classList.toggle("now", isNow);
     row.classList.toggle("undone", isUndone);

@@ -2,9 +2,9 @@
 // Rows of the table of properties.
 import { element } from "./dom.js";
 
-// A row with a name, with a type where there is one, and with cells.
+// A row with a name, with a type where there is one, in words or as a field, and with cells.
 export function rowOf(name, type, title, ...cells) {
-  const kind = type ? element("span", { className: "kind", textContent: ` ${type}` }) : null;
+  const kind = type && typeof type === "string" ? element("span", { className: "kind", textContent: ` ${type}` }) : type || null;
   return element("tr", {}, element("td", { title }, element("span", { textContent: name }), kind), ...cells);
 }
 

@@ -1,6 +1,6 @@
 // SPDX-License-Identifier: MIT OR Apache-2.0
 // A few words beside the hand on the map, as the size of what it is about.
-import { element } from "../panels/dom.js";
+import { element, putText } from "../panels/dom.js";
 
 // How far from the hand they stand, in pixels of the page.
 const ASIDE = 14;
@@ -17,7 +17,7 @@ export class HandWords {
     const { box, view } = this;
     box.hidden = !words || !place;
     if (box.hidden) return;
-    if (box.textContent !== words) box.textContent = words;
+    putText(box, words);
     const beside = (at, length, most) => (at + ASIDE + length <= most ? at + ASIDE : Math.max(0, at - ASIDE - length));
     box.style.left = `${beside(place.x / view.ratio, box.offsetWidth, view.box.clientWidth)}px`;
     box.style.top = `${beside(place.y / view.ratio, box.offsetHeight, view.box.clientHeight)}px`;

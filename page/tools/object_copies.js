@@ -61,7 +61,7 @@ export class ObjectCopies {
     const large = copies.find(({ members }) => bytesTooMany(objectLine(0, members)));
     if (large) {
       const tooMany = bytesTooMany(objectLine(0, large.members)).toLocaleString("en-US");
-      return this.bench.say(`${nameOf(large.object)} is not ${done}: it is too large for a copy, by ${tooMany} bytes.`);
+      return this.bench.say(`${nameOf(large.object)} is not ${done}: it is too large for a copy, by ${tooMany} letters of its texts and corners.`);
     }
     const members = copies.map(each => each.members);
     const lost = [...new Set(copies.flatMap(each => each.lost))];

@@ -59,12 +59,17 @@ function cornerPlaces(object, scale) {
 // The handles of an object with their places in its own coordinates, drawn at a scale: [name, x, y].
 export const handlePlaces = (object, scale) => [...cornerPlaces(object, scale), ...edgePlaces(object, scale), ...turnPlaces(object, scale)];
 
-// The handle of an object at a place in its own coordinates, the nearest one, or null.
+// The handle of an object at a place in its own coordinates, the nearest one, or null. A finger within a small object, to whose handles it is
+// near everywhere, is at none where the middle is nearer.
 export function handleAt(object, [atX, atY], scale, isFinger = false) {
   const near = (isFinger ? NEAR.finger : NEAR.hand) / scale;
   const far = ([, left, top]) => Math.max(Math.abs(atX - left), Math.abs(atY - top));
   const found = handlePlaces(object, scale).filter(each => far(each) <= near);
-  return found.reduce((nearest, each) => (nearest === null || far(each) < far(nearest) ? each : nearest), null)?.[0] ?? null;
+  const nearest = found.reduce((one, each) => (one === null || far(each) < far(one) ? each : one), null);
+  const [left, top, right, bottom] = boxOf(object);
+  const isWithin = atX > left && atX < right && atY > top && atY < bottom;
+  const isAtMiddle = isFinger && nearest && isWithin && far(["", ...middleOf(object)]) < far(nearest);
+  return isAtMiddle ? null : nearest?.[0] ?? null;
 }
 
 // One side of an object behind a drag: its first edge and its length in whole pixels. `moved` tells which edge is moved, by how much.

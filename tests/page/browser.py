@@ -151,8 +151,8 @@ class Session:
         return self.page.js('return roskevad.editor.copied()').encode()
 
 
-# Where a question stands on the page, what is under way waits for its answer.
-QUIET = 'return roskevad.editor.isQuiet || document.querySelector("dialog[open]:not([data-busy])") !== null'
+# Where a question stands on the page, what is under way waits for its answer. The list of steps waits for quick edits.
+QUIET = 'return (roskevad.editor.isQuiet && !roskevad.steps.isLate) || document.querySelector("dialog[open]:not([data-busy])") !== null'
 CLEAR = '''
 const done = arguments[0];
 sessionStorage.clear();
@@ -285,6 +285,33 @@ class Page:
         hand.pointer_up(button=button)
         chain.perform()
         chain = ActionChains(self.driver)
+        for key in keys:
+            chain.key_up(key)
+        chain.perform()
+        self.settle()
+
+    def hold(self, points, *keys, is_pressed=True):
+        """Presses at the first point of the window and goes over the others, with keys held down; or only goes
+        there, where nothing is to be pressed. `let_go` ends it."""
+        chain = ActionChains(self.driver, duration=30)
+        for key in keys:
+            chain.key_down(key)
+        hand = chain.w3c_actions.pointer_action
+        for at, point in enumerate(points):
+            hand.move_to_location(*point)
+            if is_pressed and at == 0:
+                hand.pointer_down(button=0)
+        chain.perform()
+        self.settle()
+
+    def hold_cells(self, cells, *keys, is_pressed=True):
+        """The same over the middles of cells."""
+        self.hold([self.point(cell) for cell in cells], *keys, is_pressed=is_pressed)
+
+    def let_go(self, *keys):
+        """Lets go of the button, and of keys that were held."""
+        chain = ActionChains(self.driver, duration=30)
+        chain.w3c_actions.pointer_action.pointer_up(button=0)
         for key in keys:
             chain.key_up(key)
         chain.perform()

@@ -15,7 +15,8 @@ from ..saving import Saving, Taken, holder_of
 LONGEST_FILE = 64 * 1024 * 1024
 #: What the files are that are given, by the ends of their names; those of maps are also taken.
 KINDS = {
-    '.tmj': 'application/json', '.json': 'application/json', '.tsx': 'application/xml', '.tsj': 'application/json', '.png': 'image/png',
+    '.tmj': 'application/json', '.json': 'application/json', '.tsx': 'application/xml', '.tsj': 'application/json',
+    '.tx': 'application/xml', '.tj': 'application/json', '.png': 'image/png',
     '.jpg': 'image/jpeg', '.jpeg': 'image/jpeg', '.gif': 'image/gif', '.bmp': 'image/bmp', '.webp': 'image/webp',
 }
 MAPS = ('.tmj', '.json')
