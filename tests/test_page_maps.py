@@ -152,7 +152,7 @@ def test_files_that_are_no_maps():
         page.open()
         page.choose_files(bench.folder / 'tiles.png')
         page.wait(lambda: 'No map is among the chosen files' in page.find('#start-hint').text, 'that no map is there')
-        assert page.notices() == []
+        assert page.notices() == ['tiles.png is a picture.\nMake a map with it\nOK']
 
 
 def edge(page, css):

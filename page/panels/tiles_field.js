@@ -27,7 +27,7 @@ export class TilesField {
     group("Pictures", pictures);
     this.select.append(element("option", { value: "", textContent: NONE }));
     this.select.value = path;
-    this.words = element("p", { className: "fault", role: "alert" });
+    this.words = element("small", { className: "fault", role: "alert" });
     this.cut = element("div", { id: "new-map-cut" });
     this.element = element("div", { id: "new-map-tiles" }, element("div", { className: "choice" }, element("span", { textContent: "Its tiles" }), this.select, ...this.own()), this.words, this.cut);
   }
