@@ -174,3 +174,18 @@ def test_fingers():
         x, y = middle_of(page, INN)
         draw('touch', (x, y), (x + 20, y), (x + 40, y))
         assert object_of(page, INN) == {**inn, 'x': inn['x'] + 40}
+
+
+def test_shapes_in_words():
+    """The table says what an object is: its shape, and by how much it is turned."""
+    with Bench() as page:
+        said = lambda: page.js('return getComputedStyle(document.getElementById("owner"), "::after").content')
+        corners = len(object_of(page, WALK).get('polygon') or object_of(page, WALK)['polyline'])
+        for number, words in ((1, 'point'), (INN, 'rectangle'), (KEY, 'tile'), (LAKE, 'ellipse'), (WALK, f' with {corners} corners')):
+            choose_object(page, number)
+            assert words in said() and 'turned' not in said(), (number, said())
+        choose_object(page, INN)
+        page.editor.lines(f'member set object:{INN} rotation 45')
+        assert 'rectangle, turned by 45°' in said()
+        page.click('#of-map')
+        assert said() in ('""', 'none', 'normal'), said()

@@ -334,7 +334,7 @@ def test_edges():
         '#left-grip': ((60, 0), {'#left': (60, 0)}),
         '#right-grip': ((-50, 0), {'#right': (50, 0), '#panel-layers': (50, 0), '#panel-properties': (50, 0), '#panel-steps': (50, 0)}),
         '#panel-properties h2': ((0, -40), {'#panel-layers': (0, -40), '#panel-properties': (0, 40)}),
-        '#panel-steps h2': ((0, 30), {'#panel-properties': (0, 30), '#panel-steps': (0, -30)}),
+        '#panel-steps h2': ((0, -60), {'#panel-properties': (0, -60), '#panel-steps': (0, 60)}),
         '#standing': ((0, -50), {'#line-box': (0, 50)}),
     }
     with Bench() as page:

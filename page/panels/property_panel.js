@@ -10,6 +10,7 @@ import { FIRST, PropertyRows } from "./property_rows.js";
 import { saidOf } from "../core/refusals.js";
 import { owned, sharedOwner, showMixed, shownOf } from "./shared_values.js";
 import { cellOf, rowOf } from "./table_rows.js";
+import { wordsOfShape } from "../view/object_shapes.js";
 import { whyNotNamed } from "../core/unsupported_edits.js";
 
 const OWNERS = ["map", "layer", "object"];
@@ -69,6 +70,8 @@ export class PropertyPanel {
     for (const kind of OWNERS) byId(`of-${kind}`).classList.toggle("on", kind === this.kind);
     const none = this.kind === "object" ? "No object is chosen: click at one with the tool Objects." : "Nothing is open.";
     putText(byId("owner"), owner?.title ?? none);
+    const shape = this.kind === "object" && owner?.all.length === 1 ? ` · ${wordsOfShape(owner.data)}` : "";
+    if (byId("owner").dataset.shape !== shape) byId("owner").dataset.shape = shape;
     this.last.hidden = !owner;
     if (owner?.word !== this.shownOwner) this.unmark();
     this.shownOwner = owner?.word;

@@ -26,6 +26,14 @@ export function cornersOf(object) {
 // Whether it has no size: a point, or a rectangle of none.
 export const isSpot = object => !cornersOf(object) && !object.width && !object.height;
 
+// What an object is, in words: its shape, and how it is turned.
+export function wordsOfShape(object) {
+  const corners = cornersOf(object);
+  const area = object.ellipse ? "ellipse" : object.point ? "point" : isSpot(object) ? "rectangle without a size" : "rectangle";
+  const shape = object.gid ? "tile" : object.text ? "text" : corners ? `${object.polygon ? "polygon" : "line"} with ${corners.length} corners` : area;
+  return object.rotation ? `${shape}, turned by ${object.rotation}°` : shape;
+}
+
 // A tile stands on its place, but where its tileset or the map says otherwise.
 export const STANDING = [0, 1];
 
