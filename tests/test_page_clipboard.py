@@ -528,16 +528,14 @@ INN = 2
 
 
 def test_refused_objects():
-    """Behind a copy of an object that is refused no other one is pasted; the rest of it is, where that was
-    asked for, and while its map is shown."""
+    """Behind a copy of an object that is refused, as too large, no other one is pasted."""
     bench = Bench(empty=True, has_log=False)
     with bench as page:
         town = json.loads((bench.folder / 'town.tmj').read_text())
         inn = next(each for each in objects_in(town) if each['id'] == INN)
-        inn['rotation'] = 0.5
+        inn['polygon'] = [{'x': at % 100, 'y': at // 100} for at in range(5000)]
         (bench.folder / 'town.tmj').write_text(json.dumps(town))
-        page.choose_files(bench.folder / 'objects.tmj', bench.folder / 'town.tmj', *bench.folder.glob('*.ts?'))
-        page.click('.tab[data-document="town"]')
+        page.choose_files(bench.folder / 'town.tmj', *bench.folder.glob('*.ts?'))
         layer = choose(page, 'Places')
         page.editor.lines(f'object add {layer} 32 400 32 16 trap')
         page.keys('s')
@@ -545,24 +543,16 @@ def test_refused_objects():
         page.ctrl('c')
         count = len(objects_in(page.editor.map()))
         page.js('roskevad.bench.chooseObject(arguments[0])', INN)
-        for key in 'cx':
+        for key in 'cxd':
             page.ctrl(key)
-            assert 'the fraction of its turn' in page.notices()[0], key
+            assert 'is too large for a copy' in page.bubble(), key
         page.ctrl('v')
         assert len(objects_in(page.editor.map())) == count and page.bubble().startswith('Nothing is copied.'), page.bubble()
+        page.js('roskevad.bench.chooseObject(7)')
         page.ctrl('c')
-        page.answer('Copy the rest')
-        page.ctrl('v')
-        assert objects_in(page.editor.map())[-1]['name'] == 'Inn'
-        page.keys('s')
         page.js('roskevad.bench.chooseObject(null)')
         page.ctrl('c')
         assert 'Choose an object first' in page.bubble() and 'Nothing is copied any more' in page.bubble(), page.bubble()
-        page.js('roskevad.bench.chooseObject(arguments[0])', INN)
-        page.ctrl('d')
-        assert 'the fraction of its turn' in page.notices()[0]
-        page.click('.tab[data-document="objects"]')
-        assert not page.notices(), 'the rest would go into a layer of another map'
 
 
 def test_kinds():

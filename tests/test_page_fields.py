@@ -306,14 +306,13 @@ def test_fields_of_types():
 
 
 def test_values_that_no_line_sets():
-    """A list, a class with a fraction and a type that Tiled does not have are shown, barred, with a word. A long
-    value is seen whole, without a bar to scroll."""
+    """A list and a type that Tiled does not have are shown, barred, with a word. A long value is seen whole, without a
+    bar to scroll."""
     bench = Bench(empty=True)
     with bench as page:
         town = json.loads((bench.folder / 'town.tmj').read_text())
         long = 'the quick brown fox jumps over the lazy dog, and back again over the same dog'
         town['properties'] = [
-            {'name': 'guard', 'type': 'class', 'value': {'speed': 2.5}, 'propertytype': 'Guard'},
             {'name': 'all', 'type': 'list', 'value': [1, 2]},
             {'name': 'odd', 'type': 'shape', 'value': 4},
             {'name': 'saying', 'type': 'string', 'value': long},
@@ -322,7 +321,6 @@ def test_values_that_no_line_sets():
         page.choose_files(bench.folder / 'kinds.tmj', *bench.folder.glob('*.ts?'))
         page.find('#of-map').click()
         for name, shown, why in (
-            ('guard', 'speed: 2.5', 'speed is 2.5'),
             ('all', '1,2', 'list'),
             ('odd', '4', 'type shape'),
         ):
@@ -350,7 +348,6 @@ def test_new_property():
         assert not faults(page), 'the mark goes with the next key'
         for kind, value, why in (
             ('int', '1.5', 'a whole number'),
-            ('float', '1.5', '1 or 2: only whole values'),
             ('color', 'red', '#rrggbb'),
         ):
             Select(page.find('#new-type')).select_by_visible_text(kind)

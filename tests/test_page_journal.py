@@ -193,7 +193,7 @@ def test_journals_that_are_not_restored():
             said = file.read_text().splitlines()
             file.unlink()
             # A damaged one has the lines before the damage.
-            marks = ['# all edits'] if 'member set object:2 rotation 90' in said else []
+            marks = ['# all edits, all maps'] if 'member set object:2 rotation 90' in said else []
             assert said[:len(marks) + 1] == [*marks, 'open town town.tmj'], said
             marked += len(marks)
             assert page.editor.state()['active'] is None

@@ -147,8 +147,7 @@ def test_keys_in_the_fields():
 
 
 def test_fractions():
-    """What a file has as a fraction is shown and kept. Of a fraction that is typed the field says that only whole
-    values can be set today, in words for who draws; nothing is sent."""
+    """What a file has as a fraction is shown and kept, and one that is typed is set, with a point or a comma."""
     bench = Bench(empty=True)
     with bench as page:
         members = {'opacity': 0.5, 'offsetx': 2.5, 'parallaxy': 0.25, 'tintcolor': '#80FF8000'}
@@ -157,22 +156,20 @@ def test_fractions():
         shown = {' opacity': '0.5', ' offsetx': '2.5', ' parallaxy': '0.25', ' tintcolor': '#80ff8000'}
         assert {name: value_of(page, name) for name in shown} == shown
         assert float(slider(page).get_attribute('value')) == 0.5 and not any(is_grey(page, name) for name in shown)
-        wrong = [(' opacity', '0.75', '0 or 1'), (' opacity', '0,75', '0 or 1'), (' offsetx', '3.5', '3 or 4'), (' parallaxx', '-.5', '-1 or 0')]
-        for name, typed, wanted in wrong:
-            put(page, name, typed)
-            assert faults(page) == [f'{wanted}: only whole values can be set today'] and value_of(page, name) == typed
-            field_of(page, name).send_keys(Keys.ESCAPE)
-        assert not spelled(page)
-        assert 'whole values' in field_of(page, ' parallaxx').get_attribute('title') + slider(page).get_attribute('title')
         # A click into a field and out of it sets nothing.
         for name in shown:
             field_of(page, name).click()
             type_keys(page, Keys.TAB)
-        put(page, ' offsety', '3')
-        assert spelled(page) == [f'member set layer:{ground} offsety 3']
+        assert not spelled(page)
+        typed = [(' opacity', '0,75', 0.75), (' offsetx', '3.5', 3.5), (' parallaxx', '-.5', -0.5), (' offsety', '3', 3)]
+        for name, text, _ in typed:
+            put(page, name, text)
+            assert not faults(page), name
+        assert spelled(page) == [f'member set layer:{ground}{name} {value}' for name, _, value in typed]
         page.ctrl('s')
         saved = next(layer for layer in layers_in(json.loads(bench.saved('faint.tmj'))['layers']) if layer['name'] == 'Ground')
-        assert {name: saved[name] for name in members} == members and saved['offsety'] == 3
+        assert all(saved[name.strip()] == value for name, _, value in typed)
+        assert (saved['parallaxy'], saved['tintcolor']) == (members['parallaxy'], members['tintcolor'])
 
 
 def test_fractions_are_sent_where_they_are_taken():

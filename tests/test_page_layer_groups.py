@@ -179,24 +179,23 @@ def test_a_copy():
 
 
 def test_a_copy_with_fractions():
-    """What a copy would not keep is named first, and nothing is done; the rest is copied where that is asked for."""
+    """A copy has the fractions of the layer, and those of its objects."""
     bench = Bench(empty=True)
     with bench as page:
         town = json.loads((bench.folder / 'town.tmj').read_text())
-        ground = next(each for each in town['layers'] if each['name'] == 'Ground')
+        ground, places = (next(each for each in town['layers'] if each['name'] == name) for name in ('Ground', 'Places'))
         ground.update(opacity=0.5, offsety=2.5)
+        places['objects'][0].update(x=32.25, rotation=0.5)
         (bench.folder / 'faint.tmj').write_text(json.dumps(town))
         page.choose_files(*bench.folder.glob('*.ts?'), *bench.folder.glob('*.png'), bench.folder / 'faint.tmj')
-        if page.js('return roskevad.editor.takesFractions'):
-            return
-        choose(page, 'Ground')
-        page.ctrl('d', Keys.SHIFT)
-        told = 'Ground was not duplicated: a copy would not keep the fraction of its offset and its opacity.'
-        assert page.bubble() == told and page.notices()[0].startswith(told) and spelled(page) == []
-        page.answer('Copy the rest')
+        for name, count in (('Ground', 1), ('Places', 2)):
+            choose(page, name)
+            page.ctrl('d', Keys.SHIFT)
+            assert standing(page) == (count, count) and not page.notices()
         copy = layer_of(page, 'Copy of Ground')
-        assert copy['opacity'] == 1 and copy['offsety'] in (2, 3) and cells_of(copy) == cells_of(layer_of(page, 'Ground'))
-        assert standing(page) == (1, 1)
+        assert (copy['opacity'], copy['offsety']) == (0.5, 2.5) and cells_of(copy) == cells_of(layer_of(page, 'Ground'))
+        first = layer_of(page, 'Copy of Places')['objects'][0]
+        assert (first['x'], first['rotation']) == (32.25, 0.5)
 
 
 def test_merge():

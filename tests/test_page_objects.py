@@ -296,9 +296,8 @@ def test_whole_town():
             passed()
 
 
-def test_what_a_copy_has_not():
-    """Of what no copy keeps the page names each, and offers to copy the rest, which has whole numbers in its place;
-    what has a fraction is not cut. An object that is too large is copied by nothing, and nothing stays copied."""
+def test_large_copies():
+    """A copy has the fractions of its object, but lies on whole pixels. An object that is too large is copied by nothing, and nothing stays copied."""
     bench = Bench(empty=True)
     with bench as page:
         town = json.loads((bench.folder / 'town.tmj').read_text())
@@ -314,22 +313,14 @@ def test_what_a_copy_has_not():
         (bench.folder / 'odd.tmj').write_text(json.dumps(town))
         page.choose_files(bench.folder / 'odd.tmj', *bench.folder.glob('*.ts?'))
         page.keys('s')
-        lost = ('the fraction of its size', 'the fraction of its turn', 'the property speed', 'the property drops')
-        for number, words in ((7, lost), (8, ['the fraction of its corners'])):
-            for key, done in (('c', 'copied'), ('x', 'cut'), ('d', 'copied')):
-                page.js('roskevad.bench.chooseObject(arguments[0])', number)
-                page.ctrl(key)
-                name = {7: 'odd', 8: 'bent'}[number]
-                told = page.notices()[0].partition('.')[0]
-                assert told.startswith(f'{name} is not {done}: a copy would not keep the ') and all(each in told for each in words), told
-                assert told.count('the ') == len(words), 'and nothing else'
-                assert len(spelled(page)) == 3 * (number - 7) and ('Copy the rest' in page.notices()[0]) == (done == 'copied')
-            page.answer('Copy the rest')
+        for number in (7, 8):
+            page.js('roskevad.bench.chooseObject(arguments[0])', number)
+            page.ctrl('d')
+            assert not page.notices() and len(spelled(page)) == number - 6
         first, second = object_of(page, 10), object_of(page, 11)
-        assert (first['width'], first['rotation'], first['type'], first['x'], first['y']) in [(w, r, 'Odd', 57, 416) for w in (30, 31) for r in (22, 23)]
-        assert first['properties'] == [{'name': 'kept', 'type': 'float', 'value': 2}]
-        corners = second['polygon']
-        assert len(corners) == 3 and corners[0] == {'x': 0, 'y': 0} and corners[2] == {'x': 5, 'y': 20} and corners[1] in [{'x': x, 'y': 3} for x in (10, 11)]
+        assert (first['width'], first['rotation'], first['type'], first['x'], first['y']) == (30.5, 22.5, 'Odd', 57, 416)
+        assert first['properties'] == odd['properties']
+        assert second['polygon'] == bent['polygon']
         for key, done in (('c', 'copied'), ('x', 'cut'), ('d', 'copied')):
             page.js('roskevad.bench.chooseObject(9)')
             page.ctrl(key)

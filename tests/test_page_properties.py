@@ -118,21 +118,15 @@ def test_names_and_texts():
 
 
 def test_floats():
-    """A float takes whole values, and says of a fraction what it takes, where the editor takes no fractions yet; one of a file
-    is shown, and stays."""
+    """A float takes whole values and fractions; one of a file is shown."""
     bench = Bench(empty=True)
     with bench as page:
         opened(bench, [{'name': 'weight', 'type': 'float', 'value': 2.5}])
-        takes = page.js('return roskevad.editor.takesFractions')
         assert field(page, 'weight').get_property('value') == '2.5'
         put(page, 'weight', '3')
         assert property_of(page, 'weight') == {'name': 'weight', 'type': 'float', 'value': 3}
         put(page, 'weight', '3,25')
-        if takes:
-            assert property_of(page, 'weight')['value'] == 3.25
-        else:
-            assert faults(page) == ['3 or 4: only whole values can be set today'] and property_of(page, 'weight')['value'] == 3
-            field(page, 'weight').send_keys(Keys.ESCAPE)
+        assert property_of(page, 'weight')['value'] == 3.25
         new(page, 'chance', 'float', '1')
         assert property_of(page, 'chance') == {'name': 'chance', 'type': 'float', 'value': 1}
         new(page, 'far', 'int', '-2147483648')

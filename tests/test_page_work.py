@@ -281,13 +281,13 @@ def test_session_of_own_members():
         assert 'That line is not as it has to be' in page.bubble() and 'member set OWNER KEY JSON' in page.bubble()
         page.say('save end.tmj')
         session = copied(page)
-        assert session.splitlines()[0] == '# all edits' and session.count('#') == 1, session
+        assert session.splitlines()[0] == '# all edits, all maps' and session.count('#') == 1, session
         folder = played(bench, session.encode(), EXAMPLE_MAPS, '--all-edits')
         assert compact((folder / 'end.tmj').read_bytes()) == compact(bench.saved('end.tmj'))
         after = page.editor.shown()
         page.editor.lines('goto 0')
         assert page.editor.shown() == before
-        play(page, '\n'.join(['# all edits', *lines]))
+        play(page, '\n'.join(['# all edits, all maps', *lines]))
         assert page.editor.shown() == after and standing(page) == (1, 1)
 
 
@@ -315,7 +315,7 @@ def test_session_of_all_edits():
             page.editor.lines(f'new made{number} 4 3 16 16 tiles.tsx', 'layer add object Things', 'object add 2 0 0 8 8 door', 'prop set object:1 a int 1')
             assert not copied(page).startswith('#'), line
             page.editor.lines(line)
-            assert copied(page).splitlines()[0] == '# all edits', line
+            assert copied(page).splitlines()[0] == '# all edits, all maps', line
             assert page.texts('#steps li .name')[-1] == step, line
             assert [text for text in page.texts('#lines li .words') if text][-1] == words, line
         page.editor.lines('use town')

@@ -1,36 +1,25 @@
 // SPDX-License-Identifier: MIT OR Apache-2.0
 // What is done with whole layers: a copy, a merge with the layer below, a group around one, and ways into and out of groups. Each is one step.
-import { endNotice, notice } from "./notice_bars.js";
 import { NO_MAP } from "./dom.js";
-import { listed } from "../tools/object_copies.js";
 import { LayerCopy, cellLines, objectLines } from "../tools/layer_copies.js";
 import { besides, intoBeside, layersIn, lineTo, outOf, wholeOf, whyNotInto } from "../tools/layer_places.js";
 import { whateverIsSelected } from "../tools/selection_lines.js";
 import { whyBarred } from "../tools/barred_layers.js";
 import { MAX_LAYERS } from "../../js/limits.js";
 
-const ABOUT = "layer copy";
 const NO_LAYER = "Add a layer first";
 const TOO_MANY = `A map has at most ${MAX_LAYERS} layers`;
 // The kinds that are merged, and what merged ones have.
 const MERGED = { tilelayer: "tile layer", objectgroup: "object layer" };
-// How many things that a copy would not keep are named.
-const MOST_NAMED = 4;
 
 const nameOf = layer => layer.data.name || "(no name)";
 const withoutDot = words => words.replace(/\.$/, "");
 const offsetOf = ({ offsetX, offsetY }) => `${offsetX} ${offsetY}`;
 
-function named(all) {
-  const more = all.length - MOST_NAMED;
-  return more > 0 ? `${all.slice(0, MOST_NAMED).join(", ")}, and ${more} more` : listed(all);
-}
-
 export class LayerActs {
   // `nameFor(kind)` proposes the name of a new layer.
   constructor(bench, nameFor) {
     Object.assign(this, { bench, nameFor });
-    for (const name of ["layer chosen", "document"]) bench.addEventListener(name, () => endNotice(ABOUT));
   }
 
   // What is done, with its keys, the reason why it is not done now, or "", and a call that does it or says why not.
@@ -68,17 +57,13 @@ export class LayerActs {
     return map.layers.length + wholeOf(map, layer).length > MAX_LAYERS ? TOO_MANY : "";
   }
 
-  // Puts a copy above a layer. What it would not keep is named first, and the rest offered.
+  // Puts a copy above a layer.
   duplicate(layer, map) {
     const copy = new LayerCopy(this.bench, layer, `Copy of ${nameOf(layer)}`);
     if (copy.large) return this.bench.say(`${nameOf(layer)} was not duplicated: of it, ${copy.large} is too large for a copy.`);
     const isOnTop = !layer.group && layer.place === layer.siblings - 1;
     const way = isOnTop ? [] : [lineTo({ id: copy.id, group: null }, layer.group, layer.place + 1)];
-    const put = () => this.doAsOne("Duplicate Layer", whateverIsSelected(map, [...copy.lines, ...way]), copy.id);
-    if (!copy.lost.size) return put();
-    const words = `${nameOf(layer)} was not duplicated: a copy would not keep ${named([...copy.lost])}.`;
-    this.bench.say(words);
-    return notice(ABOUT, words, [["Copy the rest", () => this.bench.map === map && put()], ["OK", () => {}]], "mild");
+    return this.doAsOne("Duplicate Layer", whateverIsSelected(map, [...copy.lines, ...way]), copy.id);
   }
 
   // ---- merge

@@ -1,9 +1,8 @@
 // SPDX-License-Identifier: MIT OR Apache-2.0
-// The lines that make a copy of a layer with all that is in it, and those that put its cells or objects onto another one. What a copy would
-// not keep is named.
+// The lines that make a copy of a layer with all that is in it, and those that put its cells or objects onto another one.
 import { bytesTooMany, membersLine, memberLine, objectLine } from "../core/member_lines.js";
 import { said } from "../../js/json_values.js";
-import { copyOf, hasFraction } from "../core/whole_objects.js";
+import { copyOf } from "../core/whole_objects.js";
 import { KINDS } from "../core/kinds.js";
 import { lineOf } from "../core/map_model.js";
 import { layersIn } from "./layer_places.js";
@@ -12,9 +11,6 @@ import { partsOf } from "./stroke.js";
 const KIND_WORDS = { tilelayer: "tile", objectgroup: "object", imagelayer: "image", group: "group" };
 // What a new layer has of itself.
 const USUAL = { opacity: 1, visible: true, x: 0, y: 0, offsetx: 0, offsety: 0, parallaxx: 1, parallaxy: 1, image: "", draworder: "topdown" };
-// Members of which a copy has the whole part: without one it would lie elsewhere.
-const ROUNDED = new Set(["offsetx", "offsety"]);
-const WORDS = { offsetx: "offset", offsety: "offset", parallaxx: "parallax", parallaxy: "parallax" };
 
 const nameOf = object => object.name || `object ${object.id}`;
 
@@ -46,10 +42,10 @@ export function objectLines(layer, to) {
 }
 
 export class LayerCopy {
-  // A copy of a layer under another name. `lines` make it in no group, on top of all, as the layer `id`; `lost` has in words what it has not,
-  // each once, and `large` what is too large for a line.
+  // A copy of a layer under another name. `lines` make it in no group, on top of all, as the layer `id`; `large` has what is too large
+  // for a line.
   constructor({ editor, map }, layer, name) {
-    Object.assign(this, { editor, map, lines: [], lost: new Set(), large: "", id: map.data.nextlayerid });
+    Object.assign(this, { editor, map, lines: [], large: "", id: map.data.nextlayerid });
     this.nextId = this.id;
     this.add(layer, name);
   }
@@ -68,33 +64,12 @@ export class LayerCopy {
 
   addMembers(id, { own, properties }) {
     const others = Object.entries(own).filter(([name, value]) => name !== "name" && value !== USUAL[name]);
-    const kept = others.map(([name, value]) => [name, this.whole(name, value)]).filter(([, value]) => value !== undefined);
-    if (kept.length) this.put(membersLine(`layer:${id}`, Object.fromEntries(kept)), "what it has");
-    for (const property of properties) {
-      if (!this.isLost(property.value)) this.put(`prop put layer:${id} ${said(property, "a property")}`, `its property ${property.name}`);
-      else this.lost.add(`the property ${property.name}`);
-    }
+    if (others.length) this.put(membersLine(`layer:${id}`, Object.fromEntries(others)), "what it has");
+    for (const property of properties) this.put(`prop put layer:${id} ${said(property, "a property")}`, `its property ${property.name}`);
   }
 
-  isLost(value) {
-    return !this.editor.takesFractions && hasFraction(value);
-  }
-
-  // A value as a line says it; undefined where none does.
-  whole(name, value) {
-    if (!this.isLost(value)) return value;
-    this.lost.add(ROUNDED.has(name) ? `the fraction of its ${WORDS[name]}` : `its ${WORDS[name] ?? name}`);
-    return ROUNDED.has(name) ? Math.round(value) : undefined;
-  }
-
-  // Places of objects are whole, too.
   addObject(layer, object) {
-    const members = this.editor.membersOf(object.id);
-    const copy = copyOf(members);
-    const place = Object.fromEntries(["x", "y"].map(side => [side, Math.round(members[side] ?? 0)]));
-    for (const words of copy.lost) this.lost.add(`of ${nameOf(object)} ${words}`);
-    if (hasFraction([members.x ?? 0, members.y ?? 0])) this.lost.add(`of ${nameOf(object)} the fraction of its place`);
-    this.put(objectLine(layer, { ...copy.members, ...place }), nameOf(object));
+    this.put(objectLine(layer, copyOf(this.editor.membersOf(object.id))), nameOf(object));
   }
 
   put(line, words) {

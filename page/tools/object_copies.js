@@ -1,11 +1,8 @@
 // SPDX-License-Identifier: MIT OR Apache-2.0
-// Copies of objects: one step of an `object put` for each, with all that an object is. What a copy would not keep is named.
+// Copies of objects: one step of an `object put` for each, with all that an object is.
 import { copyOf } from "../core/whole_objects.js";
 import { bytesTooMany, objectLine } from "../core/member_lines.js";
 import { pathFrom, plainPath } from "../files/names.js";
-import { endNotice, notice } from "../panels/notice_bars.js";
-
-const ABOUT = "copy";
 
 export const listed = (words, last = "and") => (words.length < 2 ? words.join("") : `${words.slice(0, -1).join(", ")} ${last} ${words[words.length - 1]}`);
 export const nameOf = object => object.name || `Object ${object.id}`;
@@ -49,27 +46,17 @@ function inFolder({ template, properties = [], ...others }, from, to) {
 
 export class ObjectCopies {
   constructor(bench) {
-    Object.assign(this, { bench });
-    for (const name of ["object chosen", "document"]) bench.addEventListener(name, () => endNotice(ABOUT));
+    this.bench = bench;
   }
 
-  // Calls `go` with the members of copies of objects, { object, layer } each, where these are the whole objects. Else it says what they would
-  // not keep, and offers to copy the rest. `done` is what is done with them.
+  // Calls `go` with the members of copies of objects, { object, layer } each. Where one is too large for a copy it is named, and nothing is
+  // done. `done` is what is done with them.
   whole(all, done, go) {
-    endNotice(ABOUT);
-    const copies = all.map(({ object }) => ({ object, ...copyOf(this.bench.editor.membersOf(object.id)) }));
+    const copies = all.map(({ object }) => ({ object, members: copyOf(this.bench.editor.membersOf(object.id)) }));
     const large = copies.find(({ members }) => bytesTooMany(objectLine(0, members)));
-    if (large) {
-      const tooMany = bytesTooMany(objectLine(0, large.members)).toLocaleString("en-US");
-      return this.bench.say(`${nameOf(large.object)} is not ${done}: it is too large for a copy, by ${tooMany} letters of its texts and corners.`);
-    }
-    const members = copies.map(each => each.members);
-    const lost = [...new Set(copies.flatMap(each => each.lost))];
-    if (!lost.length) return go(members);
-    const words = `${namesOf(all)} not ${done}: a copy would not keep ${listed(lost)}.`;
-    this.bench.say(words);
-    notice(ABOUT, words, done === "cut" ? [["OK", () => {}]] : [["Copy the rest", () => void go(members)], ["OK", () => {}]], "mild");
-    return null;
+    if (!large) return go(copies.map(each => each.members));
+    const tooMany = bytesTooMany(objectLine(0, large.members)).toLocaleString("en-US");
+    return this.bench.say(`${nameOf(large.object)} is not ${done}: it is too large for a copy, by ${tooMany} letters of its texts and corners.`);
   }
 
   // Keeps objects for a paste.
