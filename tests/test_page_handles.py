@@ -157,7 +157,10 @@ def test_fingers():
         page.keys('s')
         choose_object(page, INN)
         inn = object_of(page, INN)
-        page.js('const {view} = roskevad; view.zoomTo(3 * view.ratio); view.originX = (100 - arguments[0]) * 3; view.originY = (60 - arguments[1]) * 3; view.redraw()', inn['x'], inn['y'])
+        page.js('''const {view} = roskevad;
+                   view.zoomTo(3 * view.ratio);
+                   [view.originX, view.originY] = [(100 - arguments[0]) * 3, (60 - arguments[1]) * 3];
+                   view.redraw()''', inn['x'], inn['y'])
         page.settle()
         for kind, aside, is_taken in (('touch', 20, True), ('mouse', 4, True), ('mouse', 12, False), ('touch', 25, False)):
             choose_object(page, INN)

@@ -280,7 +280,8 @@ def test_other_layer():
 
 def test_drag_in_the_list():
     """A row is dragged to another place of its layer or into another one, with all that are chosen; Escape ends it."""
-    row = lambda page, css: page.js('const {left, top, height, width} = document.querySelector(arguments[0]).getBoundingClientRect(); return [left + width / 2, top, height]', css)
+    box = 'const {left, top, height, width} = document.querySelector(arguments[0]).getBoundingClientRect()'
+    row = lambda page, css: page.js(f'{box}; return [left + width / 2, top, height]', css)
     point = lambda page, css, share: [int(row(page, css)[0]), int(row(page, css)[1] + share * row(page, css)[2])]
     of = lambda number: f'#objects li[data-object="{number}"]'
     with Bench() as page:

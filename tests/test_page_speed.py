@@ -168,7 +168,8 @@ def test_one_of_many_objects():
 DRAWS = '''
 const [count, done] = arguments, {bench, editor, view} = roskevad;
 let moved = 0;
-const watch = new MutationObserver(records => records.forEach(each => [...each.addedNodes, ...each.removedNodes].forEach(node => (moved += node.tagName === "LI" ? 1 : 0))));
+const rowsOf = each => [...each.addedNodes, ...each.removedNodes].filter(node => node.tagName === "LI").length;
+const watch = new MutationObserver(records => records.forEach(each => (moved += rowsOf(each))));
 watch.observe(document.getElementById("steps"), {childList: true, subtree: true});
 view.box.setPointerCapture = () => {};
 const tell = (kind, x, y) => {
