@@ -615,7 +615,7 @@ async function loopsOfObjects() {
       each.move(each.x + 1, each.y);
     }
   });
-  same(moves, { object_ids: 1, object: 2000, step: 1000, tell: 1000 });
+  same(moves, { object_ids: 1, object: 3000, step: 1000, tell: 1000 });
   const settings = countedCalls(editor, () => {
     for (const each of document.objects) {
       each.properties.set("team", 1);

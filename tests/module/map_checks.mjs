@@ -288,7 +288,7 @@ async function thingsOfInfiniteMaps() {
   same([document.properties.get("b"), document.origin, document.layers.get(1).members.opacity], [0.2, [-16, -16], 0.5]);
   one.move(Math.floor(one.x), 4);
   two.move(263, Math.floor(two.y) + 1);
-  same([one.x, one.y, two.x, two.y], [266.5, 4, 263, 260]);
+  same([one.x, one.y, two.x, two.y], [266, 4, 263, 260]);
   same(sorted(document.layers.get(2).members), sorted(document.outline().layers[1]));
   editor.close();
 }
