@@ -681,3 +681,4 @@ def test_objects_elsewhere():
             assert [each['value'] for each in made['properties']] == values, made
             assert page.bubble().startswith('Without key:'), page.bubble()
             passed()
+        assert all('wood.tj' in each['message'] for each in page.log()), 'the file of the template is not there'

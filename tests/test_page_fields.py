@@ -168,7 +168,9 @@ def test_refused_values():
         assert 'from 0 to' in faults(page)[0] and len(spelled(page)) == 2
         field_of(page, ' width').send_keys(Keys.ESCAPE)
         page.type_into('#properties [data-key=" x"]', '130.5')
-        assert not faults(page) and object_of(page, 2)['x'] == 130.5 and value_of(page, ' x') == '130.5'
+        assert not faults(page) and spelled(page)[-1] == 'member set object:2 x 130.5' and value_of(page, ' x') == '130.5'
+        page.type_into('#properties [data-key=" x"]', '130')
+        assert value_of(page, ' x') == '130', 'the fraction does not come back'
 
 
 def test_name_class_and_rotation():

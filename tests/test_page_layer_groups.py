@@ -192,9 +192,10 @@ def test_a_copy_with_fractions():
             choose(page, name)
             page.ctrl('d', Keys.SHIFT)
             assert standing(page) == (count, count) and not page.notices()
-        copy = layer_of(page, 'Copy of Ground')
-        assert (copy['opacity'], copy['offsety']) == (0.5, 2.5) and cells_of(copy) == cells_of(layer_of(page, 'Ground'))
-        first = layer_of(page, 'Copy of Places')['objects'][0]
+        assert cells_of(layer_of(page, 'Copy of Ground')) == cells_of(layer_of(page, 'Ground'))
+        layers = {each['name']: each for each in page.editor.map_with_fractions()['layers']}
+        copy, first = layers['Copy of Ground'], layers['Copy of Places']['objects'][0]
+        assert (copy['opacity'], copy['offsety']) == (0.5, 2.5)
         assert (first['x'], first['rotation']) == (32.25, 0.5)
 
 

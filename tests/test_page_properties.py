@@ -126,7 +126,8 @@ def test_floats():
         put(page, 'weight', '3')
         assert property_of(page, 'weight') == {'name': 'weight', 'type': 'float', 'value': 3}
         put(page, 'weight', '3,25')
-        assert property_of(page, 'weight')['value'] == 3.25
+        [weight] = page.editor.map_with_fractions()['properties']
+        assert weight == {'name': 'weight', 'type': 'float', 'value': 3.25}
         new(page, 'chance', 'float', '1')
         assert property_of(page, 'chance') == {'name': 'chance', 'type': 'float', 'value': 1}
         new(page, 'far', 'int', '-2147483648')

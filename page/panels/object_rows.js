@@ -86,11 +86,12 @@ export class ObjectRows {
     });
   }
 
-  // Where the editor takes whole numbers alone, a fraction comes back where its whole part is left as it is.
+  // The line that moves or sizes an object takes whole numbers, and where it leaves a whole part as it is, the fraction comes back.
   setPart(name, part, value) {
     const lineOf = ({ word, data }) => {
       const all = PARTS[name].map(([each]) => (each === part ? value : data[each] ?? 0));
-      if (this.bench.editor.takesFractions && !all.every(Number.isInteger)) return memberLine(word, part, value);
+      const isWhole = [...all, data[part] ?? 0].every(Number.isInteger);
+      if (this.bench.editor.takesFractions && !isWhole) return memberLine(word, part, value);
       return `object ${name === "place" ? "move" : "resize"} ${data.id} ${all.map(Math.floor).join(" ")}`;
     };
     return this.panel.sendEach(lineOf, name === "place" ? "Move Objects" : "Resize Objects");

@@ -143,6 +143,10 @@ class Session:
     def map(self):
         return json.loads(self.shown())
 
+    def map_with_fractions(self):
+        """The map, in which what was set aside is put back."""
+        return self.page.js('return roskevad.editor.editor.active.map()')
+
     def shown(self):
         """The bytes of the map, as the line `show` tells them."""
         return self.page.js('return roskevad.editor.editor.step("show").slice(4)').encode()
