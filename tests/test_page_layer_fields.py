@@ -200,7 +200,7 @@ def test_slider():
         places = [(x, 20) for x in range(0, 26, 5)]
         see_colours(page, places)
         slide(page, 1, 0.6, 0.3, 0)
-        assert spelled(page) == [f'member set layer:{ground} opacity 0'] and standing(page) == (1, 1)
+        assert spelled(page)[-1].endswith(f' layer:{ground} opacity 0') and standing(page) == (1, 1)
         assert value_of(page, ' opacity') == '0' and layer_of(page, 'Ground')['opacity'] == 0
         behind = page.colours(page.places([(20, 3)], (5, 9)))
         page.keys('e')
