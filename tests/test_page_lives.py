@@ -232,7 +232,7 @@ def test_a_close_that_waits():
         page.click('.tab[data-document="town"]')
         draw(page)
         begin_save(page)
-        assert 'saved' not in page.texts('#steps .clean')
+        page.wait(lambda: 'saved' not in page.texts('#steps .clean'), 'the step is being saved')
         click_close(page, 'town')
         answer_now(page, 'Wait, then close')
         end_save(page)
@@ -384,7 +384,7 @@ def test_a_save_waits_for_the_browser():
             [told] = page.notices()
             assert 'The browser asks whether this page may write' in told
             assert 'is being saved' in page.find('#standing').text
-            assert 'saved' not in page.texts('#steps .clean')
+            page.wait(lambda: 'saved' not in page.texts('#steps .clean'), 'the step is being saved')
             page.js('roskevad.editor.doLines(["stamp 1 0 0 1 5"])')
             assert standing(page) == (2, 2)
             page.js('roskevad.documents.openPath("house.tmj")')
