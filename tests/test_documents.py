@@ -157,7 +157,7 @@ def test_tiles_of_files():
 
 
 def test_properties_of_other_types():
-    """A class and a float are read and set; what is read of a class is a copy. A fraction is refused."""
+    """A class and a float are read and set; what is read of a class is a copy. A float takes fractions."""
     with Editor() as editor:
         made(editor)
         properties = [
@@ -171,8 +171,9 @@ def test_properties_of_other_types():
         see((float, 'class', 'float'), (type(document.properties['f']), *map(document.properties.type_of, 'cf')))
         for key, value in (('c', 5), ('c', [1]), ('f', '2'), ('f', True), ('f', {})):
             raised(OtherType, document.properties.__setitem__, key, value)
-        see(61, raised(Refused, document.properties.__setitem__, 'f', 2.5).code)
         see(editor.map()['properties'], properties)
+        document.properties['f'] = 2.5
+        see(2.5, document.properties['f'])
         document.properties.update(c={'a': 2}, f=3)
         properties[0]['value'], properties[1]['value'] = {'a': 2}, 3
         see(editor.map()['properties'], properties)
@@ -430,7 +431,7 @@ def test_loops_of_objects():
         with Calls(editor) as calls:
             for each in document.objects:
                 each.move(int(each.x) + 1, int(each.y))
-        see({'object_ids': 1, 'object': 2000, 'step': 1000, 'tell': 1000}, dict(+calls.counts))
+        see({'object_ids': 1, 'object': 3000, 'step': 1000, 'tell': 1000}, dict(+calls.counts))
         with Calls(editor) as calls:
             for each in document.objects:
                 each.properties['team'] = 1

@@ -316,9 +316,9 @@ def test_large_copies():
         for number in (7, 8):
             page.js('roskevad.bench.chooseObject(arguments[0])', number)
             page.ctrl('d')
-            assert not page.notices() and len(spelled(page)) == number - 6
-        first, second = objects_in(page.editor.map_with_fractions())[-2:]
-        assert (first['id'], second['id']) == (10, 11)
+            assert not page.notices() and len(spelled(page)) == 3 * (number - 6)
+        made = {each['id']: each for each in objects_in(page.editor.map_with_fractions())}
+        first, second = made[10], made[11]
         assert (first['width'], first['rotation'], first['type'], first['x'], first['y']) == (30.5, 22.5, 'Odd', 57, 416)
         assert first['properties'] == odd['properties']
         assert second['polygon'] == bent['polygon']
