@@ -98,6 +98,9 @@ def test_layers():
         for kind, name, type_ in (('object', 'Signs', 'objectgroup'), ('image', 'The sky', 'imagelayer'), ('group', 'Yard', 'group')):
             choose(page, 'Mist')
             page.click(f'#add-{kind}-layer')
+            if kind == 'image':
+                page.click('#without-picture')
+                page.wait(lambda: page.js('return document.activeElement.className') == 'row-field', 'a name is asked for')
             type_keys(page, name, Keys.ENTER)
             assert spelled(page)[-1] == f'layer add {kind} {name}' and page.texts('#layers .now .name') == [name]
             assert page.editor.map()['layers'][-1]['type'] == type_
