@@ -42,7 +42,6 @@ TRIALS = [
     ('document.properties.set("people", "many")', 'document.properties.set("people", "many")', TYPES, OTHER.format('int')),
     ('document.properties.set("speed", "fast")', 'document.properties.set("speed", "fast")', TYPES, OTHER.format('float')),
     ('document.properties.set("odd", [])', 'document.properties.set("odd", [])', TYPES, OTHER.format('matrix')),
-    ('document.properties.set("speed", 2.5)', 'document.properties.set("speed", 2.5)', ['Refused', 'Error'], '61 fraction'),
     ('document.properties.put({"name": "a"})', 'document.properties.put({ name: "a" })', ['Refused', 'Error'], '62 member missing'),
     ('document.properties.set("sky", "blue")', 'document.properties.set("sky", "blue")', TYPES, 'is a color'),
     ('document.tilesets[1].tiles', 'document.tilesets.get(1).tiles', ['BadTileset', 'Error', 'ValueError'], 'and this one says: -1'),

@@ -248,11 +248,11 @@ static void check_all_edits(void)
     roskevad_lines_done done;
     roskevad_told told;
     char room[128];
-    WANT(roskevad_editor_open_for(&editor, 0, 2) == ROSKEVAD_TOO_GREAT && roskevad_editor_file_count(&editor) == ROSKEVAD_IS_CLOSED);
+    WANT(roskevad_editor_open_for(&editor, 0, 3) == ROSKEVAD_TOO_GREAT && roskevad_editor_file_count(&editor) == ROSKEVAD_IS_CLOSED);
     WANT(roskevad_editor_open_for(&editor, 0, ROSKEVAD_PLAIN_LINES) == ROSKEVAD_DONE);
     WANT(roskevad_editor_run_lines(&editor, MADE, sizeof MADE - 1, true, room, sizeof room, &done) == 3 && done.is_refused == 0);
     WANT(told_of(&editor, SET).refusal == 3);
-    WANT(roskevad_editor_open_for(&editor, 0, 2) == ROSKEVAD_TOO_GREAT && roskevad_editor_open_for(&editor, 0, SIZE_MAX) == ROSKEVAD_TOO_GREAT);
+    WANT(roskevad_editor_open_for(&editor, 0, 3) == ROSKEVAD_TOO_GREAT && roskevad_editor_open_for(&editor, 0, SIZE_MAX) == ROSKEVAD_TOO_GREAT);
     WANT(roskevad_editor_document_count(&editor) == 1);
     WANT(roskevad_editor_open_for(&editor, ROSKEVAD_GREATEST_LIMIT + 1, ROSKEVAD_ALL_EDITS) == ROSKEVAD_TOO_GREAT);
     WANT(roskevad_editor_document_count(&editor) == ROSKEVAD_IS_CLOSED);
@@ -262,6 +262,7 @@ static void check_all_edits(void)
     told = told_of(&editor, SET);
     WANT(told.refusal == 0 && told.became == ROSKEVAD_BECAME_ADDED && told.differs == ROSKEVAD_DIFFERS_OUTLINE && told.index == 3);
     WANT(told.subject == ROSKEVAD_OBJECT && told.id == 1);
+    WANT(told_of(&editor, "member set object:1 rotation 0.5").refusal == 61);
     told = told_of(&editor, "member set object:1 id 7");
     WANT(told.refusal == 41 && told.differs == 0 && told.word == 0);
     told = told_of(&editor, "member set object:1");
@@ -682,7 +683,7 @@ static void check_word_faults(void)
     WANT(roskevad_editor_word_fault(NULL, 0, &word, NULL, 0) == ROSKEVAD_NONE);
 }
 
-/* The same, where the lines for all edits are read too. For a number that stands for neither dialect nothing is given out. */
+/* The same, where the lines for all edits are read too. For a number that stands for no dialect nothing is given out. */
 static void check_word_faults_for(void)
 {
     static const char READ[] = "tileset put {}", REFUSED[] = "tileset put", TOLD[] = "word 3 is missing: a JSON text";
@@ -690,7 +691,7 @@ static void check_word_faults_for(void)
     char room[256];
     memset(room, 'x', sizeof room);
     WANT(roskevad_editor_word_fault_for(ROSKEVAD_ALL_EDITS, READ, sizeof READ - 1, &word, room, sizeof room) == ROSKEVAD_NONE && word.place == 9 && room[0] == 'x');
-    WANT(roskevad_editor_word_fault_for(2, REFUSED, sizeof REFUSED - 1, &word, room, sizeof room) == ROSKEVAD_TOO_GREAT && word.place == 9 && room[0] == 'x');
+    WANT(roskevad_editor_word_fault_for(3, REFUSED, sizeof REFUSED - 1, &word, room, sizeof room) == ROSKEVAD_TOO_GREAT && word.place == 9 && room[0] == 'x');
     WANT(roskevad_editor_word_fault_for(SIZE_MAX, READ, sizeof READ - 1, &word, room, sizeof room) == ROSKEVAD_TOO_GREAT && word.place == 9 && room[0] == 'x');
     WANT(roskevad_editor_word_fault_for(ROSKEVAD_ALL_EDITS, REFUSED, sizeof REFUSED - 1, &word, room, 8) == sizeof TOLD - 1 && room[0] == 'x');
     WANT(word.place == 3 && word.at == sizeof REFUSED - 1 && word.length == 0 && word.is_missing == 1);
