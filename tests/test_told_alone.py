@@ -49,6 +49,7 @@ LISTED = {
     'page/core/line_kinds.js': 'what a line is about, before it is done',
     'page/core/log_words.js': 'the log words a line',
     'page/core/macros.js': 'lines of an open macro are taken back, and those of steps are grouped: by their first words',
+    'page/core/map_shifts.js': 'by how much a line moves all that is in a map, which no step has',
     'page/core/open_document.js': 'the journal: which of the lines that were kept is that of a save that failed',
     'page/core/open_documents.js': 'lines that were played name documents and files',
     'page/core/page_editor.js': 'lines that a person has typed or plays: those of files are done otherwise',
