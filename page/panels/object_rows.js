@@ -12,6 +12,8 @@ import { cellOf, rowOf } from "./table_rows.js";
 import { ALIGNMENTS, align } from "../tools/alignments.js";
 import { wordsOf } from "../core/tile_words.js";
 
+const COORDINATE = numberKind(-MAX_COORDINATE, MAX_COORDINATE, 1);
+const LENGTH = numberKind(0, MAX_PIXELS, 1);
 const PARTS = { place: [["x", "x"], ["y", "y"]], size: [["width", "w"], ["height", "h"]] };
 
 // Has a row grey where the object has all of these members of its template, and each field where it has its own member of that.
@@ -53,10 +55,6 @@ export class ObjectRows {
     return this.panel.fact("template", template, this.bench.editor.templates.has(template) ? "" : "Its file is not there: choose it, too.");
   }
 
-  kindOf(least, most) {
-    return numberKind(least, most, this.bench.editor.takesFractions, 1);
-  }
-
   // The text that is drawn. The page may have a part of it.
   textRow({ word, data }) {
     const { panel } = this;
@@ -77,7 +75,7 @@ export class ObjectRows {
     const { word, data } = owner;
     const parts = PARTS[name];
     const values = parts.map(([part]) => shownOf(owner, part, data[part] ?? 0));
-    const kind = name === "place" ? this.kindOf(-MAX_COORDINATE, MAX_COORDINATE) : this.kindOf(0, MAX_PIXELS);
+    const kind = name === "place" ? COORDINATE : LENGTH;
     return this.panel.kept(` ${word} ${name}`, values, () => {
       const fields = parts.map(([part], at) => numberField(kind, values[at], text => this.setPart(name, part, Number(text))));
       fields.forEach((field, at) => Object.assign(field.input.dataset, { key: ` ${parts[at][0]}`, owner: word }));
@@ -91,7 +89,7 @@ export class ObjectRows {
     const lineOf = ({ word, data }) => {
       const all = PARTS[name].map(([each]) => (each === part ? value : data[each] ?? 0));
       const isWhole = [...all, data[part] ?? 0].every(Number.isInteger);
-      if (this.bench.editor.takesFractions && !isWhole) return memberLine(word, part, value);
+      if (!isWhole) return memberLine(word, part, value);
       return `object ${name === "place" ? "move" : "resize"} ${data.id} ${all.map(Math.floor).join(" ")}`;
     };
     return this.panel.sendEach(lineOf, name === "place" ? "Move Objects" : "Resize Objects");
@@ -101,8 +99,7 @@ export class ObjectRows {
     const { word, data } = owner;
     const value = shownOf(owner, "rotation", data.rotation ?? 0);
     return this.panel.kept(` ${word} rotation`, [value], () => {
-      const kind = this.kindOf(-MAX_COORDINATE, MAX_COORDINATE);
-      const field = numberField(kind, value, text => this.panel.sendEach(each => memberLine(each.word, "rotation", Number(text)), "Rotate Objects"));
+      const field = numberField(COORDINATE, value, text => this.panel.sendEach(each => memberLine(each.word, "rotation", Number(text)), "Rotate Objects"));
       showMixed(field, owner, "rotation");
       Object.assign(field.input.dataset, { key: " rotation", owner: word });
       return { element: rowOf("rotation", "", "in degrees, clockwise", cellOf([field])), fields: [field] };

@@ -2,7 +2,7 @@
 // The properties of the map, of a layer, of an object or of several, in a table; and what else a line can set of these.
 import { button, byId, element, mark, putText } from "./dom.js";
 import { fieldFor, numberField, textField } from "./fields.js";
-import { KINDS, TYPES, kindOfType } from "../core/kinds.js";
+import { KINDS, TYPES } from "../core/kinds.js";
 import { LayerRows } from "./layer_rows.js";
 import { ObjectRows } from "./object_rows.js";
 import { memberLine } from "../core/member_lines.js";
@@ -165,7 +165,7 @@ export class PropertyPanel {
   newField(typed = "") {
     const type = this.fieldType = this.type.value;
     const first = String(FIRST[type] ?? "");
-    this.field = fieldFor(type, isChoice(type) ? first : "", () => null, this.around, kindOfType(type, this.bench.editor.takesFractions));
+    this.field = fieldFor(type, isChoice(type) ? first : "", () => null, this.around);
     const { input } = this.field;
     Object.assign(input, { id: "new-value", placeholder: WANTED[type] ?? first, onkeydown: event => this.newKey(event), onchange: null });
     if (!isChoice(type)) input.value = typed;
@@ -190,7 +190,7 @@ export class PropertyPanel {
 
   async add() {
     const { name, type, field } = this;
-    const kind = kindOfType(type.value, this.bench.editor.takesFractions);
+    const kind = TYPES[type.value];
     const text = field.chosen?.() ?? kind.spelled(field.input.value || String(FIRST[type.value] ?? ""));
     const faults = [[name, KINDS.key.fault(name.value)], [field.input, kind.fault(text)]];
     for (const [input, fault] of faults) mark(input, fault);
