@@ -20,6 +20,7 @@ from page.bench import (
 )
 from page.browser import ActionChains, Keys
 from test_page_fields import field_of, type_keys, with_ctrl
+from test_page_menus import pick, right_click
 
 NEEDS_BROWSER = True
 IS_LONG = True
@@ -338,6 +339,52 @@ def test_a_locked_group_bars_objects():
         page.click('#objects li[data-object="2"]')
         page.keys(Keys.ARROW_RIGHT)
         assert spelled(page)[-1].startswith('object move 2 ')
+
+
+def test_a_lock_bars_lists_and_fields():
+    """The fields of objects on a locked layer are grey, and it is said why, with a button that unlocks; the list and the menus rename, hide,
+    raise and move none of them. Those of a hidden layer go on, and so do the fields of the locked layer."""
+    bench = Bench(empty=True)
+    with bench as page:
+        page.choose_files(*grouped_town(bench, 'grouped.tmj'))
+        green = layer_of(page, 'Green')['id']
+        page.keys('s')
+        page.click('#objects li[data-object="2"]')
+        fields = 'return [...document.querySelectorAll("#properties :is(input, select, textarea, button)")].filter(each => !each.matches(":disabled")).length'
+        assert page.js(fields) > 8 and not page.find('#why-locked').is_displayed()
+        page.click(f'#layers li[data-layer="{green}"] .lock')
+        page.click('#objects li[data-object="2"]')
+        assert page.js(fields) == 0 and page.texts('#why-locked span') == ['The group Green is locked.']
+        why = page.js('return roskevad.properties.sendEach(() => "member set object:2 name \\"x\\"", "Set name")')
+        assert why == 'The group Green is locked.', 'also where a field is late'
+
+        def item(text):
+            return lambda: (right_click(page, '#objects li[data-object="2"]'), pick(page, text))
+
+        row = lambda share: page.js('const {left, top, height} = document.querySelector(`#objects li[data-object="${arguments[0]}"]`).getBoundingClientRect();'
+                                    'return [Math.round(left + 40), Math.round(top + arguments[1] * height)]', *share)
+        change_nothing(
+            page,
+            'The group Green is locked',
+            lambda: page.keys(Keys.F2),
+            lambda: page.double_click(lambda: page.find('#objects li[data-object="2"]'), page.bubble),
+            *(item(text) for text in ('Rename', 'Hide', 'Raise', 'Move to Things', 'Delete')),
+            lambda: page.drag_points([row((2, 0.5)), row((5, 0.5)), row((5, 0.9))]),
+        )
+        # The layer itself is not barred.
+        page.click('#of-layer')
+        assert not page.find('#why-locked').is_displayed()
+        page.type_into('#properties [data-key=" opacity"]', '0.5')
+        assert spelled(page)[-1].startswith('member set layer:') and spelled(page)[-1].endswith(' opacity 0.5')
+        page.click('#of-object')
+        page.click('#unlock')
+        assert spelled(page)[-1] == f'member remove layer:{green} locked' and not page.find('#why-locked').is_displayed()
+        page.type_into('#properties [data-key=" name"]', 'Tavern')
+        assert spelled(page)[-1] == 'member set object:2 name "Tavern"'
+        page.click(f'#layers li[data-layer="{green}"] .eye')
+        page.click('#objects li[data-object="2"]')
+        page.type_into('#properties [data-key=" name"]', 'Inn')
+        assert spelled(page)[-1] == 'member set object:2 name "Inn"'
 
 
 def test_looks_of_locks():

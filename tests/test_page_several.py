@@ -7,6 +7,7 @@ import json
 from lib.maps import objects_in
 from page.bench import Bench, cell, choose, layer_of, middle_of, object_of, points_at, spelled, standing
 from page.browser import ActionChains, Keys
+from test_page_menus import pick
 
 NEEDS_BROWSER = True
 IS_LONG = True
@@ -67,6 +68,34 @@ def test_choose():
         assert chosen(page) == [ids[1], ids[0]]
         page.keys(Keys.ESCAPE)
         assert chosen(page) == [] and len(spelled(page)) == lines
+
+
+def test_all_of_a_layer():
+    """With an object layer in hand Ctrl+A chooses all of its objects that are seen, and sends no line; Ctrl+Shift+A drops them. With the tool
+    that selects cells, and with a tile layer, it is about cells."""
+    with Bench() as page:
+        ids = crates(page)
+        page.editor.lines(f'member set object:{ids[1]} visible false')
+        lines = len(spelled(page))
+        page.ctrl('a')
+        assert chosen(page) == [ids[0], ids[2]] and page.texts('#owner') == ['2 objects'] and len(spelled(page)) == lines
+        page.ctrl('a', Keys.SHIFT)
+        assert chosen(page) == [] and len(spelled(page)) == lines
+        page.js('document.getElementById("menu-button").click()')
+        pick(page, 'Select all')
+        assert chosen(page) == [ids[0], ids[2]]
+        page.keys('r')
+        page.ctrl('a')
+        assert spelled(page)[lines:] == ['select replace 0 0 40 30']
+        page.keys('s')
+        layer = layer_of(page, 'Crates')['id']
+        page.editor.lines('select none', f'member set layer:{layer} locked true')
+        lines = len(spelled(page))
+        page.ctrl('a')
+        assert page.bubble() == 'Crates is locked. Nothing was chosen.' and len(spelled(page)) == lines
+        choose(page, 'Ground')
+        page.ctrl('a')
+        assert spelled(page)[lines:] == ['select replace 0 0 40 30']
 
 
 def test_move():
