@@ -240,6 +240,26 @@ def test_pick_an_object():
         assert object_of(page, ids[0])['properties'][0]['value'] == 3 and spelled(page)[-1] == f'prop set object:{ids[0]} opens object 3'
 
 
+def test_tiles_of_several():
+    """Several tile objects show the tile that they share, and a button gives all of them the one in hand, as one step. Where one of them is
+    none there is no such row."""
+    with Bench() as page:
+        ids = crates(page)
+        layer = layer_of(page, 'Crates')['id']
+        page.editor.lines(*(f'object put {layer} {json.dumps({"x": 100 + 20 * at, "y": 200, "width": 16, "height": 16, "gid": gid})}' for at, gid in enumerate((21, 21, 5))))
+        tiles = [each['id'] for each in layer_of(page, 'Crates')['objects']][3:]
+        told = lambda: [text.split('\n')[0] for text in page.texts('#properties tr:has(#take-tile) .value')]
+        for numbers, words in ((tiles[:2], ['tiles 20']), (tiles, ['several values']), ([ids[0], *tiles], [])):
+            page.js('roskevad.bench.chooseObjects(arguments[0])', numbers)
+            page.settle()
+            assert told() == words, (numbers, told())
+        page.js('roskevad.bench.chooseObjects(arguments[0]); roskevad.bench.takeStamp({width: 1, height: 1, values: [30]})', tiles)
+        page.settle()
+        index = standing(page)[0]
+        page.click('#take-tile')
+        assert [object_of(page, number)['gid'] for number in tiles] == [30] * 3 and standing(page)[0] == index + 1 and told() == ['tiles 29']
+
+
 def order_of(page, name='Crates'):
     return [each['id'] for each in layer_of(page, name)['objects']]
 

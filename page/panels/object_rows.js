@@ -7,7 +7,7 @@ import { isInherited } from "../core/inherited.js";
 import { KINDS, numberKind } from "../core/kinds.js";
 import { memberLine } from "../core/member_lines.js";
 import { MAX_COORDINATE, MAX_PIXELS } from "../../js/limits.js";
-import { showMixed, shownOf } from "./shared_values.js";
+import { MIXED, showMixed, shownOf } from "./shared_values.js";
 import { cellOf, rowOf } from "./table_rows.js";
 import { ALIGNMENTS, align } from "../tools/alignments.js";
 import { wordsOf } from "../core/tile_words.js";
@@ -118,11 +118,11 @@ export class ObjectRows {
   }
 
   // The tile of a tile object, and a button that gives it the one in hand.
-  tileRow({ word, data }) {
-    const text = wordsOf(data.gid, this.bench.tilesets);
+  tileRow({ word, data, mixed }) {
+    const text = mixed.has("gid") ? MIXED : wordsOf(data.gid, this.bench.tilesets);
     return this.panel.kept(` ${word} tile ${text}`, [], () => {
       const words = element("span", { textContent: text });
-      const take = button("Take the tile in hand", "Give it the tile of the palette that is in hand, with its flips", () => this.takeTile(word), { id: "take-tile" });
+      const take = button("Take the tile in hand", "Give it the tile of the palette that is in hand, with its flips", () => this.takeTile(), { id: "take-tile" });
       return { element: rowOf("tile", "", "", element("td", { colSpan: 2 }, element("div", { className: "value" }, words, take))), fields: [] };
     });
   }
@@ -135,9 +135,10 @@ export class ObjectRows {
     });
   }
 
-  takeTile(word) {
-    const { bench } = this;
-    return bench.carried.bars() ? null : bench.act([memberLine(word, "gid", bench.fillValue)]);
+  async takeTile() {
+    const { bench, panel } = this;
+    const why = bench.carried.bars() ? null : await panel.sendEach(each => memberLine(each.word, "gid", bench.fillValue), "Set tile");
+    if (why) bench.say(why);
   }
 
   // The numbers of the object that is dragged; behind the drag those that the map has.

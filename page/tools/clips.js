@@ -4,6 +4,8 @@
 export class Clips {
   constructor(bench, tools) {
     Object.assign(this, { bench, tools, clipboard: bench.clipboard });
+    // Copies that are there are shown by a tool for objects.
+    tools.all.objects.copies.onPasted = () => tools.now.paste || tools.choose("objects");
   }
 
   // ---- keys: each is about what was chosen last, objects or cells
@@ -67,8 +69,7 @@ export class Clips {
     if (!bench.map) return bench.say("Open a map first.");
     if (clipboard.tiles) return bench.carried.bring(clipboard.tiles, "pasted", stamp => this.takeForPaste(stamp));
     if (!clipboard.object) return bench.say("Nothing is copied. Ctrl+C copies the selected cells, or with the tool Objects the chosen object.");
-    if (!tools.now.paste) tools.choose("objects");
-    return tools.now.paste();
+    return tools.all.objects.paste();
   }
 
   // ---- cells
