@@ -9,7 +9,7 @@ from lib.places import EXAMPLE_MAPS
 from page.bench import Bench, cell, choose, layer_of, spelled, standing, take_tile
 from page.browser import ActionChains, Keys
 from page.own_folder import bytes_in, folder_page
-from test_page_growth import to_middle
+from page.planes import to_middle
 from test_page_menus import pick, right_click
 
 NEEDS_BROWSER = True
