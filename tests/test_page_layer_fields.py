@@ -83,7 +83,7 @@ def test_fields_of_each_kind():
         for name, typed, line, way in sets:
             put(page, name, typed)
             assert spelled(page)[-1] == line.format(ground), name
-            step = way if '·' in way else f'Set Member · The "floor": {way}'
+            step = way if '·' in way else f'Set {way.title()} · The "floor"'
             assert page.texts('#steps li .name')[-1] == step and not is_grey(page, name), name
             assert name != ' offsetx' or is_grey(page, ' offsety')
         for name, line in ((' visible', 'layer show {} no'), (' locked', 'member set layer:{} locked true')):
@@ -280,7 +280,7 @@ def test_image_layer():
         field_of(page, ' repeatx').click()
         page.settle()
         assert spelled(page)[-1] == f'member remove layer:{sky} repeatx'
-        assert page.texts('#steps li .name')[-1] == 'Remove Member · Sky: repeat x'
+        assert page.texts('#steps li .name')[-1] == 'Reset Repeat X · Sky'
         put(page, ' image', Keys.DELETE)
         assert spelled(page)[-1] == f'member set layer:{sky} image ""'
         page.wait(lambda: page.colours(spot) == before, 'no image is drawn')

@@ -359,7 +359,7 @@ def test_looks_of_locks():
         page.click(lock)
         assert spelled(page)[-1] == f'member set layer:{cottages} locked true' and faint(cottages) == 1
         assert page.find(lock).get_attribute('title') == 'Unlock this layer. The group Houses stays locked'
-        assert page.texts('#steps li .name')[-2:] == ['Set Member · Houses: locked', 'Set Member · Cottages: locked']
+        assert page.texts('#steps li .name')[-2:] == ['Lock Layer · Houses', 'Lock Layer · Cottages']
 
 
 def test_layer_above_and_below():

@@ -84,7 +84,7 @@ function matched(pattern, wanted, spelled = text => text) {
 
 // A name of at most so many characters.
 function named(most) {
-  return matched(new RegExp(`^[A-Za-z0-9_][A-Za-z0-9_.-]{0,${most - 1}}$`), `1 to ${most} of A-Z a-z 0-9 _ . -, the first neither . nor -`);
+  return matched(new RegExp(`^[A-Za-z0-9_][A-Za-z0-9_.-]{0,${most - 1}}$`), `1 to ${most} letters of a to z, digits, and _ . -, the first neither . nor -`);
 }
 
 const asIs = text => text;

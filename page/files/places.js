@@ -386,7 +386,7 @@ export class ServedFiles extends EventTarget {
     const address = this.addressOf(path);
     const answer = address && (await this.ask(address));
     if (!answer || answer.status === 404) return null;
-    if (!answer.ok) throw new Failed(`the server answers ${answer.status}`);
+    if (!answer.ok) throw new Failed("the server cannot read it");
     return answer;
   }
 
@@ -414,7 +414,7 @@ export class ServedFiles extends EventTarget {
     await this.folderListing();
     const answer = await this.ask(address, { method: "PUT", body: bytes, headers });
     if (answer.status === 412) throw new Changed(path);
-    if (!answer.ok) throw new Failed((await answer.text()).trim() || `the server answers ${answer.status}`);
+    if (!answer.ok) throw new Failed((await answer.text()).trim() || "the server did not take it");
     return markOf(bytes, Number(answer.headers.get("Roskevad-Time")));
   }
 

@@ -4,6 +4,7 @@
 import { button, byId, element, putText } from "./dom.js";
 import { groupSteps } from "./group_steps.js";
 import { putRows } from "./list_rows.js";
+import { calledStep } from "../core/step_ways.js";
 
 const MORE = 1000;
 // How many rows stay in sight where the panels are short of room.
@@ -163,7 +164,8 @@ export class StepPanel {
   }
 
   // A step, what it is about, and the way in which it was made: `Show Layer · Roof: hidden`. Of the map it is not said.
-  wordsOf({ text, subject, way }) {
+  wordsOf({ subject, ...step }) {
+    const { text, way } = calledStep(step.text, step.way);
     const named = subject && subject.kind !== "map" ? this.nameOf(subject.kind, subject.id) : "";
     const about = [named, way].filter(each => each).join(": ");
     return about ? `${text} · ${about}` : text;
