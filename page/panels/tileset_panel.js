@@ -6,7 +6,7 @@ import { FileList } from "../files/file_list.js";
 import { pathFrom } from "../files/names.js";
 import { thrownWords } from "../core/thrown_words.js";
 import { endNotice, notice } from "./notice_bars.js";
-import { checked, readTileset } from "../files/tileset_files.js";
+import { wordsOfTileset } from "../files/tileset_files.js";
 import { TilesetMaker } from "./tileset_maker.js";
 import { named } from "../tools/carried_tiles.js";
 
@@ -89,7 +89,7 @@ export class TilesetPanel {
     const first = element("input", { name: "first", type: "number", min: 1, value: this.bench.carried.numbers.nextFirst() });
     const label = this.firstField(first);
     const none = "There is no tileset here: a .tsx or .tsj file, in the folder or among the chosen files.";
-    const path = await new FileList("Add a tileset", files, { known, look: path => this.look(path), none, fields: [label] }).ask();
+    const path = await new FileList("Add a tileset", files, { known, look: path => wordsOfTileset(place, path), none, fields: [label] }).ask();
     if (!path) return null;
     const done = await this.bench.act([`tileset add ${first.value} ${pathFrom(folder, path)}`]);
     if (done.isAccepted) this.palette.choose(Number(first.value));
@@ -102,14 +102,6 @@ export class TilesetPanel {
     const doubt = unknown ? ` Of ${unknown} of them it is not known how many tiles they have: the last one has room for whole thousands.` : "";
     const words = element("span", { textContent: `Its tiles are counted from this number on, behind those of the others.${doubt}` });
     return element("details", { open: unknown > 0 }, element("summary", { textContent: "Number of its first tile" }), element("label", {}, words, first));
-  }
-
-  // Words for a file: how many tiles it has.
-  async look(path) {
-    const bytes = await this.editor.place.bytes(path);
-    if (!bytes) return { words: "the file is not there", isRefused: true };
-    const { tilecount, tilewidth, tileheight, image } = checked(readTileset(path, bytes));
-    return { words: `${tilecount ?? "?"} tiles of ${tilewidth ?? "?"} × ${tileheight ?? "?"}${image ? "" : ", not of one image"}`, isRefused: false };
   }
 
   remove() {
