@@ -61,7 +61,7 @@ COSTS = {
         'answer': 'members stamp erase fill selection select select_none steps steps_since undo redo goto clear stroke',
         'map': 'resize extend map outline save save_bytes close discard to_json',
     },
-    'Layers': {'answer': 'find size walk to_json'},
+    'Layers': {'answer': 'find size walk to_json', '1; in a group answer': 'add'},
     'Layer': {'answer; once map': 'members to_json', 'answer': 'parent cells rows write move_into remove', 'map': 'replace'},
     'Objects': {'1; by a name map': 'get has', 'answer': 'size put to_json', '1; with a shape answer': 'add'},
     'OwnMembers': {'1; of a layer answer': 'set put update delete'},
@@ -297,9 +297,16 @@ LAYERS = Kind('Layers', 'The layers in no group, or those in a group, as they ar
          raises={'value': 'document.layers.find("Walls", "wall")'}),
     value('size', 'int', 'How many there are, a group as one.', written=('len(layers)', 'layers.size')),
     Call('walk', '', 'Each layer in drawing order, a group before those in it.', gives='each Layer'),
-    Call('add', 'kind, name', 'Adds a layer, `tile`, `object`, `group` or `image`, in no group, over the others, and gives it. An image layer has no '
-         'image yet: its member `image` is empty.', 'layer add tile|object|group|image NAME', 'Layer',
+    Call('add', 'kind, name', 'Adds a layer, `tile`, `object`, `group` or `image`, in no group, or in this one, over the others there, and gives it. '
+         'An image layer has no image yet: its member `image` is empty.', 'layer add tile|object|group|image NAME', 'Layer',
          {'type': 'document.layers.add("tile", 5)', 'value': 'document.layers.add("wall", "a")',
+          'refused 30': ('(lambda it: it.remove() or it.layers.add("tile", "a"))(document.layers.add("group", "G"))',
+                         '((it) => it.remove() ?? it.layers.add("tile", "a"))(document.layers.add("group", "G"))'),
+          'refused 31': ('document.layers[1].layers.add("tile", "a")', 'document.layers.get(1).layers.add("tile", "a")'),
+          'refused 39': ('many("layer add group G", 16) and after(*(f"layer into {at + 1} {at} 0" for at in range(4, 19))) and '
+                         'document.layers[19].layers.add("group", "a")',
+                         'many("layer add group G", 16) && after(...Array.from({ length: 15 }, (_, at) => `layer into ${at + 5} ${at + 4} 0`)) && '
+                         'document.layers.get(19).layers.add("group", "a")'),
           'refused 40': 'many("layer add tile a", 253) and document.layers.add("group", "a")'}, types={'kind': 'AddedLayerKind'}),
     to_json('layers', 'Layers[]', 'What JSON has of them: the list.'),
 ])
