@@ -184,7 +184,8 @@ export class MapObject extends View {
     return new Properties(this.document, "object", this);
   }
 
-  move(x, y, { merge = false } = {}) {
+  move(x, y, options) {
+    const { merge } = words.options(options, { merge: false });
     this._setPlace(`move${merge ? "+" : ""}`, { x: pixels(x, "x"), y: pixels(y, "y") }, merge);
   }
 
@@ -295,14 +296,17 @@ export class Objects {
     return this._found(key) !== null;
   }
 
-  add(name, x, y, width = 0, height = 0, {
-    point = false, ellipse = false, polygon = null, polyline = null, text = null, tile = null, className = "", rotation = 0,
-    visible = true, properties = null,
-  } = {}) {
+  add(name, x, y, width = 0, height = 0, options) {
+    const shown = words.options(options, {
+      point: false, ellipse: false, polygon: null, polyline: null, text: null, tile: null, className: "", rotation: 0,
+      visible: true, properties: null,
+    });
+    if (words.isPlain(width) || words.isPlain(height)) {
+      throw new TypeError("options stand behind a width and a height: add(name, x, y, 0, 0, { .. })");
+    }
     const layer = this._ownLayer;
     const place = placeOf(x, y, width, height);
-    const looks = looksOf({ point, ellipse, polygon, polyline, text, tile });
-    const line = lineOf(layer, name, place, { ...given({ className, rotation, visible, properties }), ...looks });
+    const line = lineOf(layer, name, place, { ...given(shown), ...looksOf(shown) });
     return new MapObject(this.#document, this.#document._add("object", line));
   }
 
