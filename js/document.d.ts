@@ -337,9 +337,9 @@ export class Layers {
   /** Each layer in drawing order, a group before those in it. */
   walk(): IterableIterator<Layer>;
   /**
-   * Adds a layer, `tile`, `object`, `group` or `image`, in no group, over the others, and gives
-   * it. An image layer has no image yet: its member `image` is empty. Throws TypeError,
-   * RangeError, Refused (40).
+   * Adds a layer, `tile`, `object`, `group` or `image`, in no group, or in this one, over the
+   * others there, and gives it. An image layer has no image yet: its member `image` is empty.
+   * Throws TypeError, RangeError, Refused (30, 31, 39, 40).
    */
   add(kind: AddedLayerKind, name: string): Layer;
   /** What JSON has of them: the list. */

@@ -398,7 +398,8 @@ export class Document extends WithOwnMembers {
     this._say(`limit ${words.number(count, "a limit")}`);
   }
 
-  macro(text, work, { action = null, keepEmpty = false } = {}) {
+  macro(text, work, options) {
+    const { action, keepEmpty } = words.options(options, { action: null, keepEmpty: false });
     const said = words.macro(text, action);
     refuseAsync(work);
     const depth = this._openMacro(said, keepEmpty);
@@ -493,7 +494,8 @@ export class Document extends WithOwnMembers {
     return around(work, this, end, end);
   }
 
-  stamp(layer, x, y, rows, { merge = false } = {}) {
+  stamp(layer, x, y, rows, options) {
+    const { merge } = words.options(options, { merge: false });
     const listed = rowsOf(rows);
     const parts = [...partsOf(listed)];
     const [left, top] = [words.coordinate(x, "x"), words.coordinate(y, "y")];
@@ -618,7 +620,8 @@ export class Document extends WithOwnMembers {
     return [layer, x, y, Math.max(right - x, 0), Math.max(bottom - y, 0)];
   }
 
-  erase(layer, x, y, width, height, { merge = false } = {}) {
+  erase(layer, x, y, width, height, options) {
+    const { merge } = words.options(options, { merge: false });
     const [left, top] = [words.coordinate(x, "x"), words.coordinate(y, "y")];
     const size = { width: words.number(width, "a width"), height: words.number(height, "a height") };
     const area = { layer: this._idOf(layer), left, top, ...size };
@@ -667,7 +670,8 @@ export class Document extends WithOwnMembers {
     return new Selection(this.#editor.selection());
   }
 
-  select(x, y, width, height, { mode = "replace" } = {}) {
+  select(x, y, width, height, options) {
+    const { mode } = words.options(options, { mode: "replace" });
     const how = words.oneOf(mode, MODES, "the mode of a selection");
     const where = `${words.coordinate(x, "x")} ${words.coordinate(y, "y")}`;
     const size = `${words.number(width, "a width")} ${words.number(height, "a height")}`;
@@ -701,7 +705,8 @@ export class Document extends WithOwnMembers {
 
   // ---- its file
 
-  async saveBytes({ layout = null } = {}) {
+  async saveBytes(options) {
+    const { layout } = words.options(options, { layout: null });
     const said = layoutOf(layout);
     this._enter();
     return savedMap(this.#editor, "saveBytes()", said);

@@ -10,6 +10,8 @@ import { hasAside } from "./tiled_maps.js";
 // The largest outline for which there is room before its size is known.
 const LONGEST_GUESS = 16 * 1024 * 1024;
 const STORE_FAILED = 51;
+const NOT_JSON = 60;
+const NO_PATH = "a text is a map itself, and no path of a file: give the bytes of the file";
 
 /** Opens a document with any map, and gives the reply to `open`. Throws Refused with the call. */
 export async function openedMap(editor, name, data, call) {
@@ -26,10 +28,15 @@ export async function openedMap(editor, name, data, call) {
   } catch (fault) {
     if (fault instanceof Refused && isOfMap(fault.code)) {
       const { code, ...more } = faultOfFile(editor._module, fault.code, given, found);
-      throw refusedCall(code, call, more);
+      throw refusedCall(code, call, code === NOT_JSON && mayBePath(data) ? { ...more, why: NO_PATH } : more);
     }
     throw fault;
   }
+}
+
+// Whether a text may be the path of a file: it has no object of JSON in it, which each map is.
+function mayBePath(data) {
+  return typeof data === "string" && !data.includes("{");
 }
 
 // What is unpacked of a file. Throws Refused with the call.

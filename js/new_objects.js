@@ -10,9 +10,9 @@ const MEMBERS_OF = { tile: "gid" };
 /** Whether a value is a number that is not whole. */
 export const hasFraction = (value) => Number.isFinite(value) && !Number.isInteger(value);
 /** A coordinate. Throws TypeError where it is no number, RangeError where it is out of range. */
-export const pixels = (value, what) => (hasFraction(value) ? value : words.coordinate(value, what));
+export const pixels = (value, what) => (hasFraction(value) ? value : words.coordinate(json.number(value, what), what));
 /** The same of a width or a height, from 0. */
-export const length = (value, what) => (hasFraction(value) ? value : words.number(value, what));
+export const length = (value, what) => (hasFraction(value) ? value : words.number(json.number(value, what), what));
 
 /** A place and a size in pixels, as a file has them. Throws TypeError where one is no number, RangeError where it is out of range. */
 export function placeOf(x, y, width, height) {
@@ -71,6 +71,20 @@ function corners(all) {
     return { x: json.number(x, "x of a corner"), y: json.number(y, "y of a corner") };
   });
 }
+
+/** Members of an object as a file has them: corners may be pairs of numbers, and a text a text. All else is as it is. */
+export function inAFile(members) {
+  return Object.fromEntries(Object.entries(members).map(([name, value]) => [name, IN_A_FILE[name]?.(value) ?? value]));
+}
+
+const isPair = (each) => Array.isArray(each) && each.length === 2;
+const pairsAsCorners = (value) => (Array.isArray(value) && value.every(isPair) ? corners(value) : value);
+const IN_A_FILE = {
+  __proto__: null,
+  polygon: pairsAsCorners,
+  polyline: pairsAsCorners,
+  text: (value) => (typeof value === "string" ? { text: value } : value),
+};
 
 function pairOf(corner) {
   if (typeof corner?.[Symbol.iterator] !== "function") {

@@ -1,7 +1,9 @@
 // SPDX-License-Identifier: MIT OR Apache-2.0
 // The own members of an object, a layer, a tileset or the map: what stands for it in the map's file, but for what other lines
 // change. Each line of them is said here.
+import { Refused, refusedCall } from "./faults.js";
 import { membersSaid, said } from "./json_values.js";
+import { inAFile } from "./new_objects.js";
 import * as words from "./words.js";
 
 const NAME = "the name of a member";
@@ -18,6 +20,17 @@ const OTHERS = {
     "roskevad",
   ],
 };
+const OF_OTHER_LINES = 41;
+// What sets them, where something does.
+const INSTEAD = new Map([
+  ["properties", "properties are set and deleted one by one, in `properties`"],
+  ["data", "cells are set by document.stamp(..) and layer.write(..)"],
+  ["objects", "objects are added by layer.objects.add(..)"],
+  ["layers", "layers are added by document.layers.add(..), and moved by layer.moveInto(..)"],
+  ["tilesets", "tilesets are added by document.tilesets.add(..)"],
+  ["width", "the size of a map is set by document.resize(..)"],
+  ["height", "the size of a map is set by document.resize(..)"],
+]);
 // What stands there again where it is taken out.
 const DEFAULTS = new Map([["layer", new Map([["name", ""], ["visible", true]])]]);
 
@@ -50,6 +63,17 @@ export class Owner {
     return new Map(Object.entries(this.document._read(...this.#call) ?? {}));
   }
 
+  /** Members as a file has them: of an object also its corners, which may be pairs, and its text. */
+  inAFile(members) {
+    return this.#kind === "object" && words.isPlain(members) ? inAFile(members) : members;
+  }
+
+  /** What to do where one of these names is none of its own members. */
+  instead(names) {
+    const first = names.find((name) => this.others.includes(name)) ?? "";
+    return INSTEAD.get(first) ?? `${words.quoted(first)} stays as it is`;
+  }
+
   /** Its own members, of what is told of it. */
   own(members) {
     return Object.fromEntries(Object.entries(members).filter(([name]) => !this.others.includes(name)));
@@ -58,11 +82,13 @@ export class Owner {
 
 /** The calls of what has own members, whose `_owner` says which. */
 export class WithOwnMembers {
-  setMember(key, value, { merge = false } = {}) {
+  setMember(key, value, options) {
+    const { merge } = words.options(options, { merge: false });
     setMember(this, key, value, merge);
   }
 
-  setMembers(members, { merge = false } = {}) {
+  setMembers(members, options) {
+    const { merge } = words.options(options, { merge: false });
     putMembers(this, members, merge);
   }
 
@@ -74,14 +100,14 @@ export class WithOwnMembers {
 /** Sets an own member, or adds one. */
 export function setMember({ _owner: owner }, key, value, merge = false) {
   const name = words.key(key, NAME);
-  const text = said(value, `the member ${words.quoted(name)}`);
-  say(owner, `set${merge ? "+" : ""} ${owner.name} ${name} ${text}`, (held) => differ(held, [[name, JSON.parse(text)]]));
+  const text = said(owner.inAFile({ [name]: value })[name], `the member ${words.quoted(name)}`);
+  say(owner, `set${merge ? "+" : ""} ${owner.name} ${name} ${text}`, [[name, JSON.parse(text)]]);
 }
 
 /** Sets some own members at once. */
 export function putMembers({ _owner: owner }, members, merge = false) {
-  const text = membersSaid(members, `the members of ${owner.name}`);
-  say(owner, `put${merge ? "+" : ""} ${owner.name} ${text}`, (held) => differ(held, Object.entries(JSON.parse(text))));
+  const text = membersSaid(owner.inAFile(members), `the members of ${owner.name}`);
+  say(owner, `put${merge ? "+" : ""} ${owner.name} ${text}`, Object.entries(JSON.parse(text)));
 }
 
 // Takes an own member out, where there is one; whether there was. A name that is none of own members is said, too: it is
@@ -91,7 +117,7 @@ function removeMember({ _owner: owner }, key) {
   const isThere = Object.keys(owner.now()).includes(key) || owner.others.includes(key);
   if (isThere) {
     const changes = (held) => !defaults.has(key) || held.get(key) !== defaults.get(key);
-    say(owner, `remove ${owner.name} ${words.key(key, NAME)}`, changes);
+    say(owner, `remove ${owner.name} ${words.key(key, NAME)}`, [[key]], changes);
   }
   return isThere;
 }
@@ -105,11 +131,19 @@ export function setOrRemove(thing, key, value) {
   }
 }
 
-// Says a line. Where it changes nothing of what the editor holds, macros wait on for their first edit.
-function say(owner, rest, changes) {
+// Says a line about members of these names, each with its new value. Where it changes nothing of what the editor holds, macros
+// wait on for their first edit.
+function say(owner, rest, news, changes = (held) => differ(held, news)) {
   const { document } = owner;
   document._enter();
-  document._beginningIf(() => changes(owner.held), () => document._edit(`member ${rest}`));
+  try {
+    document._beginningIf(() => changes(owner.held), () => document._edit(`member ${rest}`));
+  } catch (fault) {
+    if (fault instanceof Refused && fault.code === OF_OTHER_LINES) {
+      throw refusedCall(fault.code, fault.line, { why: owner.instead(news.map(([name]) => name)) });
+    }
+    throw fault;
+  }
 }
 
 // Whether new values, with their names, are others than those that are there.

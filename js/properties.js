@@ -91,7 +91,8 @@ export class Properties extends WithOwnNames {
    * Sets a property: of this type, or else of the type that is there, or else of the value's own.
    * `propertyType` names the class or the enum of Tiled's project, and "" takes that name away.
    */
-  set(key, value, { type = null, merge = false, propertyType = null } = {}) {
+  set(key, value, options) {
+    const { type, merge, propertyType } = words.options(options, { type: null, merge: false, propertyType: null });
     const name = words.wholeText(json.text(key, NAME), NAME);
     const named = type === null ? null : words.oneOf(type, words.TYPES, "the type of a property");
     const className = propertyType === null ? null : json.text(propertyType, "the type of a property in a project");

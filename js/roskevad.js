@@ -91,7 +91,8 @@ export class Editor {
    * An editor over a module of its own, which is loaded from `module` as `Module.load` does it, or over
    * a Module that is loaded.
    */
-  static async create({ limit = 0, module } = {}) {
+  static async create(options) {
+    const { limit, module } = words.options(options, { limit: 0, module: undefined });
     return new Editor(module instanceof Module ? module : await Module.load(module), { limit });
   }
 
@@ -782,6 +783,7 @@ function isCount(value) {
  * What is in the map of the bytes of a file, or why `Editor.open` refuses it. A source that is a text, or a URL, leads to
  * the file, as that of a module does.
  */
-export async function report(source, { module } = {}) {
+export async function report(source, options) {
+  const { module } = words.options(options, { module: undefined });
   return reported(await Editor.create({ module }), source);
 }

@@ -259,14 +259,16 @@ export class Tilesets {
   }
 
   /** Adds a tileset by the path of its file from the folder of the map, last, and gives it. */
-  add(firstId, source, { renumbers = false } = {}) {
+  add(firstId, source, options) {
+    const { renumbers } = words.options(options, { renumbers: false });
     const first = words.number(firstId, FIRST_ID);
     const line = `tileset add ${first} ${words.text(source, "the source of a tileset")}`;
     return this._added(first, line, `tilesets.add(${first}, ${JSON.stringify(source)})`, renumbers);
   }
 
   /** Adds a tileset as a file has it, last, and gives it: with `firstgid`, and `source` or all that it is. */
-  put(members, { renumbers = false } = {}) {
+  put(members, options) {
+    const { renumbers } = words.options(options, { renumbers: false });
     const text = textOf(members);
     const { firstgid: first } = JSON.parse(text);
     return this._added(first, putLine(text), `tilesets.put({ firstgid: ${first}, .. })`, renumbers);
@@ -276,10 +278,8 @@ export class Tilesets {
    * Adds a tileset that the map has in itself, last, and gives it: the tiles of an image, row by row, as many as Tiled cuts
    * from it. The image is named by its path from the folder of the map, and not read.
    */
-  addFromImage(
-    firstId, name, image, imageWidth, imageHeight, tileWidth, tileHeight,
-    { margin = 0, spacing = 0, renumbers = false } = {},
-  ) {
+  addFromImage(firstId, name, image, imageWidth, imageHeight, tileWidth, tileHeight, options) {
+    const { margin, spacing, renumbers } = words.options(options, { margin: 0, spacing: 0, renumbers: false });
     const first = words.number(firstId, FIRST_ID);
     const grid = gridOf([imageWidth, imageHeight], [tileWidth, tileHeight], margin, spacing);
     const named = { name: json.text(name, "the name of a tileset"), image: json.text(image, "the image of a tileset") };

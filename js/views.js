@@ -3,6 +3,7 @@
 import { replaced, tileValue } from "./blocks.js";
 import { refusedCall } from "./faults.js";
 import * as json from "./json_values.js";
+import { MAX_GROUPS, MAX_LAYERS } from "./limits.js";
 import { KINDS } from "./module.js";
 import { given, hasFraction, length, lineOf, looksOf, pixels, placeOf, putLine, textOf } from "./new_objects.js";
 import { Owner, WithOwnMembers, putMembers, refuseSettings, setMember, setOrRemove } from "./own_members.js";
@@ -183,7 +184,8 @@ export class MapObject extends View {
     return new Properties(this.document, "object", this);
   }
 
-  move(x, y, { merge = false } = {}) {
+  move(x, y, options) {
+    const { merge } = words.options(options, { merge: false });
     this._setPlace(`move${merge ? "+" : ""}`, { x: pixels(x, "x"), y: pixels(y, "y") }, merge);
   }
 
@@ -294,14 +296,17 @@ export class Objects {
     return this._found(key) !== null;
   }
 
-  add(name, x, y, width = 0, height = 0, {
-    point = false, ellipse = false, polygon = null, polyline = null, text = null, tile = null, className = "", rotation = 0,
-    visible = true, properties = null,
-  } = {}) {
+  add(name, x, y, width = 0, height = 0, options) {
+    const shown = words.options(options, {
+      point: false, ellipse: false, polygon: null, polyline: null, text: null, tile: null, className: "", rotation: 0,
+      visible: true, properties: null,
+    });
+    if (words.isPlain(width) || words.isPlain(height)) {
+      throw new TypeError("options stand behind a width and a height: add(name, x, y, 0, 0, { .. })");
+    }
     const layer = this._ownLayer;
     const place = placeOf(x, y, width, height);
-    const looks = looksOf({ point, ellipse, polygon, polyline, text, tile });
-    const line = lineOf(layer, name, place, { ...given({ className, rotation, visible, properties }), ...looks });
+    const line = lineOf(layer, name, place, { ...given(shown), ...looksOf(shown) });
     return new MapObject(this.#document, this.#document._add("object", line));
   }
 
@@ -624,13 +629,39 @@ export class Layers {
   }
 
   add(kind, name) {
-    if (this.#group !== null) {
-      const then = "moveInto(group) moves it then";
-      throw new RangeError(`a layer is not added to a group, but over all others: document.layers.add(..); ${then}`);
-    }
     const said = words.oneOf(kind, ALL_KINDS, "the kind of a layer that is added");
-    const id = this.#document._add("layer", `layer add ${said} ${words.text(name, "the name of a layer")}`);
-    return new Layer(this.#document, id);
+    const line = `layer add ${said} ${words.text(name, "the name of a layer")}`;
+    const added = () => new Layer(this.#document, this.#document._add("layer", line));
+    if (this.#group === null) {
+      return added();
+    }
+    this._refuseOneMore(said, line);
+    const addedIn = () => {
+      const layer = added();
+      layer.moveInto(this.#group);
+      return layer;
+    };
+    const isAlone = this.#document.status.depth === 0;
+    return isAlone ? this.#document.macro("Add Layer", addedIn, { action: "add layer" }) : addedIn();
+  }
+
+  // Throws Refused where the group takes no more layer of a kind: then no macro has begun.
+  _refuseOneMore(kind, line) {
+    const rows = new Map(this.#document._layerRows.map((row) => [row.id, row]));
+    const group = rows.get(this.#group);
+    if (group === undefined || KINDS[group.kind] !== "group") {
+      throw refusedCall(group === undefined ? 30 : 31, line);
+    }
+    let around = 0;
+    for (let each = group; each !== undefined; each = rows.get(each.parent)) {
+      around += 1;
+    }
+    if (around > MAX_GROUPS - (kind === "group" ? 1 : 0)) {
+      throw refusedCall(39, line);
+    }
+    if (rows.size >= MAX_LAYERS) {
+      throw refusedCall(40, line);
+    }
   }
 
   /** What JSON has of them: the list of those in no group, or of those in the group. */

@@ -169,6 +169,25 @@ export function oneOf(word, words, what) {
   return word;
 }
 
+/**
+ * The options of a call, each as it is usual where it is not given. Throws TypeError for one of another name, and where they are no
+ * plain object.
+ */
+export function options(given, usual) {
+  if (given === undefined) {
+    return usual;
+  }
+  const names = Object.keys(usual);
+  if (!isPlain(given)) {
+    throw new TypeError(`options stand in braces, as { ${names[0]}: .. }: ${quoted(given)}`);
+  }
+  const other = Object.keys(given).find((name) => !names.includes(name));
+  if (other !== undefined) {
+    throw new TypeError(`an option here is one of ${names.join(", ")}: ${quoted(other)}`);
+  }
+  return Object.fromEntries(names.map((name) => [name, given[name] === undefined ? usual[name] : given[name]]));
+}
+
 // ---- properties
 
 /** The types of properties that are set: those that the line `prop set` says, and the others. */

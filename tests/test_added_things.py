@@ -35,7 +35,6 @@ def test_layers_of_each_kind():
         see({**LAYER, 'id': 4, 'image': '', 'name': 'Sky', 'type': 'imagelayer'}, sky.members)
         sky.members['image'] = 'sky.png'
         see(('sky.png', 0, 0, 5), (sky.members['image'], len(houses.layers), len(sky.objects), document.status.count))
-        raised(ValueError, houses.layers.add, 'group', 'Smithy')
         raised(ValueError, document.layers.add, 'group', '')
         raised(ValueError, document.layers.add, 'wall', 'Smithy')
         document.goto(2)

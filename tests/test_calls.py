@@ -284,7 +284,8 @@ def fault_of_closed(case):
     try:
         came = getattr(document, name)
         count = [default for _, default in takes(next(call for call in calls.DOCUMENT.calls if call.name == name))].count(False)
-        came = came(*GIVEN.get(name, (1, 0, 0, 1)[:count]))
+        given = {**GIVEN, 'difference': (document,)}
+        came = came(*given.get(name, (1, 0, 0, 1)[:count]))
         came.__enter__()
     except roskevad.Closed:
         return None

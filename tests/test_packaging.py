@@ -1,8 +1,8 @@
 # SPDX-License-Identifier: MIT OR Apache-2.0
 """Builds the wheels and the source archive of the Python package, each twice: they are the same
 bytes, have the licences and the summary, and install the program `roskevad`; also as a package that
-leads to the clone (`-e`). `mypy --strict` finds nothing in the package, nor in a script that uses
-it."""
+leads to the clone (`-e`). `mypy --strict` finds nothing in the package, in a script that uses it,
+nor in the examples."""
 import configparser
 import email
 import os
@@ -257,7 +257,7 @@ def test_pip():
 
 
 def test_types():
-    """The package, what builds it, and a script that uses it."""
+    """The package, what builds it, a script that uses it, and all examples."""
     with tempfile.TemporaryDirectory() as folder:
         script = Path(folder) / 'script.py'
         script.write_text(SCRIPT)
@@ -269,6 +269,7 @@ def test_types():
                 TOP / 'python' / 'roskevad',
                 TOP / 'python' / 'build_backend.py',
                 script,
+                *sorted((TOP / 'examples').glob('*.py')),
             ],
             capture_output=True,
             text=True,

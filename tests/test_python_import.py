@@ -16,7 +16,7 @@ NEEDED = (
     'threading', 'typing', 'warnings',
 )
 # The modules of the package that come later.
-LATER = ('__main__', 'compressed_layers', 'json_scanner', 'page', 'saving')
+LATER = ('__main__', 'compared_maps', 'compressed_layers', 'difference', 'difference_command', 'difference_lines', 'json_scanner', 'page', 'saving')
 # What is told of the modules behind a script: those of the package, and the others that were not there before.
 SCRIPT = """
 import json, sys
@@ -32,6 +32,8 @@ OPENED = 'editor = roskevad.Editor(); editor.open({map!r})'
 USES = {
     'an editor': ('roskevad.Editor()', {'pathlib'}),
     'a map that is opened': (OPENED, {'pathlib', 'hashlib', 'roskevad.compressed_layers', 'roskevad.json_scanner'}),
+    'a difference': ('editor = roskevad.Editor(); one = editor.new("a", 1, 1, 1, 1, "a.tsj"); one.difference(one)', {
+        'pathlib', 'roskevad.compared_maps', 'roskevad.difference', 'roskevad.difference_lines'}),
     'a save': (OPENED + '; editor.active.save({copy!r})', {'roskevad.saving'}),
     'a listener': ('import logging; logging.getLogger("roskevad")', {'logging'}),
 }

@@ -35,7 +35,7 @@ GIVEN = {
     'became': ('str', '"nothing" | "added" | "added and dropped" | "merged" | "gone" | "turned"'),
     'end of a watch': ('Watch', '() => void'),
     'Layer?': ('Layer or None', 'Layer | null'), 'MapObject?': ('MapObject or None', 'MapObject | null'),
-    'own members': ('OwnMembers', 'Members'),
+    'own members': ('OwnMembers', 'Members'), 'lines': ('tuple of str or None', ''), 'changes': ('tuple of Change', ''),
     'Tileset?': ('Tileset or None', 'Tileset | null'), 'tiles': ('list of TilesetTile or None', 'TilesetTile[] | null'),
 }
 #: The types of arguments in TypeScript, by their names.
@@ -59,9 +59,9 @@ COSTS = {
     },
     'Document': {
         'answer': 'members stamp erase fill selection select select_none steps steps_since undo redo goto clear stroke',
-        'map': 'resize extend map outline save save_bytes close discard to_json',
+        'map': 'resize extend map outline difference save save_bytes close discard to_json',
     },
-    'Layers': {'answer': 'find size walk to_json'},
+    'Layers': {'answer': 'find size walk to_json', '1; in a group answer': 'add'},
     'Layer': {'answer; once map': 'members to_json', 'answer': 'parent cells rows write move_into remove', 'map': 'replace'},
     'Objects': {'1; by a name map': 'get has', 'answer': 'size put to_json', '1; with a shape answer': 'add'},
     'OwnMembers': {'1; of a layer answer': 'set put update delete'},
@@ -69,6 +69,7 @@ COSTS = {
     'Tilesets': {'map': 'add put add_from_image', 'answer': 'to_json'},
     'Tileset': {'map': 'remove', 'answer': 'members tiles'},
     'Selection': {'answer': 'runs size'},
+    'Difference': {'map': 'lines left'},
 }
 
 
@@ -270,6 +271,8 @@ DOCUMENT = Kind('Document', 'A map, its selection and its steps. A call makes th
          raises={'type': 'document.on("change", 5)', 'value': 'document.on("click", () => 0)'}, only='javascript', types={'name': '"change"'}),
     Call('map', '', 'The whole map as its file has it, but finite, and with its cells unpacked: a copy.', 'show', 'members'),
     Call('outline', '', 'The same without the cells: a copy.', gives='members'),
+    Call('difference', 'other', 'What leads from this map to that of another document, [by meaning](diff.md), as both are now.', gives='Difference',
+         raises={'type': 'document.difference("b.tmj")'}, only='python'),
     Call('save', 'path=None; force=False, layout=None', 'Writes the map to a file, or to `document.path`, in its own layout or the one that is '
          'named; it counts as saved then. A file whose bytes are not those that it has read or saved last is refused, unless it is to `force` them.',
          'save FILE', raises={'value': 'document.save()', 'refused 20': 'after("begin A") and document.save("/dev/shm/none/a.tmj")',
@@ -298,9 +301,16 @@ LAYERS = Kind('Layers', 'The layers in no group, or those in a group, as they ar
          raises={'value': 'document.layers.find("Walls", "wall")'}),
     value('size', 'int', 'How many there are, a group as one.', written=('len(layers)', 'layers.size')),
     Call('walk', '', 'Each layer in drawing order, a group before those in it.', gives='each Layer'),
-    Call('add', 'kind, name', 'Adds a layer, `tile`, `object`, `group` or `image`, in no group, over the others, and gives it. An image layer has no '
-         'image yet: its member `image` is empty.', 'layer add tile|object|group|image NAME', 'Layer',
+    Call('add', 'kind, name', 'Adds a layer, `tile`, `object`, `group` or `image`, in no group, or in this one, over the others there, and gives it. '
+         'An image layer has no image yet: its member `image` is empty.', 'layer add tile|object|group|image NAME', 'Layer',
          {'type': 'document.layers.add("tile", 5)', 'value': 'document.layers.add("wall", "a")',
+          'refused 30': ('(lambda it: it.remove() or it.layers.add("tile", "a"))(document.layers.add("group", "G"))',
+                         '((it) => it.remove() ?? it.layers.add("tile", "a"))(document.layers.add("group", "G"))'),
+          'refused 31': ('document.layers[1].layers.add("tile", "a")', 'document.layers.get(1).layers.add("tile", "a")'),
+          'refused 39': ('many("layer add group G", 16) and after(*(f"layer into {at + 1} {at} 0" for at in range(4, 19))) and '
+                         'document.layers[19].layers.add("group", "a")',
+                         'many("layer add group G", 16) && after(...Array.from({ length: 15 }, (_, at) => `layer into ${at + 5} ${at + 4} 0`)) && '
+                         'document.layers.get(19).layers.add("group", "a")'),
           'refused 40': 'many("layer add tile a", 253) and document.layers.add("group", "a")'}, types={'kind': 'AddedLayerKind'}),
     to_json('layers', 'Layers[]', 'What JSON has of them: the list.'),
 ])
@@ -536,8 +546,16 @@ WATCH = Kind('Watch', 'A callback that is told of changes, until its end, or the
     Call('end', '', 'Ends it. Twice is harmless.', only='python'),
 ], only='python')
 
+DIFFERENCE = Kind('Difference', 'What differs between two maps, as they were when it was asked for: a sequence of changes. Without one they are the '
+                  'same; `str(difference)` tells all in words.', [
+    Call('get', 'at', 'A change by its place, from 0.', gives='Change', written=('difference[at]', ''), only='python'),
+    value('size', 'int', 'How many changes there are.', written=('len(difference)', ''), only='python'),
+    value('lines', 'lines', 'Lines that lead from the one map to the other, tried on a copy; None where no lines can say all.', only='python'),
+    value('left', 'changes', 'The changes that no line can say.', only='python'),
+], only='python')
+
 #: The classes of documents and of what they have, in the order of the pages.
-KINDS = [EDITOR, DOCUMENT, LAYERS, LAYER, OBJECTS, OBJECT, OWN_MEMBERS, PROPERTIES, TILESETS, TILESET, SELECTION, WATCH]
+KINDS = [EDITOR, DOCUMENT, LAYERS, LAYER, OBJECTS, OBJECT, OWN_MEMBERS, PROPERTIES, TILESETS, TILESET, SELECTION, WATCH, DIFFERENCE]
 
 #: What is imported beside the classes.
 FUNCTIONS = [

@@ -6,6 +6,8 @@
         document.stamp('Ground', 16, 22, [[13, 13, 13]])
         document.save()
 """
+from typing import TYPE_CHECKING, Any
+
 from .document import Document, Status, Step
 from .editor import Editor
 from .faults import BadTileset, Closed, Error, InCallback, NotFound, OtherType, Refused
@@ -24,10 +26,22 @@ from .told import CellArea, StepRow, Subject, Told
 from .watches import Watch
 from .word_faults import WordAtFault
 
+if TYPE_CHECKING:
+    from .difference import Change, Difference
+
 __all__ = [
-    'AddedLayerKind', 'BadTileset', 'CellArea', 'Closed', 'Corners', 'Document', 'Editor', 'Error', 'InCallback', 'Layer', 'LayerKind', 'Layers',
-    'Layout', 'MapObject', 'MapPlace', 'NotFound', 'Objects', 'OtherType', 'OwnMembers', 'Properties', 'PropertyType',
-    'Refused', 'Rows', 'Run', 'Selection', 'SelectionMode', 'SetPropertyType', 'Status', 'Step', 'StepRow', 'Subject', 'Tile', 'Tileset',
-    'TilesetTile', 'Tilesets', 'Told', 'Watch', 'WordAtFault', '__version__', 'document_name', 'flipped_horizontally', 'flipped_vertically',
-    'report', 'turned_right',
+    'AddedLayerKind', 'BadTileset', 'CellArea', 'Change', 'Closed', 'Corners', 'Difference', 'Document', 'Editor', 'Error', 'InCallback',
+    'Layer', 'LayerKind', 'Layers', 'Layout', 'MapObject', 'MapPlace', 'NotFound', 'Objects', 'OtherType', 'OwnMembers', 'Properties',
+    'PropertyType', 'Refused', 'Rows', 'Run', 'Selection', 'SelectionMode', 'SetPropertyType', 'Status', 'Step', 'StepRow', 'Subject',
+    'Tile', 'Tileset', 'TilesetTile', 'Tilesets', 'Told', 'Watch', 'WordAtFault', '__version__', 'document_name', 'flipped_horizontally',
+    'flipped_vertically', 'report', 'turned_right',
 ]
+
+
+def __getattr__(name: str) -> Any:
+    """What only a difference of maps needs comes with its first use."""
+    if name in ('Change', 'Difference'):
+        from . import difference
+
+        return getattr(difference, name)
+    raise AttributeError(f'module {__name__!r} has no attribute {name!r}')

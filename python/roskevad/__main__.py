@@ -2,6 +2,8 @@
 """A prompt: session lines from a person at a terminal, over a folder of maps.
 
     python3 -m roskevad [--folder DIR] [--limit N]
+
+Behind the word `diff` it tells what differs between two maps.
 """
 import argparse
 import contextlib
@@ -18,7 +20,8 @@ from .names import document_name, is_document_name
 
 def options() -> argparse.Namespace:
     """The options of the command line; a limit or a folder that cannot be is refused with status 2."""
-    parser = argparse.ArgumentParser(prog='roskevad', description='Edits tile maps by session lines.')
+    more = 'roskevad diff A B tells what differs between two maps; roskevad diff --help says more.'
+    parser = argparse.ArgumentParser(prog='roskevad', description='Edits tile maps by session lines.', epilog=more)
     parser.add_argument('--folder', type=Path, default=Path('.'), help='the folder of the maps that are opened and saved')
     parser.add_argument('--limit', type=int, default=0, help='the most steps that a document keeps; 0 is no limit')
     parser.add_argument('--version', action='version', version=f'roskevad {__version__}')
@@ -207,7 +210,11 @@ class Prompt:
 
 
 def main() -> int:
-    """Reads lines to the end of the input, and gives the exit status."""
+    """Reads lines to the end of the input, or tells what differs between two maps, and gives the exit status."""
+    if sys.argv[1:2] == ['diff']:
+        from .difference_command import main as tell_difference
+
+        return tell_difference(sys.argv[2:])
     chosen = options()
     if sys.stdin is None or sys.stdout is None:
         say('read failed' if sys.stdin is None else 'write failed')

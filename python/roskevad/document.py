@@ -24,6 +24,7 @@ from .watches import Watch, Watched
 if TYPE_CHECKING:
     from pathlib import Path
 
+    from .difference import Difference
     from .editor import Editor
 
 _Answer = TypeVar('_Answer')
@@ -336,6 +337,14 @@ class Document:
     def outline(self) -> Members:
         """The same without the cells: a copy."""
         return self._do(lambda: self._editor._tree(self._editor._copied('outline', 'outline()')))
+
+    def difference(self, other: 'Document') -> 'Difference':
+        """What leads from this map to another one, by meaning, as both are now. Raises TypeError where that is no document."""
+        if not isinstance(other, Document):
+            raise TypeError(f'a map differs from that of a document: {type(other).__name__}')
+        from .difference import Difference
+
+        return Difference(self, other)
 
     # ---- its steps
     @property

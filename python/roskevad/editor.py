@@ -13,7 +13,7 @@ from typing import TYPE_CHECKING, Any, Callable, ContextManager, Iterable, Itera
 
 from . import library, logs, words
 from .document import Document
-from .faults import Closed, InCallback, NotFound, Refused, refused_call
+from .faults import Closed, InCallback, NotFound, Refused, reason_of, refused_call, refused_file
 from .folder_files import read, refuse_unknown
 from .library import LIBRARY, OWNERS, CEditor, DocumentStatus, LinesDone, SelectionRun
 from .limits import MAX_FILE_NAME, MAX_LIMIT
@@ -429,7 +429,7 @@ class Editor:
             return reply
         except Refused as refusal:
             if fault is not None and refusal.code == 50:
-                raise refused_call(50 if isinstance(fault, FileNotFoundError) else 51, call) from fault
+                raise refused_file(call, fault) from fault
             raise
 
     @turn
@@ -475,7 +475,7 @@ class Editor:
                 raise
         if saving.fault is not None:
             self._has_failed = True
-            raise refused_call(51, call) from saving.fault
+            raise refused_call(51, call, reason_of(saving.fault)) from saving.fault
         return f'saved {place.name} {len(data)}'
 
     def _refuse_save(self, call: str) -> None:
@@ -694,7 +694,7 @@ class Editor:
         except Refused as refusal:
             # The call of the caller, and not a name that the caller has not given.
             call = f'open({given})' if name is None else f'open({given}, {name!r})'
-            raise refusal._of(call) from refusal.__cause__
+            raise refusal._of(call, words.taken(opened) if refusal.code == 11 else None) from refusal.__cause__
         logs.info('%s: opened from %s', opened, 'bytes' if path is None else path)
         document = self._in_turn(lambda: self._handle(opened))
         document._path = path

@@ -36,9 +36,10 @@ class Refused(Error):
     `code` is the number of the refusal, `words` what it says, and `line` what the caller wrote: a line, as `undo`, or a call,
     as `save_file('a.tmj')`. Where a line is of no command, or is not as its command has it, `forms` are the forms to write it
     in, and `word_at_fault` says at which word; a call has neither. Where it was one of many lines, `place` is its place among
-    them, from 0, and `replies` are those to the lines before it, which are done. `why` says of a map why it is not set aside,
-    put back or unpacked, if that is so. Where a map is read and refused, `place_in_map` tells where in its file. Where a file can't be
-    read or written, `__cause__` has the OSError; of 50 it is a FileNotFoundError.
+    them, from 0, and `replies` are those to the lines before it, which are done. `why` says more, where more is known: of a
+    file what the system says, of a map why it is not set aside, put back or unpacked. Where a map is read and refused,
+    `place_in_map` tells where in its file. Where a file can't be read or written, `__cause__` has the OSError; of 50 it is a
+    FileNotFoundError.
     """
 
     def __init__(
@@ -59,10 +60,9 @@ class Refused(Error):
         # An exception is copied and pickled by its arguments, and so it goes from one process to another.
         super().__init__(code, words, line, place, self.replies, self.forms, why, place_in_map, self.word_at_fault)
 
-    def _of(self, call: str) -> 'Refused':
-        """The same refusal of another call."""
-        code, words, _, *more = self.args
-        return Refused(code, words, call, *more)
+    def _of(self, call: str, why: Optional[str] = None) -> 'Refused':
+        """The same refusal of another call, perhaps with why."""
+        return Refused(self.code, self.words, call, self.place, self.replies, self.forms, why or self.why, self.place_in_map, self.word_at_fault)
 
     def __str__(self) -> str:
         more = [str(each) for each in (self.word_at_fault, self.place_in_map, self.why) if each is not None]
@@ -72,6 +72,16 @@ class Refused(Error):
 def refused_call(code: int, call: str, why: Optional[str] = None, place_in_map: 'Optional[MapPlace]' = None) -> Refused:
     """What is raised where a call is refused, with the words of its number."""
     return Refused(code, REFUSALS[code], call, forms=(), why=why, place_in_map=place_in_map)
+
+
+def refused_file(call: str, fault: OSError) -> Refused:
+    """What is raised where a file is not opened, with what the system says of it. Where there is none the words say all."""
+    return refused_call(50, call) if isinstance(fault, FileNotFoundError) else refused_call(51, call, reason_of(fault))
+
+
+def reason_of(fault: OSError) -> str:
+    """What the system says of a file, in words."""
+    return fault.strerror or str(fault)
 
 
 class InCallback(RuntimeError):

@@ -1,6 +1,7 @@
 # SPDX-License-Identifier: MIT OR Apache-2.0
 """Objects that are added: what a file has of each, by the words of the caller, and the line that adds it."""
-from typing import Any, Mapping, Optional, Union, cast
+import operator
+from typing import Any, Callable, Iterable, Mapping, Optional, Union
 
 from . import json_values, words
 from .kinds import Corners
@@ -14,12 +15,12 @@ _MEMBERS_OF = {'tile': 'gid'}
 
 def pixels(value: Any, what: str) -> Any:
     """A coordinate: a whole number as an int. Raises TypeError where it is no number, and ValueError where it is out of range."""
-    return value if has_fraction(value) else words.coordinate(_as_whole(value), what)
+    return value if has_fraction(value) else words.coordinate(_as_whole(value, what), what)
 
 
 def length(value: Any, what: str) -> Any:
     """The same of a width or a height, from 0."""
-    return value if has_fraction(value) else words.number(_as_whole(value), what)
+    return value if has_fraction(value) else words.number(_as_whole(value, what), what)
 
 
 def has_fraction(value: Any) -> bool:
@@ -27,8 +28,11 @@ def has_fraction(value: Any) -> bool:
     return isinstance(value, float) and not value.is_integer()
 
 
-def _as_whole(value: Any) -> Any:
-    return int(value) if isinstance(value, float) else value
+def _as_whole(value: Any, what: str) -> int:
+    try:
+        return int(value) if isinstance(value, float) else operator.index(value)
+    except TypeError:
+        raise TypeError(f'{what} is a number: {value!r}') from None
 
 
 def line_of(layer: int, name: str, place: Members, looks: Members) -> str:
@@ -70,6 +74,15 @@ def looks_of(
     return {_MEMBERS_OF.get(name, name): each for name, each in looks.items()}
 
 
+def in_a_file(members: Mapping[str, Any]) -> Members:
+    """Members of an object as a file has them: corners may be pairs of numbers, and a text a text. All else is as it is."""
+    return {name: _IN_A_FILE.get(name, _as_it_is)(value) for name, value in members.items()}
+
+
+def _as_it_is(value: Any) -> Any:
+    return value
+
+
 def _text(text: Union[str, Mapping[str, Any]]) -> Members:
     """A text as a file has it, with how it is written."""
     if isinstance(text, Mapping):
@@ -79,14 +92,27 @@ def _text(text: Union[str, Mapping[str, Any]]) -> Members:
 
 def _corners(corners: Corners) -> list[Members]:
     """Corners as a file has them."""
+    if not isinstance(corners, Iterable):
+        raise TypeError(f'corners of an object are pairs of numbers, from its place: {corners!r}')
+    return [_corner(each) for each in corners]
+
+
+def _corner(corner: Union[Iterable[float], Mapping[str, float]]) -> Members:
     try:
-        return [_corner(*cast(Any, (each['x'], each['y']) if isinstance(each, Mapping) else each)) for each in corners]
-    except (KeyError, TypeError) as fault:
-        raise TypeError(f'corners of an object are pairs of numbers, from its place: {fault}') from None
-
-
-def _corner(x: float, y: float) -> Members:
+        x, y = (corner['x'], corner['y']) if isinstance(corner, Mapping) else corner
+    except (KeyError, TypeError, ValueError):
+        raise TypeError(f'a corner of an object is a pair of numbers, from its place: {corner!r}') from None
     return {'x': json_values.number(x, 'x of a corner'), 'y': json_values.number(y, 'y of a corner')}
+
+
+def _pairs_as_corners(value: Any) -> Any:
+    are_pairs = isinstance(value, (list, tuple)) and all(isinstance(each, (list, tuple)) and len(each) == 2 for each in value)
+    return _corners(value) if are_pairs else value
+
+
+_IN_A_FILE: Mapping[str, Callable[[Any], Any]] = {
+    'polygon': _pairs_as_corners, 'polyline': _pairs_as_corners, 'text': lambda value: _text(value) if isinstance(value, str) else value,
+}
 
 
 def given(class_name: str, rotation: float, visible: bool, properties: Optional[Mapping[str, Any]]) -> Members:

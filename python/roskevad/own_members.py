@@ -1,16 +1,17 @@
 # SPDX-License-Identifier: MIT OR Apache-2.0
 """The own members of an object, a layer, a tileset or the map: what stands for it in the map's file, but for what other lines change."""
 import json
-from typing import TYPE_CHECKING, Any, Callable, Mapping, NoReturn, Optional
+from typing import TYPE_CHECKING, Any, Callable, Iterable, Mapping, NoReturn, Optional
 
-from . import json_values, words
-from .faults import NotFound
+from . import json_values, new_objects, words
+from .faults import NotFound, Refused, refused_call
 from .tiled_maps import Members
 
 if TYPE_CHECKING:
     from .document import Document
 
 _NAME = 'the name of a member'
+_OF_OTHER_LINES = 41
 #: The names that are none of own members, by what has them.
 OTHERS = {
     'object': frozenset(('id', 'properties', 'roskevad')),
@@ -23,6 +24,16 @@ OTHERS = {
         'width', 'height', 'infinite', 'chunks', 'data', 'objects', 'layers', 'tilesets', 'properties', 'type', 'version', 'roskevad',
     )),
 }
+# What sets them, where something does.
+_INSTEAD = {
+    'properties': 'properties are set and removed one by one, in `properties`',
+    'data': 'cells are set by document.stamp(..) and layer.write(..)',
+    'objects': 'objects are added by layer.objects.add(..)',
+    'layers': 'layers are added by document.layers.add(..), and moved by layer.move_into(..)',
+    'tilesets': 'tilesets are added by document.tilesets.add(..)',
+    'width': 'the size of a map is set by document.resize(..)',
+    'height': 'the size of a map is set by document.resize(..)',
+}
 # What stands there again where it is taken out.
 _DEFAULTS: dict[str, Members] = {'layer': {'name': '', 'visible': True}}
 
@@ -30,11 +41,12 @@ _DEFAULTS: dict[str, Members] = {'layer': {'name': '', 'visible': True}}
 class Owner:
     """What has own members, an object, a layer, a tileset or the map: how lines and the library name it, and how it is read."""
 
-    __slots__ = 'document', 'name', 'now', 'whole', 'others', 'defaults', '_call'
+    __slots__ = 'document', 'kind', 'name', 'now', 'whole', 'others', 'defaults', '_call'
 
     def __init__(self, document: 'Document', kind: str, id: Optional[int], now: Callable[[], Members], whole: Callable[[], Members]):
         """`now` gives, in a turn, what the map says of it, and `whole` all that its members have. Both raise Refused where it was removed."""
         self.document = document
+        self.kind = kind
         self.name = kind if id is None else f'{kind}:{id}'
         self.now = now
         self.whole = whole
@@ -46,6 +58,15 @@ class Owner:
         """What its members are now, with which new values are compared, in a turn; nothing where it was removed."""
         members: Members = self.document._read(*self._call) or {}
         return members
+
+    def in_a_file(self, members: Mapping[str, Any]) -> Mapping[str, Any]:
+        """Members as a file has them: of an object also its corners, which may be pairs, and its text."""
+        return new_objects.in_a_file(members) if self.kind == 'object' and isinstance(members, Mapping) else members
+
+    def instead(self, names: Iterable[str]) -> str:
+        """What to do where one of these names is none of its own members."""
+        first = next((name for name in names if name in self.others), '')
+        return _INSTEAD.get(first, f'{first!r} stays as it is')
 
 
 class OwnMembers(dict[str, Any]):
@@ -77,9 +98,9 @@ class OwnMembers(dict[str, Any]):
         self._read()
 
     def set(self, key: str, value: Any, merge: bool = False) -> None:
-        """Sets an own member, or adds one; with `merge` as one step with a setting of the same member before it. Raises TypeError for what
-        JSON has not; ValueError, also for a name with a space; Refused: 41 for a name that is none of own members, 63 for a value of another
-        kind, 68 for one that is over a limit."""
+        """Sets an own member, or adds one; with `merge` as one step with a setting of the same member before it. The corners of an object
+        may be pairs, and its text a text, as `objects.add` takes them. Raises TypeError for what JSON has not; ValueError, also for a name
+        with a space; Refused: 41 for a name that is none of own members, 63 for a value of another kind, 68 for one that is over a limit."""
         set_member(self._owner, key, value, merge)
         self._read()
 
@@ -139,20 +160,21 @@ class OwnMembers(dict[str, Any]):
 def set_member(owner: Owner, key: str, value: Any, merge: bool = False) -> None:
     """Says the line that sets an own member."""
     name = words.key(key, _NAME)
-    said = json_values.said(value, f'the member {name!r}')
+    said = json_values.said(owner.in_a_file({name: value})[name], f'the member {name!r}')
     rest = f'set{"+" if merge else ""} {owner.name} {name} {said}'
-    owner.document._do(lambda: _say(owner, rest, lambda held: _differ(held, {name: json.loads(said)})))
+    owner.document._do(lambda: _say(owner, rest, [name], lambda held: _differ(held, {name: json.loads(said)})))
 
 
 def put_members(owner: Owner, members: Mapping[str, Any], merge: bool = False) -> None:
     """Says the line that sets some own members at once."""
-    said = json_values.members_said(members, f'the members of {owner.name}')
+    said = json_values.members_said(owner.in_a_file(members), f'the members of {owner.name}')
     owner.document._do(lambda: say_members(owner, said, merge))
 
 
 def say_members(owner: Owner, said: str, merge: bool) -> None:
     """The same, of members as JSON, in a turn."""
-    _say(owner, f'put{"+" if merge else ""} {owner.name} {said}', lambda held: _differ(held, json.loads(said)))
+    news = json.loads(said)
+    _say(owner, f'put{"+" if merge else ""} {owner.name} {said}', news, lambda held: _differ(held, news))
 
 
 def remove_member(owner: Owner, key: str) -> bool:
@@ -165,7 +187,7 @@ def remove_member(owner: Owner, key: str) -> bool:
     def work() -> bool:
         is_there = key in owner.now() or key in owner.others
         if is_there:
-            _say(owner, f'remove {owner.name} {words.key(key, _NAME)}', changes)
+            _say(owner, f'remove {owner.name} {words.key(key, _NAME)}', [key], changes)
         return is_there
 
     return owner.document._do(work)
@@ -179,11 +201,17 @@ def set_or_remove(owner: Owner, key: str, value: Any) -> None:
         set_member(owner, key, value)
 
 
-def _say(owner: Owner, rest: str, changes: Callable[[Members], bool]) -> None:
-    """Says a line, in a turn. Where it changes nothing of what the editor holds, macros wait on for their first edit."""
+def _say(owner: Owner, rest: str, names: Iterable[str], changes: Callable[[Members], bool]) -> None:
+    """Says a line about members of these names, in a turn. Where it changes nothing of what the editor holds, macros wait on for their first
+    edit."""
     document = owner.document
-    with document._beginning_if(lambda: changes(owner.held())):
-        document._say_edit(f'member {rest}')
+    try:
+        with document._beginning_if(lambda: changes(owner.held())):
+            document._say_edit(f'member {rest}')
+    except Refused as refusal:
+        if refusal.code != _OF_OTHER_LINES:
+            raise
+        raise refused_call(refusal.code, refusal.line, owner.instead(names)) from None
 
 
 def _differ(held: Members, news: Members) -> bool:

@@ -78,6 +78,10 @@ class Properties(MutableMapping[str, Any]):
     def __iter__(self) -> Iterator[str]:
         return iter([each['name'] for each in self._document._do(self._now)])
 
+    def __reversed__(self) -> Iterator[str]:
+        """The names, the last one first."""
+        return reversed(list(self))
+
     def __len__(self) -> int:
         return len(self._document._do(self._now))
 

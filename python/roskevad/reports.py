@@ -4,7 +4,7 @@ import os
 from typing import TYPE_CHECKING, Any, Iterator, Optional, Union
 
 from .editor import Editor
-from .faults import Refused
+from .faults import Refused, reason_of
 from .tiled_maps import Members
 
 if TYPE_CHECKING:
@@ -35,7 +35,7 @@ def report(source: 'Union[str, os.PathLike[str], ReadableBuffer]') -> Members:
 def _refused(refusal: Refused) -> Members:
     told: Members = {'code': refusal.code, 'words': refusal.words, 'places': _places(refusal)}
     cause = refusal.__cause__
-    reason = refusal.why or ((cause.strerror or str(cause)) if isinstance(cause, OSError) else None)
+    reason = refusal.why or (reason_of(cause) if isinstance(cause, OSError) else None)
     return told if reason is None else {**told, 'reason': reason}
 
 

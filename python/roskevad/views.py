@@ -1,12 +1,14 @@
 # SPDX-License-Identifier: MIT OR Apache-2.0
 """The layers of a document, and their objects."""
+import contextlib
 import json
-from typing import TYPE_CHECKING, Any, Callable, Iterator, Mapping, Optional, TypeVar, Union, cast
+from typing import TYPE_CHECKING, Any, Callable, ContextManager, Iterator, Mapping, Optional, TypeVar, Union, cast
 
 from . import json_values, new_objects, words
 from .faults import Refused, refused_call
 from .kinds import AddedLayerKind, Corners, LayerKind, Rows
 from .library import KINDS, LayerRow
+from .limits import MAX_GROUPS, MAX_LAYERS
 from .own_members import Owner, OwnMembers, say_members, set_member, set_or_remove
 from .properties import Properties
 from .tiled_maps import Members, notes_one
@@ -645,12 +647,42 @@ class Layers:
         return None if id is None else Layer(self._document, id)
 
     def add(self, kind: AddedLayerKind, name: str) -> Layer:
-        """Adds a layer, tile, object, group or image, in no group, last, which is drawn over the others, and gives it. Raises TypeError;
-        ValueError, also for the layers of a group; Refused."""
-        if self._group is not None:
-            raise ValueError('a layer is not added to a group, but over all others: document.layers.add(..); move_into(group) moves it then')
+        """Adds a layer, tile, object, group or image, in no group or in this one, last, which is drawn over the others there, and gives it.
+        Raises TypeError, ValueError; Refused: 40 where the map has 256 layers; in a group also 30 where that was removed, 31 where it is no
+        group, 39 where there would be too many groups around it."""
         said = words.one_of(kind, ALL_KINDS, 'the kind of a layer that is added')
-        return Layer(self._document, self._document._add('layer', f'layer add {said} {words.text(name, "the name of a layer")}'))
+        line = f'layer add {said} {words.text(name, "the name of a layer")}'
+        if self._group is None:
+            return Layer(self._document, self._document._add('layer', line))
+        with self._document.editor.lock:
+            return self._added_in(self._group, said, line)
+
+    def _added_in(self, group: int, kind: str, line: str) -> Layer:
+        """What a line adds, in this group: one step, also where no macro is open."""
+        document = self._document
+        document._do(lambda: self._refuse_one_more(group, kind, line))
+        macro: ContextManager[object] = contextlib.nullcontext()
+        if document.status.depth == 0:
+            macro = document.macro('Add Layer', action='add layer')
+        with macro:
+            layer = Layer(document, document._add('layer', line))
+            layer.move_into(group)
+        return layer
+
+    def _refuse_one_more(self, group: int, kind: str, line: str) -> None:
+        """Raises Refused, in a turn, where a group takes no more layer of a kind: then no macro has begun."""
+        rows = {row.id: row for row in self._document._layer_rows()}
+        if group not in rows:
+            raise refused_call(30, line)
+        if KINDS[rows[group].kind] != 'group':
+            raise refused_call(31, line)
+        around, at = 0, group
+        while at:
+            around, at = around + 1, rows[at].parent
+        if around > MAX_GROUPS - (kind == 'group'):
+            raise refused_call(39, line)
+        if len(rows) >= MAX_LAYERS:
+            raise refused_call(40, line)
 
     def __repr__(self) -> str:
         described: Any = self._document._peek(lambda: [self._document._read('layer', row.id)['name'] for row in self._below()])

@@ -101,6 +101,11 @@ def document(name: object) -> str:
     return name
 
 
+def taken(name: str) -> str:
+    """Why a map is not opened under the name of its file."""
+    return f'a document {name!r} is open: open(path, name) gives this one another name'
+
+
 def _whole(value: Any, what: str) -> int:
     try:
         return operator.index(value)

@@ -8,10 +8,9 @@ const { lines, trials, classes } = JSON.parse(process.argv[2]);
 // The names of a call's arguments, and of its options.
 function argumentsOf(call) {
   const head = /^(?:async\s+)?\*?\s*(?:constructor|[\w$]+)\s*\(([^]*?)\)\s*\{/.exec(String(call))[1];
-  const options = /\{([^}]*)\}/.exec(head);
-  const plain = head.replace(/,?\s*\{[^}]*\}\s*(?:=\s*\{\s*\})?/, "");
-  const names = (text) => text.split(",").map((each) => each.split("=")[0].trim()).filter(Boolean);
-  return { plain: names(plain), options: options ? names(options[1]) : [] };
+  const options = /words\.options\(options, \{([^}]*)\}/.exec(String(call));
+  const names = (text) => text.split(",").map((each) => each.split(/[=:]/)[0].trim()).filter(Boolean);
+  return { plain: names(head).filter((name) => name !== "options"), options: options ? names(options[1]) : [] };
 }
 
 function membersOf(kind) {

@@ -1,0 +1,175 @@
+# SPDX-License-Identifier: MIT OR Apache-2.0
+"""Maps that are compared: copies of what documents are now, in an editor of their own, and where their things stand."""
+import contextlib
+import json
+from bisect import bisect_left
+from typing import TYPE_CHECKING, Any, Iterator, NamedTuple, Optional
+
+from .faults import Refused
+from .tiled_maps import Members
+
+if TYPE_CHECKING:
+    from .document import Document
+
+_NAMES = 'before', 'behind'
+# The members of a place, with those of the side of a tile there.
+_SIDES = ('x', 'tilewidth'), ('y', 'tileheight')
+
+
+def text_of(document: 'Document') -> bytes:
+    """A document's map as the editor holds it, with what is set aside."""
+    text: bytes = document._do(lambda: document._editor._shown('difference()'))
+    return text
+
+
+@contextlib.contextmanager
+def copied(*texts: bytes) -> 'Iterator[list[Document]]':
+    """A `with` that has documents of two texts, in an editor of their own."""
+    from .editor import Editor
+
+    with contextlib.closing(Editor()) as editor:
+        for name, text in zip(_NAMES, texts):
+            editor.put_file(name, text)
+            editor.step(f'open {name} {name}')
+            editor.remove_file(name)
+        yield [editor.documents[name] for name in _NAMES]
+
+
+def said(value: Any) -> str:
+    """A value as a text that is the same for the same value of JSON: true is not 1, and 2.0 is 2."""
+    return json.dumps(_plain(value), sort_keys=True, ensure_ascii=False)
+
+
+def _plain(value: Any) -> Any:
+    if isinstance(value, float):
+        return int(value) if value.is_integer() else value
+    if isinstance(value, list):
+        return [_plain(each) for each in value]
+    return {name: _plain(each) for name, each in value.items()} if isinstance(value, dict) else value
+
+
+def are_saved_alike(one: 'Document', other: 'Document') -> bool:
+    """Whether files of two maps have the same. Where no file is made of them, as where a layer can't be packed here, the maps are compared."""
+    try:
+        texts = [document.save_bytes(layout='compact') for document in (one, other)]
+    except Refused:
+        return said(one.map()) == said(other.map())
+    return texts[0] == texts[1] or said(json.loads(texts[0])) == said(json.loads(texts[1]))
+
+
+class Stand(NamedTuple):
+    """Where a layer or an object stands, and what the map says of it."""
+
+    #: The id of the group or the layer that it is in; 0 for none.
+    parent: int
+    members: Members
+
+
+class MapNow:
+    """A map as it is now: its outline, and its layers and objects by their ids, in drawing order."""
+
+    __slots__ = 'document', 'tree', 'layers', 'objects'
+
+    def __init__(self, document: 'Document'):
+        self.document = document
+        self.tree = document.outline()
+        self.layers: dict[int, Stand] = {}
+        self.objects: dict[int, Stand] = {}
+        self._note(self.tree['layers'], 0)
+
+    def _note(self, layers: list[Members], parent: int) -> None:
+        for layer in layers:
+            self.layers[layer['id']] = Stand(parent, layer)
+            if layer['type'] == 'objectgroup':
+                self.objects.update({each['id']: Stand(layer['id'], each) for each in layer['objects']})
+            elif layer['type'] == 'group':
+                self._note(layer['layers'], layer['id'])
+
+    def layers_in(self, parent: int) -> list[int]:
+        """The ids of the layers that stand in a group, or in none, in order."""
+        return [id for id, stand in self.layers.items() if stand.parent == parent]
+
+    def objects_in(self, layer: int) -> list[int]:
+        return [id for id, stand in self.objects.items() if stand.parent == layer]
+
+    def has(self, id: int, other: Stand) -> bool:
+        """Whether it has a layer of this id and of the same kind."""
+        return id in self.layers and self.layers[id].members['type'] == other.members['type']
+
+    def cells(self, layer: int) -> memoryview:
+        """The values of a tile layer."""
+        return self.document.layers[layer].cells()
+
+
+def staying(before: list[int], behind: list[int]) -> set[int]:
+    """Of things that stand in two lists the most that stand in the same order in both: the others were moved."""
+    places = {id: place for place, id in enumerate(behind)}
+    # The ends of the best runs of each length, with what stands before each.
+    ends, ids, last = list[int](), list[int](), dict[int, Optional[int]]()
+    for id in before:
+        if id in places:
+            at = bisect_left(ends, places[id])
+            ends[at:at + 1], ids[at:at + 1] = [places[id]], [id]
+            last[id] = ids[at - 1] if at else None
+    found, each = set[int](), ids[-1] if ids else None
+    while each is not None:
+        found.add(each)
+        each = last[each]
+    return found
+
+
+# ---- how all in a map was moved with its size
+
+
+class Shift(NamedTuple):
+    """By how many columns and rows all in a map was moved where it has another size."""
+
+    x: int
+    y: int
+
+
+def shift_of(before: MapNow, behind: MapNow) -> Shift:
+    """The one that leaves the fewest cells and objects that differ: no file says it, so those are tried that may be meant. Where the corners of
+    infinite maps lie at other places, it is known."""
+    (left, top), (other_left, other_top) = before.document.origin, behind.document.origin
+    known = Shift(left - other_left, top - other_top)
+    return known if any(known) else min(dict.fromkeys(_shifts(before, behind)), key=lambda shift: _unlike(before, behind, shift))
+
+
+def _shifts(before: MapNow, behind: MapNow) -> Iterator[Shift]:
+    """By nothing, by what is added at the left and above, and by what objects have moved."""
+    wider, higher = (behind.tree[name] - before.tree[name] for name in ('width', 'height'))
+    yield from (Shift(x, y) for x in (0, wider) for y in (0, higher))
+    moved = dict[Shift, int]()
+    for id in before.objects.keys() & behind.objects.keys():
+        (x, rest), (y, other) = (divmod(_at(behind, id, name) - _at(before, id, name), before.tree[side]) for name, side in _SIDES)
+        if rest == other == 0:
+            shift = Shift(int(x), int(y))
+            moved[shift] = moved.get(shift, 0) + 1
+    yield from sorted(moved, key=lambda shift: -moved[shift])[:2]
+
+
+def _at(map: MapNow, id: int, name: str) -> float:
+    return float(map.objects[id].members.get(name, 0))
+
+
+def _unlike(before: MapNow, behind: MapNow, shift: Shift) -> int:
+    """How many cells and objects differ where all was moved so."""
+    layers = [id for id, stand in behind.layers.items() if stand.members['type'] == 'tilelayer' and before.has(id, stand)]
+    steps = [(name, by * before.tree[side]) for (name, side), by in zip(_SIDES, shift)]
+    objects = before.objects.keys() & behind.objects.keys()
+    moved = sum(any(_at(behind, id, name) != _at(before, id, name) + step for name, step in steps) for id in objects)
+    return moved + sum(_unlike_cells(before, behind, id, shift) for id in layers)
+
+
+def _unlike_cells(before: MapNow, behind: MapNow, layer: int, shift: Shift) -> int:
+    old, new, count = before.cells(layer).tolist(), behind.cells(layer).tolist(), 0
+    wide, high, goal_wide = before.tree['width'], before.tree['height'], behind.tree['width']
+    for y in range(behind.tree['height']):
+        row = [0] * goal_wide
+        if 0 <= y - shift.y < high:
+            line = old[(y - shift.y) * wide:(y - shift.y + 1) * wide]
+            row = [line[x - shift.x] if 0 <= x - shift.x < wide else 0 for x in range(goal_wide)]
+        other = new[y * goal_wide:(y + 1) * goal_wide]
+        count += 0 if row == other else sum(one != another for one, another in zip(row, other))
+    return count

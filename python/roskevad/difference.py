@@ -1,0 +1,355 @@
+# SPDX-License-Identifier: MIT OR Apache-2.0
+"""What differs between two maps, by meaning: in words for people, as values for programs, and as lines that lead from one to the other."""
+import json
+from typing import TYPE_CHECKING, Any, Iterable, Iterator, NamedTuple, Optional, Sequence, Union, overload
+
+from .compared_maps import MapNow, Shift, Stand, are_saved_alike, copied, said, shift_of, staying, text_of
+from .difference_lines import lines_between
+from .own_members import OTHERS
+from .rows import BASE, DIAGONALLY, HORIZONTALLY, TURNED, VERTICALLY
+from .tiled_maps import Members
+from .told import Subject
+
+if TYPE_CHECKING:
+    from .document import Document
+
+# What Tiled calls members, where it calls them otherwise than the file.
+_CALLED = {
+    'type': 'class', 'tintcolor': 'tint', 'backgroundcolor': 'background', 'offsetx': 'horizontal offset', 'offsety': 'vertical offset',
+    'parallaxx': 'horizontal parallax', 'parallaxy': 'vertical parallax', 'gid': 'tile', 'tilewidth': 'tile width', 'tileheight': 'tile height',
+}
+# What a map counts by itself, which is told where nothing else differs.
+_COUNTED = 'nextlayerid', 'nextobjectid'
+_LAYERS = {'tilelayer': 'a tile layer', 'objectgroup': 'an object layer', 'group': 'a group', 'imagelayer': 'an image layer'}
+_FLAGS = {HORIZONTALLY: 'horizontally', VERTICALLY: 'vertically', DIAGONALLY: 'diagonally', TURNED: 'by a turn'}
+# How many characters of a value are told in words, and how many pairs of tiles.
+_SHOWN, _PAIRS = 60, 3
+
+
+class Change(NamedTuple):
+    """One thing that differs."""
+
+    #: What it is about.
+    subject: Subject
+    #: The name of a layer or an object, and the file or the name of a tileset; empty of the map.
+    name: str
+    #: What differs: `added`, `removed`, `moved`, `size`, `cells`, or the name of a member, of a property behind `property`.
+    what: str
+    #: How it was, as a file has it; None where it was not.
+    before: Any
+    #: How it is in the other map.
+    after: Any
+    #: The same in words.
+    words: str
+
+    def __str__(self) -> str:
+        kind, id = self.subject
+        named = f' {_quoted(self.name)}' if self.name else ''
+        head = {'map': 'map', 'tileset': f'tileset {_plainly(self.name)}'}.get(kind, f'{kind} {id}{named}')
+        return f'{head}: {self.words}'
+
+
+class Difference(Sequence[Change]):
+    """What differs between two maps, as they were when it was asked for: each change of the map, of its tilesets, its layers and its objects.
+    Without a change they are the same. `str` tells all in words, a line for each change."""
+
+    __slots__ = '_texts', '_changes', '_shift', '_lines', '_left'
+
+    def __init__(self, before: 'Document', after: 'Document'):
+        self._texts = text_of(before), text_of(after)
+        self._lines: Optional[tuple[str, ...]] = None
+        self._left: Optional[tuple[Change, ...]] = None
+        with copied(*self._texts) as (old, new):
+            goal = MapNow(new)
+            first = MapNow(old)
+            is_resized = any(first.tree[side] != goal.tree[side] for side in ('width', 'height')) or old.origin != new.origin
+            self._shift = shift_of(first, goal) if is_resized else None
+            self._changes = tuple(_changes_between(old, goal, self._shift))
+
+    @overload
+    def __getitem__(self, at: int) -> Change: ...
+
+    @overload
+    def __getitem__(self, at: slice) -> Sequence[Change]: ...
+
+    def __getitem__(self, at: Union[int, slice]) -> Union[Change, Sequence[Change]]:
+        """A change by its place, from 0."""
+        return self._changes[at]
+
+    def __len__(self) -> int:
+        return len(self._changes)
+
+    def __str__(self) -> str:
+        return '\n'.join(map(str, self._changes))
+
+    @property
+    def lines(self) -> Optional[tuple[str, ...]]:
+        """Lines for all edits that lead from the one map to the other. They were done to a copy of the one, and a save of that has what one of
+        the other has. None where no lines can say all."""
+        self._find_lines()
+        return self._lines
+
+    @property
+    def left(self) -> tuple[Change, ...]:
+        """What no lines can say; nothing where `lines` has all."""
+        self._find_lines()
+        return self._left or ()
+
+    def _find_lines(self) -> None:
+        if self._left is None:
+            with copied(*self._texts) as (copy, new):
+                found = lines_between(copy, MapNow(new), self._shift)
+                is_same = are_saved_alike(copy, new)
+                self._left = () if is_same else tuple(_changes_between(copy, MapNow(new), None))
+                self._lines = tuple(found) if is_same else None
+
+    def __repr__(self) -> str:
+        return f'<Difference of {len(self)} changes>'
+
+
+def _changes_between(old: 'Document', goal: MapNow, shift: Optional[Shift]) -> list[Change]:
+    """All that differs. The first map gets the size of the other one, and is a copy."""
+    found = _resized(old, goal, shift) if shift else []
+    now = MapNow(old)
+    tiles = _Tiles(now), _Tiles(goal)
+    found += [*_of_the_map(now, goal), *_of_tilesets(now, goal), *_of_layers(now, goal, tiles), *_of_objects(now, goal, tiles)]
+    if not found:
+        found = _of_counts(now, goal)
+    return found or _of_the_file(old, goal.document)
+
+
+def _resized(old: 'Document', goal: MapNow, shift: Shift) -> list[Change]:
+    before, after = ([map_[side] for side in ('width', 'height')] for map_ in (old.outline(), goal.tree))
+    old._edit(f'resize {after[0]} {after[1]} {shift.x} {shift.y}')
+    moved = f', all moved by {shift.x}, {shift.y}' if any(shift) else ''
+    words = f'{before[0]} by {before[1]} cells -> {after[0]} by {after[1]}{moved}'
+    return [Change(_MAP, '', 'size', before, [*after, *shift], words)]
+
+
+_MAP = Subject('map', 0)
+
+
+def _of_counts(now: MapNow, goal: MapNow) -> list[Change]:
+    return list(_of_values(_MAP, '', {name: now.tree.get(name) for name in _COUNTED}, {name: goal.tree.get(name) for name in _COUNTED}))
+
+
+def _of_the_file(old: 'Document', new: 'Document') -> list[Change]:
+    """What is of the file itself, as that a map is infinite."""
+    if are_saved_alike(old, new):
+        return []
+    return [Change(_MAP, '', 'file', None, None, 'what is of the file itself, as how cells are written, and that a map is infinite')]
+
+
+# ---- values
+
+
+def _quoted(name: str) -> str:
+    """A name in a message, in which nothing steers a terminal."""
+    return json.dumps(name, ensure_ascii=not name.isprintable())
+
+
+def _plainly(name: str) -> str:
+    return name if name.isprintable() else _quoted(name)
+
+
+def _of_values(subject: Subject, name: str, old: Members, new: Members, spelled: Any = None) -> Iterator[Change]:
+    """Each member that differs."""
+    for key in [*old, *(key for key in new if key not in old)]:
+        before, after = old.get(key), new.get(key)
+        if said(before) != said(after) or (key in old) != (key in new):
+            shown = spelled.get(key) if spelled and key in spelled else (_shown(before, key in old), _shown(after, key in new))
+            yield Change(subject, name, key, before, after, f'{_CALLED.get(key, _plainly(key))} {shown[0]} -> {shown[1]}')
+
+
+def _shown(value: Any, is_there: bool = True) -> str:
+    text = json.dumps(value, ensure_ascii=False) if is_there else 'none'
+    shown = text if text.isprintable() else json.dumps(value)
+    return shown if len(shown) <= _SHOWN else f'{shown[:_SHOWN]}..'
+
+
+def _of_properties(subject: Subject, name: str, before: Members, after: Members) -> Iterator[Change]:
+    old, new = ({each['name']: each for each in members.get('properties', [])} for members in (before, after))
+    for key in [*old, *(key for key in new if key not in old)]:
+        one, other = old.get(key), new.get(key)
+        if said(one) != said(other):
+            texts = [_property(each, one, other) for each in (one, other)]
+            yield Change(subject, name, f'property {key}', one, other, f'property {_plainly(key)}: {texts[0]} -> {texts[1]}')
+    if set(old) == set(new) and list(old) != list(new):
+        yield Change(subject, name, 'order of properties', list(old), list(new), f'order of properties: {_shown(list(old))} -> {_shown(list(new))}')
+
+
+def _property(each: Optional[Members], one: Optional[Members], other: Optional[Members]) -> str:
+    """A property in words, with its type where that differs."""
+    if each is None:
+        return 'none'
+    kinds = {said([property.get(name) for name in ('type', 'propertytype')]) for property in (one, other) if property is not None}
+    kind = f' ({each.get("propertytype") or each.get("type", "string")})' if len(kinds) > 1 else ''
+    return f'{_shown(each["value"])}{kind}'
+
+
+def _own(kind: str, members: Members) -> Members:
+    return {name: value for name, value in members.items() if name not in OTHERS[kind] and name not in _COUNTED}
+
+
+def _of_the_map(now: MapNow, goal: MapNow) -> Iterator[Change]:
+    yield from _of_values(_MAP, '', _own('map', now.tree), _own('map', goal.tree))
+    yield from _of_properties(_MAP, '', now.tree, goal.tree)
+
+
+# ---- tilesets, and tiles by them
+
+
+def _tileset_name(tileset: Members) -> str:
+    return str(tileset.get('source') or tileset.get('name', ''))
+
+
+def _of_tilesets(now: MapNow, goal: MapNow) -> Iterator[Change]:
+    old, new = ({_tileset_name(each): each for each in map_.tree['tilesets']} for map_ in (now, goal))
+    for name in [*old, *(name for name in new if name not in old)]:
+        before, after = old.get(name), new.get(name)
+        subject = Subject('tileset', (before or after or {})['firstgid'])
+        if before is None or after is None:
+            what = 'added' if before is None else 'removed'
+            yield Change(subject, name, what, before, after, f'{what}, first id {subject.id}')
+        else:
+            called = {'firstgid': (str(before['firstgid']), f'{after["firstgid"]} (first id)')}
+            yield from _of_values(subject, name, before, after, called)
+
+
+class _Tiles:
+    """Tiles by their tilesets and their ids there: so they are the same in two maps that count them otherwise."""
+
+    __slots__ = '_firsts', '_known'
+
+    def __init__(self, map: MapNow):
+        self._firsts = sorted((each['firstgid'], _tileset_name(each)) for each in map.tree['tilesets'])
+        self._known: dict[int, str] = {0: 'empty'}
+
+    def name(self, value: int) -> str:
+        """A tile in words, which are the same for the same tile."""
+        if value not in self._known:
+            first, tileset = max((pair for pair in self._firsts if pair[0] <= value & BASE), default=(0, 'no tileset'))
+            flips = ' and '.join(word for flag, word in _FLAGS.items() if value & flag)
+            self._known[value] = f'{_plainly(tileset)}:{(value & BASE) - first}{f" flipped {flips}" if flips else ""}'
+        return self._known[value]
+
+
+# ---- layers
+
+
+def _named(id: int, map: MapNow) -> str:
+    name = map.layers[id].members.get('name', '')
+    return f'layer {id}' + (f' {_quoted(name)}' if name else '')
+
+
+def _of_layers(now: MapNow, goal: MapNow, tiles: tuple[_Tiles, _Tiles]) -> Iterator[Change]:
+    for id, stand in now.layers.items():
+        if not goal.has(id, stand):
+            yield _one('layer', id, stand, 'removed', _LAYERS[stand.members['type']])
+    for id, stand in goal.layers.items():
+        old = now.layers.get(id)
+        if old is None or not now.has(id, stand):
+            yield _one('layer', id, stand, 'added', _LAYERS[stand.members['type']] + _in(stand.parent, goal))
+        else:
+            yield from _of_layer(id, old, stand)
+            if stand.members['type'] == 'tilelayer':
+                yield from _of_cells(id, stand, now, goal, tiles)
+    for parent in [0, *goal.layers]:
+        yield from _moves('layer', now.layers_in(parent), goal.layers_in(parent), now.layers, goal.layers, goal)
+
+
+def _in(parent: int, map: MapNow) -> str:
+    return f', in {_named(parent, map)}' if parent else ''
+
+
+def _one(kind: str, id: int, stand: Stand, what: str, words: str) -> Change:
+    """A layer or an object that is in one of the maps alone."""
+    before, after = (stand.members, None) if what == 'removed' else (None, stand.members)
+    return Change(Subject(kind, id), stand.members.get('name', ''), what, before, after, f'{what}, {words}')
+
+
+def _of_layer(id: int, old: Stand, new: Stand) -> Iterator[Change]:
+    subject, name = Subject('layer', id), new.members.get('name', '')
+    yield from _of_values(subject, name, _own('layer', old.members), _own('layer', new.members))
+    yield from _of_properties(subject, name, old.members, new.members)
+
+
+def _moves(
+    kind: str, before: list[int], behind: list[int], old: dict[int, Stand], new: dict[int, Stand], goal: MapNow,
+) -> Iterator[Change]:
+    """What was moved into a list, and the fewest that were moved in it."""
+    stay = staying(before, behind)
+    for at, id in enumerate(behind):
+        if id in old and id not in stay:
+            parent, other = old[id].parent, new[id].parent
+            is_into = parent != other
+            goes = f'into {_named(other, goal)}' if is_into and other else 'out of all groups' if is_into else f'to place {at}'
+            yield Change(Subject(kind, id), new[id].members.get('name', ''), 'moved', parent, [other, at], f'moved {goes}')
+
+
+def _of_cells(id: int, stand: Stand, now: MapNow, goal: MapNow, tiles: tuple[_Tiles, _Tiles]) -> Iterator[Change]:
+    """The cells of a layer that differ, by the rectangle around them and by the pairs of tiles that are the most."""
+    old, new, wide = now.cells(id), goal.cells(id), goal.tree['width']
+    pairs, places = dict[tuple[str, str], int](), list[tuple[int, int]]()
+    are_counted_alike = now.tree['tilesets'] == goal.tree['tilesets']
+    for y in range(goal.tree['height']):
+        row, other = old[y * wide:(y + 1) * wide], new[y * wide:(y + 1) * wide]
+        if are_counted_alike and row.tobytes() == other.tobytes():
+            continue
+        for x, (value, behind) in enumerate(zip(row.tolist(), other.tolist())):
+            pair = tiles[0].name(value), tiles[1].name(behind)
+            if pair[0] != pair[1]:
+                pairs[pair] = pairs.get(pair, 0) + 1
+                places.append((x, y))
+    if places:
+        yield _cells_changed(id, stand, pairs, places)
+
+
+def _cells_changed(id: int, stand: Stand, pairs: dict[tuple[str, str], int], places: list[tuple[int, int]]) -> Change:
+    (left, right), (top, bottom) = ((min(line), max(line)) for line in zip(*places))
+    most = sorted(pairs, key=lambda pair: -pairs[pair])
+    shown = [f'{before} -> {behind}' for before, behind in most[:_PAIRS]]
+    more = f' and {len(most) - _PAIRS} more' if len(most) > _PAIRS else ''
+    count = f'{len(places)} cells' if len(places) > 1 else '1 cell'
+    words = f'{count} in {left},{top} to {right},{bottom}: {", ".join(shown)}{more}'
+    area = {'x': left, 'y': top, 'width': right - left + 1, 'height': bottom - top + 1, 'count': len(places)}
+    before, after = ({**area, 'tiles': [pair[at] for pair in most]} for at in (0, 1))
+    return Change(Subject('layer', id), stand.members.get('name', ''), 'cells', before, after, words)
+
+
+# ---- objects
+
+
+def _of_objects(now: MapNow, goal: MapNow, tiles: tuple[_Tiles, _Tiles]) -> Iterator[Change]:
+    for id, stand in now.objects.items():
+        if id not in goal.objects:
+            yield _one('object', id, stand, 'removed', f'in {_named(stand.parent, now)}')
+    for id, stand in goal.objects.items():
+        if id in now.objects:
+            yield from _of_object(id, now.objects[id].members, stand.members, tiles)
+        else:
+            x, y = (stand.members.get(name, 0) for name in ('x', 'y'))
+            yield _one('object', id, stand, 'added', f'in {_named(stand.parent, goal)} at {x}, {y}')
+    for layer, stand in goal.layers.items():
+        if stand.members['type'] == 'objectgroup':
+            yield from _moves('object', now.objects_in(layer), goal.objects_in(layer), now.objects, goal.objects, goal)
+
+
+def _of_object(id: int, old: Members, new: Members, tiles: tuple[_Tiles, _Tiles]) -> Iterator[Change]:
+    subject, name = Subject('object', id), new.get('name', '')
+    before, after = _own('object', old), _own('object', new)
+    names = [each.name(members['gid']) if 'gid' in members else 'none' for each, members in zip(tiles, (old, new))]
+    if names[0] == names[1] and 'gid' in before and 'gid' in after:
+        before['gid'] = after['gid']
+    yield from _of_values(subject, name, before, after, {'gid': names})
+    yield from _of_properties(subject, name, old, new)
+
+
+def told_as_json(changes: Iterable[Change]) -> str:
+    """Changes as JSON in one line."""
+    listed = [
+        {'kind': each.subject.kind, 'id': each.subject.id, 'name': each.name, 'what': each.what, 'before': each.before, 'after': each.after,
+         'words': each.words}
+        for each in changes
+    ]
+    return json.dumps({'changes': listed}, ensure_ascii=False)

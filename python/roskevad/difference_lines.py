@@ -1,0 +1,252 @@
+# SPDX-License-Identifier: MIT OR Apache-2.0
+"""Lines that lead from one map to another. Each is done as it is found, on a copy of the first map."""
+import json
+from typing import TYPE_CHECKING, Any, Iterable, Iterator, Optional
+
+from . import json_values, words
+from .compared_maps import MapNow, Shift, said, staying
+from .faults import Refused
+from .own_members import OTHERS
+from .rows import parts_of
+from .tiled_maps import Members
+from .views import TYPES
+
+if TYPE_CHECKING:
+    from .document import Document
+
+_COUNTED = 'nextlayerid', 'nextobjectid'
+
+
+def lines_between(copy: 'Document', goal: MapNow, shift: Optional[Shift]) -> list[str]:
+    """Lines that do to a copy of one map what makes it another one, as far as lines can say it."""
+    way = _Way(copy, goal)
+    if shift is not None:
+        way.say(f'resize {goal.tree["width"]} {goal.tree["height"]} {shift.x} {shift.y}')
+    for each in (_drop_layers, _add_tilesets, _add_layers, _place_layers, _change_objects, _paint, _set_members, _set_properties,
+                 _drop_tilesets, _count):
+        each(way)
+    return way.lines
+
+
+class _Way:
+    """What is done to a copy."""
+
+    __slots__ = 'copy', 'goal', 'lines'
+
+    def __init__(self, copy: 'Document', goal: MapNow):
+        self.copy, self.goal = copy, goal
+        self.lines: list[str] = []
+
+    def say(self, line: str) -> bool:
+        """Does a line; whether it could be done."""
+        try:
+            self.copy._edit(line)
+        except Refused:
+            return False
+        self.lines.append(line)
+        return True
+
+    def now(self) -> MapNow:
+        return MapNow(self.copy)
+
+
+def _json(value: Any) -> str:
+    return json_values.said(value, 'a value of a map')
+
+
+def _placed(current: list[int], wanted: list[int]) -> Iterator[tuple[int, int]]:
+    """What is to be put at which place, one after the other, so that a list is as it is wanted. What is not wanted stays somewhere."""
+    stay = staying(current, wanted)
+    for at, id in enumerate(wanted):
+        if id not in stay:
+            current[:] = [each for each in current if each != id]
+            place = current.index(wanted[at - 1]) + 1 if at else 0
+            current.insert(place, id)
+            yield id, place
+
+
+# ---- layers
+
+
+def _drop_layers(way: _Way) -> None:
+    now = way.now()
+    gone = {id for id, stand in now.layers.items() if not way.goal.has(id, stand)}
+    for id, stand in now.layers.items():
+        if id not in gone and stand.parent in gone:
+            way.say(f'layer into {id} 0 0')
+    for id, stand in now.layers.items():
+        if id in gone and stand.parent not in gone:
+            way.say(f'layer remove {id}')
+
+
+def _add_layers(way: _Way) -> None:
+    there = way.now().layers
+    for id in sorted(way.goal.layers.keys() - there.keys()):
+        members = way.goal.layers[id].members
+        name = members['name'] if words.is_text(members['name']) else 'Layer'
+        is_next = way.copy.members['nextlayerid'] == id or way.say(f'member set map nextlayerid {id}')
+        if is_next:
+            way.say(f'layer add {TYPES[members["type"]]} {name}')
+
+
+def _place_layers(way: _Way) -> None:
+    """Those that would go into what stands in them are taken out of all groups, and placed in a second turn."""
+    for _ in range(2):
+        now, stuck = way.now(), list[int]()
+        for parent in [0, *(id for id, stand in way.goal.layers.items() if stand.members['type'] == 'group')]:
+            wanted = [id for id in way.goal.layers_in(parent) if id in now.layers]
+            stuck += [id for id, place in _placed(now.layers_in(parent), wanted) if not way.say(f'layer into {id} {parent} {place}')]
+        if not stuck:
+            return
+        for id in stuck:
+            way.say(f'layer into {id} 0 0')
+
+
+# ---- objects
+
+
+def _change_objects(way: _Way) -> None:
+    now, goal = way.now(), way.goal
+    for id in now.objects.keys() - goal.objects.keys():
+        way.say(f'object remove {id}')
+    if goal.tree['nextobjectid'] > now.tree['nextobjectid']:
+        way.say(f'member set map nextobjectid {goal.tree["nextobjectid"]}')
+    for id, stand in goal.objects.items():
+        if id not in now.objects and stand.parent in now.layers:
+            way.say(f'object put {stand.parent} {_json(stand.members)}')
+    now = way.now()
+    for layer in now.layers:
+        wanted = [id for id in goal.objects_in(layer) if id in now.objects]
+        for id, place in _placed(now.objects_in(layer), wanted):
+            way.say(f'object into {id} {layer} {place}')
+
+
+# ---- cells
+
+
+def _paint(way: _Way) -> None:
+    now = way.now()
+    if any(now.tree[side] != way.goal.tree[side] for side in ('width', 'height')):
+        return
+    for id, stand in now.layers.items():
+        if stand.members['type'] == 'tilelayer' and way.goal.has(id, stand):
+            _paint_layer(way, id, now.cells(id), way.goal.cells(id), now.tree['width'])
+
+
+def _paint_layer(way: _Way, layer: int, old: memoryview, new: memoryview, wide: int) -> None:
+    bands = list[tuple[int, list[list[int]]]]()
+    empties = list[tuple[int, int, int]]()
+    for y in range(len(new) // wide if wide else 0):
+        before, behind = old[y * wide:(y + 1) * wide].tolist(), new[y * wide:(y + 1) * wide].tolist()
+        if before != behind:
+            row = [value if value != other else 0 for other, value in zip(before, behind)]
+            empties += [(y, x, count) for x, count in _runs([not value and other != 0 for other, value in zip(before, behind)])]
+            if any(row) and bands and bands[-1][0] + len(bands[-1][1]) == y:
+                bands[-1][1].append(row)
+            elif any(row):
+                bands.append((y, [row]))
+    for top, rows in bands:
+        _stamp(way, layer, top, rows)
+    for x, y, width, height in _rectangles(empties):
+        way.say(f'erase {layer} {x} {y} {width} {height}')
+
+
+def _stamp(way: _Way, layer: int, top: int, rows: list[list[int]]) -> None:
+    columns = [x for row in rows for x, value in enumerate(row) if value]
+    left, right = min(columns), max(columns) + 1
+    cut = [row[left:right] for row in rows]
+    for part in parts_of(cut):
+        way.say(f'stamp {layer} {left} {top + part.first} {right - left} {part.values}')
+
+
+def _runs(flags: Iterable[bool]) -> Iterator[tuple[int, int]]:
+    """Where flags are set one after the other: the first place of each such run, and how many they are."""
+    first: Optional[int] = None
+    for at, flag in enumerate([*flags, False]):
+        if flag and first is None:
+            first = at
+        elif not flag and first is not None:
+            yield first, at - first
+            first = None
+
+
+def _rectangles(runs: list[tuple[int, int, int]]) -> Iterator[tuple[int, int, int, int]]:
+    """Runs of rows, each a row, a column and a width, as rectangles of those that stand below one another."""
+    heights = dict[tuple[int, int, int], int]()
+    below = dict[tuple[int, int], tuple[int, int, int]]()
+    for y, x, width in runs:
+        first = below.get((x, width))
+        if first is None or first[0] + heights[first] != y:
+            first = below[x, width] = y, x, width
+        heights[first] = heights.get(first, 0) + 1
+    yield from ((x, y, width, height) for (y, x, width), height in heights.items())
+
+
+# ---- members and properties
+
+
+def _owners(map: MapNow) -> dict[str, tuple[str, Members]]:
+    """What has members, by the words of lines, with its kind."""
+    layers = {f'layer:{id}': ('layer', stand.members) for id, stand in map.layers.items()}
+    return {'map': ('map', map.tree), **layers, **{f'object:{id}': ('object', stand.members) for id, stand in map.objects.items()}}
+
+
+def _set_members(way: _Way) -> None:
+    there, goal = _owners(way.now()), _owners(way.goal)
+    for owner, (kind, members) in goal.items():
+        if owner in there:
+            others = {*OTHERS[kind], *_COUNTED}
+            old, new = ({name: value for name, value in each.items() if name not in others} for each in (there[owner][1], members))
+            _set_own(way, owner, old, new)
+
+
+def _set_own(way: _Way, owner: str, old: Members, new: Members) -> None:
+    changed = {name: value for name, value in new.items() if name not in old or said(old[name]) != said(value)}
+    if changed and not way.say(f'member put {owner} {_json(changed)}'):
+        for name, value in changed.items():
+            way.say(f'member set {owner} {name} {_json(value)}')
+    for name in old.keys() - new.keys():
+        way.say(f'member remove {owner} {name}')
+
+
+def _set_properties(way: _Way) -> None:
+    there, goal = _owners(way.now()), _owners(way.goal)
+    for owner, (_, members) in goal.items():
+        if owner in there:
+            _set_listed(way, owner, there[owner][1].get('properties', []), members.get('properties', []))
+
+
+def _set_listed(way: _Way, owner: str, old: list[Members], new: list[Members]) -> None:
+    """Sets properties in their order: where that is another one, those behind are taken out and put anew."""
+    names, known = [each['name'] for each in new], {each['name']: said(each) for each in old}
+    kept = [each['name'] for each in old if each['name'] in names]
+    same = next((at for at, (one, other) in enumerate(zip(kept, names)) if one != other), min(len(kept), len(names)))
+    for name in [*(name for name in known if name not in names), *kept[same:]]:
+        way.say(f'prop take {owner} {_json(name)}')
+    for at, each in enumerate(new):
+        if at >= same or known[each['name']] != said(each):
+            way.say(f'prop put {owner} {_json(each)}')
+
+
+# ---- tilesets, and what a map counts
+
+
+def _add_tilesets(way: _Way) -> None:
+    there = {each['firstgid'] for each in way.now().tree['tilesets']}
+    for each in way.goal.tree['tilesets']:
+        if each['firstgid'] not in there:
+            way.say(f'tileset put {_json(each)}')
+
+
+def _drop_tilesets(way: _Way) -> None:
+    wanted = {each['firstgid'] for each in way.goal.tree['tilesets']}
+    for each in way.now().tree['tilesets']:
+        if each['firstgid'] not in wanted:
+            way.say(f'tileset remove {each["firstgid"]}')
+
+
+def _count(way: _Way) -> None:
+    now = way.now().tree
+    for name in _COUNTED:
+        if now.get(name) != way.goal.tree.get(name):
+            way.say(f'member set map {name} {json.dumps(way.goal.tree.get(name))}')

@@ -1,0 +1,282 @@
+# SPDX-License-Identifier: MIT OR Apache-2.0
+"""Tries what the Python package tells of two maps that differ: its words for each kind of change, and its statuses, which are those of
+diff(1). For 150 pairs of maps with random edits the lines that lead from the one to the other are done by the program: its file has what
+the other one has. Two maps are told to be the same if their files have the same, and only then. What no line can say is told so."""
+import json
+import random
+import subprocess
+import sys
+import tempfile
+from pathlib import Path
+
+from lib.cases import CORES, Case, check_each, see, unlike
+from lib.places import TOP
+from lib.sessions import ALL_EDITS, ALL_MAPS
+
+sys.path.insert(0, str(TOP / 'python'))
+import roskevad  # noqa: E402
+from roskevad import Editor, Error  # noqa: E402
+
+MAPS = TOP / 'examples' / 'maps'
+SEED, PAIRS = 20261130, 150
+ONE_OF_FILES = ('town.tmj', 'house.tmj', 'groups.tmj', 'objects.tmj', 'infinite.tmj', 'layers.tmj', 'properties.tmj', 'two_tilesets.tmj')
+
+
+def two(editor, file='town.tmj'):
+    return [editor.open(MAPS / file, name) for name in ('one', 'other')]
+
+
+def tree_of(data):
+    """What a file has, as a text in which true is not 1."""
+    return json.dumps(json.loads(data, parse_float=lambda text: int(float(text)) if float(text).is_integer() else float(text)), sort_keys=True)
+
+
+# ---- words
+
+WORDS = [
+    ('nothing', 'pass', []),
+    ('cells', 'town.stamp("Ground", 3, 4, [[7, 7], [0, 7]])', ['layer 1 "Ground": 3 cells in 3,4 to 4,5: tiles.tsx:0 -> tiles.tsx:6']),
+    ('a flipped tile', 'town.stamp("Ground", 0, 0, [[2147483655]])',
+     ['layer 1 "Ground": 1 cell in 0,0 to 0,0: tiles.tsx:0 -> tiles.tsx:6 flipped horizontally']),
+    ('the last cell', 'town.stamp("Ground", 39, 29, [[7]])', ['layer 1 "Ground": 1 cell in 39,29 to 39,29: tiles.tsx:0 -> tiles.tsx:6']),
+    ('empty cells', 'town.erase("Walls", 6, 3, 2, 1)', ['layer 4 "Walls": 2 cells in 6,3 to 7,3: tiles.tsx:9 -> empty']),
+    ('a name', 'town.layers["Ground"].name = "Earth"', ['layer 1 "Earth": name "Ground" -> "Earth"']),
+    ('members', 'town.layers["Ground"].members.update(opacity=0.5, tintcolor="#ff8800")',
+     ['layer 1 "Ground": opacity 1 -> 0.5', 'layer 1 "Ground": tint none -> "#ff8800"']),
+    ('an object', 'town.objects["Inn"].members.update(x=100.5, rotation=45, type="House")',
+     ['object 2 "Inn": rotation 0 -> 45', 'object 2 "Inn": class "Door" -> "House"', 'object 2 "Inn": x 128 -> 100.5']),
+    ('its tile', 'town.objects["key"].tile = 5', ['object 4 "key": tile tiles.tsx:20 -> tiles.tsx:4']),
+    ('true, which is not 1', 'town.objects["Inn"].members["kept"] = 1\nother.objects["Inn"].members["kept"] = True', ['object 2 "Inn": kept true -> 1']),
+    ('2.0, which is 2', 'town.objects["Inn"].x = 128.0', []),
+    ('an object that is added', 'town.layers["Things"].objects.add("barrel", 16, 24.5)', ['object 7 "barrel": added, in layer 15 "Things" at 16, 24.5']),
+    ('one without a name', 'town.layers["Things"].objects.add("", 16, 24)', ['object 7: added, in layer 15 "Things" at 16, 24']),
+    ('a name that would steer a terminal', 'town.objects["Inn"].name = "\\x1b[2J\\x9b"',
+     ['object 2 "\\u001b[2J\\u009b": name "Inn" -> "\\u001b[2J\\u009b"']),
+    ('one that is removed', 'town.objects["key"].remove()', ['object 4 "key": removed, in layer 15 "Things"']),
+    ('one in another layer', 'town.objects["key"].move_into("Places")', ['object 4 "key": moved into layer 16 "Places"']),
+    ('one in front', 'town.objects["Lake"].move_into("Places", 0)', ['object 5 "Lake": moved to place 0']),
+    ('one behind the others', 'town.objects["Inn"].move_into("Places")', ['object 2 "Inn": moved to place 4']),
+    ('the other way round', 'for each in list(town.layers["Places"].objects):\n  each.move_into("Places", 0)',
+     ['object 5 "Lake": moved to place 1', 'object 3 "Smithy": moved to place 2', 'object 2 "Inn": moved to place 3', 'object 1 "start": moved to place 4']),
+    ('a property', 'town.properties["author"] = "me"', ['map: property author: "the Roskevad project" -> "me"']),
+    ('its type', 'town.properties.set("people", "many", type="string")', ['map: property people: 12 (int) -> "many" (string)']),
+    ('a new one, and none', 'del town.properties["night"]\ntown.properties["a b"] = 1.5', ['map: property night: false -> none', 'map: property a b: none -> 1.5']),
+    ('their order', 'value = town.properties["author"]\ndel town.properties["author"]\ntown.properties["author"] = value',
+     ['map: order of properties: ["author", "music", "night", "people"] -> ["music", "night", "people", "author"]']),
+    ('a layer in a group', 'town.layers.add("group", "New").layers.add("tile", "Roofs")',
+     ['layer 17 "New": added, a group', 'layer 18 "Roofs": added, a tile layer, in layer 17 "New"']),
+    ('a group that is removed', 'town.layers["Green"].remove()',
+     ['layer 11 "Green": removed, a group', 'layer 12 "Trees": removed, a tile layer', 'layer 13 "Bushes and fences": removed, a tile layer']),
+    ('one of which a layer stays', 'town.layers["Bushes and fences"].move_into(None)\ntown.layers["Green"].remove()',
+     ['layer 11 "Green": removed, a group', 'layer 12 "Trees": removed, a tile layer', 'layer 13 "Bushes and fences": moved out of all groups']),
+    ('a layer that is moved', 'town.layers["Smithy"].move_into(None)', ['layer 7 "Smithy": moved out of all groups']),
+    ('a layer in front', 'town.layers["Ground"].move(3)', ['layer 1 "Ground": moved to place 3']),
+    ('a tileset', 'town.tilesets.add(1000, "walls.tsj")', ['tileset walls.tsj: added, first id 1000']),
+    ('the map', 'town.background = "#112233"', ['map: background none -> "#112233"']),
+    ('its size', 'town.extend(left=2, bottom=1)', ['map: 40 by 30 cells -> 42 by 31, all moved by 2, 0']),
+    ('its size alone', 'town.extend(right=1)', ['map: 40 by 30 cells -> 41 by 30']),
+    ('its size, and more', 'town.extend(top=3)\ntown.objects["Inn"].x = 0\ntown.stamp("Ground", 0, 3, [[7]])',
+     ['map: 40 by 30 cells -> 40 by 33, all moved by 0, 3', 'layer 1 "Ground": 1 cell in 0,3 to 0,3: tiles.tsx:0 -> tiles.tsx:6', 'object 2 "Inn": x 128 -> 0']),
+    ('what it counts', 'town.layers["Things"].objects.add("a", 0, 0).remove()', ['map: nextobjectid 7 -> 8']),
+]
+
+
+def fault_of_words(case):
+    with Editor() as editor:
+        other, town = two(editor)
+        exec(case.given, {'town': town, 'other': other})
+        found = other.difference(town)
+        told = [str(each) for each in found]
+        town.mark_clean()
+        other.mark_clean()
+        return unlike((case.wanted, '\n'.join(case.wanted)), (told, str(found))) or (None if found.lines is not None else f'no lines, for {found.left}')
+
+
+def test_words():
+    """Each has lines, too."""
+    check_each([Case(*row) for row in WORDS], fault_of_words)
+
+
+# ---- what is no change, and what no line says
+
+
+def test_first_ids_that_are_counted_anew():
+    """Tiles are the same by their tileset and their id there: that a first id differs is told alone."""
+    tree = json.loads((MAPS / 'two_tilesets.tmj').read_text())
+    other = json.loads(json.dumps(tree).replace('"firstgid": 33', '"firstgid": 40'))
+    for layer in other['layers']:
+        layer['data'] = [value + 7 if 33 <= value < 1 << 28 else value for value in layer.get('data', [])]
+    assert other != tree
+    with Editor() as editor:
+        found = editor.open(json.dumps(tree).encode()).difference(editor.open(json.dumps(other).encode()))
+        see(['tileset tiles: firstgid 33 -> 40 (first id)'], [str(each) for each in found])
+        see(['tileset', 'stamp', 'tileset'], [line.split(' ')[0] for line in found.lines or ()])
+
+
+def test_what_no_line_says():
+    """A layer that was removed can't come back below others, and its objects with it."""
+    with Editor() as editor:
+        one, other = two(editor)
+        one.layers['Things'].remove()
+        found = one.difference(other)
+        see((None, ['layer 15 "Things": added, an object layer']), (found.lines, [str(each) for each in found.left[:1]]))
+        see(True, other.difference(one).lines is not None)
+        one.mark_clean()
+
+
+def test_groups_crosswise():
+    """Of two groups each goes into the other one's place."""
+    with Editor() as editor:
+        one, other = two(editor)
+        for document, (outer, inner) in ((one, ('A', 'B')), (other, ('B', 'A'))):
+            groups = {name: document.layers.add('group', name) for name in ('A', 'B')}
+            groups[inner].move_into(groups[outer])
+        found = one.difference(other)
+        see(['layer 17 "A": moved into layer 18 "B"', 'layer 18 "B": moved out of all groups'], sorted(str(each) for each in found))
+        assert found.lines, found.left
+        one.mark_clean()
+        other.mark_clean()
+
+
+# ---- lines, by chance
+
+
+def edit(chosen, document):
+    """One edit by chance; one that is refused changes nothing."""
+    layers, objects = list(document.layers.walk()), list(document.objects)
+    tiles = [layer for layer in layers if layer.kind == 'tile']
+    holders = [layer for layer in layers if layer.kind == 'object']
+    groups = [layer for layer in layers if layer.kind == 'group']
+    owner = chosen.choice([document, *layers, *objects])
+    first = document.tilesets.first
+    value = first.value(chosen.randrange(8), flipped_vertically=chosen.random() < 0.2) if first else 0
+    x, y = chosen.randint(-1, document.width), chosen.randint(-1, document.height)
+    number = chosen.choice((0, 1, 16, 22.5, -3.25))
+    kinds = [
+        lambda: chosen.choice(tiles).write(x, y, [[chosen.choice((0, value)) for _ in range(4)] for _ in range(3)]),
+        lambda: document.erase(chosen.choice(tiles), x, y, 3, 2),
+        lambda: document.fill(chosen.choice(tiles), max(x, 0), max(y, 0), value),
+        lambda: chosen.choice(holders).objects.add(chosen.choice(('', 'a', 'b c')), number, 8, point=chosen.random() < 0.5, properties={'a b': number}),
+        lambda: chosen.choice(objects).remove(),
+        lambda: chosen.choice(objects).members.update(x=number, rotation=chosen.choice((0, 45, 12.5)), name=chosen.choice(('', 'n'))),
+        lambda: chosen.choice(objects).move_into(chosen.choice(holders), chosen.choice((0, None))),
+        lambda: setattr(chosen.choice(objects), 'tile', chosen.choice((None, value or None))),
+        lambda: document.layers.add(chosen.choice(('tile', 'object', 'group', 'image')), chosen.choice(('A', 'B b'))),
+        lambda: chosen.choice(groups).layers.add('tile', 'inner'),
+        lambda: chosen.choice(layers).remove(),
+        lambda: chosen.choice(layers).move_into(chosen.choice([None, *groups]), chosen.choice((0, None))),
+        lambda: chosen.choice(layers).members.update(opacity=chosen.choice((0.25, 1)), name=chosen.choice(('', 'L')), visible=chosen.random() < 0.5),
+        lambda: owner.properties.set(chosen.choice(('a', 'b c', '')), chosen.choice((1, True, 1.5, '', 'x\ny', [1], {'k': 1}))),
+        lambda: owner.properties.pop(chosen.choice(list(owner.properties))),
+        lambda: document.members.update(backgroundcolor=chosen.choice(('#112233', '#445566'))),
+        lambda: document.extend(*(chosen.choice((0, 0, 1, 2)) for _ in range(4))),
+        lambda: document.resize(document.width - 1, document.height, chosen.choice((0, -1))),
+        lambda: document.tilesets.add(chosen.choice((900, 1000)), chosen.choice(('a.tsj', 'b.tsj'))),
+    ]
+    try:
+        chosen.choice(kinds)()
+    except (Error, IndexError):
+        pass
+
+
+def pair(seed):
+    """Two maps as files, and what is told of them."""
+    chosen = random.Random(seed)
+    with Editor() as editor:
+        one, other = two(editor, chosen.choice(ONE_OF_FILES))
+        for document, most in ((one, 2), (other, 8)):
+            for _ in range(chosen.randint(0, most)):
+                edit(chosen, document)
+        files = [document.save_bytes() for document in (one, other)]
+        # As files they are opened anew: an infinite map has another area then, if its edge was emptied.
+        found = editor.open(files[0]).difference(editor.open(files[1]))
+        return *files, [str(each) for each in found], found.lines, [str(each) for each in found.left]
+
+
+def fault_of_pair(case):
+    """How what is told of two maps is not so, or None. It is by the program, and by the trees of their files."""
+    one, other, told, lines, left = pair(case.given)
+    if (tree_of(one) == tree_of(other)) != (not told):
+        return f'they are {"" if told else "not "}the same, and this is told: {told}'
+    if lines is None:
+        return None if left else 'no lines, and nothing that they leave'
+    with tempfile.TemporaryDirectory() as folder:
+        Path(folder, 'one.tmj').write_bytes(one)
+        session = '\n'.join(['open one one.tmj', *lines, 'save one.tmj', ''])
+        program = [TOP / 'bin' / 'tile_editor', '--folder', folder, '--strict', ALL_EDITS, ALL_MAPS]
+        done = subprocess.run(program, input=session, capture_output=True, text=True)
+        if done.returncode != 0:
+            return f'{done.stderr}\n{session}'
+        return unlike(tree_of(other), tree_of(Path(folder, 'one.tmj').read_bytes()))
+
+
+def test_lines_by_the_program():
+    """Most pairs have lines: those that have none bring back a layer."""
+    check_each([Case(f'pair {seed}', seed, None) for seed in range(SEED, SEED + PAIRS)], fault_of_pair, CORES)
+    some = [pair(seed) for seed in range(SEED, SEED + 20)]
+    have = sum(lines is not None for _, _, _, lines, _ in some)
+    assert have >= 14, f'{have} of {len(some)} pairs have lines'
+
+
+# ---- the command
+
+
+def command(*words):
+    done = subprocess.run([sys.executable, '-m', 'roskevad', 'diff', *words], cwd=TOP / 'python', capture_output=True, text=True)
+    return done.returncode, done.stdout, done.stderr
+
+
+def test_command():
+    with tempfile.TemporaryDirectory() as folder, Editor(folder=folder) as editor:
+        town = editor.open(MAPS / 'town.tmj')
+        town.properties['author'] = 'me'
+        town.save('one.tmj')
+        town.layers['Things'].remove()
+        town.save('less.tmj')
+        Path(folder, 'broken.tmj').write_text('{')
+        one, less, same, broken = (str(Path(folder, name)) for name in ('one.tmj', 'less.tmj', MAPS / 'town.tmj', 'broken.tmj'))
+        told = 'map: property author: "the Roskevad project" -> "me"\n'
+        lines = '# all edits, all maps\nprop put map {"name":"author","type":"string","value":"me"}\n'
+        rows = [
+            ('the same', (one, one), (0, '', '')), ('the same as JSON', ('--json', one, one), (0, '{"changes": []}\n', '')),
+            ('the same as lines', ('--lines', one, one), (0, '', '')), ('another one', (same, one), (1, told, '')),
+            ('as lines', ('--lines', same, one), (1, lines, '')),
+        ]
+        check_each([Case(*row) for row in rows], lambda case: unlike(case.wanted, command(*case.given)))
+        status, text, _ = command('--json', same, one)
+        see((1, ['map', 0, '', 'property author']), (status, [json.loads(text)['changes'][0][name] for name in ('kind', 'id', 'name', 'what')]))
+        trouble = [
+            ('no such file', (one, f'{folder}/no.tmj'), f'50 no such file: {folder}/no.tmj\n'),
+            ('no map', (broken, one), '60 not JSON'), ('one map', (one,), 'usage: '),
+            ('two ways', ('--json', '--lines', one, one), 'not allowed'), ('no lines', ('--lines', less, one), 'no lines can say all of this:'),
+        ]
+        check_each([Case(*row) for row in trouble], lambda case: fault_of_trouble(case.wanted, *command(*case.given)))
+
+
+def test_outputs_that_take_nothing():
+    town, house = (str(MAPS / name) for name in ('town.tmj', 'house.tmj'))
+    rows = [('a full disk', '> /dev/full', (2, 'No space left on device')), ('none', '>&-', (2, 'write failed')), ('none for faults', '2>&- >&-', (2, ''))]
+
+    def fault_of(case):
+        words = f'"$0" -m roskevad diff "$1" "$2" {case.given}'
+        done = subprocess.run(['sh', '-c', words, sys.executable, town, house], cwd=TOP / 'python', capture_output=True, text=True)
+        status, told = case.wanted
+        return unlike((status, '', True), (done.returncode, done.stdout, told in done.stderr and 'Traceback' not in done.stderr))
+
+    check_each([Case(*row) for row in rows], fault_of)
+
+
+def fault_of_trouble(wanted, status, told, words):
+    return unlike((2, '', True), (status, told, wanted in words)) and f'{status} {told!r} {words!r}'
+
+
+def test_a_document_that_is_none():
+    with Editor() as editor:
+        one, other = two(editor)
+        see(2, len({type(each) for each in (one.difference(other), roskevad.Difference(one, other)[:0])}))
+        try:
+            one.difference('town.tmj')
+        except TypeError as fault:
+            see('a map differs from that of a document: str', str(fault))
+        else:
+            raise AssertionError('nothing is raised')
