@@ -72,6 +72,8 @@ WORDS = [
     ('a layer that is moved', 'town.layers["Smithy"].move_into(None)', ['layer 7 "Smithy": moved out of all groups']),
     ('a layer in front', 'town.layers["Ground"].move(3)', ['layer 1 "Ground": moved to place 3']),
     ('a tileset', 'town.tilesets.add(1000, "walls.tsj")', ['tileset walls.tsj: added, first id 1000']),
+    ('its file', 'town.tilesets[1].source = "art/tiles.tsx"', ['tileset art/tiles.tsx: source "tiles.tsx" -> "art/tiles.tsx"']),
+    ('what a map has of it', 'town.tilesets[1].members["origin"] = "the old town"', ['tileset tiles.tsx: origin none -> "the old town"']),
     ('the map', 'town.background = "#112233"', ['map: background none -> "#112233"']),
     ('its size', 'town.extend(left=2, bottom=1)', ['map: 40 by 30 cells -> 42 by 31, all moved by 2, 0']),
     ('its size alone', 'town.extend(right=1)', ['map: 40 by 30 cells -> 41 by 30']),

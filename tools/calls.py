@@ -433,7 +433,7 @@ OBJECT = Kind('MapObject', 'An object, by its id. Where it was removed, a call r
     to_json('object', 'members', 'What JSON has of it: `object.members`.'),
 ])
 
-OWN_MEMBERS = Kind('OwnMembers', 'All that the map says of an object or a layer, or the own members of the map, when it was asked for: a dict. '
+OWN_MEMBERS = Kind('OwnMembers', 'All that the map says of an object, a layer or a tileset, or the own members of the map, when it was asked for: a dict. '
                    'What is set in it or taken out of it is an edit.', [
     Call('get', 'key', 'The member of a name.', gives='Any', raises={'key': ('document.objects[1].members["point"]', '')},
          written=('members[key]', ''), only='python'),

@@ -111,8 +111,9 @@ def _changes_between(old: 'Document', goal: MapNow, shift: Optional[Shift]) -> l
     """All that differs. The first map gets the size of the other one, and is a copy."""
     found = _resized(old, goal, shift) if shift else []
     now = MapNow(old)
-    tiles = _Tiles(now), _Tiles(goal)
-    found += [*_of_the_map(now, goal), *_of_tilesets(now, goal), *_of_layers(now, goal, tiles), *_of_objects(now, goal, tiles)]
+    tilesets = [*_paired_tilesets(now, goal)]
+    tiles = _Tiles(tilesets, 0), _Tiles(tilesets, 1)
+    found += [*_of_the_map(now, goal), *_of_tilesets(tilesets), *_of_layers(now, goal, tiles), *_of_objects(now, goal, tiles)]
     if not found:
         found = _of_counts(now, goal)
     return found or _of_the_file(old, goal.document)
@@ -199,15 +200,35 @@ def _of_the_map(now: MapNow, goal: MapNow) -> Iterator[Change]:
 # ---- tilesets, and tiles by them
 
 
+Pair = tuple[Optional[Members], Optional[Members]]
+
+
+def _first_id(tileset: Members) -> int:
+    return int(tileset['firstgid'])
+
+
 def _tileset_name(tileset: Members) -> str:
     return str(tileset.get('source') or tileset.get('name', ''))
 
 
-def _of_tilesets(now: MapNow, goal: MapNow) -> Iterator[Change]:
-    old, new = ({_tileset_name(each): each for each in map_.tree['tilesets']} for map_ in (now, goal))
-    for name in [*old, *(name for name in new if name not in old)]:
-        before, after = old.get(name), new.get(name)
-        subject = Subject('tileset', (before or after or {})['firstgid'])
+def _paired_tilesets(now: MapNow, goal: MapNow) -> Iterator[Pair]:
+    """Tilesets that are the same in two maps: by their file or name, and those that are left by their first ids."""
+    old, new = ([*map_.tree['tilesets']] for map_ in (now, goal))
+    for key in (lambda each: (_tileset_name(each), _first_id(each)), _tileset_name, _first_id):
+        for before in [*old]:
+            after = next((each for each in new if key(each) == key(before)), None)
+            if after is not None:
+                old.remove(before)
+                new.remove(after)
+                yield before, after
+    yield from ((each, None) for each in old)
+    yield from ((None, each) for each in new)
+
+
+def _of_tilesets(tilesets: list[Pair]) -> Iterator[Change]:
+    for before, after in sorted(tilesets, key=lambda pair: _first_id(pair[0] or pair[1] or {})):
+        one = after or before or {}
+        name, subject = _tileset_name(one), Subject('tileset', _first_id(before or one))
         if before is None or after is None:
             what = 'added' if before is None else 'removed'
             yield Change(subject, name, what, before, after, f'{what}, first id {subject.id}')
@@ -221,8 +242,9 @@ class _Tiles:
 
     __slots__ = '_firsts', '_known'
 
-    def __init__(self, map: MapNow):
-        self._firsts = sorted((each['firstgid'], _tileset_name(each)) for each in map.tree['tilesets'])
+    def __init__(self, tilesets: list[Pair], at: int):
+        there = [(pair[at], pair[1] or pair[0] or {}) for pair in tilesets]
+        self._firsts = sorted((_first_id(each), _tileset_name(one)) for each, one in there if each is not None)
         self._known: dict[int, str] = {0: 'empty'}
 
     def name(self, value: int) -> str:
