@@ -279,6 +279,67 @@ def test_find_it_in_a_folder():
         see_found(page, 'gone.png', 'tiles.png')
 
 
+def replace(page, source):
+    """Replaces the tileset that the palette shows by one of the folder."""
+    page.wait(lambda: page.texts('#choose-file'), 'a list')
+    page.fill_in(file=source)
+    page.wait(lambda: page.js('return !roskevad.tilesets.isReading && !document.querySelector("dialog[open]")'), 'it is read')
+    page.settle()
+
+
+def test_replace():
+    """Another file stands in the place of a tileset, as one step: no cell changes. What it lacks of the tiles that are in use is said."""
+    bench = Bench(served=True, empty=True)
+    with bench as page:
+        (bench.folder / 'few.tsj').write_text((bench.folder / 'walls.tsj').read_text().replace('"tilecount":32', '"tilecount":8'))
+        page.js('return roskevad.documents.openPath("town.tmj")')
+        page.settle()
+        layers = page.editor.shown()['layers']
+        page.click('#replace-tileset')
+        assert page.texts('#choose-file h2') == ['Replace tiles']
+        replace(page, 'walls.tsj')
+        assert page.texts('#steps li .name')[-1] == 'Replace Tileset' and standing(page) == (1, 1)
+        assert page.editor.shown()['tilesets'] == [{'firstgid': 1, 'source': 'walls.tsj'}] and page.editor.shown()['layers'] == layers
+        assert page.texts('#tilesets option') == ['walls'] and page.notices() == []
+        page.ctrl('z')
+        assert page.editor.shown()['tilesets'] == [{'firstgid': 1, 'source': 'tiles.tsx'}] and page.texts('#tilesets option') == ['tiles']
+        page.click('#replace-tileset')
+        replace(page, 'few.tsj')
+        page.wait(lambda: 'The map uses tiles that walls does not have: ' in said(page), 'it is said')
+        assert said(page).endswith('They are drawn as numbers.'), said(page)
+
+
+def test_replace_one_in_the_map():
+    """A tileset that the map has in itself is replaced with all that it is; undone, it is there again."""
+    bench = Bench(served=True, empty=True)
+    with bench as page:
+        town, walls = (json.loads((bench.folder / name).read_text()) for name in ('town.tmj', 'walls.tsj'))
+        embedded = {'firstgid': 1, **{name: walls[name] for name in walls if name not in ('type', 'version', 'tiledversion')}}
+        (bench.folder / 'whole.tmj').write_text(json.dumps({**town, 'tilesets': [embedded]}))
+        page.js('return roskevad.documents.openPath("whole.tmj")')
+        page.settle()
+        before = page.editor.shown()
+        page.click('#replace-tileset')
+        replace(page, 'tiles.tsx')
+        assert page.editor.shown()['tilesets'] == [{'firstgid': 1, 'source': 'tiles.tsx'}] and standing(page) == (1, 1)
+        page.ctrl('z')
+        assert page.editor.shown() == before
+
+
+def test_replace_it():
+    """A tileset that is lost is replaced from what is said of it."""
+    bench = Bench(served=True, empty=True)
+    with bench as page:
+        (bench.folder / 'tiles.tsx').unlink()
+        page.js('return roskevad.documents.openPath("town.tmj")')
+        page.settle()
+        assert 'Not found: tiles.tsx.' in page.notices()[0], page.notices()
+        page.answer('Replace it')
+        replace(page, 'walls.tsj')
+        assert page.notices() == [] and page.editor.shown()['tilesets'] == [{'firstgid': 1, 'source': 'walls.tsj'}]
+        see_colours(page, [(x, 2) for x in range(0, 40, 5)])
+
+
 # ---- hostile files
 
 WATCH = '''

@@ -117,7 +117,7 @@ export class Commands {
     const take = name => [["brush", "Draw with the stamp"], ["fill", "Fill with the stamp"], ["rectangle", "Fill a rectangle with the stamp"]].find(([each]) => each === name)[1];
     const items = ["brush", "fill", "rectangle"].map(name => ({ text: take(name), picture: name, call: () => tools.choose(name) }));
     const insert = { text: "Insert the tile as an object", picture: "insert", call: () => (tools.choose("insert"), tools.all.insert.take("tile")) };
-    return [...items, insert, null, ...["palette-larger", "palette-smaller", "add-tileset", "remove-tileset"].map(id => itemOf(byId(id)))];
+    return [...items, insert, null, ...["palette-larger", "palette-smaller", "add-tileset", "replace-tileset", "remove-tileset"].map(id => itemOf(byId(id)))];
   }
 
   tabItems(tab) {

@@ -25,8 +25,10 @@ const IMAGE = /\.(png|jpe?g|gif|webp|bmp|svg|avif)$/i;
 export class PlacePanel {
   constructor(bench, documents, tilesets) {
     Object.assign(this, { bench, documents, tilesets, editor: bench.editor });
-    // Called where the tilesets may be others, where something is to be made of a picture, and where a folder was opened.
+    // Called where the tilesets may be others, where something is to be made of a picture, where a folder was opened, and where a lost tileset
+    // is to be replaced: that of a first id.
     this.onTilesets = () => {};
+    this.onReplace = () => {};
     this.onPicture = () => {};
     this.onFolder = () => {};
   }
@@ -209,7 +211,10 @@ export class PlacePanel {
     const more = others.length ? ` and ${others.length} more` : "";
     const words = `Not found: ${first}${more}. ${this.editor.place.advice(first)} Its tiles are drawn as numbers.`;
     const find = this.editor.place.kind === "chosen" ? () => byId("files").click() : () => this.find(missing);
-    return notice("tilesets", words, [["Find it", find, "Choose where the file is, and its image"], ["OK", () => {}]], "mild");
+    const buttons = [["Find it", find, "Choose where the file is, and its image"], ["OK", () => {}]];
+    const lost = this.tilesets.all.find(({ source }) => source && this.tilesets.folder + source === first);
+    if (lost) buttons.splice(1, 0, ["Replace it", () => this.onReplace(lost.first), "Choose another tileset: its tiles keep their places"]);
+    return notice("tilesets", words, buttons, "mild");
   }
 }
 
