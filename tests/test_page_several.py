@@ -246,7 +246,8 @@ def test_tiles_of_several():
     with Bench() as page:
         ids = crates(page)
         layer = layer_of(page, 'Crates')['id']
-        page.editor.lines(*(f'object put {layer} {json.dumps({"x": 100 + 20 * at, "y": 200, "width": 16, "height": 16, "gid": gid})}' for at, gid in enumerate((21, 21, 5))))
+        made = [{'x': 100 + 20 * at, 'y': 200, 'width': 16, 'height': 16, 'gid': gid} for at, gid in enumerate((21, 21, 5))]
+        page.editor.lines(*(f'object put {layer} {json.dumps(each)}' for each in made))
         tiles = [each['id'] for each in layer_of(page, 'Crates')['objects']][3:]
         told = lambda: [text.split('\n')[0] for text in page.texts('#properties tr:has(#take-tile) .value')]
         for numbers, words in ((tiles[:2], ['tiles 20']), (tiles, ['several values']), ([ids[0], *tiles], [])):
