@@ -124,9 +124,9 @@ impl Block {
         self.is_lost || now.depth == 0 && now.index > self.low
     }
 
-    // The first step is gone.
+    /// The first step is gone.
     #[inline(always)]
-    fn drop_first(&mut self) {
+    pub fn drop_first(&mut self) {
         self.dropped = self.dropped.saturating_add(1);
         if self.low == 0 {
             self.is_lost = true;

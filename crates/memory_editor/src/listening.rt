@@ -122,7 +122,23 @@ impl Listening {
         }
     }
 
-    /// The first line of a call is to be done.
+    /// The first line of a call is to be done. Where the one before it was one of a call of its own, and had an edit that became a step
+    /// or a part of one, how the documents stand follows from that alone: says whether.
+    #[inline(always)]
+    pub fn begins_behind_edit(&mut self) -> bool {
+        if self.is_many || self.last.depth != 0 {
+            return false;
+        }
+        match self.pushed {
+            Some(Pushed::Added) => self.last.index = self.last.index.saturating_add(1),
+            Some(Pushed::AddedAndDropped | Pushed::Merged) => {}
+            _ => return false,
+        }
+        self.pushed = None;
+        true
+    }
+
+    /// The first line of a call is to be done. The documents stand so before it.
     #[inline(always)]
     pub fn begins(&mut self, before: Standing) {
         self.last = before;
@@ -146,6 +162,22 @@ impl Listening {
     #[inline(always)]
     pub fn passes(&mut self) {
         self.pushed = None;
+    }
+
+    /// A further line of a call is to be done. Where the one before it added a step, of which all is known, that alone is noted: says
+    /// whether.
+    #[inline(always)]
+    pub fn goes_on_behind_edit(&mut self) -> bool {
+        if !self.is_many || self.last.depth != 0 {
+            return false;
+        }
+        match self.pushed {
+            Some(Pushed::Added) => self.last.index = self.last.index.saturating_add(1),
+            Some(Pushed::AddedAndDropped) => self.block.drop_first(),
+            _ => return false,
+        }
+        self.pushed = None;
+        true
     }
 
     /// A further line of a call is to be done. The documents stand so before it, and this is the stack of the active one.

@@ -127,7 +127,11 @@ impl MemoryEditor {
         ensures size { result ≡ size_within (reply_bytes self.new.reply) replies.old }
         ensures put { replies.new ≡ written (reply_bytes self.new.reply) replies.old }
     {
-        self.listen(is_first);
+        if is_first {
+            self.listen_anew();
+        } else {
+            self.listen_on();
+        }
         self.hear(line);
         self.look_at_word(line);
         self.put_reply(replies)

@@ -87,7 +87,7 @@ impl MemoryEditor {
     pub fn step(&mut self, line: &[u8])
         ensures { StepsTo line.now self.old self.new }
     {
-        self.listen(true);
+        self.listen_anew();
         self.hear(line);
         self.look_at_word(line);
     }

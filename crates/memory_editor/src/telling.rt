@@ -103,7 +103,7 @@ fn step_in<'a>(stack: &'a Stack<Edit>, at: usize) -> Option<Step<'a>>
 }
 
 impl MemoryEditor {
-    // How the documents stand.
+    // How the documents stand. It is read from the stack of the active one.
     fn standing(&self) -> Standing {
         let group = self.editor.group();
         let (index, depth) = match group.active() {
@@ -118,16 +118,42 @@ impl MemoryEditor {
         }
     }
 
-    // A line is to be done, the first one of a call or a further one.
+    // How the documents stand behind the last line, whose reply says how the active one does, or that none is.
     #[inline(always)]
-    pub(crate) fn listen(&mut self, is_first: bool)
+    fn standing_behind(&self) -> Standing {
+        let group = self.editor.group();
+        match self.reply {
+            Some(Reply::State { index, depth, .. }) => Standing {
+                documents: group.count(),
+                active: group.active_place(),
+                index: index as usize,
+                depth: depth as usize,
+            },
+            _ => self.standing(),
+        }
+    }
+
+    // The first line of a call is to be done.
+    #[inline(always)]
+    pub(crate) fn listen_anew(&mut self)
         ensures { self.new ≡ self.old }
     {
-        if is_first {
-            let standing = self.standing();
+        if !self.listening.begins_behind_edit() {
+            let standing = self.standing_behind();
             self.listening.begins(standing);
-        } else if self.may_have_changed() {
-            let standing = self.standing();
+        }
+    }
+
+    // A further line of a call is to be done.
+    #[inline(always)]
+    pub(crate) fn listen_on(&mut self)
+        ensures { self.new ≡ self.old }
+    {
+        if self.listening.goes_on_behind_edit() {
+            return;
+        }
+        if self.may_have_changed() {
+            let standing = self.standing_behind();
             self.listening
                 .goes_on(standing, self.editor.group().active());
         } else {
