@@ -120,7 +120,7 @@ def _changes_between(old: 'Document', goal: MapNow, shift: Optional[Shift]) -> l
 
 def _resized(old: 'Document', goal: MapNow, shift: Shift) -> list[Change]:
     before, after = ([map_[side] for side in ('width', 'height')] for map_ in (old.outline(), goal.tree))
-    old._edit(f'resize {after[0]} {after[1]} {shift.x} {shift.y}')
+    old._edit(shift.line(goal))
     moved = f', all moved by {shift.x}, {shift.y}' if any(shift) else ''
     words = f'{before[0]} by {before[1]} cells -> {after[0]} by {after[1]}{moved}'
     return [Change(_MAP, '', 'size', before, [*after, *shift], words)]
@@ -199,12 +199,18 @@ def _of_the_map(now: MapNow, goal: MapNow) -> Iterator[Change]:
 # ---- tilesets, and tiles by them
 
 
-def _tileset_name(tileset: Members) -> str:
-    return str(tileset.get('source') or tileset.get('name', ''))
+def _tilesets_by_name(map: MapNow) -> dict[str, Members]:
+    """The tilesets by their files, or by their names where they have none; one that has the name of another one is counted."""
+    found, counts = dict[str, Members](), dict[str, int]()
+    for each in map.tree['tilesets']:
+        name = str(each.get('source') or each.get('name', ''))
+        counts[name] = counts.get(name, 0) + 1
+        found[name if counts[name] == 1 else f'{name} ({counts[name]})'] = each
+    return found
 
 
 def _of_tilesets(now: MapNow, goal: MapNow) -> Iterator[Change]:
-    old, new = ({_tileset_name(each): each for each in map_.tree['tilesets']} for map_ in (now, goal))
+    old, new = _tilesets_by_name(now), _tilesets_by_name(goal)
     for name in [*old, *(name for name in new if name not in old)]:
         before, after = old.get(name), new.get(name)
         subject = Subject('tileset', (before or after or {})['firstgid'])
@@ -222,7 +228,7 @@ class _Tiles:
     __slots__ = '_firsts', '_known'
 
     def __init__(self, map: MapNow):
-        self._firsts = sorted((each['firstgid'], _tileset_name(each)) for each in map.tree['tilesets'])
+        self._firsts = sorted((each['firstgid'], name) for name, each in _tilesets_by_name(map).items())
         self._known: dict[int, str] = {0: 'empty'}
 
     def name(self, value: int) -> str:
