@@ -663,12 +663,34 @@ export class Tileset {
   readonly firstId: number;
   /** The same. */
   valueOf(): number;
-  /** The path of its file; null where the map has it in itself. */
-  readonly source: string | null;
-  /** Its name, where the map has it in itself; no file is read for it. */
-  readonly name: string | null;
+  /**
+   * The path of its file; null where the map has it in itself. Set, it gives it another file, and
+   * null takes it away; no cell changes. Throws TypeError.
+   */
+  source: string | null;
+  /**
+   * Its name, where the map has it in itself; no file is read for it. Set, it gives it another one
+   * in the map. Throws TypeError.
+   */
+  name: string | null;
+  /**
+   * Its class, as Tiled calls it: the member `class` of the map's file. Set, it gives it another
+   * one there. Throws TypeError.
+   */
+  className: string;
   /** All that the map says of it, but for its first id: a copy. */
   readonly members: Members;
+  /**
+   * Gives the tileset an own member, or adds one: any that Tiled writes for it, but its first id.
+   * Throws TypeError, RangeError, Refused (41, 63).
+   */
+  setMember(key: string, value: unknown, options?: { merge?: boolean }): void;
+  /**
+   * Gives the tileset some own members at once, as one step. Throws TypeError, Refused (41, 63).
+   */
+  setMembers(members: Record<string, unknown>, options?: { merge?: boolean }): void;
+  /** Takes an own member out, and says whether there was one. Throws Refused (41). */
+  removeMember(key: string): boolean;
   /** Its tiles by their ids, at most 1,048,576, where the map has it in itself; else null. */
   readonly tiles: TilesetTile[] | null;
   /**

@@ -1,6 +1,6 @@
 // SPDX-License-Identifier: MIT OR Apache-2.0
-// The own members of an object, a layer or the map: what stands for it in the map's file, but for what other lines change.
-// Each line of them is said here.
+// The own members of an object, a layer, a tileset or the map: what stands for it in the map's file, but for what other lines
+// change. Each line of them is said here.
 import { Refused, refusedCall } from "./faults.js";
 import { membersSaid, said } from "./json_values.js";
 import { inAFile } from "./new_objects.js";
@@ -14,6 +14,7 @@ const OTHERS = {
     "id", "type", "properties", "data", "chunks", "startx", "starty", "objects", "layers", "width", "height", "encoding",
     "compression", "roskevad",
   ],
+  tileset: ["firstgid", "roskevad"],
   map: [
     "width", "height", "infinite", "chunks", "data", "objects", "layers", "tilesets", "properties", "type", "version",
     "roskevad",
@@ -33,7 +34,7 @@ const INSTEAD = new Map([
 // What stands there again where it is taken out.
 const DEFAULTS = new Map([["layer", new Map([["name", ""], ["visible", true]])]]);
 
-/** What has own members, an object, a layer or the map: how lines and the library name it, and how it is read. */
+/** What has own members, an object, a layer, a tileset or the map: how lines and the library name it, and how it is read. */
 export class Owner {
   #kind;
   #call;

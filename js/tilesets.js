@@ -3,6 +3,7 @@
 import { DIAGONALLY, HORIZONTALLY, TURNED, VERTICALLY } from "./blocks.js";
 import { BadTileset, NotFound, refusedCall } from "./faults.js";
 import * as json from "./json_values.js";
+import { Owner, WithOwnMembers, setMember, setOrRemove } from "./own_members.js";
 import { BASE } from "./rows.js";
 import * as words from "./words.js";
 
@@ -42,10 +43,11 @@ function tileOfSet(id, { type, class: kind, properties, objectgroup } = {}) {
  * A tileset of a document, by its first id. It stays the same however the map changes; a call throws
  * Refused, 36, where the map has no tileset of that first id.
  */
-export class Tileset {
+export class Tileset extends WithOwnMembers {
   #document;
 
   constructor(document, firstId) {
+    super();
     this.#document = document;
     this.firstId = firstId;
     Object.freeze(this);
@@ -64,14 +66,38 @@ export class Tileset {
     return this.#document === document;
   }
 
-  /** The path of its file from the folder of the map; null where the map has it in itself. */
+  get _owner() {
+    return new Owner(this.#document, "tileset", this.firstId, () => this._members);
+  }
+
+  /**
+   * The path of its file from the folder of the map; null where the map has it in itself. Set, it gives the tileset another
+   * file, and null takes it away; no cell changes, and no file is read.
+   */
   get source() {
     return this._members.source ?? null;
   }
 
-  /** Its name, where the map has it in itself; else null: no file of a tileset is read. */
+  set source(source) {
+    setOrRemove(this, "source", source === null ? null : json.text(source, "the source of a tileset"));
+  }
+
+  /** Its name, where the map has it in itself; else null: no file of a tileset is read. Set, it gives it another one in the map. */
   get name() {
     return this._members.name ?? null;
+  }
+
+  set name(name) {
+    setMember(this, "name", json.text(name, "the name of a tileset"));
+  }
+
+  /** Its class, as Tiled calls it: the member `class` of the map's file. Set, it gives the tileset another one there. */
+  get className() {
+    return this._members.class ?? "";
+  }
+
+  set className(name) {
+    setMember(this, "class", json.text(name, "the class of a tileset"));
   }
 
   /** All that the map says of it, but for its first id; of a tileset in the map its tiles, too: a copy. */

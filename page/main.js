@@ -119,6 +119,7 @@ class Page {
   listen() {
     const { bench, editor, overlay, panel, view } = this;
     panel.onPicture = path => (this.editor.map ? this.tilesetPanel.makeOf(path) : this.documents.newMap.make(path));
+    panel.onReplace = first => this.tilesetPanel.replaceLost(first);
     panel.onTilesets = () => {
       editor.templates.retry();
       this.showTilesets().catch(fault => console.warn(fault));

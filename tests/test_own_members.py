@@ -1,5 +1,5 @@
 # SPDX-License-Identifier: MIT OR Apache-2.0
-"""Tries own members of objects, layers and maps by the Python package: values by their names, and the
+"""Tries own members of objects, layers, tilesets and maps by the Python package: values by their names, and the
 dicts that hold them; what no line can say and what the editor refuses; what changes nothing, merges
 and is undone; macros; what files have of them, and what a save gives back."""
 import base64
@@ -25,9 +25,11 @@ MAP = {'nextlayerid': 3, 'nextobjectid': 2, 'orientation': 'orthogonal', 'render
 GROUND = {'height': 3, 'id': 1, 'name': 'Tile Layer 1', 'opacity': 1, 'type': 'tilelayer', 'visible': True, 'width': 4, 'x': 0, 'y': 0}
 DOOR = {'height': 0, 'id': 1, 'name': 'door', 'rotation': 0, 'type': '', 'visible': True, 'width': 0, 'x': 3, 'y': 4}
 THINGS = {'draworder': 'topdown', 'id': 2, 'name': 'Things', 'objects': [DOOR], 'opacity': 1, 'type': 'objectgroup', 'visible': True, 'x': 0, 'y': 0}
-# The members that other lines change, or none, of a layer of any kind and of the map.
+TILESET = {'source': 'a.tsj'}
+# The members that other lines change, or none, of a layer of any kind, of a tileset and of the map.
 OF_OTHER_LINES = {
     'layer': ['id', 'type', 'properties', 'data', 'chunks', 'startx', 'starty', 'objects', 'layers', 'width', 'height', 'encoding', 'compression'],
+    'tileset': ['firstgid'],
     'map': ['width', 'height', 'infinite', 'chunks', 'data', 'objects', 'layers', 'tilesets', 'properties', 'type', 'version'],
 }
 DEEP = functools.reduce(lambda inner, _: [inner], range(88), 0)
@@ -37,7 +39,8 @@ DEEP_HALF = functools.reduce(lambda inner, _: [inner], range(87), 0.5)
 
 def owners(document):
     """What has own members there, by the words of lines."""
-    return {'object:1': document.objects['door'], 'layer:1': document.layers[1], 'layer:2': document.layers['Things'], 'map': document}
+    things = {'object:1': document.objects['door'], 'layer:1': document.layers[1], 'layer:2': document.layers['Things']}
+    return {**things, 'tileset:1': document.tilesets[1], 'map': document}
 
 
 def of_each_owner(fault_of):
@@ -47,11 +50,11 @@ def of_each_owner(fault_of):
         with Editor() as editor:
             return fault_of(owners(made(editor))[case.given])
 
-    check_each([Case(name, name, None) for name in ('object:1', 'layer:1', 'layer:2', 'map')], fault_of_one)
+    check_each([Case(name, name, None) for name in ('object:1', 'layer:1', 'layer:2', 'tileset:1', 'map')], fault_of_one)
 
 
 def document_of(thing):
-    return getattr(thing, 'document', thing)
+    return getattr(thing, 'document', getattr(thing, '_document', thing))
 
 
 # ---- what no line says, and what is refused
@@ -93,6 +96,8 @@ def test_typed_values_that_no_line_says():
             ('layer:1', 'class_name', None, TypeError), ('layer:1', 'class_name', '\ud800', ValueError), ('layer:1', 'opacity', '1', TypeError),
             ('layer:1', 'opacity', True, TypeError), ('layer:1', 'opacity', None, TypeError), ('layer:2', 'opacity', float('inf'), ValueError),
             ('layer:2', 'tint', 0xFF0000, TypeError), ('layer:2', 'tint', '\udc80', ValueError),
+            ('tileset:1', 'source', 5, TypeError), ('tileset:1', 'source', '\ud800', ValueError), ('tileset:1', 'name', None, TypeError),
+            ('tileset:1', 'class_name', None, TypeError), ('tileset:1', 'class_name', '\udc80', ValueError),
             ('map', 'class_name', 5, TypeError), ('map', 'class_name', None, TypeError), ('map', 'background', b'#102030', TypeError),
             ('map', 'background', '\ud800', ValueError),
         ]
@@ -114,6 +119,7 @@ REFUSED_VALUES = {
                  (63, 'visible', 1), (68, 'x', 10**12), (41, 'id', 7), (41, 'properties', [])],
     'layer:1': [(63, 'name', 0.5), (63, 'name', 7), (63, 'visible', 1), (63, 'visible', None)],
     'layer:2': [(63, 'name', None), (63, 'visible', 'yes')],
+    'tileset:1': [(63, 'source', 5), (63, 'source', None), (63, 'source', ['a.tsj'])],
     'map': [(63, 'tilewidth', 16.5), (63, 'tilewidth', 'wide'), (63, 'nextobjectid', None), (68, 'nextlayerid', 2), (68, 'nextlayerid', 1),
             (68, 'nextobjectid', 1)],
 }
@@ -169,6 +175,7 @@ def test_members_that_stay():
         document = made(editor)
         rows = [(41, document.layers[number], name) for number in (1, 2) for name in OF_OTHER_LINES['layer']]
         rows += [(41, document, name) for name in OF_OTHER_LINES['map']] + [(41, document.objects[1], name) for name in ('id', 'properties')]
+        rows += [(41, document.tilesets[1], 'firstgid')]
         rows += [(62, document, name) for name in ('tilewidth', 'tileheight', 'nextlayerid', 'nextobjectid')]
         for code, thing, name in rows:
             see((name, code), (name, raised(Refused, operator.delitem, thing.members, name).code))
@@ -183,11 +190,14 @@ def test_what_was_removed():
     with Editor() as editor:
         document = made(editor)
         ground, door = document.layers[1], document.objects['door']
-        held = {30: ground.members, 34: door.members}
+        tileset = document.tilesets[1]
+        held = {30: ground.members, 34: door.members, 36: tileset.members}
         ground.remove()
         door.remove()
+        tileset.remove()
         typed = [(30, ground, name, value) for name, value in (('class_name', 'a'), ('opacity', 0), ('tint', None), ('tint', '#fff'), ('locked', True))]
         typed += [(34, door, name, value) for name, value in (('class_name', 'a'), ('rotation', 0), ('tile', None))]
+        typed += [(36, tileset, name, value) for name, value in (('source', 'b.tsj'), ('source', None), ('name', 'a'), ('class_name', 'a'))]
         for code, thing, name, value in typed:
             see(code, raised(Refused, setattr, thing, name, value).code)
             see(code, raised(Refused, getattr, thing, name).code)
@@ -204,7 +214,7 @@ def test_what_was_removed():
 
 def test_members_are_a_dict():
     """So they are read as any other one; and what is no edit of one member or of some is none."""
-    wholes = {'object:1': DOOR, 'layer:1': GROUND, 'layer:2': THINGS, 'map': MAP}
+    wholes = {'object:1': DOOR, 'layer:1': GROUND, 'layer:2': THINGS, 'tileset:1': TILESET, 'map': MAP}
 
     def fault_of(case):
         with Editor() as editor:
@@ -390,6 +400,30 @@ def test_fractions_of_files():
 
 
 # ---- values by their names
+
+
+def test_values_of_a_tileset():
+    """Its file is another one, and the cells stay: so a tileset is replaced."""
+    with Editor() as editor:
+        document = made(editor)
+        tileset, ground = document.tilesets[1], document.layers[1]
+        document.stamp(ground, 0, 0, [[5]])
+        with Said(editor) as lines:
+            tileset.source = 'art/b "new".tsx'
+            tileset.class_name = 'stone'
+            tileset.members['origin'] = {'by': None}
+        see([r'member set tileset:1 source "art/b \"new\".tsx"', 'member set tileset:1 class "stone"', 'member set tileset:1 origin {"by":null}'], lines)
+        whole = {'class': 'stone', 'origin': {'by': None}, 'source': 'art/b "new".tsx'}
+        see((whole, 'art/b "new".tsx', 'stone', 6), (tileset.members, tileset.source, tileset.class_name, document.status.count))
+        see([{'firstgid': 1, **whole}], json.loads(document.save_bytes())['tilesets'])
+        see(5, document.map()['layers'][0]['data'][0])
+        tileset.source = None
+        tileset.source = None
+        see((None, None, 7), (tileset.source, tileset.members.get('source'), document.status.count))
+        tileset.name = 'walls'
+        see(('walls', {'class': 'stone', 'name': 'walls', 'origin': {'by': None}}), (tileset.name, tileset.members))
+        document.goto(3)
+        see((TILESET, ''), (tileset.members, tileset.class_name))
 
 
 def test_values_of_a_layer():

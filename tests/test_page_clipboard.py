@@ -577,6 +577,7 @@ def test_kinds():
         say_nothing(page)
         page.ctrl('v')
         assert 'Choose an object layer first' in page.bubble() and len(spelled(page)) == 1, page.bubble()
+        assert page.js('return roskevad.tools.name') == 'brush', 'the tool in hand is as it was'
         choose(page, 'Things')
         page.keys('b')
         page.ctrl('v')
@@ -585,6 +586,7 @@ def test_kinds():
         members = json.loads(added.split(' ', 3)[3])
         assert members['name'] == 'crate' and members['properties'] == [{'name': 'lid', 'type': 'bool', 'value': True}], members
         assert page.bubble().startswith('Without key'), page.bubble()
+        assert page.js('return roskevad.tools.name') == 'objects', 'they are shown by that tool'
         passed()
         choose(page, 'Ground')
         page.js('roskevad.bench.chooseObject(null)')

@@ -192,7 +192,7 @@ def test_name_class_and_rotation():
         assert spelled(page) == lines and standing(page) == (3, 3)
         assert object_of(page, 2) == {**inn, 'name': 'The "Inn" \\ ü', 'type': 'House', 'rotation': 45}
         assert page.texts('#owner') == ['Object The "Inn" \\ ü'] and page.texts('#objects .now .name') == ['The "Inn" \\ ü']
-        assert page.texts('#steps li .name')[-3:] == [f'Set Member · The "Inn" \\ ü: {what.strip()}' for what in names]
+        assert page.texts('#steps li .name')[-3:] == [f'Set {what.strip().capitalize()} · The "Inn" \\ ü' for what in names]
         page.reload()
         assert page.editor.state()['count'] == 3 and object_of(page, 2)['rotation'] == 45
         page.keys('s')
@@ -231,7 +231,7 @@ def test_classes():
         assert value_of(page, ' class') == ''
         page.type_into('#properties [data-key=" class"]', 'level "1"')
         assert spelled(page) == [f'member set layer:{ground["id"]} class "floor"', r'member set map class "level \"1\""'] and standing(page) == (2, 2)
-        assert page.texts('#steps li .name')[-2:] == ['Set Member · Ground: class', 'Set Member · class']
+        assert page.texts('#steps li .name')[-2:] == ['Set Class · Ground', 'Set Class']
         with_ctrl(page, 'z')
         assert value_of(page, ' class') == '' and standing(page) == (1, 2)
 

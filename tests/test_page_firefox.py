@@ -1,6 +1,6 @@
 # SPDX-License-Identifier: MIT OR Apache-2.0
 """Opens the page's one file in Firefox from a disk: chooses files, draws with the mouse, undoes by keys,
-draws and copies objects, saves, and loads the page anew in the midst of work."""
+draws, turns and copies objects, saves, and loads the page anew in the midst of work."""
 import json
 import shutil
 import subprocess
@@ -91,8 +91,24 @@ def objects_of(fox):
     return next(each['objects'] for each in shown['layers'] if each['id'] == number)
 
 
+# Where the handle that turns the chosen object is in the window, and where its middle is, of one that is not turned.
+TURN = '''
+const {bench, overlay, view, handlesOf} = window.roskevad, {object, layer} = bench.chosenObject, frame = view.box.getBoundingClientRect();
+const [left, top] = overlay.screenPlace(object, layer);
+const [, x, y] = handlesOf(overlay.shapeOf(object), view.scale / view.ratio).find(([name]) => name === "turn");
+const at = (across, down) => [frame.left + (left + across * view.scale) / view.ratio, frame.top + (top + down * view.scale) / view.ratio];
+return [at(x, y), at(object.width / 2, object.height / 2)].map(place => place.map(Math.round));'''
+
+
+def turn(fox):
+    """Turns the chosen object by a quarter, by its handle."""
+    (x, y), (middle_x, middle_y) = fox.js(TURN)
+    radius = middle_y - y
+    fox.drag([(x, y), (middle_x + radius // 2, middle_y - radius), (middle_x + radius, middle_y)])
+
+
 def test_objects():
-    """A polygon and an ellipse are drawn, copied, cut and pasted, and undone."""
+    """A polygon and an ellipse are drawn, one is turned, and they are copied, cut and pasted, and undone; copies go to another map."""
     with Fox() as fox:
         chosen(fox)
         fox.js('const {bench, editor} = window.roskevad; bench.chooseLayer(editor.map.layers.find(each => each.type === "objectgroup").id)')
@@ -101,6 +117,11 @@ def test_objects():
             fox.press('i')
         stroke(fox, [(20, 5), (22, 6)])
         assert objects_of(fox)[-1]['ellipse'] and standing(fox) == (1, 1, False)
+        fox.press('s')
+        turn(fox)
+        assert abs(objects_of(fox)[-1]['rotation'] - 90) <= 2 and standing(fox) == (2, 2, False)
+        fox.press(CONTROL, 'z')
+        fox.press('i')
         fox.press('i')
         for cell in ((3, 20), (8, 20), (8, 24)):
             stroke(fox, [cell])
@@ -115,3 +136,11 @@ def test_objects():
         assert standing(fox) == (5, 5, False)
         fox.press(CONTROL, 'z')
         assert len(objects_of(fox)) == before + 2
+        fox.press(CONTROL, 'a')
+        fox.press(CONTROL, 'c')
+        first = objects_of(fox)
+        fox.js('const {bench, editor} = window.roskevad;'
+               'return editor.send(["new other 20 15 16 16 tiles.tsx", "layer add object Things"]).then(() => bench.chooseLayer(2))')
+        fox.press(CONTROL, 'v')
+        shape = lambda each: {name: each.get(name) for name in ('name', 'type', 'width', 'height', 'rotation', 'ellipse', 'polygon', 'point', 'text', 'gid')}
+        assert [shape(each) for each in objects_of(fox)] == [shape(each) for each in first]

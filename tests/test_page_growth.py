@@ -2,61 +2,14 @@
 """Draws past the edges of infinite maps on the page in Chromium: they grow by whole chunks, in one step with what is
 drawn, and all that is seen stays where it is; chunks that stay empty are not saved; past its limits a map grows no
 farther, and says so."""
-import json
-
 from lib.maps import layers_in
-from page.bench import Bench, choose, colours_now, layer_of, see_colours, spelled, standing, take_tile
+from page.bench import Bench, choose, colours_now, layer_of, see_colours, spelled, standing
 from page.browser import ActionChains, Keys
+from page.planes import Plane, chunk, infinite
 
 NEEDS_BROWSER = True
 IS_LONG = True
 TILE = 12
-
-
-def chunk(x, y, width=16, height=16, value=3):
-    return {'x': x, 'y': y, 'width': width, 'height': height, 'data': [value] * (width * height)}
-
-
-def infinite(*chunks, layers=1, size=None, **members):
-    """An infinite map with these chunks in each layer, and an object."""
-    tiles = [{'chunks': list(chunks), 'width': 16, 'height': 16, 'startx': 0, 'starty': 0, 'id': at + 1, 'name': f'Tiles {at + 1}',
-              'opacity': 1, 'type': 'tilelayer', 'visible': True, 'x': 0, 'y': 0} for at in range(layers)]
-    things = {'id': layers + 1, 'name': 'Things', 'type': 'objectgroup', 'draworder': 'topdown', 'opacity': 1, 'visible': True, 'x': 0, 'y': 0,
-              'objects': [{'id': 1, 'name': 'well', 'type': '', 'x': 40, 'y': 24, 'width': 16, 'height': 16, 'rotation': 0, 'visible': True}]}
-    settings = {'editorsettings': {'chunksize': {'width': size[0], 'height': size[1]}}} if size else {}
-    return {'type': 'map', 'version': '1.10', 'infinite': True, 'orientation': 'orthogonal', 'renderorder': 'right-down', 'width': 16, 'height': 16,
-            'tilewidth': 16, 'tileheight': 16, 'nextlayerid': layers + 2, 'nextobjectid': 2, 'tilesets': [{'firstgid': 1, 'source': 'tiles.tsx'}],
-            'layers': [*tiles, things], **settings, **members}
-
-
-def to_middle(page):
-    """Shows the first chunk in the middle of the window, at its size."""
-    page.js('const {view} = roskevad, by = (length, origin) => Math.round(length / 2 - origin - 128);'
-            'view.zoomTo(1); view.panBy(by(view.canvas.width, view.originX), by(view.canvas.height, view.originY))')
-    page.settle()
-
-
-class Plane:
-    """The page over a map that is infinite, of which less than all of the window is taken."""
-
-    def __init__(self, told):
-        self.bench, self.told = Bench(empty=True), told
-
-    def __enter__(self):
-        page = self.bench.__enter__()
-        (self.bench.folder / 'plane.tmj').write_text(json.dumps(self.told))
-        page.choose_files(*self.bench.folder.glob('tiles.ts?'), *self.bench.folder.glob('*.png'), self.bench.folder / 'plane.tmj')
-        to_middle(page)
-        take_tile(page, (3, 1))
-        page.keys('b')
-        return page
-
-    def __exit__(self, *words):
-        self.bench.__exit__(*words)
-
-    def saved(self, page):
-        page.ctrl('s')
-        return json.loads(self.bench.saved('plane.tmj'))
 
 
 def size(page):
@@ -169,22 +122,11 @@ def test_before_it_grows():
     behind that."""
     with Plane(infinite(chunk(0, 0))) as page:
         page.keys('p')
-        points = [page.point(each) for each in ((10, 10), (12, 12), (19, 18))]
-        chain = ActionChains(page.driver, duration=30)
-        hand = chain.w3c_actions.pointer_action
-        hand.move_to_location(*points[0])
-        hand.pointer_down(button=0)
-        for point in points[1:]:
-            hand.move_to_location(*point)
-        chain.perform()
-        page.settle()
+        page.hold_cells([(10, 10), (12, 12), (19, 18)])
         looks = [[x, y + 3] for x, y in (page.point(each) for each in ((12, 12), (18, 12), (12, 17), (30, 30)))]
         inside, right, below, beside = colours_now(page, looks)
         assert right == below and right not in (beside, inside) and size(page) == (16, 16) and spelled(page) == []
-        chain = ActionChains(page.driver, duration=30)
-        chain.w3c_actions.pointer_action.pointer_up(button=0)
-        chain.perform()
-        page.settle()
+        page.let_go()
         assert size(page) == (32, 32)
 
 
@@ -192,18 +134,9 @@ def test_escape():
     """Escape in a stroke takes back what the map has grown, too."""
     with Plane(infinite(chunk(0, 0))) as page:
         before, corner = page.editor.map(), seen(page, (0, 0))
-        chain = ActionChains(page.driver, duration=30)
-        hand = chain.w3c_actions.pointer_action
-        for at, cell in enumerate([(14, 3), (16, 3), (18, 3)]):
-            hand.move_to_location(*page.point(cell))
-            if at == 0:
-                hand.pointer_down(button=0)
-        chain.perform()
+        page.hold_cells([(14, 3), (16, 3), (18, 3)])
         page.driver.switch_to.active_element.send_keys(Keys.ESCAPE)
-        chain = ActionChains(page.driver)
-        chain.w3c_actions.pointer_action.pointer_up(button=0)
-        chain.perform()
-        page.settle()
+        page.let_go()
         assert page.editor.map() == before and page.editor.state()['depth'] == 0 and seen(page, (0, 0)) == corner
         # In a macro that is open it is an edit of that.
         page.click('#macro')

@@ -83,7 +83,7 @@ def test_fields_of_each_kind():
         for name, typed, line, way in sets:
             put(page, name, typed)
             assert spelled(page)[-1] == line.format(ground), name
-            step = way if '·' in way else f'Set Member · The "floor": {way}'
+            step = way if '·' in way else f'Set {way.title()} · The "floor"'
             assert page.texts('#steps li .name')[-1] == step and not is_grey(page, name), name
             assert name != ' offsetx' or is_grey(page, ' offsety')
         for name, line in ((' visible', 'layer show {} no'), (' locked', 'member set layer:{} locked true')):
@@ -170,26 +170,9 @@ def test_fractions():
         saved = next(layer for layer in layers_in(json.loads(bench.saved('faint.tmj'))['layers']) if layer['name'] == 'Ground')
         assert all(saved[name.strip()] == value for name, _, value in typed)
         assert (saved['parallaxy'], saved['tintcolor']) == (members['parallaxy'], members['tintcolor'])
-
-
-def test_fractions_are_sent_where_they_are_taken():
-    """Where the editor takes fractions, the fields send them as they are typed."""
-    with Bench() as page:
-        page.js('''const {editor} = roskevad, done = {replies: [], count: 1, isAccepted: true, told: {}};
-                   window.sent = [];
-                   editor.hasFractions = true;
-                   editor.doLines = lines => (window.sent.push(...lines), done)''')
-        ground = choose(page, 'Ground')
-        for name, typed in ((' opacity', '0,5'), (' offsetx', '-2.50'), (' parallaxx', '.3')):
-            put(page, name, typed)
-            assert not faults(page), name
         field_of(page, ' parallaxy').click()
         type_keys(page, Keys.ARROW_DOWN)
-        slide(page, 0.5, 0.25)
-        sent = page.js('return window.sent')
-        owner = f'member set layer:{ground}'
-        assert sent[:4] == [f'{owner} opacity 0.5', f'{owner} offsetx -2.5', f'{owner} parallaxx 0.3', f'{owner} parallaxy 0.9']
-        assert sent[4].startswith(f'{owner} opacity 0.') and all(line.startswith(f'member set+ layer:{ground} opacity 0.') for line in sent[5:])
+        assert spelled(page)[-1] == f'member set layer:{ground} parallaxy 0.15', 'an arrow key goes by a tenth'
 
 
 def test_slider():
@@ -280,7 +263,7 @@ def test_image_layer():
         field_of(page, ' repeatx').click()
         page.settle()
         assert spelled(page)[-1] == f'member remove layer:{sky} repeatx'
-        assert page.texts('#steps li .name')[-1] == 'Remove Member · Sky: repeat x'
+        assert page.texts('#steps li .name')[-1] == 'Reset Repeat X · Sky'
         put(page, ' image', Keys.DELETE)
         assert spelled(page)[-1] == f'member set layer:{sky} image ""'
         page.wait(lambda: page.colours(spot) == before, 'no image is drawn')

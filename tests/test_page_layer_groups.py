@@ -6,7 +6,7 @@ import json
 from lib.maps import cells_of, layers_in
 from page.bench import Bench, choose, colours_now, layer_of, see_colours, spelled, standing
 from page.browser import ActionChains, Keys
-from test_page_layers import DROP, hold, ids_of, let_go, make_room, now, point_in, row_of
+from page.layer_list import DROP, ids_of, make_room, now, point_in, row_of
 from test_page_menus import pick, right_click, rows
 
 NEEDS_BROWSER = True
@@ -64,21 +64,21 @@ def test_drag_into_a_group():
         houses, ground = layer_of(page, 'Houses'), layer_of(page, 'Ground')['id']
         inside = ids_of(houses['layers'])
         middle = point_in(page, houses['id'])
-        hold(page, point_in(page, ground), beside(middle, 0, 2), middle)
+        page.hold([point_in(page, ground), beside(middle, 0, 2), middle])
         assert 'drop-into' in page.find(f'#layers li[data-layer="{houses["id"]}"]').get_attribute('class')
         left, top, width, height = row_of(page, houses['id'])
         assert colours_now(page, [(int(left + width / 2), int(top) + 1), (int(left + width / 2), int(top + height) - 2)]) == [DROP] * 2
-        let_go(page)
+        page.let_go()
         assert spelled(page) == [f'layer into {ground} {houses["id"]} {len(inside)}'] and standing(page) == (1, 1)
         assert ids_of(layer_of(page, 'Houses')['layers']) == [*inside, ground]
         page.ctrl('z')
         assert page.editor.map() == town
-        hold(page, point_in(page, ground), point_in(page, inside[0], 0.9), point_in(page, inside[0], 0.1))
+        page.hold([point_in(page, ground), point_in(page, inside[0], 0.9), point_in(page, inside[0], 0.1)])
         left, top, width, _ = row_of(page, inside[0])
         # The line begins where the rows of the group do.
         assert colours_now(page, [(int(left + width / 2), int(top) + 1), (int(left) + INDENT + 4, int(top) + 1)]) == [DROP] * 2
         assert colours_now(page, [(int(left) + INDENT - 4, int(top) + 1)]) != [DROP]
-        let_go(page)
+        page.let_go()
         assert spelled(page)[-1] == f'layer into {ground} {houses["id"]} 1'
         see_colours(page, [(x, 2) for x in range(0, 40, 3)])
 
@@ -92,16 +92,16 @@ def test_drag_out_of_a_group():
         top = ids_of(town['layers'])
         trees, bushes = ids_of(layer_of(page, 'Green')['layers'])
         things = layer_of(page, 'Things')['id']
-        hold(page, point_in(page, bushes), point_in(page, things, 0.9), point_in(page, things, 0.1))
-        let_go(page)
+        page.hold([point_in(page, bushes), point_in(page, things, 0.9), point_in(page, things, 0.1)])
+        page.let_go()
         assert spelled(page) == [f'layer into {bushes} 0 {top.index(things) + 1}']
         page.ctrl('z')
         # The row below the group is that of the houses.
         place = top.index(layer_of(page, 'Houses')['id']) + 1
         for right, line in ((0, f'layer move {bushes} 0'), (-INDENT, f'layer into {bushes} 0 {place}')):
             start, end = point_in(page, bushes), point_in(page, trees, 0.9)
-            hold(page, start, beside(end, right, -1), beside(end, right))
-            let_go(page)
+            page.hold([start, beside(end, right, -1), beside(end, right)])
+            page.let_go()
             assert spelled(page)[-1] == line
             page.ctrl('z')
         assert page.editor.map() == town
@@ -114,9 +114,9 @@ def test_no_drop():
         houses = layer_of(page, 'Houses')
         inside = ids_of(houses['layers'])
         goal = point_in(page, inside[0])
-        hold(page, point_in(page, houses['id']), goal, beside(goal, 0, 1))
+        page.hold([point_in(page, houses['id']), goal, beside(goal, 0, 1)])
         assert 'no-drop' in page.find('#layers').get_attribute('class')
-        let_go(page)
+        page.let_go()
         assert page.bubble() == 'Houses cannot go into itself.' and spelled(page) == []
         # A layer with sixteen groups around it.
         first = page.editor.map()['nextlayerid']

@@ -19,59 +19,15 @@ from page.bench import (
     take_tile,
 )
 from page.browser import ActionChains, Keys
+from page.layer_list import DROP, ids_of, make_room, now, point_in, row_of
 from test_page_fields import field_of, type_keys, with_ctrl
+from test_page_menus import pick, right_click
 
 NEEDS_BROWSER = True
 IS_LONG = True
-# The line that shows where a layer would go.
-DROP = (0x8A, 0x5A, 0x00)
-
-
-def row_of(page, number):
-    """The row of a layer: left, top, width, height."""
-    return page.js(
-        'const box = document.querySelector(`#layers li[data-layer="${arguments[0]}"]`).getBoundingClientRect();'
-        'return [box.left, box.top, box.width, box.height]',
-        number,
-    )
-
-
-def point_in(page, number, share=0.5):
-    left, top, _, height = row_of(page, number)
-    return [int(left + 120), int(top + height * share)]
-
-
-def hold(page, *points):
-    """Presses at the first point and goes over the others; `let_go` ends it."""
-    chain = ActionChains(page.driver, duration=30)
-    hand = chain.w3c_actions.pointer_action
-    hand.move_to_location(*points[0])
-    hand.pointer_down(button=0)
-    for point in points[1:]:
-        hand.move_to_location(*point)
-    chain.perform()
-
-
-def let_go(page):
-    chain = ActionChains(page.driver, duration=30)
-    chain.w3c_actions.pointer_action.pointer_up(button=0)
-    chain.perform()
-    page.settle()
-
-
 def row_fields(page):
     """What stands in the fields of rows of the list."""
     return page.js('return [...document.querySelectorAll("#layers .row-field")].map(field => field.value)')
-
-
-def ids_of(layers):
-    return [layer['id'] for layer in layers]
-
-
-def make_room(page):
-    """Has the list of layers high enough for all."""
-    for panel in ('properties', 'steps'):
-        page.click(f'#panel-{panel} h2')
 
 
 def test_double_click():
@@ -99,19 +55,19 @@ def test_drag():
         top = ids_of(page.editor.map()['layers'])
         ground, last = top[0], top[-1]
         # Above the upper half of a row is above it; the list begins with the layer that is drawn last.
-        hold(page, point_in(page, ground), point_in(page, last, 0.9), point_in(page, last, 0.1))
+        page.hold([point_in(page, ground), point_in(page, last, 0.9), point_in(page, last, 0.1)])
         left, high, width, _ = row_of(page, last)
         assert colours_now(page, [(int(left + width / 2), int(high) + 1)]) == [DROP]
         assert spelled(page) == []
-        let_go(page)
+        page.let_go()
         assert spelled(page) == [f'layer move {ground} {len(top) - 1}']
         assert ids_of(page.editor.map()['layers']) == [*top[1:], ground]
         see_colours(page, [(x, 2) for x in range(0, 40, 3)])
         page.ctrl('z')
-        hold(page, point_in(page, last), point_in(page, ground, 0.1), point_in(page, ground, 0.9))
+        page.hold([point_in(page, last), point_in(page, ground, 0.1), point_in(page, ground, 0.9)])
         left, high, width, height = row_of(page, ground)
         assert colours_now(page, [(int(left + width / 2), int(high + height) - 1)]) == [DROP]
-        let_go(page)
+        page.let_go()
         assert ids_of(page.editor.map()['layers']) == [last, *top[:-1]]
         assert standing(page) == (1, 1)
         # A press that hardly moves is a click.
@@ -127,14 +83,14 @@ def test_drag_in_a_group():
         houses = layer_of(page, 'Houses')
         inside = ids_of(houses['layers'])
         ground = layer_of(page, 'Ground')['id']
-        hold(page, point_in(page, inside[0]), point_in(page, inside[0], 0.1), point_in(page, inside[-1], 0.1))
-        let_go(page)
+        page.hold([point_in(page, inside[0]), point_in(page, inside[0], 0.1), point_in(page, inside[-1], 0.1)])
+        page.let_go()
         assert ids_of(layer_of(page, 'Houses')['layers']) == [*inside[1:], inside[0]]
         assert spelled(page) == [f'layer move {inside[0]} {len(inside) - 1}']
         things = layer_of(page, 'Things')['id']
-        hold(page, point_in(page, ground), point_in(page, things), point_in(page, things, 0.1))
+        page.hold([point_in(page, ground), point_in(page, things), point_in(page, things, 0.1)])
         page.driver.switch_to.active_element.send_keys(Keys.ESCAPE)
-        let_go(page)
+        page.let_go()
         assert len(spelled(page)) == 1 and page.texts('#layers .drop-above, #layers .drop-below, #layers .dragged') == []
 
 
@@ -149,8 +105,8 @@ def test_folds():
         at = names.index('Houses')
         assert page.texts('#layers .name') == names[: at + 1] + names[at + 1 + count :] and spelled(page) == []
         ground = layer_of(page, 'Ground')['id']
-        hold(page, point_in(page, ground), point_in(page, houses['id'], 0.9), point_in(page, houses['id'], 0.1))
-        let_go(page)
+        page.hold([point_in(page, ground), point_in(page, houses['id'], 0.9), point_in(page, houses['id'], 0.1)])
+        page.let_go()
         assert spelled(page) == [f'layer move {ground} 1'] and page.editor.map()['layers'][0]['id'] == houses['id']
         page.ctrl('z')
         page.reload()
@@ -340,6 +296,52 @@ def test_a_locked_group_bars_objects():
         assert spelled(page)[-1].startswith('object move 2 ')
 
 
+def test_a_lock_bars_lists_and_fields():
+    """The fields of objects on a locked layer are grey, and it is said why, with a button that unlocks; the list and the menus rename, hide,
+    raise and move none of them. Those of a hidden layer go on, and so do the fields of the locked layer."""
+    bench = Bench(empty=True)
+    with bench as page:
+        page.choose_files(*grouped_town(bench, 'grouped.tmj'))
+        green = layer_of(page, 'Green')['id']
+        page.keys('s')
+        page.click('#objects li[data-object="2"]')
+        fields = 'return [...document.querySelectorAll("#properties :is(input, select, textarea, button)")].filter(each => !each.matches(":disabled")).length'
+        assert page.js(fields) > 8 and not page.find('#why-locked').is_displayed()
+        page.click(f'#layers li[data-layer="{green}"] .lock')
+        page.click('#objects li[data-object="2"]')
+        assert page.js(fields) == 0 and page.texts('#why-locked span') == ['The group Green is locked.']
+        why = page.js('return roskevad.properties.sendEach(() => "member set object:2 name \\"x\\"", "Set name")')
+        assert why == 'The group Green is locked.', 'also where a field is late'
+
+        def item(text):
+            return lambda: (right_click(page, '#objects li[data-object="2"]'), pick(page, text))
+
+        row = lambda share: page.js('const {left, top, height} = document.querySelector(`#objects li[data-object="${arguments[0]}"]`).getBoundingClientRect();'
+                                    'return [Math.round(left + 40), Math.round(top + arguments[1] * height)]', *share)
+        change_nothing(
+            page,
+            'The group Green is locked',
+            lambda: page.keys(Keys.F2),
+            lambda: page.double_click(lambda: page.find('#objects li[data-object="2"]'), page.bubble),
+            *(item(text) for text in ('Rename', 'Hide', 'Raise', 'Move to Things', 'Delete')),
+            lambda: page.drag_points([row((2, 0.5)), row((5, 0.5)), row((5, 0.9))]),
+        )
+        # The layer itself is not barred.
+        page.click('#of-layer')
+        assert not page.find('#why-locked').is_displayed()
+        page.type_into('#properties [data-key=" opacity"]', '0.5')
+        assert spelled(page)[-1].startswith('member set layer:') and spelled(page)[-1].endswith(' opacity 0.5')
+        page.click('#of-object')
+        page.click('#unlock')
+        assert spelled(page)[-1] == f'member remove layer:{green} locked' and not page.find('#why-locked').is_displayed()
+        page.type_into('#properties [data-key=" name"]', 'Tavern')
+        assert spelled(page)[-1] == 'member set object:2 name "Tavern"'
+        page.click(f'#layers li[data-layer="{green}"] .eye')
+        page.click('#objects li[data-object="2"]')
+        page.type_into('#properties [data-key=" name"]', 'Inn')
+        assert spelled(page)[-1] == 'member set object:2 name "Inn"'
+
+
 def test_looks_of_locks():
     """The lock of a layer that is open is faint until the mouse is at its row. In a locked group each layer shows
     that it is locked by that, and the lock in its row is its own all the same."""
@@ -357,11 +359,7 @@ def test_looks_of_locks():
         page.click(lock)
         assert spelled(page)[-1] == f'member set layer:{cottages} locked true' and faint(cottages) == 1
         assert page.find(lock).get_attribute('title') == 'Unlock this layer. The group Houses stays locked'
-        assert page.texts('#steps li .name')[-2:] == ['Set Member · Houses: locked', 'Set Member · Cottages: locked']
-
-
-def now(page):
-    return page.js('return roskevad.bench.layerId')
+        assert page.texts('#steps li .name')[-2:] == ['Lock Layer · Houses', 'Lock Layer · Cottages']
 
 
 def test_layer_above_and_below():

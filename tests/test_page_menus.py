@@ -40,7 +40,7 @@ def test_menu():
         words = rows(page)
         names = page.js(NAMES)
         assert set(names) <= set(words), set(names) - set(words)
-        assert {'Cut', 'Copy', 'Paste', 'Duplicate', 'Delete', 'Select all cells'} <= set(words)
+        assert {'Cut', 'Copy', 'Paste', 'Duplicate', 'Delete', 'Select all'} <= set(words)
         keys = dict(zip(words, page.texts('#menu button .keys')))
         assert keys['Brush'] == 'B' and keys['Save'] == 'Ctrl+S' and keys['Undo'] == 'Ctrl+Z', keys
         assert page.js('return [...document.querySelectorAll("#menu button")].find(each => each.textContent.startsWith("Undo")).ariaDisabled') == 'true'

@@ -1,19 +1,23 @@
 # SPDX-License-Identifier: MIT OR Apache-2.0
 """Begins with pictures on the page in Chromium: tilesets of a picture that is in the folder, chosen or dropped, in the map
 or as a file beside it, with a preview of the cut; which tiles are used, and where; and new maps with a tileset or a picture,
-of each orientation, finite or infinite."""
+of each orientation, finite or infinite. Real Tiled draws those that are made of one picture as the page does."""
 import base64
 import json
+import tempfile
+from pathlib import Path
 
 from lib.places import EXAMPLE_MAPS
 from page.bench import Bench, cell, choose, layer_of, spelled, standing, take_tile
 from page.browser import ActionChains, Keys
 from page.own_folder import bytes_in, folder_page
-from test_page_growth import to_middle
+from page.planes import to_middle
+from page.tiled_pictures import compared
 from test_page_menus import pick, right_click
 
 NEEDS_BROWSER = True
 IS_LONG = True
+PACKAGES = ('tiled',)
 DROP = '''
 const [name, text, done] = arguments;
 const data = new DataTransfer(), bytes = Uint8Array.from(atob(text), letter => letter.charCodeAt(0));
@@ -293,9 +297,27 @@ def test_new_maps_of_other_kinds():
             assert {name: told[name] for name in more} == more and told['orientation'] == kind and told['tilesets'] == [] and standing(page) == (0, 0)
 
 
+def show_tileset(page, at):
+    """Chooses a tileset of the map in the palette, by its place."""
+    page.js('const at = document.getElementById("tilesets"); at.selectedIndex = arguments[0]; at.dispatchEvent(new Event("change"))', at)
+    page.settle()
+
+
+def see_as_tiled(page, *names):
+    """Tiled draws maps of the folder as the page does, pixel by pixel."""
+    with tempfile.TemporaryDirectory() as top:
+        for name in ('tiles.png', 'tiles.tsj', *names):
+            data = bytes_in(page, name)
+            if data is not None:
+                (Path(top) / name).write_bytes(data)
+        for name in names:
+            told = compared(page, Path(top) / name)
+            assert told['colours'] > 3 and told['count'] == 0, (name, told)
+
+
 def test_the_whole_way():
     """From a folder with one picture and nothing else: a map with two tilesets and three tile layers in a group, and an infinite
-    one that is drawn past its edge on all four sides."""
+    one that is drawn past its edge on all four sides. Tiled draws both as the page does."""
     with folder_page() as page:
         page.js('return navigator.storage.getDirectory().then(async top => { for (const name of ["tiles.tsx", "town.tmj"]) await top.removeEntry(name); })')
         page.find('.tab .close').click()
@@ -322,7 +344,11 @@ def test_the_whole_way():
         [group] = page.editor.map()['layers']
         assert group['type'] == 'group' and [each['type'] for each in group['layers']] == ['tilelayer'] * 3
         page.keys('b')
-        page.drag([(3, 3), (6, 3)])
+        for at, layer in enumerate(group['layers']):
+            page.click(f'#layers li[data-layer="{layer["id"]}"] .name')
+            show_tileset(page, at % 2)
+            take_tile(page, (1 + at, 1))
+            page.drag([(2, 2 + 2 * at), (6, 2 + 2 * at)])
         page.ctrl('s')
         page.fill_in(file='home.tmj')
         page.wait(lambda: bytes_in(page, 'home.tmj') is not None, 'it is saved')
@@ -338,3 +364,7 @@ def test_the_whole_way():
         for cells in ([(15, 8), (17, 8)], [(8, 15), (8, 17)], [(0, 8), (-2, 8)], [(20, 0), (20, -2)]):
             page.drag(cells)
         assert (page.editor.map()['width'], page.editor.map()['height']) == (48, 48) and standing(page) == (4, 4)
+        page.ctrl('s')
+        page.fill_in(file='land.tmj')
+        page.wait(lambda: bytes_in(page, 'land.tmj') is not None, 'it is saved')
+        see_as_tiled(page, 'home.tmj', 'land.tmj')

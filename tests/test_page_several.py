@@ -7,6 +7,7 @@ import json
 from lib.maps import objects_in
 from page.bench import Bench, cell, choose, layer_of, middle_of, object_of, points_at, spelled, standing
 from page.browser import ActionChains, Keys
+from test_page_menus import pick
 
 NEEDS_BROWSER = True
 IS_LONG = True
@@ -67,6 +68,34 @@ def test_choose():
         assert chosen(page) == [ids[1], ids[0]]
         page.keys(Keys.ESCAPE)
         assert chosen(page) == [] and len(spelled(page)) == lines
+
+
+def test_all_of_a_layer():
+    """With an object layer in hand Ctrl+A chooses all of its objects that are seen, and sends no line; Ctrl+Shift+A drops them. With the tool
+    that selects cells, and with a tile layer, it is about cells."""
+    with Bench() as page:
+        ids = crates(page)
+        page.editor.lines(f'member set object:{ids[1]} visible false')
+        lines = len(spelled(page))
+        page.ctrl('a')
+        assert chosen(page) == [ids[0], ids[2]] and page.texts('#owner') == ['2 objects'] and len(spelled(page)) == lines
+        page.ctrl('a', Keys.SHIFT)
+        assert chosen(page) == [] and len(spelled(page)) == lines
+        page.js('document.getElementById("menu-button").click()')
+        pick(page, 'Select all')
+        assert chosen(page) == [ids[0], ids[2]]
+        page.keys('r')
+        page.ctrl('a')
+        assert spelled(page)[lines:] == ['select replace 0 0 40 30']
+        page.keys('s')
+        layer = layer_of(page, 'Crates')['id']
+        page.editor.lines('select none', f'member set layer:{layer} locked true')
+        lines = len(spelled(page))
+        page.ctrl('a')
+        assert page.bubble() == 'Crates is locked. Nothing was chosen.' and len(spelled(page)) == lines
+        choose(page, 'Ground')
+        page.ctrl('a')
+        assert spelled(page)[lines:] == ['select replace 0 0 40 30']
 
 
 def test_move():
@@ -209,6 +238,27 @@ def test_pick_an_object():
         page.click('#properties tr[data-property="opens"] .pick-object')
         page.drag_points([middle_of(page, 3)])
         assert object_of(page, ids[0])['properties'][0]['value'] == 3 and spelled(page)[-1] == f'prop set object:{ids[0]} opens object 3'
+
+
+def test_tiles_of_several():
+    """Several tile objects show the tile that they share, and a button gives all of them the one in hand, as one step. Where one of them is
+    none there is no such row."""
+    with Bench() as page:
+        ids = crates(page)
+        layer = layer_of(page, 'Crates')['id']
+        made = [{'x': 100 + 20 * at, 'y': 200, 'width': 16, 'height': 16, 'gid': gid} for at, gid in enumerate((21, 21, 5))]
+        page.editor.lines(*(f'object put {layer} {json.dumps(each)}' for each in made))
+        tiles = [each['id'] for each in layer_of(page, 'Crates')['objects']][3:]
+        told = lambda: [text.split('\n')[0] for text in page.texts('#properties tr:has(#take-tile) .value')]
+        for numbers, words in ((tiles[:2], ['tiles 20']), (tiles, ['several values']), ([ids[0], *tiles], [])):
+            page.js('roskevad.bench.chooseObjects(arguments[0])', numbers)
+            page.settle()
+            assert told() == words, (numbers, told())
+        page.js('roskevad.bench.chooseObjects(arguments[0]); roskevad.bench.takeStamp({width: 1, height: 1, values: [30]})', tiles)
+        page.settle()
+        index = standing(page)[0]
+        page.click('#take-tile')
+        assert [object_of(page, number)['gid'] for number in tiles] == [30] * 3 and standing(page)[0] == index + 1 and told() == ['tiles 29']
 
 
 def order_of(page, name='Crates'):

@@ -10,7 +10,7 @@ from statistics import median
 from page.bench import Bench, standing, take_tile
 from page.browser import Keys
 from page.many_objects import crates
-from test_page_growth import Plane, chunk, infinite
+from page.planes import Plane, chunk, infinite
 
 NEEDS_BROWSER = True
 ALONE = True

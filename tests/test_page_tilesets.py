@@ -7,8 +7,9 @@ import json
 from lib.cases import passed
 from lib.places import EXAMPLE_MAPS
 from page import hostile
-from page.bench import Bench, cell, choose, layer_of, spelled, standing, take_tile
+from page.bench import Bench, cell, choose, layer_of, see_colours, spelled, standing, take_tile
 from page.browser import ActionChains, pixels
+from page.own_folder import folder_page, put
 from selenium.webdriver.common.actions.wheel_input import ScrollOrigin
 from selenium.webdriver.common.keys import Keys
 
@@ -208,6 +209,135 @@ def test_behind_a_lost_one():
         assert 'room for whole thousands' in page.find('#choose-file details').text
         page.fill_in(file='walls.tsj')
         assert spelled(page) == ['tileset add 2005 walls.tsj']
+
+
+def said(page):
+    """What was said last at the hand, also where it is gone by now."""
+    return page.js('return document.getElementById("bubble").textContent')
+
+
+def lose_tiles(folder):
+    """Moves the tiles of the town into a folder of their own, as somebody does who tidies up."""
+    (folder / 'art').mkdir()
+    for name in ('tiles.tsx', 'tiles.png'):
+        (folder / name).rename(folder / 'art' / name)
+
+
+def see_found(page, name, source):
+    """The page tells what is lost, lists what the folder has, those of the same name first, and reads it from there."""
+    assert f'Not found: {name}.' in page.notices()[0], page.notices()
+    before = page.editor.shown()
+    page.answer('Find it')
+    page.wait(lambda: page.texts('#choose-file'), 'a list')
+    assert page.texts('#choose-file h2') == [f'Where is {name}?'] and page.texts('#file-list li.now .name') == [source]
+    page.press('dialog button', 'OK')
+    page.wait(lambda: page.js('return roskevad.tilesets.all.every(each => each.image) && !document.querySelector("dialog[open]")'), 'it is read')
+    page.settle()
+    assert page.notices() == [] and f'{name} is read from {source} now.' in said(page), said(page)
+    assert page.editor.shown() == before and spelled(page) == [] and standing(page) == (0, 0)
+
+
+def test_find_it():
+    """A tileset that stands elsewhere in the folder is found there, with its image: it is drawn, also behind a reload; the map is as it was.
+    A list that is left changes nothing."""
+    bench = Bench(served=True, empty=True)
+    with bench as page:
+        lose_tiles(bench.folder)
+        page.js('return roskevad.documents.openPath("town.tmj")')
+        page.settle()
+        page.answer('Find it')
+        page.fill_in('Cancel')
+        assert 'Not found: tiles.tsx.' in page.notices()[0] and page.js('return roskevad.tilesets.all[0].image') is None
+        page.answer('Find it')
+        page.fill_in(file='walls.tss')
+        page.wait(lambda: said(page) == 'walls.tss is not there.', 'it is said')
+        see_found(page, 'tiles.tsx', 'art/tiles.tsx')
+        see_colours(page, [(x, 2) for x in range(0, 40, 5)])
+        page.reload()
+        page.wait(lambda: page.js('return roskevad.tilesets.all.length > 0 && roskevad.tilesets.all[0].image !== null'), 'it is read again')
+        assert page.notices() == []
+        # It is the same tileset as that of a map that names it where it is.
+        town = json.loads((bench.folder / 'town.tmj').read_text())
+        town['tilesets'] = [{'firstgid': 101, 'source': 'art/tiles.tsx'}]
+        town['layers'] = [{**layer, 'data': [0] * 1200} for layer in town['layers'] if layer['name'] == 'Ground']
+        (bench.folder / 'moved.tmj').write_text(json.dumps(town))
+        take_tile(page, (3, 1))
+        page.js('return roskevad.documents.openPath("moved.tmj")')
+        page.settle()
+        assert page.js('return roskevad.bench.stamp.values') == [112]
+        assert all('404' in each['message'] for each in page.log()), 'the browser tells of files that are not there'
+
+
+def test_find_it_in_a_folder():
+    """The same in a folder that the browser gives, of an image that is lost."""
+    with folder_page() as page:
+        town = json.loads((EXAMPLE_MAPS / 'town.tmj').read_text())
+        sets = (EXAMPLE_MAPS / 'tiles.tsx').read_text().replace('tiles.png', 'gone.png')
+        put(page, {'lost.tmj': json.dumps({**town, 'tilesets': [{'firstgid': 1, 'source': 'lost.tsx'}]}).encode(), 'lost.tsx': sets.encode()})
+        page.js('return roskevad.documents.openPath("lost.tmj")')
+        page.settle()
+        see_found(page, 'gone.png', 'tiles.png')
+
+
+def replace(page, source):
+    """Replaces the tileset that the palette shows by one of the folder."""
+    page.wait(lambda: page.texts('#choose-file'), 'a list')
+    page.fill_in(file=source)
+    page.wait(lambda: page.js('return !roskevad.tilesets.isReading && !document.querySelector("dialog[open]")'), 'it is read')
+    page.settle()
+
+
+def test_replace():
+    """Another file stands in the place of a tileset, as one step: no cell changes. What it lacks of the tiles that are in use is said."""
+    bench = Bench(served=True, empty=True)
+    with bench as page:
+        (bench.folder / 'few.tsj').write_text((bench.folder / 'walls.tsj').read_text().replace('"tilecount":32', '"tilecount":8'))
+        page.js('return roskevad.documents.openPath("town.tmj")')
+        page.settle()
+        layers = page.editor.shown()['layers']
+        page.click('#replace-tileset')
+        assert page.texts('#choose-file h2') == ['Replace tiles']
+        replace(page, 'walls.tsj')
+        assert page.texts('#steps li .name')[-1] == 'Replace Tileset' and standing(page) == (1, 1)
+        assert page.editor.shown()['tilesets'] == [{'firstgid': 1, 'source': 'walls.tsj'}] and page.editor.shown()['layers'] == layers
+        assert page.texts('#tilesets option') == ['walls'] and page.notices() == []
+        page.ctrl('z')
+        assert page.editor.shown()['tilesets'] == [{'firstgid': 1, 'source': 'tiles.tsx'}] and page.texts('#tilesets option') == ['tiles']
+        page.click('#replace-tileset')
+        replace(page, 'few.tsj')
+        page.wait(lambda: 'The map uses tiles that walls does not have: ' in said(page), 'it is said')
+        assert said(page).endswith('They are drawn as numbers.'), said(page)
+
+
+def test_replace_one_in_the_map():
+    """A tileset that the map has in itself is replaced with all that it is; undone, it is there again."""
+    bench = Bench(served=True, empty=True)
+    with bench as page:
+        town, walls = (json.loads((bench.folder / name).read_text()) for name in ('town.tmj', 'walls.tsj'))
+        embedded = {'firstgid': 1, **{name: walls[name] for name in walls if name not in ('type', 'version', 'tiledversion')}}
+        (bench.folder / 'whole.tmj').write_text(json.dumps({**town, 'tilesets': [embedded]}))
+        page.js('return roskevad.documents.openPath("whole.tmj")')
+        page.settle()
+        before = page.editor.shown()
+        page.click('#replace-tileset')
+        replace(page, 'tiles.tsx')
+        assert page.editor.shown()['tilesets'] == [{'firstgid': 1, 'source': 'tiles.tsx'}] and standing(page) == (1, 1)
+        page.ctrl('z')
+        assert page.editor.shown() == before
+
+
+def test_replace_it():
+    """A tileset that is lost is replaced from what is said of it."""
+    bench = Bench(served=True, empty=True)
+    with bench as page:
+        (bench.folder / 'tiles.tsx').unlink()
+        page.js('return roskevad.documents.openPath("town.tmj")')
+        page.settle()
+        assert 'Not found: tiles.tsx.' in page.notices()[0], page.notices()
+        page.answer('Replace it')
+        replace(page, 'walls.tsj')
+        assert page.notices() == [] and page.editor.shown()['tilesets'] == [{'firstgid': 1, 'source': 'walls.tsj'}]
+        see_colours(page, [(x, 2) for x in range(0, 40, 5)])
 
 
 # ---- hostile files

@@ -2,7 +2,7 @@
 """Looks at what the page in Chromium reads and shows behind lines, with an undo limit and without: cells of
 a rectangle, one object, the rows of steps that are others, and nothing else of the map."""
 from lib.cases import passed
-from page.bench import Bench, choose, object_of, spelled, standing, take_tile
+from page.bench import Bench, choose, draw, object_of, spelled, standing, take_tile
 from page.browser import Keys
 from page.many_objects import count_calls, counted, crates, parts_read
 
@@ -243,3 +243,21 @@ def test_rows_of_many_steps():
             assert counts.get('step_text', 0) <= 2 and not [line for line in lines if line.startswith(('text', 'status'))], counts
         assert names(page)[-1] == 'Stamp · Tile Layer 1' and len(names(page)) >= 200, names(page)[-3:]
         assert spelled(page)[-1] == 'redo'
+
+
+# Counts how often the list of steps is another one, and has each change shown at once.
+CHANGES = '''
+const {steps} = roskevad;
+window.changes = 0;
+steps.measure = () => (window.changes++);
+steps.time = 0;'''
+
+
+def test_one_change_of_the_list():
+    """A stroke is several lines of one step. Behind the first of them the rows of the list say what they said, so it changes once."""
+    with Bench() as page:
+        draw(page)
+        page.js(CHANGES)
+        for row in (21, 22, 23):
+            page.stroke([(3, row), (4, row), (5, row), (6, row)])
+        assert page.js('return window.changes') == 3 and standing(page) == (4, 4)

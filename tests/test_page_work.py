@@ -273,7 +273,7 @@ def test_session_of_own_members():
         for line in lines:
             page.editor.lines(line)
         assert page.texts('#steps li .name')[-3:] == [
-            'Set Member · Gate: rotation', 'Set Members · Gate: name, x', 'Remove Member · Smithy: class',
+            'Set Rotation · Gate', 'Set Name, X · Gate', 'Reset Class · Smithy',
         ]
         told = ['Set rotation of Inn', 'Set name, x of Inn', 'Remove class of Smithy']
         assert [text for text in page.texts('#lines li .words') if text][-3:] == told

@@ -31,9 +31,9 @@ AT_ONCE = 2500
 KINDS = ('group', 'objectgroup', 'tilelayer', 'imagelayer')
 OWN = (
     'name', 'type', 'rotation', 'visible', 'x', 'y', 'width', 'gid', 'point', 'polygon', 'kept',
-    'opacity', 'tilewidth', 'tileheight', 'nextlayerid', 'nextobjectid',
+    'opacity', 'tilewidth', 'tileheight', 'nextlayerid', 'nextobjectid', 'source',
 )
-OTHERS = ('id', 'properties', 'roskevad', 'k.l', 'layers', 'data', 'encoding', 'tilesets', 'version')
+OTHERS = ('id', 'firstgid', 'properties', 'roskevad', 'k.l', 'layers', 'data', 'encoding', 'tilesets', 'version')
 VALUES = {
     'name': ('""', '"door"', '"Tür 1"', '"a\\nb"', 'null', '7'),
     'type': ('""', '"Spawn"', '3', '{"a":[1,{}]}'),
@@ -51,10 +51,12 @@ VALUES = {
     'tileheight': ('8', '1', '-1', 'null'),
     'nextlayerid': ('3', '9', '2', '0', '2147483647', '2147483648', 'true'),
     'nextobjectid': ('3', '9', '2', '0', '2147483647', '2147483648', '[]'),
+    'source': ('"u.tsj"', '"v.tsx"', '""', 'null', '5', '0.5'),
 }
 OWNERS = (
     ('object:1',) * 5 + ('object:2',) * 2 + ('object:9',)
     + ('layer:1',) * 3 + ('layer:2',) * 2 + ('layer:9',) + ('map',) * 4
+    + ('tileset:1',) * 3 + ('tileset:9',)
 )
 BEFORE = (
     'new t 3 2 16 16 t.tsj',

@@ -120,8 +120,9 @@ LOOKS = {
     'point': 'False', 'ellipse': 'False', 'polygon': 'None', 'polyline': 'None', 'text': 'None', 'tile': 'None', 'class_name': "''", 'rotation': '0',
     'visible': 'True', 'properties': 'None',
 }
-#: What has own members, as Python and JavaScript find it: an object, a layer, the map.
+#: What has own members, as Python and JavaScript find it: an object, a tileset, a layer, the map.
 AN_OBJECT = 'document.objects[1]', 'document.objects.get(1)'
+A_TILESET = 'document.tilesets[1]', 'document.tilesets.get(1)'
 A_LAYER = 'document.layers[1]', 'document.layers.get(1)'
 THE_MAP = 'document', 'document'
 
@@ -432,7 +433,7 @@ OBJECT = Kind('MapObject', 'An object, by its id. Where it was removed, a call r
     to_json('object', 'members', 'What JSON has of it: `object.members`.'),
 ])
 
-OWN_MEMBERS = Kind('OwnMembers', 'All that the map says of an object or a layer, or the own members of the map, when it was asked for: a dict. '
+OWN_MEMBERS = Kind('OwnMembers', 'All that the map says of an object, a layer or a tileset, or the own members of the map, when it was asked for: a dict. '
                    'What is set in it or taken out of it is an edit.', [
     Call('get', 'key', 'The member of a name.', gives='Any', raises={'key': ('document.objects[1].members["point"]', '')},
          written=('members[key]', ''), only='python'),
@@ -521,9 +522,12 @@ TILESETS = Kind('Tilesets', 'The tilesets, as they are at each call. A loop goes
 TILESET = Kind('Tileset', 'A tileset, by its first id. Where it was removed, a call raises {Refused} 36.', [
     value('first_id', 'int', 'Its first id.'),
     Call('value_of', '', 'The same.', gives='int', written=('int(tileset)', 'tileset.valueOf()')),
-    value('source', 'str?', 'The path of its file; {None} where the map has it in itself.'),
-    value('name', 'str?', 'Its name, where the map has it in itself; no file is read for it.'),
-    value('members', 'members', 'All that the map says of it, but for its first id: a copy.'),
+    own_value(A_TILESET, 'source', 'str?', 'The path of its file; {None} where the map has it in itself. Set, it gives it another file, and {None} takes '
+              'it away; no cell changes.', ['5']),
+    own_value(A_TILESET, 'name', 'str?', 'Its name, where the map has it in itself; no file is read for it. Set, it gives it another one in the map.', ['5']),
+    own_value(A_TILESET, 'class_name', 'str', 'Its class, as Tiled calls it: the member `class` of the map\'s file. Set, it gives it another one there.', ['5']),
+    value('members', 'own members', 'All that the map says of it, but for its first id: a copy{own_members}.'),
+    *member_calls(A_TILESET, 'the tileset', 'its first id', {'41': ('firstgid', '7'), '63': ('source', '5')}),
     value('tiles', 'tiles', 'Its tiles by their ids, at most 1,048,576, where the map has it in itself{file}; else {None}.'),
     Call('value', 'local_id; flipped_horizontally=False, flipped_vertically=False, flipped_diagonally=False, turned=False',
          'The value of a cell with a tile of this ID in Tiled. Whether the tileset has that tile is not looked at.', gives='int',

@@ -6,7 +6,7 @@ import { Clipboard } from "../tools/clipboard.js";
 import { isField } from "../panels/dom.js";
 import { Macros } from "./macros.js";
 import { MapGrowth } from "../tools/map_growth.js";
-import { BarredLayers, whyBarred, whyNoTiles } from "../tools/barred_layers.js";
+import { BarredLayers, whyBarred, whyLocked, whyNoTiles } from "../tools/barred_layers.js";
 import { saidOf } from "./refusals.js";
 
 export class Bench extends EventTarget {
@@ -106,6 +106,18 @@ export class Bench extends EventTarget {
     const why = whyBarred(layer);
     if (why) this.say(`${why} Nothing was ${done}.`);
     return why !== "";
+  }
+
+  // The layers of the chosen objects that are locked: their objects take no edit of a list or a field either.
+  get lockedLayers() {
+    return [...new Set(this.chosenObjects.map(({ layer }) => layer))].filter(layer => whyLocked(layer));
+  }
+
+  // Whether the chosen objects take no edit of a list, since a layer of theirs is locked. It is said what was not done.
+  barsChosen(done) {
+    const [layer] = this.lockedLayers;
+    if (layer) this.say(`${whyLocked(layer)} Nothing was ${done}.`);
+    return layer !== undefined;
   }
 
   // Whether the layer in hand takes no stroke, since it has no tiles, or is hidden or locked. Then it says so.

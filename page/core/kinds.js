@@ -61,17 +61,14 @@ function spelledNumber(text) {
   return NUMBER.test(plain) ? String(Number(plain)) : text;
 }
 
-// A number that has a fraction only where the editor takes such. `step` is how far an arrow key goes.
-export function numberKind(least, most, hasFractions, step) {
+// A number, which may have a fraction. `step` is how far an arrow key goes.
+export function numberKind(least, most, step) {
   const wanted = `a number from ${grouped(least)} to ${grouped(most)}`;
   const fault = text => {
-    if (!NUMBER.test(text)) return hasFractions ? "a number" : "a whole number";
-    const value = Number(text);
-    if (value < least || value > most) return wanted;
-    const isTaken = hasFractions || Number.isInteger(value);
-    return isTaken ? "" : `${Math.floor(value)} or ${Math.ceil(value)}: only whole values can be set today`;
+    if (!NUMBER.test(text)) return "a number";
+    return Number(text) >= least && Number(text) <= most ? "" : wanted;
   };
-  return { wanted, fault, spelled: spelledNumber, step: hasFractions ? step : 1, hint: hasFractions ? "" : "Only whole values can be set today" };
+  return { wanted, fault, spelled: spelledNumber, step };
 }
 
 // A value, or nothing.
@@ -87,7 +84,7 @@ function matched(pattern, wanted, spelled = text => text) {
 
 // A name of at most so many characters.
 function named(most) {
-  return matched(new RegExp(`^[A-Za-z0-9_][A-Za-z0-9_.-]{0,${most - 1}}$`), `1 to ${most} of A-Z a-z 0-9 _ . -, the first neither . nor -`);
+  return matched(new RegExp(`^[A-Za-z0-9_][A-Za-z0-9_.-]{0,${most - 1}}$`), `1 to ${most} letters of a to z, digits, and _ . -, the first neither . nor -`);
 }
 
 const asIs = text => text;
@@ -112,13 +109,8 @@ export const KINDS = {
   file: named(MAX_FILE_NAME),
 };
 
-// The types of properties, each with the kind of its values: of a float where the editor takes whole numbers alone (see `kindOfType`); of a
-// class the name that it has in Tiled's project.
+// The types of properties, each with the kind of its values: of a class the name that it has in Tiled's project.
 export const TYPES = {
-  string: KINDS.lines, int: whole(-LARGEST_INT - 1, LARGEST_INT), float: numberKind(-LARGEST_FLOAT, LARGEST_FLOAT, false, 1), bool: KINDS.bool,
+  string: KINDS.lines, int: whole(-LARGEST_INT - 1, LARGEST_INT), float: numberKind(-LARGEST_FLOAT, LARGEST_FLOAT, 0.1), bool: KINDS.bool,
   color: orNothing(KINDS.colour), file: KINDS.line, object: KINDS.number, class: KINDS.label,
 };
-
-const FRACTIONS = numberKind(-LARGEST_FLOAT, LARGEST_FLOAT, true, 0.1);
-
-export const kindOfType = (type, takesFractions) => (type === "float" && takesFractions ? FRACTIONS : TYPES[type]);

@@ -108,9 +108,12 @@ function ownerIn(owner, names) {
   return kind === "map" ? "the map" : names[kind]?.(id) ?? owner;
 }
 
+const TURNS = { locked: "Lock", unlocked: "Unlock", shown: "Show", hidden: "Hide" };
+
 // Of a property, and of own members.
 function ofNamed(words, names) {
-  const [, what, owner] = words;
+  const [kind, what, owner] = words;
   const way = wayOf(words.join(" "), null) ?? "..";
+  if (kind === "member" && Object.hasOwn(TURNS, way)) return `${TURNS[way]} ${ownerIn(owner, names)}`;
   return `${REMOVALS.has(what) ? "Remove" : "Set"} ${way} of ${ownerIn(owner, names)}`;
 }

@@ -1,6 +1,6 @@
 // SPDX-License-Identifier: MIT OR Apache-2.0
-// The lines that say values as JSON: those that add an object, that set own members of an object, a layer or the map, and that remove a
-// property of any name.
+// The lines that say values as JSON: those that add an object, that set own members of an object, a layer, a tileset or the map, and that
+// remove a property of any name.
 import { MAX_LINE } from "../../js/limits.js";
 import { said } from "../../js/json_values.js";
 import { isKey } from "../../js/words.js";

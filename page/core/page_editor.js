@@ -9,7 +9,6 @@ import { OWNERS } from "../../js/module.js";
 import { Changes } from "./changes.js";
 import { FreshEditor } from "./fresh_editor.js";
 import { Journal } from "./journal.js";
-import { takesFractions } from "./fractions.js";
 import { cellsIn } from "./log_words.js";
 import { isAboutDocuments, isLook, isTurn, wordOf } from "./line_kinds.js";
 import { MapModel } from "./map_model.js";
@@ -104,11 +103,6 @@ export class PageEditor extends EventTarget {
 
   get runs() {
     return this.map?.runs ?? [];
-  }
-
-  // Whether a value may have a fraction.
-  get takesFractions() {
-    return (this.hasFractions ??= takesFractions(this.module));
   }
 
   // The folder of the active map, with its slash; "" where it has none.

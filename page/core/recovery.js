@@ -123,7 +123,7 @@ export class Recovery {
       return this.keep(row, `It is of version ${row.version}, and this page of ${this.editor.version}.`, true);
     }
     const giveBack = await lock(row.id);
-    if (!giveBack) return this.keep(row, "Its window lives.");
+    if (!giveBack) return this.keep(row, "Its window is still open.");
     try {
       const { made, held, faults } = await this.replayWhole(row);
       await this.journal.end();
@@ -187,7 +187,7 @@ export class Recovery {
   // Opens the maps of a journal as far as its lines can be done, without their steps, in a journal of this window. The old one is kept.
   async restoreMaps(row) {
     const giveBack = await lock(row.id);
-    if (!giveBack) return this.keep(row, "Its window lives.");
+    if (!giveBack) return this.keep(row, "Its window is still open.");
     try {
       const made = await this.replayOf(row, { isLenient: true });
       await this.journal.end();

@@ -32,7 +32,7 @@ const WORDS = {
   35: "It has no property of that name any more.",
   36: "That tileset is not in this map any more.",
   37: "The map has tiles of this tileset, in cells or as objects: replace them or empty these first.",
-  38: "The tilesets of a map are in the order of their first ids: that one is not above those before it.",
+  38: "The number of its first tile is taken, or another tileset begins behind it: choose a larger one.",
   39: "A size, a place or a number is too small or too large.",
   40: "There are as many as there can be: remove some first.",
   41: "Another field of this table changes that.",

@@ -38,7 +38,7 @@ export const idIn = (value, set) => (value & TILE) - (set?.first ?? 0);
 // ---- the tilesets of a map
 // What tells a tileset from all others: its file, by whichever path a map names it; or its members, where a map has it in itself.
 export function keyOf(data, folder, place) {
-  const fileOf = path => place.fileOf(folder + path);
+  const fileOf = path => place.fileOf(place.pathOf(folder + path));
   return data.source ? fileOf(data.source) : membersOf(data, fileOf);
 }
 
@@ -56,7 +56,7 @@ function membersOf(data, fileOf) {
 // `path` from that of the place; both are null where the map, whose title is named, has it in itself. `name` is for words.
 export function setsOf(all, folder, place, title) {
   const sets = all.map(data => {
-    const path = data.source ? plainPath(folder + data.source) : null;
+    const path = data.source ? plainPath(place.pathOf(folder + data.source)) : null;
     const own = typeof data.name === "string" ? data.name : "";
     const name = path ?? `${own.slice(0, LONGEST_NAME) || "tiles"}, which ${title} has in itself`;
     return { first: data.firstgid, key: keyOf(data, folder, place), source: data.source || null, path, name };

@@ -9,23 +9,15 @@ export function whyNotNamed(text) {
   return text.length > LONGEST_NAME ? `It has more than ${LONGEST_NAME} letters: Tiled changes it.` : "";
 }
 
-// The first fraction in a class that the editor does not take, in words; "" where it has none.
-function fractionIn(value) {
-  const found = membersIn(value).find(each => typeof each.value === "number" && !Number.isSafeInteger(each.value));
-  return found ? `${found.path.join(", ")} is ${found.value}` : "";
-}
-
 // How many members of a class have fields.
 const MOST_MEMBERS = 200;
 
-// Why a property is not set here; "" where it is. All of a class is set at once, so one fraction in it bars it where none can be set.
-export function whyNotSet({ name, type = "string", value }, takesFractions) {
+// Why a property is not set here; "" where it is.
+export function whyNotSet({ name, type = "string", value }) {
   if (name === "") return "It has no name: Tiled changes it.";
   if (name.length > LONGEST_NAME) return `Its name has more than ${LONGEST_NAME} letters: Tiled changes it.`;
   if (Array.isArray(value)) return "A list is set in Tiled.";
   const isClass = typeof value === "object" && value !== null;
   if (isClass !== (type === "class") || !Object.hasOwn(TYPES, type)) return `The type ${type} is set in Tiled.`;
-  if (isClass && membersIn(value).length > MOST_MEMBERS) return `A class of more than ${MOST_MEMBERS} members is set in Tiled.`;
-  const fraction = isClass && !takesFractions ? fractionIn(value) : "";
-  return fraction ? `${fraction}: a class with a fraction is set in Tiled so far.` : "";
+  return isClass && membersIn(value).length > MOST_MEMBERS ? `A class of more than ${MOST_MEMBERS} members is set in Tiled.` : "";
 }

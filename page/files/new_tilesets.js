@@ -2,7 +2,7 @@
 // A tileset that is made of a picture: what it has as a part of a map, and as a file of its own, as Tiled writes one.
 import { folderOf, lastOf, pathFrom } from "./names.js";
 import { heldBy } from "./tileset_files.js";
-import { imageFile } from "./image_files.js";
+import { grouped, imageFile } from "./image_files.js";
 import { Failed } from "./places.js";
 
 // The version of Tiled's format that is written.
@@ -19,6 +19,12 @@ export async function pictureIn(place, path) {
   const bytes = await place.bytes(path);
   if (!bytes) throw new Failed("the file is not there");
   return imageFile(path, bytes);
+}
+
+// What a list of files says of a picture: its size.
+export async function wordsOfPicture(place, path) {
+  const { width, height } = await pictureIn(place, path);
+  return { words: `${grouped(width)} × ${grouped(height)} pixels`, isRefused: false };
 }
 
 // How a picture is cut: { columns, rows, count, restX, restY }, where the rests are the pixels that are of no tile at the right and below.

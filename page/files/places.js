@@ -9,10 +9,12 @@
 //   look(path)        the size and the time of a file; null where there is none, or where that cannot be told
 //   read(path)        the bytes of a file and its mark: { bytes, mark }; null where there is none
 //   bytes(path)       the bytes of a tileset or of an image; null where there is none
+//   pathOf(path)      where a file is read that a map names by a path: elsewhere, where the user has found it
 //   fileOf(path)      a text that tells the file of a path from all others that the page has seen, here and in other places
 //   write(path, bytes, mark)  writes a file whole, and gives its new mark. `mark` tells what must be there: null that no file is.
 //   advice(path)      what to do where a tileset is not there
 import { Said, thrownWords } from "../core/thrown_words.js";
+import { FoundFiles } from "./found_files.js";
 import { hashOf } from "./hashes.js";
 import { joined, lastOf, plainPath } from "./names.js";
 
@@ -110,6 +112,10 @@ export class ChosenFiles {
     return this.found(path)?.bytes ?? null;
   }
 
+  pathOf(path) {
+    return path;
+  }
+
   fileOf(path) {
     const plain = plainPath(path);
     const isNamed = !this.files.has(plain) && this.files.has(lastOf(plain));
@@ -146,6 +152,11 @@ export class FolderFiles extends EventTarget {
     this.isDownload = false;
     this.folder = folder;
     this.title = folder.name || "the browser's own folder";
+    this.found = new FoundFiles(this);
+  }
+
+  pathOf(path) {
+    return this.found.pathOf(path);
   }
 
   // Whether it may be read and written; else the user must allow it by a click.
@@ -291,6 +302,11 @@ export class ServedFiles extends EventTarget {
     this.isGone = false;
     this.title = "";
     this.prefix = "";
+    this.found = new FoundFiles(this);
+  }
+
+  pathOf(path) {
+    return this.found.pathOf(path);
   }
 
   address(path) {
@@ -370,7 +386,7 @@ export class ServedFiles extends EventTarget {
     const address = this.addressOf(path);
     const answer = address && (await this.ask(address));
     if (!answer || answer.status === 404) return null;
-    if (!answer.ok) throw new Failed(`the server answers ${answer.status}`);
+    if (!answer.ok) throw new Failed("the server cannot read it");
     return answer;
   }
 
@@ -398,7 +414,7 @@ export class ServedFiles extends EventTarget {
     await this.folderListing();
     const answer = await this.ask(address, { method: "PUT", body: bytes, headers });
     if (answer.status === 412) throw new Changed(path);
-    if (!answer.ok) throw new Failed((await answer.text()).trim() || `the server answers ${answer.status}`);
+    if (!answer.ok) throw new Failed((await answer.text()).trim() || "the server did not take it");
     return markOf(bytes, Number(answer.headers.get("Roskevad-Time")));
   }
 

@@ -68,6 +68,14 @@ const endOf = tiles => tiles.reduce((most, { id }) => Math.max(most, (id ?? -1) 
 
 const shownNumber = value => (Number.isNaN(value) ? "no number" : JSON.stringify(value)?.slice(0, 20) ?? "nothing");
 
+// What a list of files says of one: how many tiles it has.
+export async function wordsOfTileset(place, path) {
+  const bytes = await place.bytes(path);
+  if (!bytes) return { words: "the file is not there", isRefused: true };
+  const { tilecount, tilewidth, tileheight, image } = checked(readTileset(path, bytes));
+  return { words: `${tilecount ?? "?"} tiles of ${tilewidth ?? "?"} × ${tileheight ?? "?"}${image ? "" : ", not of one image"}`, isRefused: false };
+}
+
 // How many columns and tiles an image holds of a tileset.
 export function heldBy({ width, height }, { tileWidth, tileHeight, spacing, margin, columns }) {
   const fitting = (length, side) => Math.max(0, Math.floor((length - margin + spacing) / (side + spacing)));

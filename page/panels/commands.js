@@ -50,11 +50,11 @@ export class Commands {
   editItems() {
     const { bench } = this;
     const why = bench.map ? "" : NO_MAP;
-    const all = () => bench.act([`select replace 0 0 ${bench.map.width} ${bench.map.height}`]);
+    const { clips } = this.page;
     return [
       ...["undo", "redo"].map(id => itemOf(byId(id))), ...this.clipItems(why),
-      { text: "Select all cells", keys: "Ctrl+A", why, call: all },
-      { text: "Select nothing", keys: "Ctrl+Shift+A", why, call: () => bench.act(["select none"]) },
+      { text: "Select all", keys: "Ctrl+A", why, call: () => clips.selectAll() },
+      { text: "Select nothing", keys: "Ctrl+Shift+A", why, call: () => clips.selectNone() },
       ...["take", "macro", "group-steps"].map(id => itemOf(byId(id))),
     ];
   }
@@ -95,7 +95,7 @@ export class Commands {
     const all = bench.chosenObjects.map(({ object }) => object);
     const isSeen = all.some(({ visible }) => visible !== false);
     const lines = all.map(({ id }) => memberLine(`object:${id}`, "visible", !isSeen));
-    const turn = () => (lines.length > 1 ? bench.doAsOne("Show Objects || show objects", lines) : bench.act(lines));
+    const turn = () => !bench.barsChosen(isSeen ? "hidden" : "shown") && (lines.length > 1 ? bench.doAsOne("Show Objects || show objects", lines) : bench.act(lines));
     const rename = { text: "Rename", keys: "F2", picture: "rename", why: all.length > 1 ? "Choose one object alone" : "", call: () => objects.renameChosen() };
     return [rename, { text: isSeen ? "Hide" : "Show", picture: isSeen ? "hidden" : "seen", call: turn }, null, ...this.orderItems(), null, ...this.clipItems()];
   }
@@ -117,7 +117,7 @@ export class Commands {
     const take = name => [["brush", "Draw with the stamp"], ["fill", "Fill with the stamp"], ["rectangle", "Fill a rectangle with the stamp"]].find(([each]) => each === name)[1];
     const items = ["brush", "fill", "rectangle"].map(name => ({ text: take(name), picture: name, call: () => tools.choose(name) }));
     const insert = { text: "Insert the tile as an object", picture: "insert", call: () => (tools.choose("insert"), tools.all.insert.take("tile")) };
-    return [...items, insert, null, ...["palette-larger", "palette-smaller", "add-tileset", "remove-tileset"].map(id => itemOf(byId(id)))];
+    return [...items, insert, null, ...["palette-larger", "palette-smaller", "add-tileset", "replace-tileset", "remove-tileset"].map(id => itemOf(byId(id)))];
   }
 
   tabItems(tab) {

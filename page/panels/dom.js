@@ -81,7 +81,7 @@ export function mark(input, words) {
   const fault = input.parentElement.querySelector(".fault");
   input.classList.toggle("wrong", words !== "");
   input.ariaInvalid = words === "" ? null : "true";
-  input.title = words === "" ? input.dataset.title ?? "" : words;
+  input.title = words;
   if (fault) fault.textContent = words;
   else if (words !== "") input.parentElement.append(element("small", { className: "fault", role: "alert", textContent: words }));
   if (words !== "") input.parentElement.scrollIntoView({ block: "nearest" });

@@ -85,7 +85,6 @@ export class NumberField extends TypedField {
   constructor(kind, value, take) {
     super(kind, value, take);
     this.input.inputMode = (kind.step ?? 1) < 1 ? "decimal" : "numeric";
-    this.input.title = this.input.dataset.title = kind.hint ?? "";
   }
 
   key(event) {

@@ -1,50 +1,28 @@
 // SPDX-License-Identifier: MIT OR Apache-2.0
 // A drag of a layer in the list: a line shows where the layer would go, in its group, in another one or in none, and one line of the session
 // is sent at the end.
+import { ListDrag } from "./list_drag.js";
 import { layersIn, lineTo, whyNotInto } from "../tools/layer_places.js";
 
-// How far the hand moves before a press is a drag, how near to an edge the list scrolls, by how much, and how much farther to the right the
-// rows of a group begin: in pixels.
-const FAR = 4;
-const EDGE = 14;
-const SCROLLED = 6;
+// How much farther to the right the rows of a group begin, in pixels.
 export const INDENT = 14;
 // Which part of the row of a group, above and below its middle, is that of what goes into it.
 const INTO = 0.25;
 
 const within = (number, least, most) => Math.max(least, Math.min(most, number));
 
-export class LayerDrag {
+export class LayerDrag extends ListDrag {
   constructor(panel) {
-    Object.assign(this, { panel, bench: panel.bench, list: panel.list, from: null, isDragging: false, goal: null });
-    this.list.onpointerdown = event => this.down(event);
-    this.list.onpointermove = event => this.move(event);
-    this.list.onpointerup = () => this.up();
-    this.list.onpointercancel = () => this.end();
-    document.addEventListener("keydown", event => this.isDragging && event.key === "Escape" && this.cancel(event), true);
+    super(panel.bench, panel.list);
+    this.panel = panel;
   }
 
-  down(event) {
+  idAt(event) {
     const row = this.panel.rowOf(event);
-    if (event.button !== 0 || !row || event.target.closest("button, input")) return;
-    this.from = { id: Number(row.dataset.layer), x: event.clientX, y: event.clientY };
+    return row && !event.target.closest("button, input") ? Number(row.dataset.layer) : null;
   }
 
-  move(event) {
-    if (!this.from) return;
-    if (!this.isDragging && Math.hypot(event.clientX - this.from.x, event.clientY - this.from.y) < FAR) return;
-    if (!this.isDragging) this.begin(event);
-    const frame = this.list.getBoundingClientRect();
-    if (event.clientY < frame.top + EDGE) this.list.scrollTop -= SCROLLED;
-    if (event.clientY > frame.bottom - EDGE) this.list.scrollTop += SCROLLED;
-    this.goal = this.goalAt(event.clientX, event.clientY);
-    this.mark();
-  }
-
-  begin(event) {
-    this.isDragging = true;
-    this.list.setPointerCapture(event.pointerId);
-    this.list.classList.add("dragging");
+  begun() {
     this.panel.rows.get(this.from.id)?.classList.add("dragged");
   }
 
@@ -107,28 +85,10 @@ export class LayerDrag {
     this.list.classList.toggle("no-drop", Boolean(goal?.why));
   }
 
-  unmark() {
-    for (const row of this.list.children) row.classList.remove("drop-above", "drop-below", "drop-into");
-  }
-
-  up() {
-    const { isDragging, goal, layer } = this.from ? this : {};
-    this.end();
-    if (!isDragging || !layer || !goal || goal.isSame) return;
+  drop(goal, id) {
+    const layer = this.bench.map?.layer(id);
+    if (!layer || goal.isSame) return;
     if (goal.why) this.bench.say(goal.why);
     else this.bench.act([lineTo(layer, goal.group, goal.place)]);
-  }
-
-  cancel(event) {
-    event.stopPropagation();
-    this.end();
-  }
-
-  end() {
-    this.from = this.goal = null;
-    this.isDragging = false;
-    this.list.classList.remove("dragging", "no-drop");
-    this.unmark();
-    for (const row of this.list.children) row.classList.remove("dragged");
   }
 }

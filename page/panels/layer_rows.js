@@ -17,6 +17,7 @@ const USUAL = { opacity: 1, offsetx: 0, offsety: 0, parallaxx: 1, parallaxy: 1, 
 const WRITTEN = new Set(["opacity", "image"]);
 const IMAGE = /\.(png|jpe?g|gif|webp|bmp)$/i;
 const TINT = orNothing(KINDS.colour);
+const SHARE = numberKind(0, 1, 0.1);
 
 // The line that gives a member of a layer a value.
 const lineFor = (word, member, value) => (value === USUAL[member] && !WRITTEN.has(member) ? memberRemoval(word, member) : memberLine(word, member, value));
@@ -83,16 +84,11 @@ export class LayerRows {
     return this.row(word, name, "", [this.checkPart(name, ...words)]);
   }
 
-  kind(least, most, step) {
-    return numberKind(least, most, this.bench.editor.takesFractions, step);
-  }
-
   opacityRow(word, data) {
     const value = String(data.opacity ?? USUAL.opacity);
-    const kind = this.kind(0, 1, 0.1);
     const slider = { least: 0, most: 1, slide: text => this.slide(word, "opacity", Number(text)), end: () => (this.run = null) };
     const take = this.take(word, "opacity");
-    const field = () => new SliderField(kind, value, text => take(Number(text)), slider);
+    const field = () => new SliderField(SHARE, value, text => take(Number(text)), slider);
     return this.row(word, "opacity", "0 is clear, 1 is full", [{ member: "opacity", value, field }]);
   }
 
@@ -125,7 +121,7 @@ export class LayerRows {
 
   // The two members of a name, as `offsetx` and `offsety`.
   pairRow(word, data, name, title, step) {
-    const kind = this.kind(-MAX_COORDINATE, MAX_COORDINATE, step);
+    const kind = numberKind(-MAX_COORDINATE, MAX_COORDINATE, step);
     const parts = ["x", "y"].map(label => {
       const member = `${name}${label}`;
       const value = String(data[member] ?? USUAL[member]);

@@ -141,7 +141,7 @@ export class ObjectList {
     const { bench } = this;
     const id = Number(row?.dataset.object);
     const value = bench.map?.object(id)?.object.name ?? "";
-    if (!row) return;
+    if (!row || bench.barsChosen("renamed")) return;
     if (whyNotNamed(value)) return void bench.say(`This name is not changed here. ${whyNotNamed(value)}`);
     const field = { name: "name", label: "Name", value, kind: KINDS.label };
     await ask("Rename an object", [field], ["OK"], ({ name }) => bench.attempt([memberLine(`object:${id}`, "name", name)]));

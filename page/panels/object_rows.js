@@ -7,11 +7,13 @@ import { isInherited } from "../core/inherited.js";
 import { KINDS, numberKind } from "../core/kinds.js";
 import { memberLine } from "../core/member_lines.js";
 import { MAX_COORDINATE, MAX_PIXELS } from "../../js/limits.js";
-import { showMixed, shownOf } from "./shared_values.js";
+import { MIXED, showMixed, shownOf } from "./shared_values.js";
 import { cellOf, rowOf } from "./table_rows.js";
 import { ALIGNMENTS, align } from "../tools/alignments.js";
 import { wordsOf } from "../core/tile_words.js";
 
+const COORDINATE = numberKind(-MAX_COORDINATE, MAX_COORDINATE, 1);
+const LENGTH = numberKind(0, MAX_PIXELS, 1);
 const PARTS = { place: [["x", "x"], ["y", "y"]], size: [["width", "w"], ["height", "h"]] };
 
 // Has a row grey where the object has all of these members of its template, and each field where it has its own member of that.
@@ -53,10 +55,6 @@ export class ObjectRows {
     return this.panel.fact("template", template, this.bench.editor.templates.has(template) ? "" : "Its file is not there: choose it, too.");
   }
 
-  kindOf(least, most) {
-    return numberKind(least, most, this.bench.editor.takesFractions, 1);
-  }
-
   // The text that is drawn. The page may have a part of it.
   textRow({ word, data }) {
     const { panel } = this;
@@ -77,7 +75,7 @@ export class ObjectRows {
     const { word, data } = owner;
     const parts = PARTS[name];
     const values = parts.map(([part]) => shownOf(owner, part, data[part] ?? 0));
-    const kind = name === "place" ? this.kindOf(-MAX_COORDINATE, MAX_COORDINATE) : this.kindOf(0, MAX_PIXELS);
+    const kind = name === "place" ? COORDINATE : LENGTH;
     return this.panel.kept(` ${word} ${name}`, values, () => {
       const fields = parts.map(([part], at) => numberField(kind, values[at], text => this.setPart(name, part, Number(text))));
       fields.forEach((field, at) => Object.assign(field.input.dataset, { key: ` ${parts[at][0]}`, owner: word }));
@@ -91,7 +89,7 @@ export class ObjectRows {
     const lineOf = ({ word, data }) => {
       const all = PARTS[name].map(([each]) => (each === part ? value : data[each] ?? 0));
       const isWhole = [...all, data[part] ?? 0].every(Number.isInteger);
-      if (this.bench.editor.takesFractions && !isWhole) return memberLine(word, part, value);
+      if (!isWhole) return memberLine(word, part, value);
       return `object ${name === "place" ? "move" : "resize"} ${data.id} ${all.map(Math.floor).join(" ")}`;
     };
     return this.panel.sendEach(lineOf, name === "place" ? "Move Objects" : "Resize Objects");
@@ -101,8 +99,7 @@ export class ObjectRows {
     const { word, data } = owner;
     const value = shownOf(owner, "rotation", data.rotation ?? 0);
     return this.panel.kept(` ${word} rotation`, [value], () => {
-      const kind = this.kindOf(-MAX_COORDINATE, MAX_COORDINATE);
-      const field = numberField(kind, value, text => this.panel.sendEach(each => memberLine(each.word, "rotation", Number(text)), "Rotate Objects"));
+      const field = numberField(COORDINATE, value, text => this.panel.sendEach(each => memberLine(each.word, "rotation", Number(text)), "Rotate Objects"));
       showMixed(field, owner, "rotation");
       Object.assign(field.input.dataset, { key: " rotation", owner: word });
       return { element: rowOf("rotation", "", "in degrees, clockwise", cellOf([field])), fields: [field] };
@@ -121,11 +118,11 @@ export class ObjectRows {
   }
 
   // The tile of a tile object, and a button that gives it the one in hand.
-  tileRow({ word, data }) {
-    const text = wordsOf(data.gid, this.bench.tilesets);
+  tileRow({ word, data, mixed }) {
+    const text = mixed.has("gid") ? MIXED : wordsOf(data.gid, this.bench.tilesets);
     return this.panel.kept(` ${word} tile ${text}`, [], () => {
       const words = element("span", { textContent: text });
-      const take = button("Take the tile in hand", "Give it the tile of the palette that is in hand, with its flips", () => this.takeTile(word), { id: "take-tile" });
+      const take = button("Take the tile in hand", "Give it the tile of the palette that is in hand, with its flips", () => this.takeTile(), { id: "take-tile" });
       return { element: rowOf("tile", "", "", element("td", { colSpan: 2 }, element("div", { className: "value" }, words, take))), fields: [] };
     });
   }
@@ -138,9 +135,10 @@ export class ObjectRows {
     });
   }
 
-  takeTile(word) {
-    const { bench } = this;
-    return bench.carried.bars() ? null : bench.act([memberLine(word, "gid", bench.fillValue)]);
+  async takeTile() {
+    const { bench, panel } = this;
+    const why = bench.carried.bars() ? null : await panel.sendEach(each => memberLine(each.word, "gid", bench.fillValue), "Set tile");
+    if (why) bench.say(why);
   }
 
   // The numbers of the object that is dragged; behind the drag those that the map has.

@@ -2,19 +2,12 @@
 // Chooses a picture: one of the folder or of the chosen files, or one of this machine, which then stands among them.
 import { button, element } from "./dom.js";
 import { FileList } from "../files/file_list.js";
-import { grouped } from "../files/image_files.js";
-import { isPictureName, pictureIn } from "../files/new_tilesets.js";
+import { isPictureName, pictureIn, wordsOfPicture } from "../files/new_tilesets.js";
 import { thrownWords } from "../core/thrown_words.js";
 
 const NONE = "There is no picture here: a PNG, JPEG, GIF, WebP or BMP, in the folder or among the chosen files.";
 
 export const NO_PICTURE = Symbol("no picture");
-
-// Words for a picture: its size.
-async function look(place, path) {
-  const { width, height } = await pictureIn(place, path);
-  return { words: `${grouped(width)} × ${grouped(height)} pixels`, isRefused: false };
-}
 
 export class PictureChoice {
   // `keep(file)` has a picture of this machine stand among the others, and gives its path; it may throw.
@@ -27,7 +20,7 @@ export class PictureChoice {
   async ask(title, isNeeded = true) {
     const { place } = this.editor;
     const files = (await place.names().catch(() => [])).filter(({ path }) => isPictureName(path));
-    const list = new FileList(title, files, { look: path => look(place, path), none: NONE, fields: this.fields(() => list, isNeeded) });
+    const list = new FileList(title, files, { look: path => wordsOfPicture(place, path), none: NONE, fields: this.fields(() => list, isNeeded) });
     const path = await list.ask();
     if (list.isWithout) return NO_PICTURE;
     return path ? this.picture(path) : null;

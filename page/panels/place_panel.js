@@ -6,6 +6,7 @@ import { endNotice, notice } from "./notice_bars.js";
 import { ChosenFiles, Failed, FolderFiles, IN_XML, chosen, isMapName, isTilesetName, isXmlMapName } from "../files/places.js";
 import { isTemplateName } from "../files/templates.js";
 import { isSameSource, sourceOf, wordsOf } from "../files/sources.js";
+import { findLost } from "./lost_files.js";
 import { hashOf } from "../files/hashes.js";
 import { isPictureName } from "../files/new_tilesets.js";
 import { lastOf } from "../files/names.js";
@@ -24,8 +25,10 @@ const IMAGE = /\.(png|jpe?g|gif|webp|bmp|svg|avif)$/i;
 export class PlacePanel {
   constructor(bench, documents, tilesets) {
     Object.assign(this, { bench, documents, tilesets, editor: bench.editor });
-    // Called where the tilesets may be others, where something is to be made of a picture, and where a folder was opened.
+    // Called where the tilesets may be others, where something is to be made of a picture, where a folder was opened, and where a lost tileset
+    // is to be replaced: that of a first id.
     this.onTilesets = () => {};
+    this.onReplace = () => {};
     this.onPicture = () => {};
     this.onFolder = () => {};
   }
@@ -191,6 +194,15 @@ export class PlacePanel {
     else if (files.length) await this.takeChosen(files);
   }
 
+  // Has a file that is lost chosen from those of the folder: it is read from there.
+  async find(missing) {
+    const words = await findLost(this.editor.place, missing).catch(fault => `It was not found: ${thrownWords(fault)}.`);
+    if (!words) return this.showMissing();
+    this.tilesets.forget();
+    this.onTilesets();
+    return this.bench.say(words);
+  }
+
   // Says which files of tilesets cannot be had, and what to do.
   showMissing() {
     const { missing } = this.tilesets;
@@ -198,8 +210,11 @@ export class PlacePanel {
     const [first, ...others] = missing;
     const more = others.length ? ` and ${others.length} more` : "";
     const words = `Not found: ${first}${more}. ${this.editor.place.advice(first)} Its tiles are drawn as numbers.`;
-    const find = this.editor.place.kind === "chosen" ? [["Find it", () => byId("files").click(), "Choose the file, and its image"]] : [];
-    return notice("tilesets", words, [...find, ["OK", () => {}]], "mild");
+    const find = this.editor.place.kind === "chosen" ? () => byId("files").click() : () => this.find(missing);
+    const buttons = [["Find it", find, "Choose where the file is, and its image"], ["OK", () => {}]];
+    const lost = this.tilesets.all.find(({ source }) => source && this.tilesets.folder + source === first);
+    if (lost) buttons.splice(1, 0, ["Replace it", () => this.onReplace(lost.first), "Choose another tileset: its tiles keep their places"]);
+    return notice("tilesets", words, buttons, "mild");
   }
 }
 

@@ -2,7 +2,7 @@
 // The properties of the map, of a layer, of an object or of several, in a table; and what else a line can set of these.
 import { button, byId, element, mark, putText } from "./dom.js";
 import { fieldFor, numberField, textField } from "./fields.js";
-import { KINDS, TYPES, kindOfType } from "../core/kinds.js";
+import { KINDS, TYPES } from "../core/kinds.js";
 import { LayerRows } from "./layer_rows.js";
 import { ObjectRows } from "./object_rows.js";
 import { memberLine } from "../core/member_lines.js";
@@ -11,6 +11,7 @@ import { saidOf } from "../core/refusals.js";
 import { owned, sharedOwner, showMixed, shownOf } from "./shared_values.js";
 import { cellOf, rowOf } from "./table_rows.js";
 import { wordsOfShape } from "../view/object_shapes.js";
+import { unlockLines, whyLocked } from "../tools/barred_layers.js";
 import { whyNotNamed } from "../core/unsupported_edits.js";
 
 const OWNERS = ["map", "layer", "object"];
@@ -38,7 +39,9 @@ export class PropertyPanel {
     this.propertyRows = new PropertyRows(this);
     const columns = Array.from({ length: 3 }, () => element("col"));
     byId("properties").querySelector("table").append(element("colgroup", {}, ...columns), this.body);
-    byId("properties").append(this.last);
+    this.fields = byId("properties").querySelector("fieldset");
+    this.fields.append(this.last);
+    byId("why-locked").append(button("Unlock it", "Unlock the layer, so that its objects are changed", () => this.unlock(), { id: "unlock" }));
     // The panel follows what is chosen.
     bench.addEventListener("layer chosen", () => this.choose("layer"));
     bench.addEventListener("object chosen", () => this.choose(bench.objectId !== null ? "object" : this.kind === "object" ? "layer" : this.kind));
@@ -73,9 +76,29 @@ export class PropertyPanel {
     const shape = this.kind === "object" && owner?.all.length === 1 ? ` · ${wordsOfShape(owner.data)}` : "";
     if (byId("owner").dataset.shape !== shape) byId("owner").dataset.shape = shape;
     this.last.hidden = !owner;
+    this.showLocked();
     if (owner?.word !== this.shownOwner) this.unmark();
     this.shownOwner = owner?.word;
     this.putRows(owner ? [...this.factRows(owner), ...this.propertyRows.rows(owner)] : []);
+  }
+
+  // Why nothing of the objects that the table is about is changed; "" where all is.
+  get whyLocked() {
+    const [layer] = this.kind === "object" ? this.bench.lockedLayers : [];
+    return layer ? whyLocked(layer) : "";
+  }
+
+  // The fields of objects on a locked layer are grey, and it is said why.
+  showLocked() {
+    const why = this.whyLocked;
+    byId("why-locked").hidden = why === "";
+    putText(byId("why-locked").firstElementChild, why);
+    this.fields.disabled = why !== "";
+  }
+
+  unlock() {
+    const lines = new Set(this.bench.lockedLayers.flatMap(unlockLines));
+    return lines.size > 1 ? this.bench.doAsOne("Unlock Layers || unlock layers", [...lines]) : this.bench.act([...lines]);
   }
 
   // Puts rows into the table. One that stands there already stays as it is, with what is typed in it.
@@ -130,6 +153,7 @@ export class PropertyPanel {
   // Does for a field a line for each thing that the table is about, as one step with a name where they are several: gives null, or why it was
   // refused.
   async sendEach(lineOf, name) {
+    if (this.whyLocked) return this.whyLocked;
     const lines = this.owner().all.map(lineOf);
     if (lines.length === 1) return this.send(lines[0]);
     const done = this.bench.doAsOne(`${name} || ${name.toLowerCase()}`, lines);
@@ -138,6 +162,7 @@ export class PropertyPanel {
 
   // Does a line for a field: gives null, or why it was refused.
   async send(line) {
+    if (this.whyLocked) return this.whyLocked;
     return (await this.bench.attempt([line]))?.words ?? null;
   }
 
@@ -165,7 +190,7 @@ export class PropertyPanel {
   newField(typed = "") {
     const type = this.fieldType = this.type.value;
     const first = String(FIRST[type] ?? "");
-    this.field = fieldFor(type, isChoice(type) ? first : "", () => null, this.around, kindOfType(type, this.bench.editor.takesFractions));
+    this.field = fieldFor(type, isChoice(type) ? first : "", () => null, this.around);
     const { input } = this.field;
     Object.assign(input, { id: "new-value", placeholder: WANTED[type] ?? first, onkeydown: event => this.newKey(event), onchange: null });
     if (!isChoice(type)) input.value = typed;
@@ -190,7 +215,7 @@ export class PropertyPanel {
 
   async add() {
     const { name, type, field } = this;
-    const kind = kindOfType(type.value, this.bench.editor.takesFractions);
+    const kind = TYPES[type.value];
     const text = field.chosen?.() ?? kind.spelled(field.input.value || String(FIRST[type.value] ?? ""));
     const faults = [[name, KINDS.key.fault(name.value)], [field.input, kind.fault(text)]];
     for (const [input, fault] of faults) mark(input, fault);

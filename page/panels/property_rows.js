@@ -4,7 +4,7 @@
 import { ask, button, element } from "./dom.js";
 import { fieldFor } from "./fields.js";
 import { inheritedProperty } from "../core/inherited.js";
-import { KINDS, TYPES, kindOfType } from "../core/kinds.js";
+import { KINDS, TYPES } from "../core/kinds.js";
 import { bytesTooMany, removalLine } from "../core/member_lines.js";
 import { memberAt, membersIn, settingLine, textFrom, typeOfMember, valueFrom, withMember } from "../core/property_lines.js";
 import { MAX_LINE } from "../../js/limits.js";
@@ -30,10 +30,6 @@ export class PropertyRows {
     Object.assign(this, { panel, bench: panel.bench, known: new WeakMap() });
   }
 
-  get takesFractions() {
-    return this.bench.editor.takesFractions;
-  }
-
   rows(owner) {
     return (owner.data.properties ?? []).flatMap(property => this.rowsOf(owner, property).map(row => this.ofTemplate(owner, property, row)));
   }
@@ -50,7 +46,7 @@ export class PropertyRows {
   }
 
   rowsOf(owner, property) {
-    const why = whyNotSet(property, this.takesFractions) || this.whyTooLong(property);
+    const why = whyNotSet(property) || this.whyTooLong(property);
     if (why) return [this.barredRow(owner, property, why)];
     if (property.type !== "class") return [this.valueRow(owner, property)];
     return [this.classRow(owner, property), ...membersIn(property.value).map(member => this.memberRow(owner, property, member))];
@@ -70,7 +66,7 @@ export class PropertyRows {
     const text = owner.mixed.has(`property ${name}`) ? "" : textFrom(value);
     return this.panel.kept(`${owner.word} ${type} ${name}`, [text], () => {
       const take = typed => this.set(name, whole => ({ ...whole, type, value: valueFrom(type, typed) }));
-      const field = fieldFor(type, text, take, this.panel.around, kindOfType(type, this.takesFractions));
+      const field = fieldFor(type, text, take, this.panel.around);
       Object.assign(field.input.dataset, { key: name, owner: owner.word });
       showMixed(field, owner, `property ${name}`);
       return { element: this.row(name, this.typeField(name, type), field.box), fields: [field] };
@@ -87,7 +83,7 @@ export class PropertyRows {
 
   async turn(name, field) {
     const type = field.value;
-    const kind = kindOfType(type, this.takesFractions);
+    const kind = TYPES[type];
     const valueOf = text => (kind.fault(kind.spelled(text)) ? FIRST[type] : valueFrom(type, kind.spelled(text)));
     const why = await this.set(name, ({ propertytype, ...whole }) => ({ ...whole, type, value: valueOf(textFrom(whole.value)) }), true);
     if (why) this.bench.say(why);
@@ -129,7 +125,7 @@ export class PropertyRows {
     if (type === null) return this.panel.kept(`${owner.word} member ${name} ${title} ${JSON.stringify(value)}`, [], () => this.otherMember(title, value));
     return this.panel.kept(`${owner.word} member ${name} ${title} ${type}`, [text], () => {
       const take = typed => this.set(name, whole => ({ ...whole, value: withMember(whole.value, path, valueFrom(type, typed)) }));
-      const field = fieldFor(type, text, take, this.panel.around, kindOfType(type, this.takesFractions));
+      const field = fieldFor(type, text, take, this.panel.around);
       Object.assign(field.input.dataset, { key: `${name}.${path.join(".")}`, owner: owner.word });
       if (field.input.type === "checkbox") field.input.indeterminate = isMixed;
       else field.input.placeholder = isMixed ? MIXED : "";

@@ -21,9 +21,11 @@ export function sharedOwner(objects) {
   const [first, ...others] = objects;
   const { properties, mixed } = sharedProperties(objects);
   const names = Object.keys(MEMBERS).filter(name => others.some(each => valueOf(each, name) !== valueOf(first, name)));
-  const data = { ...Object.fromEntries(Object.keys(MEMBERS).map(name => [name, valueOf(first, name)])), properties };
+  const gids = new Set(objects.map(({ gid }) => gid));
+  const isOfTiles = !gids.has(undefined);
+  const data = { ...(isOfTiles && { gid: first.gid }), ...Object.fromEntries(Object.keys(MEMBERS).map(name => [name, valueOf(first, name)])), properties };
   const all = objects.map(object => ({ word: `object:${object.id}`, data: object }));
-  return { word: `objects:${objects.map(({ id }) => id).join(",")}`, data, title: `${objects.length} objects`, mixed: new Set([...names, ...mixed]), all };
+  return { word: `objects:${objects.map(({ id }) => id).join(",")}`, data, title: `${objects.length} objects`, mixed: new Set([...names, ...mixed, ...(gids.size > 1 ? ["gid"] : [])]), all };
 }
 
 // What a field shows of a member: nothing where the values are several.

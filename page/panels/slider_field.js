@@ -3,7 +3,7 @@
 import { element } from "./dom.js";
 import { NumberField } from "./fields.js";
 
-// How near to one another the values of a slider are, where they may have fractions.
+// How near to one another the values of a slider are.
 const STEP = 0.01;
 
 export class SliderField extends NumberField {
@@ -11,7 +11,7 @@ export class SliderField extends NumberField {
   constructor(kind, value, take, { least, most, slide, end }) {
     super(kind, value, take);
     this.slide = slide;
-    this.slider = element("input", { type: "range", min: least, max: most, step: STEP, title: this.input.title, oninput: () => this.slid() });
+    this.slider = element("input", { type: "range", min: least, max: most, step: STEP, oninput: () => this.slid() });
     // Behind a drag by the mouse the keys go to the map again.
     Object.assign(this.slider, { onpointerdown: end, onpointerup: () => this.slider.blur(), onblur: end });
     this.box.classList.add("slides");
@@ -24,7 +24,6 @@ export class SliderField extends NumberField {
     if (this.slider && !this.kind.fault(text)) this.showAt(text);
   }
 
-  // A value that the file has is shown, also where no such one can be set.
   update(value) {
     super.update(value);
     if (!this.isTyped) this.showAt(value);
@@ -35,8 +34,7 @@ export class SliderField extends NumberField {
   }
 
   slid() {
-    const number = Number(this.slider.value);
-    const text = String(this.kind.step < 1 ? number : Math.round(number));
+    const text = String(Number(this.slider.value));
     if (text !== this.value && this.slide(text)) this.put(text);
     this.showAt(this.value);
   }

@@ -4,6 +4,7 @@
 import { button, byId, element, putText } from "./dom.js";
 import { groupSteps } from "./group_steps.js";
 import { putRows } from "./list_rows.js";
+import { calledStep } from "../core/step_ways.js";
 
 const MORE = 1000;
 // How many rows stay in sight where the panels are short of room.
@@ -77,7 +78,8 @@ export class StepPanel {
       ...steps.map((step, at) => ({ place: firstStep + at + 1, text: this.wordsOf(step), isMacro: step.isMacro })),
       ...(later > 0 ? [{ more: "later", text: `${later} later steps ..` }] : []),
     ];
-    this.putRows(list, wanted);
+    // Behind the lines that follow the first one of a stroke each row says what it said.
+    if (!this.putRows(list, wanted)) return;
     this.showNow();
     this.measure(performance.now() - this.shownAt);
   }
@@ -92,20 +94,24 @@ export class StepPanel {
     });
   }
 
-  // Puts rows into the list. That of a place stays, and of it only what it shows otherwise is changed.
+  // Puts rows into the list, and gives whether one is another. That of a place stays, and of it only what it shows otherwise is changed.
   putRows(list, wanted) {
     const rows = new Map();
+    let isOther = wanted.length !== this.rows.size;
     for (const each of wanted) {
       const key = each.more ?? each.place;
       const shown = each.more ? each : { ...each, ...this.looksOf(each) };
       const kept = this.rows.get(key) ?? { row: each.more ? this.more() : this.row(each.place), said: "" };
       const said = JSON.stringify(shown);
       if (kept.said !== said) this.showRow(kept.row, shown);
+      isOther ||= kept.said !== said;
       rows.set(key, { row: kept.row, said });
     }
     this.rows = rows;
+    if (!isOther) return false;
     this.putParts(list);
     this.keepInSight(rows.size);
+    return true;
   }
 
   // The rows stand in parts, by their places: what is out of sight is laid out and painted by no browser, and a row that comes changes one part.
@@ -163,7 +169,8 @@ export class StepPanel {
   }
 
   // A step, what it is about, and the way in which it was made: `Show Layer · Roof: hidden`. Of the map it is not said.
-  wordsOf({ text, subject, way }) {
+  wordsOf({ subject, ...step }) {
+    const { text, way } = calledStep(step.text, step.way);
     const named = subject && subject.kind !== "map" ? this.nameOf(subject.kind, subject.id) : "";
     const about = [named, way].filter(each => each).join(": ");
     return about ? `${text} · ${about}` : text;

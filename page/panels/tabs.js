@@ -1,5 +1,6 @@
 // SPDX-License-Identifier: MIT OR Apache-2.0
 // The tabs of the open documents, of which the active one is always in sight, and a list of them all.
+import { documentName } from "../../js/roskevad.js";
 import { byId, element } from "./dom.js";
 import { iconButton } from "./icons.js";
 import { putRows } from "./list_rows.js";
@@ -9,6 +10,9 @@ import { NEVER_SAVED } from "./status_bar.js";
 
 // What a document is called for the user: the name of its file, or its own name where it has none.
 export const titleOf = ({ name, path }) => (path ? lastOf(path) : name);
+
+// Whether a document is called in lines as its file is.
+const isCalled = (name, path) => path === null || documentName(path) === name;
 
 export class Tabs {
   constructor(bench, documents) {
@@ -43,7 +47,7 @@ export class Tabs {
       this.documents.close(name);
     }, { className: "close", tabIndex: -1 });
     const onclick = () => isActive || this.bench.act([`use ${name}`]);
-    const shown = { className: "tab", title: `${path ?? "in no file yet"} (in lines: ${name})`, data: { document: name }, onclick };
+    const shown = { className: "tab", title: `${path ?? "in no file yet"}${isCalled(name, path) ? "" : ` (called ${name} in the log)`}`, data: { document: name }, onclick };
     const tab = element("div", shown, mark, element("span", { className: "title", textContent: title }), close);
     tab.classList.toggle("on", isActive);
     tab.classList.toggle("unsaved", !isClean);

@@ -4,9 +4,10 @@ import { NO_MAP, allow, byId, element } from "./dom.js";
 import { iconButton } from "./icons.js";
 import { FileList } from "../files/file_list.js";
 import { pathFrom } from "../files/names.js";
+import { memberLine, memberRemoval } from "../core/member_lines.js";
 import { thrownWords } from "../core/thrown_words.js";
 import { endNotice, notice } from "./notice_bars.js";
-import { checked, readTileset } from "../files/tileset_files.js";
+import { wordsOfTileset } from "../files/tileset_files.js";
 import { TilesetMaker } from "./tileset_maker.js";
 import { named } from "../tools/carried_tiles.js";
 
@@ -14,6 +15,8 @@ const ABOUT = "wrong tilesets";
 // How many wrong tilesets are named, and how long a name is then.
 const MOST_SAID = 3;
 const LONGEST_NAME = 60;
+const REPLACES = "Put a tileset of the folder in the place of this one: its tiles keep their places";
+const NONE_HERE = "There is no tileset here: a .tsx or .tsj file, in the folder or among the chosen files.";
 
 export class TilesetPanel {
   // `pictures` asks for a picture.
@@ -24,6 +27,7 @@ export class TilesetPanel {
       iconButton("plus", "Larger tiles", "Larger tiles: Ctrl and the wheel", () => palette.zoom(1), { id: "palette-larger" }),
       iconButton("newTileset", "New tileset of a picture", "", () => this.make(), { id: "new-tileset" }),
       iconButton("files", "Add a tileset", "Add a tileset of the folder to the map", () => this.add(), { id: "add-tileset" }),
+      iconButton("replace", "Replace this tileset", REPLACES, () => this.replace(), { id: "replace-tileset" }),
       iconButton("remove", "Remove this tileset", "Remove this tileset from the map, where nothing uses it", () => this.remove(), { id: "remove-tileset" }),
     );
     byId("tilesets").onchange = event => {
@@ -48,7 +52,9 @@ export class TilesetPanel {
     const why = this.bench.map ? "" : NO_MAP;
     allow(byId("new-tileset"), "New tileset of a picture: a PNG of the folder, or another one", why);
     allow(byId("add-tileset"), "Add a tileset of the folder to the map", why);
-    allow(byId("remove-tileset"), "Remove this tileset from the map, where nothing uses it", why || (this.palette.tileset ? "" : "The map has no tileset"));
+    const whyOne = why || (this.palette.tileset ? "" : "The map has no tileset");
+    allow(byId("replace-tileset"), REPLACES, whyOne);
+    allow(byId("remove-tileset"), "Remove this tileset from the map, where nothing uses it", whyOne);
   }
 
   // Says what is wrong with tilesets; all others are drawn.
@@ -79,21 +85,23 @@ export class TilesetPanel {
   }
 
   async add() {
-    const { map } = this.bench;
-    if (!map) return this.bench.say("Open a map first.");
-    const { place } = this.editor;
-    const files = await place.tilesets().catch(fault => this.bench.say(`The files cannot be listed: ${thrownWords(fault)}.`) ?? []);
-    const folder = this.editor.folder;
-    const has = new Set(map.data.tilesets.map(set => set.source));
-    const known = new Map(files.filter(each => has.has(pathFrom(folder, each.path))).map(each => [each.path, "in the map already"]));
+    if (!this.bench.map) return this.bench.say("Open a map first.");
     const first = element("input", { name: "first", type: "number", min: 1, value: this.bench.carried.numbers.nextFirst() });
-    const label = this.firstField(first);
-    const none = "There is no tileset here: a .tsx or .tsj file, in the folder or among the chosen files.";
-    const path = await new FileList("Add a tileset", files, { known, look: path => this.look(path), none, fields: [label] }).ask();
-    if (!path) return null;
-    const done = await this.bench.act([`tileset add ${first.value} ${pathFrom(folder, path)}`]);
+    const source = await this.askSource("Add a tileset", [this.firstField(first)]);
+    if (!source) return null;
+    const done = await this.bench.act([`tileset add ${first.value} ${source}`]);
     if (done.isAccepted) this.palette.choose(Number(first.value));
     return done;
+  }
+
+  // Asks for a tileset of the folder: gives its path from the folder of the map; null where none was chosen.
+  async askSource(title, fields = []) {
+    const { place, folder } = this.editor;
+    const files = await place.tilesets().catch(fault => this.bench.say(`The files cannot be listed: ${thrownWords(fault)}.`) ?? []);
+    const has = new Set(this.bench.map.data.tilesets.map(set => set.source));
+    const known = new Map(files.filter(each => has.has(pathFrom(folder, each.path))).map(each => [each.path, "in the map already"]));
+    const path = await new FileList(title, files, { known, look: each => wordsOfTileset(place, each), none: NONE_HERE, fields }).ask();
+    return path && pathFrom(folder, path);
   }
 
   // The field of the first id, folded where it is as clear which one it is as can be.
@@ -104,19 +112,44 @@ export class TilesetPanel {
     return element("details", { open: unknown > 0 }, element("summary", { textContent: "Number of its first tile" }), element("label", {}, words, first));
   }
 
-  // Words for a file: how many tiles it has.
-  async look(path) {
-    const bytes = await this.editor.place.bytes(path);
-    if (!bytes) return { words: "the file is not there", isRefused: true };
-    const { tilecount, tilewidth, tileheight, image } = checked(readTileset(path, bytes));
-    return { words: `${tilecount ?? "?"} tiles of ${tilewidth ?? "?"} × ${tileheight ?? "?"}${image ? "" : ", not of one image"}`, isRefused: false };
+  // Puts another tileset in the place of the one that is shown, as one step. No cell changes.
+  async replace() {
+    const { tileset } = this.palette;
+    if (!this.bench.map || !tileset) return this.bench.say("The map has no tileset.");
+    const source = await this.askSource(`Replace ${tileset.name}`);
+    if (!source) return null;
+    const owner = `tileset:${tileset.first}`;
+    const { firstgid, source: old, ...others } = this.bench.map.data.tilesets.find(each => each.firstgid === tileset.first);
+    const lines = [memberLine(owner, "source", source), ...Object.keys(others).map(name => memberRemoval(owner, name))];
+    const done = this.bench.doAsOne("Replace Tileset || replace tileset", lines);
+    if (done.isAccepted) await this.sayTooFew(tileset.first);
+    return done;
+  }
+
+  // Shows a tileset that is lost, and replaces it.
+  replaceLost(first) {
+    this.palette.choose(first);
+    return this.replace();
+  }
+
+  // Says where a tileset lacks tiles that the map uses.
+  async sayTooFew(first) {
+    await this.tilesets.reading;
+    const tileset = this.tilesets.all.find(each => each.first === first);
+    if (!tileset?.size) return;
+    const where = this.uses.where(first + tileset.size, this.endOf(tileset));
+    if (where.length) this.bench.say(`The map uses tiles that ${tileset.name} does not have: ${named(where)}. They are drawn as numbers.`);
+  }
+
+  // Where the values of the next tileset begin.
+  endOf({ first }) {
+    return this.tilesets.sets.find(each => each.first > first)?.first ?? Infinity;
   }
 
   remove() {
     const { tileset } = this.palette;
     if (!this.bench.map || !tileset) return this.bench.say("The map has no tileset.");
-    const behind = this.tilesets.sets.find(({ first }) => first > tileset.first);
-    const where = this.uses.where(tileset.first, behind?.first ?? Infinity);
+    const where = this.uses.where(tileset.first, this.endOf(tileset));
     if (where.length) return this.bench.say(`The map uses ${tileset.name}: ${named(where)}. Replace these or empty them first.`);
     return this.bench.act([`tileset remove ${tileset.first}`]);
   }

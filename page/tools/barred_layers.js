@@ -22,13 +22,22 @@ export const isLockedIn = layer => withGroups(layer).some(isLocked);
 // The innermost group that is locked and has the layer in it; undefined where there is none.
 export const lockedGroupOf = layer => withGroups(layer.group).find(isLocked);
 
+const nameIn = (layer, each) => (each === layer ? each.data.name || "(no name)" : `The group ${each.data.name || "(no name)"}`);
+
+// Why a layer is locked, in words; "" where it is not.
+export function whyLocked(layer) {
+  const locked = withGroups(layer).find(isLocked);
+  return locked ? `${nameIn(layer, locked)} is locked.` : "";
+}
+
 // Why a layer is barred, in words; "" where it is not.
 export function whyBarred(layer) {
-  const nameOf = each => (each === layer ? each.data.name : `The group ${each.data.name}`);
   const hidden = withGroups(layer).find(each => each.data.visible === false);
-  const locked = withGroups(layer).find(isLocked);
-  return hidden ? `${nameOf(hidden)} is hidden.` : locked ? `${nameOf(locked)} is locked.` : "";
+  return hidden ? `${nameIn(layer, hidden)} is hidden.` : whyLocked(layer);
 }
+
+// The lines that unlock a layer, and the groups that it stands in.
+export const unlockLines = layer => withGroups(layer).filter(isLocked).map(each => lockLine(each, false));
 
 const OF_KINDS = { objectgroup: "has objects and no tiles", group: "is a group", imagelayer: "is an image" };
 
@@ -65,9 +74,8 @@ export class BarredLayers {
     const key = this.keyOf(layer);
     const buttons = [["Draw all the same", () => void this.allowed.add(key), `Draw on ${layer.data.name} though it is hidden or locked`]];
     const hidden = withGroups(layer).filter(each => each.data.visible === false);
-    const locked = withGroups(layer).filter(isLocked);
     if (hidden.length) buttons.unshift(["Show it", () => bench.act(hidden.map(each => `layer show ${each.id} yes`)), "Show the layer"]);
-    else buttons.unshift(["Unlock it", () => bench.act(locked.map(each => lockLine(each, false))), "Unlock the layer"]);
+    else buttons.unshift(["Unlock it", () => bench.act(unlockLines(layer)), "Unlock the layer"]);
     notice(ABOUT, hidden.length ? `${why} What is drawn on it would not be seen.` : `${why} So nothing is drawn on it by mistake.`, buttons, "mild");
     this.said = key;
     return true;

@@ -4,6 +4,8 @@
 export class Clips {
   constructor(bench, tools) {
     Object.assign(this, { bench, tools, clipboard: bench.clipboard });
+    // Copies that are there are shown by a tool for objects.
+    tools.all.objects.copies.onPasted = () => tools.now.paste || tools.choose("objects");
   }
 
   // ---- keys: each is about what was chosen last, objects or cells
@@ -32,6 +34,31 @@ export class Clips {
     return this.objects ? this.objects.remove() : this.removeCells();
   }
 
+  // With an object layer in hand its objects, unless the tool selects cells.
+  selectAll() {
+    const { bench, tools } = this;
+    if (!bench.map) return null;
+    if (bench.layer?.type === "objectgroup" && tools.name !== "select") return this.chooseAll(bench.layer);
+    return bench.act([`select replace 0 0 ${bench.map.width} ${bench.map.height}`]);
+  }
+
+  // Chooses the objects of a layer that are seen.
+  chooseAll(layer) {
+    const { bench, tools } = this;
+    if (bench.barsObjects(layer, "chosen")) return null;
+    const ids = (layer.data.objects ?? []).filter(({ visible }) => visible !== false).map(({ id }) => id);
+    if (!ids.length) return bench.say(`${layer.data.name || "This layer"} has no objects that are seen.`);
+    if (!tools.now.paste) tools.choose("objects");
+    return bench.chooseObjects(ids);
+  }
+
+  selectNone() {
+    const { bench } = this;
+    if (!bench.map) return null;
+    if (bench.objectIds.length) bench.chooseObject(null);
+    return bench.map.selected ? bench.act(["select none"]) : null;
+  }
+
   duplicate() {
     return this.bench.objectIds.length ? this.tools.all.objects.duplicate() : this.bench.say("Choose an object first, with the tool Objects.");
   }
@@ -42,8 +69,7 @@ export class Clips {
     if (!bench.map) return bench.say("Open a map first.");
     if (clipboard.tiles) return bench.carried.bring(clipboard.tiles, "pasted", stamp => this.takeForPaste(stamp));
     if (!clipboard.object) return bench.say("Nothing is copied. Ctrl+C copies the selected cells, or with the tool Objects the chosen object.");
-    if (!tools.now.paste) tools.choose("objects");
-    return tools.now.paste();
+    return tools.all.objects.paste();
   }
 
   // ---- cells

@@ -45,7 +45,7 @@ function stampRows({ toolbar, stamps }) {
   ];
 }
 
-function editRows({ toolbar, clips, bench }) {
+function editRows({ toolbar, clips }) {
   const redo = event => toolbar.turn("redo", event);
   return [
     [["Ctrl+z"], "Undoes a step; in an open macro its last edit", (_, event) => toolbar.turn("undo", event)],
@@ -55,8 +55,8 @@ function editRows({ toolbar, clips, bench }) {
     [["Ctrl+v"], "Takes copied cells as the stamp, and drops the selection; or pastes a copied object", () => clips.paste()],
     [["Ctrl+d"], "Makes a copy of the chosen object", () => clips.duplicate()],
     [["delete", "backspace"], "Removes the chosen object, or empties the selected cells; takes back a corner of a polygon", () => clips.remove()],
-    [["Ctrl+a"], "Selects all cells", () => bench.map && bench.act([`select replace 0 0 ${bench.map.width} ${bench.map.height}`])],
-    [["Ctrl+Shift+a"], "Selects nothing", () => bench.act(["select none"])],
+    [["Ctrl+a"], "Selects all cells, or with an object layer all of its objects", () => clips.selectAll()],
+    [["Ctrl+Shift+a"], "Selects no cells and no object", () => clips.selectNone()],
   ];
 }
 

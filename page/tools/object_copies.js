@@ -46,7 +46,8 @@ function inFolder({ template, properties = [], ...others }, from, to) {
 
 export class ObjectCopies {
   constructor(bench) {
-    this.bench = bench;
+    // `onPasted()` is called where copies are there that were pasted.
+    Object.assign(this, { bench, onPasted: () => {} });
   }
 
   // Calls `go` with the members of copies of objects, { object, layer } each. Where one is too large for a copy it is named, and nothing is
@@ -94,6 +95,7 @@ export class ObjectCopies {
     const places = this.placesFor(all, layer);
     const name = all.length === 1 ? "Paste Object" : "Paste Objects";
     const isThere = this.put(all.map((members, at) => ({ members, layer: layer.id, place: places[at] })), name);
+    if (isThere) this.onPasted();
     if (isThere && left.length) bench.say(`Without ${listed(left.map(each => each.name))}: an object of the other map is named there.`);
     return null;
   }

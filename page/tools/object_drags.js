@@ -2,10 +2,7 @@
 // What a drag of an object or of one of its handles makes of it, and the lines of that.
 import { memberLine, membersLine } from "../core/member_lines.js";
 import { gridOf, snapped } from "./snapping.js";
-import { resized, turnedBy, withCorner, withoutCorner } from "../view/object_handles.js";
-
-// A length that can be set: a whole one, or where the editor takes such, one with a fraction.
-const settable = ({ editor }) => at => (editor.takesFractions ? Math.round(at * 1000) / 1000 : Math.round(at));
+import { resized, settable, turnedBy, withCorner, withoutCorner } from "../view/object_handles.js";
 
 const isAtCorner = handle => handle?.startsWith("corner") || handle?.startsWith("edge");
 
@@ -30,29 +27,25 @@ function turned(bench, { object, layer, from }, place, event) {
   const { map, overlay } = bench;
   const isStepped = Boolean(event?.ctrlKey || event?.metaKey);
   const [first, last] = [from, place].map(({ pixelX, pixelY }) => [pixelX, pixelY]);
-  const { rotation, x, y } = turnedBy(overlay.shapeOf(object), layer, first, last, isStepped, map.projection, settable(bench));
+  const { rotation, x, y } = turnedBy(overlay.shapeOf(object), layer, first, last, isStepped, map.projection);
   return { rotation, x, y };
 }
 
 function cornered(bench, { object, layer, handle }, { pixelX, pixelY }, event) {
   const grid = gridOf(bench, event);
   const on = grid ? [pixelX, pixelY].map((at, axis) => snapped(at, grid[axis])) : [pixelX, pixelY];
-  return withCorner(object, handle, bench.overlay.ownPlace(object, layer, ...on).map(settable(bench)));
+  return withCorner(object, handle, bench.overlay.ownPlace(object, layer, ...on).map(settable));
 }
 
-const hasFraction = corners => corners.some(({ x, y }) => !Number.isInteger(x) || !Number.isInteger(y));
-
-// The lines that give an object these corners, with the name of their step; none where one has a fraction that cannot be set.
-function cornerStep(bench, { id }, goal, name) {
+// The line that gives an object these corners, with the name of its step.
+function cornerStep({ id }, goal, name) {
   const [[member, corners]] = Object.entries(goal);
-  if (!hasFraction(corners) || bench.editor.takesFractions) return { name, lines: [memberLine(`object:${id}`, member, corners)] };
-  bench.say("Another corner of it has a fraction, which cannot be set today: its corners are moved in Tiled.");
-  return { name, lines: [] };
+  return { name, lines: [memberLine(`object:${id}`, member, corners)] };
 }
 
 export function removedCorner(bench, object, handle) {
   const goal = withoutCorner(object, handle);
-  return goal ? cornerStep(bench, object, goal, "Remove Corner") : bench.say(object.polygon ? "A polygon has at least 3 corners." : "A line has at least 2 corners.");
+  return goal ? cornerStep(object, goal, "Remove Corner") : bench.say(object.polygon ? "A polygon has at least 3 corners." : "A line has at least 2 corners.");
 }
 
 // The step of a drag of an object with which others go along.
@@ -64,9 +57,9 @@ export function stepForAll(object, goal, others) {
 }
 
 // The step of a drag: its lines, and a name where it has to be told.
-export function stepFor(bench, { object, handle }, goal) {
+export function stepFor({ object, handle }, goal) {
   const owner = `object:${object.id}`;
-  if (isAtCorner(handle)) return cornerStep(bench, object, goal, handle.startsWith("edge") ? "Add Corner" : "Move Corner");
+  if (isAtCorner(handle)) return cornerStep(object, goal, handle.startsWith("edge") ? "Add Corner" : "Move Corner");
   if (handle === "turn") return { name: "Rotate Object", lines: goal.rotation === (object.rotation ?? 0) ? [] : [membersLine(owner, goal)] };
   const { x, y, width, height } = goal;
   const whole = name => Math.floor(object[name] ?? 0);

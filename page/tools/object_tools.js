@@ -113,7 +113,7 @@ export class ObjectTool {
 
   stepOf(drag, goal) {
     const others = this.goesAlong(drag);
-    return others.length ? stepForAll(drag.object, goal, others) : stepFor(this.bench, drag, goal);
+    return others.length ? stepForAll(drag.object, goal, others) : stepFor(drag, goal);
   }
 
   // Does the lines of a step, which has a name where they are several, or tell less than that.

@@ -98,11 +98,14 @@ export function resized(object, handle, [byX, byY], snaps) {
 }
 
 // ---- turning
+// A length as it is set, to the thousandth of a pixel.
+export const settable = at => Math.round(at * 1000) / 1000;
+
 const degreesOf = ([x, y], [fromX, fromY]) => Math.atan2(y - fromY, x - fromX) * 180 / Math.PI;
 
 // What a drag of the handle that turns makes of an object, whose middle stays: { rotation, x, y }. `shape` is the object with how it stands at
-// its place; `from` and `to` are places of the map, and `round` makes of a length one that can be set.
-export function turnedBy(shape, layer, from, to, isStepped, projection, round) {
+// its place; `from` and `to` are places of the map.
+export function turnedBy(shape, layer, from, to, isStepped, projection) {
   const middle = middleOf(shape);
   const at = mapPlace(shape, layer, middle, projection);
   const [centre, first, last] = [at, from, to].map(each => projection.place(...each));
@@ -110,7 +113,7 @@ export function turnedBy(shape, layer, from, to, isStepped, projection, round) {
   const angle = before + degreesOf(last, centre) - degreesOf(first, centre);
   const rotation = ((isStepped ? Math.round(angle / ANGLE) * ANGLE : Math.round(angle)) + 720) % 360;
   const [x, y] = placeWith({ ...shape, rotation }, layer, middle, ...at, projection);
-  return rotation === before ? { rotation, x: shape.x, y: shape.y } : { rotation, x: round(x), y: round(y) };
+  return rotation === before ? { rotation, x: shape.x, y: shape.y } : { rotation, x: settable(x), y: settable(y) };
 }
 
 // ---- corners

@@ -210,10 +210,10 @@ export class Tilesets {
     const odd = new OddMembers();
     found.odd.push(odd);
     try {
-      const path = data.source ?? "";
-      const members = data.source ? await this.readFile(this.folder + path, found) : data;
+      const path = this.folder + (data.source ?? "");
+      const members = data.source ? await this.readFile(path, found) : data;
       read.members = checked(members, odd, data.source ? `the tileset ${data.source}` : "a tileset in the map");
-      for (const [id, image] of imagesIn(read.members)) await this.readImage(read, id, this.folder + folderOf(path) + image, found);
+      for (const [id, image] of imagesIn(read.members)) await this.readImage(read, id, folderOf(this.editor.place.pathOf(path)) + image, found);
     } catch (fault) {
       if (!(fault instanceof Wrong)) throw fault;
       read.why = fault.message;
@@ -233,7 +233,8 @@ export class Tilesets {
   }
 
   async bytesOf(path, found) {
-    const bytes = await this.editor.place.bytes(path).catch(() => null);
+    const { place } = this.editor;
+    const bytes = await place.bytes(place.pathOf(path)).catch(() => null);
     if (!bytes) found.missing.push(path);
     return bytes;
   }

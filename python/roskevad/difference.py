@@ -111,8 +111,9 @@ def _changes_between(old: 'Document', goal: MapNow, shift: Optional[Shift]) -> l
     """All that differs. The first map gets the size of the other one, and is a copy."""
     found = _resized(old, goal, shift) if shift else []
     now = MapNow(old)
-    tiles = _Tiles(now), _Tiles(goal)
-    found += [*_of_the_map(now, goal), *_of_tilesets(now, goal), *_of_layers(now, goal, tiles), *_of_objects(now, goal, tiles)]
+    tilesets = [*_paired_tilesets(now, goal)]
+    tiles = _Tiles(tilesets, 0), _Tiles(tilesets, 1)
+    found += [*_of_the_map(now, goal), *_of_tilesets(tilesets), *_of_layers(now, goal, tiles), *_of_objects(now, goal, tiles)]
     if not found:
         found = _of_counts(now, goal)
     return found or _of_the_file(old, goal.document)
@@ -199,21 +200,35 @@ def _of_the_map(now: MapNow, goal: MapNow) -> Iterator[Change]:
 # ---- tilesets, and tiles by them
 
 
-def _tilesets_by_name(map: MapNow) -> dict[str, Members]:
-    """The tilesets by their files, or by their names where they have none; one that has the name of another one is counted."""
-    found, counts = dict[str, Members](), dict[str, int]()
-    for each in map.tree['tilesets']:
-        name = str(each.get('source') or each.get('name', ''))
-        counts[name] = counts.get(name, 0) + 1
-        found[name if counts[name] == 1 else f'{name} ({counts[name]})'] = each
-    return found
+Pair = tuple[Optional[Members], Optional[Members]]
 
 
-def _of_tilesets(now: MapNow, goal: MapNow) -> Iterator[Change]:
-    old, new = _tilesets_by_name(now), _tilesets_by_name(goal)
-    for name in [*old, *(name for name in new if name not in old)]:
-        before, after = old.get(name), new.get(name)
-        subject = Subject('tileset', (before or after or {})['firstgid'])
+def _first_id(tileset: Members) -> int:
+    return int(tileset['firstgid'])
+
+
+def _tileset_name(tileset: Members) -> str:
+    return str(tileset.get('source') or tileset.get('name', ''))
+
+
+def _paired_tilesets(now: MapNow, goal: MapNow) -> Iterator[Pair]:
+    """Tilesets that are the same in two maps: by their file or name, and those that are left by their first ids."""
+    old, new = ([*map_.tree['tilesets']] for map_ in (now, goal))
+    for key in (lambda each: (_tileset_name(each), _first_id(each)), _tileset_name, _first_id):
+        for before in [*old]:
+            after = next((each for each in new if key(each) == key(before)), None)
+            if after is not None:
+                old.remove(before)
+                new.remove(after)
+                yield before, after
+    yield from ((each, None) for each in old)
+    yield from ((None, each) for each in new)
+
+
+def _of_tilesets(tilesets: list[Pair]) -> Iterator[Change]:
+    for before, after in sorted(tilesets, key=lambda pair: _first_id(pair[0] or pair[1] or {})):
+        one = after or before or {}
+        name, subject = _tileset_name(one), Subject('tileset', _first_id(before or one))
         if before is None or after is None:
             what = 'added' if before is None else 'removed'
             yield Change(subject, name, what, before, after, f'{what}, first id {subject.id}')
@@ -222,13 +237,23 @@ def _of_tilesets(now: MapNow, goal: MapNow) -> Iterator[Change]:
             yield from _of_values(subject, name, before, after, called)
 
 
+def _names_apart(tilesets: list[Pair]) -> Iterator[str]:
+    """Their names in words of tiles: those that have one name are counted."""
+    counts = dict[str, int]()
+    for before, after in tilesets:
+        name = _tileset_name(after or before or {})
+        counts[name] = counts.get(name, 0) + 1
+        yield name if counts[name] == 1 else f'{name} ({counts[name]})'
+
+
 class _Tiles:
     """Tiles by their tilesets and their ids there: so they are the same in two maps that count them otherwise."""
 
     __slots__ = '_firsts', '_known'
 
-    def __init__(self, map: MapNow):
-        self._firsts = sorted((each['firstgid'], name) for name, each in _tilesets_by_name(map).items())
+    def __init__(self, tilesets: list[Pair], at: int):
+        there = [(pair[at], name) for pair, name in zip(tilesets, _names_apart(tilesets))]
+        self._firsts = sorted((_first_id(each), name) for each, name in there if each is not None)
         self._known: dict[int, str] = {0: 'empty'}
 
     def name(self, value: int) -> str:

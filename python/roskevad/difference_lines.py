@@ -23,7 +23,7 @@ def lines_between(copy: 'Document', goal: MapNow, shift: Optional[Shift]) -> lis
     if shift is not None:
         way.say(shift.line(goal))
     for each in (_drop_layers, _add_tilesets, _add_layers, _place_layers, _change_objects, _paint, _set_members, _set_properties,
-                 _drop_tilesets, _count):
+                 _change_tilesets, _drop_tilesets, _count):
         each(way)
     return way.lines
 
@@ -236,6 +236,14 @@ def _add_tilesets(way: _Way) -> None:
     for each in way.goal.tree['tilesets']:
         if each['firstgid'] not in there:
             way.say(f'tileset put {_json(each)}')
+
+
+def _change_tilesets(way: _Way) -> None:
+    there = {each['firstgid']: each for each in way.now().tree['tilesets']}
+    for each in way.goal.tree['tilesets']:
+        first = each['firstgid']
+        if first in there:
+            _set_own(way, f'tileset:{first}', there[first], each)
 
 
 def _drop_tilesets(way: _Way) -> None:

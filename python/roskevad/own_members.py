@@ -1,5 +1,5 @@
 # SPDX-License-Identifier: MIT OR Apache-2.0
-"""The own members of an object, a layer or the map: what stands for it in the map's file, but for what other lines change."""
+"""The own members of an object, a layer, a tileset or the map: what stands for it in the map's file, but for what other lines change."""
 import json
 from typing import TYPE_CHECKING, Any, Callable, Iterable, Mapping, NoReturn, Optional
 
@@ -19,6 +19,7 @@ OTHERS = {
         'id', 'type', 'properties', 'data', 'chunks', 'startx', 'starty', 'objects', 'layers', 'width', 'height', 'encoding', 'compression',
         'roskevad',
     )),
+    'tileset': frozenset(('firstgid', 'roskevad')),
     'map': frozenset((
         'width', 'height', 'infinite', 'chunks', 'data', 'objects', 'layers', 'tilesets', 'properties', 'type', 'version', 'roskevad',
     )),
@@ -38,7 +39,7 @@ _DEFAULTS: dict[str, Members] = {'layer': {'name': '', 'visible': True}}
 
 
 class Owner:
-    """What has own members, an object, a layer or the map: how lines and the library name it, and how it is read."""
+    """What has own members, an object, a layer, a tileset or the map: how lines and the library name it, and how it is read."""
 
     __slots__ = 'document', 'kind', 'name', 'now', 'whole', 'others', 'defaults', '_call'
 
@@ -69,7 +70,7 @@ class Owner:
 
 
 class OwnMembers(dict[str, Any]):
-    """All members of an object or a layer, or the own ones of the map, as they were when they were asked for: a dict. What is set in it
+    """All members of an object, a layer or a tileset, or the own ones of the map, as they were when they were asked for: a dict. What is set in it
     or taken out of it is an edit, and then it has what is there. A list or a dict in it is a copy: set it anew to change it."""
 
     __slots__ = '_owner',

@@ -5,6 +5,7 @@ from typing import TYPE_CHECKING, Any, Iterator, Mapping, NamedTuple, Optional, 
 
 from . import json_values, words
 from .faults import BadTileset, NotFound, refused_call
+from .own_members import OwnMembers, Owner, set_member, set_or_remove
 from .rows import BASE, DIAGONALLY, HORIZONTALLY, TURNED, VERTICALLY
 from .tiled_maps import Members
 
@@ -49,11 +50,21 @@ class Tileset:
         """Its first id."""
         return self._first_id
 
-    def _members(self) -> Members:
-        members = self._document._do(lambda: cast(Optional[Members], self._document._read('tileset', self.first_id)))
+    def _now(self) -> Members:
+        members = cast(Optional[Members], self._document._read('tileset', self.first_id))
         if members is None:
             raise refused_call(36, repr(self))
         return members
+
+    def _whole(self) -> Members:
+        return {name: value for name, value in self._now().items() if name != 'firstgid'}
+
+    def _members(self) -> Members:
+        return self._document._do(self._now)
+
+    @property
+    def _owner(self) -> Owner:
+        return Owner(self._document, 'tileset', self.first_id, self._now, self._whole)
 
     def __int__(self) -> int:
         """Its first id."""
@@ -61,14 +72,20 @@ class Tileset:
 
     @property
     def source(self) -> Optional[str]:
-        """The path of its file from the folder of the map; None where the map has it in itself. Raises Refused."""
+        """The path of its file from the folder of the map; None where the map has it in itself. Set, it gives the tileset another file, and
+        None takes it away; no cell changes, and no file is read. Raises Refused; set, also TypeError, ValueError."""
         source: Optional[str] = self._members().get('source')
         return source
 
+    @source.setter
+    def source(self, source: Optional[str]) -> None:
+        set_or_remove(self._owner, 'source', source if source is None else json_values.text(source, 'the source of a tileset'))
+
     @property
-    def members(self) -> Members:
-        """All that the map says of it, but for its first id; of a tileset in the map its tiles, too: a copy. Raises Refused."""
-        return {name: value for name, value in self._members().items() if name != 'firstgid'}
+    def members(self) -> OwnMembers:
+        """All that the map says of it, but for its first id; of a tileset in the map its tiles, too: a copy, whose members can be set and
+        taken out. Raises Refused."""
+        return OwnMembers(self._owner)
 
     @property
     def tiles(self) -> 'Optional[list[TilesetTile]]':
@@ -83,9 +100,24 @@ class Tileset:
 
     @property
     def name(self) -> Optional[str]:
-        """Its name, where the map has it in itself; else None: no file of a tileset is read. Raises Refused."""
+        """Its name, where the map has it in itself; else None: no file of a tileset is read. Set, it gives the tileset another one in the
+        map. Raises Refused; set, also TypeError, ValueError."""
         name: Optional[str] = self._members().get('name')
         return name
+
+    @name.setter
+    def name(self, name: str) -> None:
+        set_member(self._owner, 'name', json_values.text(name, 'the name of a tileset'))
+
+    @property
+    def class_name(self) -> str:
+        """Its class, as Tiled calls it: the member `class` of the map's file. Set, it gives the tileset another one there. Raises Refused; set,
+        also TypeError, ValueError."""
+        return str(self._members().get('class', ''))
+
+    @class_name.setter
+    def class_name(self, name: str) -> None:
+        set_member(self._owner, 'class', json_values.text(name, 'the class of a tileset'))
 
     def value(
         self, local_id: int, flipped_horizontally: bool = False, flipped_vertically: bool = False, flipped_diagonally: bool = False,

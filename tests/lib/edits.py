@@ -106,6 +106,12 @@ def find_owner(tree, owner):
     return find_layer(tree, int(number)) if kind == 'layer' else find_object(tree, int(number))
 
 
+def find_tileset(tree, first_id):
+    found = [tileset for tileset in tree['tilesets'] if tileset['firstgid'] == first_id]
+    see(found, 36)
+    return found[0]
+
+
 def see(is_allowed, code):
     if not is_allowed:
         raise Refused(code)
@@ -293,7 +299,7 @@ def add_tileset(draft, first_id, source):
 
 def remove_tileset(draft, first_id):
     tree = draft.tree
-    see(any(tileset['firstgid'] == first_id for tileset in tree['tilesets']), 36)
+    find_tileset(tree, first_id)
     values = {
         cell
         for layer in layers_in(tree['layers'])

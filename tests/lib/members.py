@@ -1,8 +1,8 @@
 # SPDX-License-Identifier: MIT OR Apache-2.0
 """What each line of own members does to a map, plainly: on the tree of its JSON text, by the rules
-of docs/session-lines.md. Objects, layers and the map have such lines."""
+of docs/session-lines.md. Objects, layers, tilesets and the map have such lines."""
 from lib.asides import COORDINATE, COORDINATES, ELSEWHERE, OBJECT, RESERVED, stand_in
-from lib.edits import EDITS, LAST_ID, MOST_PIXELS, Edit, Refused, find_owner, see
+from lib.edits import EDITS, LAST_ID, MOST_PIXELS, Edit, find_owner, find_tileset, see
 from lib.json_words import is_whole, json_word, object_word, sets_fractions_aside, tree_of
 from lib.maps import layers_in, objects_in
 
@@ -14,6 +14,7 @@ OTHERS = {
         'id', 'type', 'properties', 'data', 'chunks', 'startx', 'starty', 'objects', 'layers',
         'width', 'height', 'encoding', 'compression', 'roskevad',
     ),
+    'tileset': ('firstgid', 'roskevad'),
     'map': (
         'width', 'height', 'infinite', 'chunks', 'data', 'objects', 'layers', 'tilesets',
         'properties', 'type', 'version', 'roskevad',
@@ -40,6 +41,10 @@ def see_layer(layer, _):
     see(isinstance(layer.setdefault('visible', True), bool), 63)
 
 
+def see_tileset(tileset, _):
+    see(isinstance(tileset.get('source', ''), str), 63)
+
+
 def see_map(tree, draft):
     for name, most in (
         ('tilewidth', MOST_TILE_SIDE),
@@ -54,7 +59,7 @@ def see_map(tree, draft):
     see(all(item['id'] < tree['nextobjectid'] for item in objects_in(draft.tree)), 68)
 
 
-SEEN = {'object': see_object, 'layer': see_layer, 'map': see_map}
+SEEN = {'object': see_object, 'layer': see_layer, 'tileset': see_tileset, 'map': see_map}
 
 
 # ---- the notes of an object's coordinates
@@ -87,9 +92,9 @@ def note_anew(item, names, notes):
 
 def owner_of(draft, owner):
     """The kind of the owner that a line names, and the owner."""
-    kind = owner.partition(':')[0]
-    if kind not in OTHERS:
-        raise Refused(41)
+    kind, _, number = owner.partition(':')
+    if kind == 'tileset':
+        return kind, find_tileset(draft.tree, int(number))
     return kind, find_owner(draft.tree, owner)
 
 

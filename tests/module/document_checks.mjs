@@ -246,6 +246,30 @@ async function tilesetsThatRenumber() {
   editor.close();
 }
 
+// What a map has of a tileset is set as it is of a layer: another file, and no cell changes.
+async function membersOfTilesets() {
+  const editor = await Editor.create();
+  const document = editor.new("made", 2, 1, 16, 16, "town.tsj");
+  const tileset = document.tilesets.first;
+  document.stamp(1, 0, 0, [[5]]);
+  tileset.source = "art/walls.tsj";
+  tileset.className = "stone";
+  tileset.setMembers({ grid: { width: 8 }, name: "walls" });
+  tileset.removeMember("class");
+  same(document.map().tilesets, [{ firstgid: 1, grid: { width: 8 }, name: "walls", source: "art/walls.tsj" }]);
+  same([tileset.source, tileset.name, tileset.className, document.layers.get(1).cells()[0]], ["art/walls.tsj", "walls", "", 5]);
+  same([thrown(Refused, () => tileset.setMember("firstgid", 2)).code, thrown(Refused, () => tileset.setMember("source", 5)).code], [41, 63]);
+  thrown(TypeError, () => Object.assign(tileset, { source: 5 }));
+  document.goto(1);
+  same(tileset.members, { source: "town.tsj" });
+  tileset.source = null;
+  same(document.map().tilesets, [{ firstgid: 1 }]);
+  document.goto(0);
+  tileset.remove();
+  same(thrown(Refused, () => tileset.setMember("name", "a")).code, 36);
+  editor.close();
+}
+
 // A collection of images has the tiles that it lists, whose ids may have gaps; a tileset of one image has all.
 async function tilesOfCollections() {
   const editor = await Editor.create();
@@ -743,8 +767,8 @@ async function readThings() {
 export const DOCUMENT_CHECKS = [
   drawnDocuments, worksThatGoOnLater, savedDocuments, propertiesOfOtherTypes, points, valuesOfOwnMembers, refusedMembersOfLayersAndMaps,
   membersOfLayersAndMaps, membersOfFiles, whatAFileLeavesOut,
-  callsThatRefusalsName, textsInJSON, propertiesAsObjects, tilesetsThatRenumber, thingsThatAreNotAdded, tilesetsOfImages, tilesOfCollections, disposedEditors,
-  namesThatAreNotThere,
+  callsThatRefusalsName, textsInJSON, propertiesAsObjects, tilesetsThatRenumber, membersOfTilesets, thingsThatAreNotAdded,
+  tilesetsOfImages, tilesOfCollections, disposedEditors, namesThatAreNotThere,
   loopsOfStamps, loopsOfObjects,
   textsOfDocuments, thingsAndIds, groupsAndRemovals, readThings,
 ];

@@ -1,5 +1,6 @@
 use map_model::{
     CellEdit, LayerHead, MapHead, MemberOwner, ObjectHead, Owner, Placing, Scalar, Setting,
+    TilesetHead,
 };
 
 /// The head of an owner: what it is beside its id and its lists.
@@ -9,6 +10,8 @@ pub enum OwnerHead<'a> {
     Object(u32, &'a ObjectHead),
     /// That of the layer with this id.
     Layer(u32, &'a LayerHead),
+    /// That of the tileset with this first id.
+    Tileset(u32, &'a TilesetHead),
     /// That of the map.
     Map(&'a MapHead),
 }
@@ -24,6 +27,7 @@ impl<'a> OwnerHead<'a> {
         match self {
             OwnerHead::Object(object, _) => MemberOwner::Object(*object),
             OwnerHead::Layer(layer, _) => MemberOwner::Layer(*layer),
+            OwnerHead::Tileset(first_id, _) => MemberOwner::Tileset(*first_id),
             OwnerHead::Map(_) => MemberOwner::Map,
         }
     }

@@ -1,9 +1,10 @@
 -- The laws of lenses.
-use Rattle.std.proofs.Common.{◌≡◌, ℕ, zero, suc, List, [], ◌∷◌, Bool, Option, Some, None, option_map, option_and_then, find, refl, sym, ap, ◌∙◌, subst}
+use Rattle.std.proofs.Common.{◌≡◌, ℕ, zero, suc, List, [], ◌∷◌, Bool, nat_eq, Option, Some, None, option_map, option_and_then, find, refl, sym, ap, ◌∙◌, subst}
 use Rattle.std.specs.List.{slice_get}
 use Rattle.map_model.specs.declared.limits.TheConstants.{MAX_GROUPS}
 use Rattle.map_model.specs.declared.parts.Layer.{Layer}
 use Rattle.map_model.specs.declared.parts.Object.{Object}
+use Rattle.map_model.specs.declared.parts.Tileset.{Tileset}
 use Rattle.map_model.specs.declared.place.ObjectPlace.{ObjectPlace}
 use Rattle.map_model.specs.Document.{DocumentParts, with_selection}
 use Rattle.map_model.specs.Layers.{layer_name, layer_with_name, layer_visible, layer_with_visible}
@@ -15,7 +16,8 @@ use Rattle.map_model.proofs.GroupBodies.{group_of-with, body_with_layers-along, 
 use Rattle.map_model.proofs.TreeChanges.{layer_among-change_among, change_among-change_among, change_among-along, change_among-same}
 use Rattle.map_model.proofs.FirstChanges.{change_first-change_first, find-change_first, change_first-along, change_first-same}
 use Rattle.map_model.specs.Lens.{Lens, IsLawfulLens, AreApart, whole, inner, of_first, of_place, layers, group, siblings, of_layer, objects, layer_objects}
-use Rattle.map_model.specs.Lens.{of_object, next_layer_id, next_object_id, name, visible, selection, tilesets, placing, put}
+use Rattle.map_model.specs.Lens.{of_object, of_tileset, next_layer_id, next_object_id, name, visible, selection, tilesets, placing, put}
+use Rattle.map_model.specs.Tilesets.{has_first_id}
 
 pub some-eq : {V : Type 0} (v w : V) → Some v ≡ Some w → v ≡ w
 some-eq v w e = cc
@@ -105,6 +107,12 @@ next_object_id-laws = whole-laws (λ d. d.map.next_object_id) (λ n d. record d 
 
 pub tilesets-laws : IsLawfulLens tilesets
 tilesets-laws = whole-laws (λ d. d.map.tilesets) (λ ts d. record d { map = record d.map { tilesets = ts } }) (λ v d. refl) (λ d. refl) (λ v w d. refl)
+
+pub of_tileset-laws : {V : Type 0} (first_id : ℕ) (p : Lens Tileset V) → ((f : V → V) (t : Tileset) → (p.update f t).first_id ≡ t.first_id) → IsLawfulLens p
+    → IsLawfulLens (of_tileset first_id p)
+of_tileset-laws first_id p stays ps =
+    inner-laws tilesets (of_first (has_first_id first_id) p) tilesets-laws
+    (of_first-laws (has_first_id first_id) p (λ f t. ap (λ n. nat_eq n first_id) (stays f t)) ps)
 
 pub selection-laws : IsLawfulLens selection
 selection-laws = whole-laws (λ d. d.selection) with_selection (λ v d. refl) (λ d. refl) (λ v w d. refl)

@@ -16,13 +16,16 @@ use Rattle.map_model.specs.declared.limits.TheConstants.{MAX_TILESETS}
 use Rattle.map_model.specs.declared.parts.Tileset.{Tileset}
 use Rattle.map_model.specs.declared.parts.MapParts.{MapParts}
 use Rattle.map_model.specs.Groups.{all_drawn}
-use Rattle.map_model.specs.Lists.{Each}
+use Rattle.map_model.specs.Lists.{Each, change_first}
 use Rattle.map_model.specs.Tilesets.{tileset_of, best_of, IsTilesetOf, HasNoTileset, has_first_id, tileset_place, is_first, is_value_of, has_uses, values_of}
-use Rattle.map_model.specs.Tilesets.{with_tileset_at}
+use Rattle.map_model.specs.Tilesets.{tileset_with, with_tileset, with_tileset_at}
 use Rattle.map_model.specs.Uses.{is_between, nearer, end_of, base_limit}
 use Rattle.map_model.specs.WellFormed.{IsTileset, AreTilesets, IsWellFormed, first_ids_of}
-use Rattle.map_model.proofs.Changes.{Each-at, Each-insert, Each-remove, length-insert, length-remove_le}
-use Rattle.map_model.proofs.Listings.{Distinct-insert, Distinct-remove}
+use Rattle.map_model.proofs.Changes.{Each-at, Each-change_first, Each-insert, Each-remove, length-change_first, length-insert, length-remove_le}
+use Rattle.map_model.proofs.FirstChanges.{change_first-along}
+use Rattle.map_model.proofs.Keeps.{Each-found}
+use Rattle.map_model.proofs.LensLaws.{some-eq}
+use Rattle.map_model.proofs.Listings.{Distinct-insert, Distinct-remove, flat-change_first}
 use Rattle.map_model.proofs.TilesetLemmas.{tileset_of-greatest, tileset_of-none, nat_eq-true}
 
 -- ---- other tilesets in the place of a map's
@@ -57,6 +60,21 @@ insert_tileset-keeps m at t few is above h =
       few = rw length-insert few;
       each = Each-insert IsTileset m.tilesets at t is h.tilesets.each;
       distinct = Distinct-insert first_ids_of m.tilesets at t (tt, tt) (below_apart t.first_id m.tilesets above, tt) h.tilesets.distinct;
+    }) h
+
+pub tileset_with-IsTileset : (m : MapParts) (first_id : ℕ) (t : Tileset) → tileset_with m first_id ≡ Some t → IsWellFormed m → IsTileset t
+tileset_with-IsTileset m first_id t e h = Each-found (has_first_id first_id) IsTileset m.tilesets t e h.tilesets.each
+
+-- a tileset that is changed, and keeps its first id
+pub with_tileset-keeps : (m : MapParts) (first_id : ℕ) (f : Tileset → Tileset) (t : Tileset) → tileset_with m first_id ≡ Some t
+    → ((s : Tileset) → (f s).first_id ≡ s.first_id) → IsTileset (f t) → IsWellFormed m → IsWellFormed (with_tileset first_id f m)
+with_tileset-keeps m first_id f t there stays is h =
+    let changed = change_first-along (has_first_id first_id) f (λ s. f t) m.tilesets
+    (λ s e. let same : t ≡ s = some-eq t s (sym there ∙ e) in ap f (sym same)) in
+    tilesets-IsWellFormed m (change_first (has_first_id first_id) f m.tilesets) (record {
+      few = rw (length-change_first (has_first_id first_id) f m.tilesets) h.tilesets.few;
+      each = rw changed (Each-change_first (has_first_id first_id) (λ s. f t) IsTileset (λ s k. is) m.tilesets h.tilesets.each);
+      distinct = rw (flat-change_first first_ids_of (has_first_id first_id) f (λ s. ap (λ n. n ∷ []) (stays s)) m.tilesets) h.tilesets.distinct;
     }) h
 
 -- it is no higher than the end so far, and above the first id where that is

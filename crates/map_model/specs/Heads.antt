@@ -1,14 +1,16 @@
--- The heads of owners: what an object, a layer or a map is beside its id, its size and its lists; and owners with another head.
+-- The heads of owners: what an object, a layer, a tileset or a map is beside its id, its size and its lists; and owners with another head.
 use Rattle.std.specs.Prelude.{ℕ}
 use Rattle.map_model.specs.declared.heads.LayerHead.{LayerHead}
 use Rattle.map_model.specs.declared.heads.MapHead.{MapHead}
 use Rattle.map_model.specs.declared.heads.ObjectHead.{ObjectHead}
+use Rattle.map_model.specs.declared.heads.TilesetHead.{TilesetHead}
 use Rattle.map_model.specs.declared.parts.Layer.{Layer}
 use Rattle.map_model.specs.declared.parts.MapParts.{MapParts}
 use Rattle.map_model.specs.declared.parts.Object.{Object}
+use Rattle.map_model.specs.declared.parts.Tileset.{Tileset}
 use Rattle.map_model.specs.declared.place.ObjectPlace.{ObjectPlace}
 use Rattle.map_model.specs.Document.{DocumentParts, with_map}
-use Rattle.map_model.specs.Lens.{Lens, found, of_layer, of_object, whole}
+use Rattle.map_model.specs.Lens.{Lens, found, of_layer, of_object, of_tileset, whole}
 use Rattle.map_model.specs.Objects.{object_place}
 
 -- ---- objects
@@ -41,6 +43,21 @@ head_of_layer = whole layer_head layer_with_head
 -- the head of the layer with the id
 abbrev pub layer_head_with_id : ℕ → Lens DocumentParts LayerHead
 layer_head_with_id id = of_layer id head_of_layer
+
+-- ---- tilesets
+abbrev pub tileset_head : Tileset → TilesetHead
+tileset_head t = record { source = t.source; kept = t.kept }
+
+abbrev pub tileset_with_head : TilesetHead → Tileset → Tileset
+tileset_with_head h t = record t { source = h.source; kept = h.kept }
+
+-- the lens of a tileset's head
+abbrev pub head_of_tileset : Lens Tileset TilesetHead
+head_of_tileset = whole tileset_head tileset_with_head
+
+-- the head of the tileset with the first id
+abbrev pub tileset_head_with_id : ℕ → Lens DocumentParts TilesetHead
+tileset_head_with_id first_id = of_tileset first_id head_of_tileset
 
 -- ---- maps
 abbrev pub map_head : MapParts → MapHead

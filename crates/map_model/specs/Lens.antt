@@ -13,6 +13,7 @@ use Rattle.map_model.specs.Layers.{layer_name, layer_with_name, layer_visible, l
 use Rattle.map_model.specs.Lists.{change_at, change_first}
 use Rattle.map_model.specs.Objects.{objects_of, layer_with_objects, object_place, object_placing, object_with_placing}
 use Rattle.map_model.specs.Lookups.{layer_of, with_layer}
+use Rattle.map_model.specs.Tilesets.{tileset_with, with_tileset}
 
 -- a lens of A: its value, where there is one, and A with a function of that value in its place
 pub record Lens (A V : Type 0) : Type 0 where
@@ -108,6 +109,13 @@ placing_with_id id = found (λ d. object_place d.map id) (λ place. of_object pl
 -- the tilesets
 abbrev pub tilesets : Lens DocumentParts (List Tileset)
 tilesets = whole (λ d. d.map.tilesets) (λ ts d. record d { map = record d.map { tilesets = ts } })
+
+-- a lens of the tileset with a first id
+abbrev pub of_tileset : {V : Type 0} → ℕ → Lens Tileset V → Lens DocumentParts V
+of_tileset first_id p = record {
+  get = λ d. option_and_then p.get (tileset_with d.map first_id);
+  update = λ f. with_map (with_tileset first_id (p.update f));
+}
 
 -- the next layer id
 abbrev pub next_layer_id : Lens DocumentParts ℕ

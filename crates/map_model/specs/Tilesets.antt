@@ -1,6 +1,6 @@
 -- The tileset of a value.
 use Rattle.std.specs.Prelude.{ℕ, ◌<◌, ◌≤◌, List, [], ◌∷◌, Bool, false, nat_lt, nat_eq, if◌then◌else◌, Option, Some, None, is_some, Contains, slice_get}
-use Rattle.std.specs.Prelude.{option_to_list, position}
+use Rattle.std.specs.Prelude.{option_to_list, position, find}
 use Rattle.std.specs.List.{flat_map, list_any, insert, remove}
 use Rattle.map_model.specs.declared.parts.Body.{Body}
 use Rattle.map_model.specs.declared.parts.Body.TheVariants.{Tiles, Objects}
@@ -10,7 +10,7 @@ use Rattle.tile_id.specs.Gid.{base_of}
 use Rattle.map_model.specs.declared.parts.Tileset.{Tileset}
 use Rattle.map_model.specs.declared.parts.MapParts.{MapParts}
 use Rattle.map_model.specs.Groups.{all_drawn}
-use Rattle.map_model.specs.Lists.{Each}
+use Rattle.map_model.specs.Lists.{Each, change_first}
 
 -- of the best one so far and another, the one with the greater first id that is not above the base
 abbrev pub better : ℕ → Option Tileset → Tileset → Option Tileset
@@ -47,6 +47,14 @@ tileset_place m first_id = position (has_first_id first_id) m.tilesets
 -- the tileset at a place
 abbrev pub tileset_at : MapParts → ℕ → Option Tileset
 tileset_at m at = slice_get m.tilesets at
+
+-- the tileset with a first id
+abbrev pub tileset_with : MapParts → ℕ → Option Tileset
+tileset_with m first_id = find (has_first_id first_id) m.tilesets
+
+-- the map with f of that tileset in its place
+abbrev pub with_tileset : ℕ → (Tileset → Tileset) → MapParts → MapParts
+with_tileset first_id f m = record m { tilesets = change_first (has_first_id first_id) f m.tilesets }
 
 -- the map with a tileset put in at a place: those from there on stand one place higher
 abbrev pub with_tileset_at : ℕ → Tileset → MapParts → MapParts

@@ -1,9 +1,10 @@
 // The heads of owners: what an owner is beside its id, its size and its lists.
 ghost use Rattle.std.specs.Prelude.{◌≡◌};
 ghost use Rattle.map_model.specs.Heads.{layer_head, layer_with_head, map_head, map_with_head, object_head, object_with_head};
+ghost use Rattle.map_model.specs.Heads.{tileset_head, tileset_with_head};
 
 use crate::contents::{Kept, MapText};
-use crate::parts::{Layer, MapParts, Object, Placing};
+use crate::parts::{Layer, MapParts, Object, Placing, Tileset};
 use std::mem;
 use tile_id::Gid;
 
@@ -76,6 +77,26 @@ impl MapParts {
             tile_height: mem::replace(&mut self.tile_height, head.tile_height),
             next_layer_id: mem::replace(&mut self.next_layer_id, head.next_layer_id),
             next_object_id: mem::replace(&mut self.next_object_id, head.next_object_id),
+            kept: mem::replace(&mut self.kept, head.kept),
+        }
+    }
+}
+
+/// What a tileset is beside its first id.
+#[derive(Drop)]
+pub struct TilesetHead {
+    pub source: Option<MapText>,
+    pub kept: Kept,
+}
+
+impl Tileset {
+    // Gives the tileset another head, and hands the old one back.
+    pub(crate) fn replace_head(&mut self, head: TilesetHead) -> TilesetHead
+        ensures given { result ≡ tileset_head self.old }
+        ensures tileset { self.new ≡ tileset_with_head head self.old }
+    {
+        TilesetHead {
+            source: mem::replace(&mut self.source, head.source),
             kept: mem::replace(&mut self.kept, head.kept),
         }
     }

@@ -33,7 +33,7 @@ pub use canvas::{Canvas, LayerCells};
 pub use contents::{Cells, JsonValue, Kept, MapText};
 pub use document::Document;
 pub use edit::{CellEdit, Side};
-pub use heads::{LayerHead, MapHead, ObjectHead};
+pub use heads::{LayerHead, MapHead, ObjectHead, TilesetHead};
 pub use map::Map;
 pub use owner::{MemberOwner, Owner};
 pub use parts::{

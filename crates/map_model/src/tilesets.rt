@@ -1,14 +1,18 @@
 // Tilesets: where they stand, and whether they are in use.
-ghost use Rattle.std.specs.Prelude.{◌≡◌, Some};
+ghost use Rattle.std.specs.Prelude.{◌≡◌, Some, IsSome, find, position};
 ghost use Rattle.std.specs.List.{list_any};
+ghost use Rattle.std.specs.Option.{option_copied, option_map};
 ghost use Rattle.map_model.specs.Groups.{drawn, tree};
+ghost use Rattle.map_model.specs.Heads.{tileset_head, tileset_with_head};
 ghost use Rattle.map_model.specs.Keeping.{layer_tier};
+ghost use Rattle.map_model.specs.Lists.{change_first};
 ghost use Rattle.map_model.specs.NewMap.{external_tileset};
-ghost use Rattle.map_model.specs.Tilesets.{in_use, tileset_place, values_in, values_of, gids_of};
+ghost use Rattle.map_model.specs.Tilesets.{has_first_id, in_use, tileset_place, tileset_with, values_in, values_of, gids_of};
 ghost use Rattle.map_model.specs.Uses.{base_limit, end_of, is_between, nearer};
 ghost use Rattle.map_model.specs.WellFormed.{IsWellFormed};
 
 use crate::contents::{Kept, MapText};
+use crate::heads::TilesetHead;
 use crate::limits::MAX_GROUPS;
 use crate::map::Map;
 use crate::parts::{Body, Layer, Object, Tileset};
@@ -42,10 +46,18 @@ impl Map {
         ensures place { result ≡ tileset_place self.now first_id }
         ensures well_formed { IsWellFormed self.now }
     {
+        place_in(&self.parts.tilesets, first_id)
+    }
+
+    /// The tileset with a first id.
+    pub fn tileset(&self, first_id: u32) -> Option<&Tileset>
+        ensures tileset { option_copied result ≡ tileset_with self.now first_id }
+        ensures well_formed { IsWellFormed self.now }
+    {
         self.parts
             .tilesets
             .iter()
-            .position(|tileset| tileset.first_id == first_id)
+            .find(|tileset| tileset.first_id == first_id)
     }
 
     /// Whether a cell or an object has a value of the tileset with a first id; `None` where there is no such tileset.
@@ -56,6 +68,31 @@ impl Map {
         let end = end_of_tileset(&self.parts.tilesets, first_id);
         Some(is_in_layers(&self.parts.layers, first_id, end, MAX_GROUPS))
     }
+}
+
+// The place of the tileset with a first id.
+fn place_in(tilesets: &Chain<Tileset>, first_id: u32) -> Option<usize>
+    ensures { result ≡ position (has_first_id first_id) tilesets.now }
+{
+    tilesets
+        .iter()
+        .position(|tileset| tileset.first_id == first_id)
+}
+
+/// Gives the tileset with a first id another head, and hands the old one back.
+pub fn head_tileset_in(
+    tilesets: &mut Chain<Tileset>,
+    first_id: u32,
+    head: TilesetHead,
+) -> TilesetHead
+    requires { IsSome (find (has_first_id first_id) tilesets.old) }
+    ensures given { option_map tileset_head (find (has_first_id first_id) tilesets.old) ≡ Some result }
+    ensures tilesets { tilesets.new ≡ change_first (has_first_id first_id) (tileset_with_head head) tilesets.old }
+{
+    let Some(at) = place_in(tilesets, first_id) else {
+        unreachable!();
+    };
+    tilesets.get_mut(at).replace_head(head)
 }
 
 // The end so far, or the first id of a tileset if that is nearer: lower, but above this one.

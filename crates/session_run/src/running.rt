@@ -361,6 +361,7 @@ pub fn run_lines<R: Read, W: Write, S: MapStore>(
             Edit::SetMapHead(command) => Some(command),
             Edit::ReparentObject(command) => Some(boxed(alloc, command)?),
             Edit::PutProperty(command) => Some(boxed(alloc, command)?),
+            Edit::SetTilesetHead(command) => Some(command),
         }
     };
     let stopped = match step_all(

@@ -2,13 +2,15 @@
 ghost use Rattle.std.specs.Prelude.{◌≡◌, Some, IsSome};
 ghost use Rattle.std.specs.Option.{option_map};
 ghost use Rattle.map_model.specs.Document.{with_map, IsDocument};
-ghost use Rattle.map_model.specs.Heads.{layer_head, layer_with_head, map_head, map_with_head};
+ghost use Rattle.map_model.specs.Heads.{layer_head, layer_with_head, map_head, map_with_head, tileset_head, tileset_with_head};
 ghost use Rattle.map_model.specs.Lookups.{layer_of, with_layer};
+ghost use Rattle.map_model.specs.Tilesets.{tileset_with, with_tileset};
 ghost use Rattle.map_model.specs.WellFormed.{IsWellFormed};
 
 use crate::document::Document;
-use crate::heads::{LayerHead, MapHead};
+use crate::heads::{LayerHead, MapHead, TilesetHead};
 use crate::layers::head_layer_in;
+use crate::tilesets::head_tileset_in;
 
 impl Document {
     /// Gives the layer with an id another head, and hands the old one back. The map is well formed with it.
@@ -20,6 +22,17 @@ impl Document {
         ensures well_formed { IsDocument self.new }
     {
         head_layer_in(&mut self.map.parts.layers, layer, head)
+    }
+
+    /// Gives the tileset with a first id another head, and hands the old one back. The map is well formed with it.
+    pub fn set_tileset_head(&mut self, first_id: u32, head: TilesetHead) -> TilesetHead
+        requires there { IsSome (tileset_with self.old.map first_id) }
+        requires well_formed { IsWellFormed (with_tileset first_id (tileset_with_head head) self.old.map) }
+        ensures given { option_map tileset_head (tileset_with self.old.map first_id) ≡ Some result }
+        ensures document { self.new ≡ with_map (with_tileset first_id (tileset_with_head head)) self.old }
+        ensures well_formed { IsDocument self.new }
+    {
+        head_tileset_in(&mut self.map.parts.tilesets, first_id, head)
     }
 
     /// Gives the map another head, and hands the old one back. The map is well formed with it.

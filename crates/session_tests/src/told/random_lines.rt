@@ -213,7 +213,7 @@ impl Random {
         let (layer, value) = (self.layer(), self.below(3));
         let plus = self.one_of(&["", "+", "+"]);
         let part = self.one_of(&["", ".5"]);
-        let text = match self.below(7) {
+        let text = match self.below(10) {
             0 => format!(in alloc; "member set{plus} object:1 rotation {value}{part}")?,
             1 => format!(in alloc;
                 "member put{plus} object:1 {{\"x\":{value}{part},\"name\":\"n\"}}"
@@ -222,6 +222,11 @@ impl Random {
             3 => format!(in alloc; "member set{plus} layer:{layer} opacity {value}{part}")?,
             4 => format!(in alloc; "member remove layer:{layer} opacity")?,
             5 => format!(in alloc; "member set{plus} map tilewidth 1{value}")?,
+            6 => format!(in alloc; "member set{plus} tileset:1 margin {value}{part}")?,
+            7 => format!(in alloc;
+                "member put{plus} tileset:1 {{\"source\":\"{value}.tsj\",\"name\":\"n\"}}"
+            )?,
+            8 => format!(in alloc; "member remove tileset:1 margin")?,
             _ => format!(in alloc; "member set{plus} map class \"c{value}\"")?,
         };
         Ok(Spoken::other(text))
