@@ -63,10 +63,10 @@ class Owner:
         """Members as a file has them: of an object also its corners, which may be pairs, and its text."""
         return shapes.in_a_file(members) if self.kind == 'object' and isinstance(members, Mapping) else members
 
-    def instead(self, names: Iterable[str]) -> str:
+    def instead(self, names: Iterable[str]) -> Optional[str]:
         """What to do where one of these names is none of its own members."""
-        first = next((name for name in names if name in self.others), '')
-        return _INSTEAD.get(first, f'{first!r} stays as it is')
+        first = next((name for name in names if name in self.others), None)
+        return None if first is None else _INSTEAD.get(first, f'{first!r} stays as it is')
 
 
 class OwnMembers(dict[str, Any]):
