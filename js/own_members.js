@@ -70,8 +70,8 @@ export class Owner {
 
   /** What to do where one of these names is none of its own members. */
   instead(names) {
-    const first = names.find((name) => this.others.includes(name)) ?? "";
-    return INSTEAD.get(first) ?? `${words.quoted(first)} stays as it is`;
+    const first = names.find((name) => this.others.includes(name));
+    return first === undefined ? null : INSTEAD.get(first) ?? `${words.quoted(first)} stays as it is`;
   }
 
   /** Its own members, of what is told of it. */

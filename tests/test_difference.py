@@ -72,6 +72,8 @@ WORDS = [
     ('a layer that is moved', 'town.layers["Smithy"].move_into(None)', ['layer 7 "Smithy": moved out of all groups']),
     ('a layer in front', 'town.layers["Ground"].move(3)', ['layer 1 "Ground": moved to place 3']),
     ('a tileset', 'town.tilesets.add(1000, "walls.tsj")', ['tileset walls.tsj: added, first id 1000']),
+    ('a tileset twice', 'town.tilesets.add(1000, "tiles.tsx")\ntown.stamp("Ground", 0, 0, [[1001]])',
+     ['tileset tiles.tsx: added, first id 1000', 'layer 1 "Ground": 1 cell in 0,0 to 0,0: tiles.tsx:0 -> tiles.tsx (2):1']),
     ('its file', 'town.tilesets[1].source = "art/tiles.tsx"', ['tileset art/tiles.tsx: source "tiles.tsx" -> "art/tiles.tsx"']),
     ('what a map has of it', 'town.tilesets[1].members["origin"] = "the old town"', ['tileset tiles.tsx: origin none -> "the old town"']),
     ('the map', 'town.background = "#112233"', ['map: background none -> "#112233"']),
@@ -124,6 +126,23 @@ def test_what_no_line_says():
         see((None, ['layer 15 "Things": added, an object layer']), (found.lines, [str(each) for each in found.left[:1]]))
         see(True, other.difference(one).lines is not None)
         one.mark_clean()
+
+
+def test_a_move_that_is_past_a_limit():
+    """All objects but one seem to be moved along with the size, and with that one they can't be."""
+    with Editor() as editor:
+        maps = []
+        for name, wide, moved in (('one', 2, 0), ('other', 3, 1)):
+            document = editor.new(name, wide, 1, 1, 1, 'a.tsj')
+            things = document.layers.add('object', 'Things').objects
+            for x in (0, 5, 7):
+                things.add(f'at {x}', x + moved, 0)
+            things.add('far', 1_000_000_000, 0)
+            document.mark_clean()
+            maps.append(document)
+        found = maps[0].difference(maps[1])
+        see(['map: 2 by 1 cells -> 3 by 1', *(f'object {id} "at {x}": x {x} -> {x + 1}' for id, x in ((1, 0), (2, 5), (3, 7)))], [str(each) for each in found])
+        assert found.lines, found.left
 
 
 def test_groups_crosswise():

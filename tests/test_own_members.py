@@ -54,7 +54,7 @@ def of_each_owner(fault_of):
 
 
 def document_of(thing):
-    return getattr(thing, 'document', thing)
+    return getattr(thing, 'document', getattr(thing, '_document', thing))
 
 
 # ---- what no line says, and what is refused

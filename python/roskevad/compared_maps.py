@@ -127,13 +127,28 @@ class Shift(NamedTuple):
     x: int
     y: int
 
+    def line(self, behind: MapNow) -> str:
+        """The line that gives a map the size of another one, and moves all so."""
+        return f'resize {behind.tree["width"]} {behind.tree["height"]} {self.x} {self.y}'
+
 
 def shift_of(before: MapNow, behind: MapNow) -> Shift:
     """The one that leaves the fewest cells and objects that differ: no file says it, so those are tried that may be meant. Where the corners of
-    infinite maps lie at other places, it is known."""
+    infinite maps lie at other places, it is known. One that takes a thing past its limit is none."""
     (left, top), (other_left, other_top) = before.document.origin, behind.document.origin
     known = Shift(left - other_left, top - other_top)
-    return known if any(known) else min(dict.fromkeys(_shifts(before, behind)), key=lambda shift: _unlike(before, behind, shift))
+    tries = [known] if any(known) else sorted(dict.fromkeys(_shifts(before, behind)), key=lambda shift: _unlike(before, behind, shift))
+    return next((shift for shift in tries if _can_be(before.document, behind, shift)), Shift(0, 0))
+
+
+def _can_be(copy: 'Document', behind: MapNow, shift: Shift) -> bool:
+    """Whether a map takes the size of another one with this shift; it is as it was then."""
+    try:
+        copy._edit(shift.line(behind))
+    except Refused:
+        return False
+    copy.undo()
+    return True
 
 
 def _shifts(before: MapNow, behind: MapNow) -> Iterator[Shift]:

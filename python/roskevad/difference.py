@@ -121,7 +121,7 @@ def _changes_between(old: 'Document', goal: MapNow, shift: Optional[Shift]) -> l
 
 def _resized(old: 'Document', goal: MapNow, shift: Shift) -> list[Change]:
     before, after = ([map_[side] for side in ('width', 'height')] for map_ in (old.outline(), goal.tree))
-    old._edit(f'resize {after[0]} {after[1]} {shift.x} {shift.y}')
+    old._edit(shift.line(goal))
     moved = f', all moved by {shift.x}, {shift.y}' if any(shift) else ''
     words = f'{before[0]} by {before[1]} cells -> {after[0]} by {after[1]}{moved}'
     return [Change(_MAP, '', 'size', before, [*after, *shift], words)]
@@ -237,14 +237,23 @@ def _of_tilesets(tilesets: list[Pair]) -> Iterator[Change]:
             yield from _of_values(subject, name, before, after, called)
 
 
+def _names_apart(tilesets: list[Pair]) -> Iterator[str]:
+    """Their names in words of tiles: those that have one name are counted."""
+    counts = dict[str, int]()
+    for before, after in tilesets:
+        name = _tileset_name(after or before or {})
+        counts[name] = counts.get(name, 0) + 1
+        yield name if counts[name] == 1 else f'{name} ({counts[name]})'
+
+
 class _Tiles:
     """Tiles by their tilesets and their ids there: so they are the same in two maps that count them otherwise."""
 
     __slots__ = '_firsts', '_known'
 
     def __init__(self, tilesets: list[Pair], at: int):
-        there = [(pair[at], pair[1] or pair[0] or {}) for pair in tilesets]
-        self._firsts = sorted((_first_id(each), _tileset_name(one)) for each, one in there if each is not None)
+        there = [(pair[at], name) for pair, name in zip(tilesets, _names_apart(tilesets))]
+        self._firsts = sorted((_first_id(each), name) for each, name in there if each is not None)
         self._known: dict[int, str] = {0: 'empty'}
 
     def name(self, value: int) -> str:

@@ -1,9 +1,9 @@
 # SPDX-License-Identifier: MIT OR Apache-2.0
 """Objects that are added: what a file has of each, by the words of the caller, and the line that adds it."""
 import operator
-from typing import Any, Callable, Iterable, Mapping, Optional, Union
+from typing import Any, Mapping, Optional, Union
 
-from . import json_values, words
+from . import json_values, shapes, words
 from .kinds import Corners
 from .tiled_maps import Members
 from .tilesets import Tile
@@ -63,56 +63,15 @@ def looks_of(
     all_ = {
         'point': True if point else None,
         'ellipse': True if ellipse else None,
-        'polygon': None if polygon is None else _corners(polygon),
-        'polyline': None if polyline is None else _corners(polyline),
-        'text': None if text is None else _text(text),
+        'polygon': None if polygon is None else shapes.corners(polygon),
+        'polyline': None if polyline is None else shapes.corners(polyline),
+        'text': None if text is None else shapes.text(text),
         'tile': value or None,
     }
     looks = {name: each for name, each in all_.items() if each is not None}
     if len(looks) > 1:
         raise ValueError(f'an object is one of {", ".join(all_)}, and this one would be {" and ".join(looks)}')
     return {_MEMBERS_OF.get(name, name): each for name, each in looks.items()}
-
-
-def in_a_file(members: Mapping[str, Any]) -> Members:
-    """Members of an object as a file has them: corners may be pairs of numbers, and a text a text. All else is as it is."""
-    return {name: _IN_A_FILE.get(name, _as_it_is)(value) for name, value in members.items()}
-
-
-def _as_it_is(value: Any) -> Any:
-    return value
-
-
-def _text(text: Union[str, Mapping[str, Any]]) -> Members:
-    """A text as a file has it, with how it is written."""
-    if isinstance(text, Mapping):
-        return dict(text)
-    return {'text': json_values.text(text, 'the text of an object')}
-
-
-def _corners(corners: Corners) -> list[Members]:
-    """Corners as a file has them."""
-    if not isinstance(corners, Iterable):
-        raise TypeError(f'corners of an object are pairs of numbers, from its place: {corners!r}')
-    return [_corner(each) for each in corners]
-
-
-def _corner(corner: Union[Iterable[float], Mapping[str, float]]) -> Members:
-    try:
-        x, y = (corner['x'], corner['y']) if isinstance(corner, Mapping) else corner
-    except (KeyError, TypeError, ValueError):
-        raise TypeError(f'a corner of an object is a pair of numbers, from its place: {corner!r}') from None
-    return {'x': json_values.number(x, 'x of a corner'), 'y': json_values.number(y, 'y of a corner')}
-
-
-def _pairs_as_corners(value: Any) -> Any:
-    are_pairs = isinstance(value, (list, tuple)) and all(isinstance(each, (list, tuple)) and len(each) == 2 for each in value)
-    return _corners(value) if are_pairs else value
-
-
-_IN_A_FILE: Mapping[str, Callable[[Any], Any]] = {
-    'polygon': _pairs_as_corners, 'polyline': _pairs_as_corners, 'text': lambda value: _text(value) if isinstance(value, str) else value,
-}
 
 
 def given(class_name: str, rotation: float, visible: bool, properties: Optional[Mapping[str, Any]]) -> Members:

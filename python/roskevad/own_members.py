@@ -3,7 +3,7 @@
 import json
 from typing import TYPE_CHECKING, Any, Callable, Iterable, Mapping, NoReturn, Optional
 
-from . import json_values, new_objects, words
+from . import json_values, shapes, words
 from .faults import NotFound, Refused, refused_call
 from .tiled_maps import Members
 
@@ -61,12 +61,12 @@ class Owner:
 
     def in_a_file(self, members: Mapping[str, Any]) -> Mapping[str, Any]:
         """Members as a file has them: of an object also its corners, which may be pairs, and its text."""
-        return new_objects.in_a_file(members) if self.kind == 'object' and isinstance(members, Mapping) else members
+        return shapes.in_a_file(members) if self.kind == 'object' and isinstance(members, Mapping) else members
 
-    def instead(self, names: Iterable[str]) -> str:
+    def instead(self, names: Iterable[str]) -> Optional[str]:
         """What to do where one of these names is none of its own members."""
-        first = next((name for name in names if name in self.others), '')
-        return _INSTEAD.get(first, f'{first!r} stays as it is')
+        first = next((name for name in names if name in self.others), None)
+        return None if first is None else _INSTEAD.get(first, f'{first!r} stays as it is')
 
 
 class OwnMembers(dict[str, Any]):
