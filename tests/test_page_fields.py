@@ -272,6 +272,43 @@ def test_names_that_files_have():
         assert 'Tiled' in page.bubble() and len(spelled(page)) == 2
 
 
+def test_numbers_of_objects():
+    """Place, size and rotation are shown as the file has them. Enter sets what was typed, a fraction with a point or a comma, as one step;
+    Escape brings back what the map has; Ctrl+Z undoes the typing, and then the step. The space bar turns whether the object is seen, and Tab leaves that field."""
+    numbers = {'x': 12.25, 'y': 40.5, 'width': 30.125, 'height': 20.75, 'rotation': 22.5}
+    bench = Bench(empty=True)
+    with bench as page:
+        town = json.loads((bench.folder / 'town.tmj').read_text())
+        next(each for each in objects_in(town) if each['id'] == 2).update(numbers)
+        (bench.folder / 'between.tmj').write_text(json.dumps(town))
+        page.choose_files(bench.folder / 'between.tmj', *bench.folder.glob('*.ts?'))
+        page.keys('s')
+        page.click('#objects li[data-object="2"]')
+        now = lambda: next(each for each in objects_in(page.editor.map_with_fractions()) if each['id'] == 2)
+        shown = lambda: {name: float(value_of(page, f' {name}')) for name in numbers}
+        assert shown() == numbers
+        for at, (name, was) in enumerate(numbers.items()):
+            field_of(page, f' {name}').click()
+            with_ctrl(page, 'a')
+            type_keys(page, f'7{",."[at % 2]}5', Keys.ESCAPE)
+            assert shown() == numbers and standing(page) == (0, at and 1), name
+            with_ctrl(page, 'a')
+            type_keys(page, f'7{",."[at % 2]}5', Keys.ENTER)
+            assert shown() == {**numbers, name: 7.5} and now()[name] == 7.5 and standing(page) == (1, 1) and not faults(page), name
+            type_keys(page, '3')
+            with_ctrl(page, 'z')
+            assert value_of(page, f' {name}') == '7.5' and standing(page) == (1, 1), name
+            with_ctrl(page, 'z')
+            assert shown() == numbers and now()[name] == was and standing(page) == (0, 1), name
+        page.js('arguments[0].focus()', field_of(page, ' visible'))
+        type_keys(page, Keys.SPACE)
+        assert now()['visible'] is False and standing(page) == (1, 1)
+        with_ctrl(page, 'z')
+        assert now()['visible'] is True and field_of(page, ' visible').is_selected() and standing(page) == (0, 1)
+        type_keys(page, Keys.TAB)
+        assert page.js('const at = document.activeElement; return at.closest("#properties") !== null && at.dataset.key !== " visible"'), 'Tab goes on'
+
+
 def test_fields_of_types():
     """A bool is a checkbox; a colour has a picker that keeps its alpha; a file has a chooser among
     the folder's files; an object has a list of them."""

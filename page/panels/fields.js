@@ -168,7 +168,8 @@ class ChosenField {
     Object.assign(this, { value, take, input, isTyped: false });
     this.box = element("div", { className: "value" }, input);
     input.onchange = () => this.commit();
-    input.onkeydown = event => event.key === "Escape" && input.blur();
+    // A handler that gives `false` would keep the key from the field.
+    input.onkeydown = event => void (event.key === "Escape" && input.blur());
     this.put(value);
   }
 
