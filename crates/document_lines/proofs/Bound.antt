@@ -9,7 +9,8 @@ use Rattle.paint_commands.proofs.Merges.{paint-WhenEqual}
 use Rattle.property_commands.specs.PropertyChanges.{put_property-alone}
 use Rattle.property_commands.proofs.Settings.{set-names}
 use Rattle.document_lines.specs.declared.planned.Edit.{Edit}
-use Rattle.document_lines.specs.declared.planned.Edit.TheVariants.{Paint, PlaceObject, SetProperty, SetObjectHead, SetLayerHead, SetMapHead, PutProperty, SetTilesetHead}
+use Rattle.document_lines.specs.declared.planned.Edit.TheVariants.{Paint, PlaceObject, SetProperty, SetObjectHead, SetLayerHead}
+use Rattle.document_lines.specs.declared.planned.Edit.TheVariants.{SetMapHead, PutProperty, SetTilesetHead}
 use Rattle.document_lines.specs.Planning.{edit_change}
 
 pub edit-bound : (e : Edit) → is_free (edit_change e).names.vanishing ≡ false

@@ -34,7 +34,8 @@ layer_head-laws id = of_layer-laws id head_of_layer (λ f l. refl) (whole-laws l
 
 -- ---- tilesets
 pub tileset_head-laws : (first_id : ℕ) → IsLawfulLens (tileset_head_with_id first_id)
-tileset_head-laws first_id = of_tileset-laws first_id head_of_tileset (λ f t. refl) (whole-laws tileset_head tileset_with_head (λ v t. refl) (λ t. refl) (λ v w t. refl))
+tileset_head-laws first_id =
+    of_tileset-laws first_id head_of_tileset (λ f t. refl) (whole-laws tileset_head tileset_with_head (λ v t. refl) (λ t. refl) (λ v w t. refl))
 
 -- ---- maps
 pub map_head-laws : IsLawfulLens head_of_map
