@@ -94,7 +94,7 @@ def test_messages():
         seen = page.js('const {left, top, right, bottom} = roskevad.view.box.getBoundingClientRect();'
                        'return [[left + 36, top + 36], [right - 44, bottom - 44]].map(([clientX, clientY]) => roskevad.view.placeOf({clientX, clientY}).cell)')
         page.drag(seen)
-        page.js('roskevad.panel.showMissing.call({tilesets: {missing: ["a.png"]}, editor: roskevad.editor})')
+        page.js('roskevad.panel.showMissing.call({tilesets: {all: [], missing: ["a.png"]}, editor: roskevad.editor})')
         page.settle()
         assert not page.js(COVERED) and page.find('#messages').text == '1 message'
         page.click('#messages')

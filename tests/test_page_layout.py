@@ -112,7 +112,7 @@ def test_contrasts_and_targets():
                     seen += see_all(page, (theme, css))
                     page.fill_in('Cancel')
                 # A notice, and a field that is refused.
-                page.js('roskevad.panel.showMissing.call({tilesets: {missing: ["a.png"]}, editor: roskevad.editor})')
+                page.js('roskevad.panel.showMissing.call({tilesets: {all: [], missing: ["a.png"]}, editor: roskevad.editor})')
                 page.js('roskevad.status.showNotDrawn(["animations"])')
                 assert page.texts('#undrawn-features')[0]
                 page.click('#of-map')
@@ -285,7 +285,7 @@ def is_apart(one, other):
 
 
 # A message, as the page says it of a tileset that it does not find.
-MISSING = 'roskevad.panel.showMissing.call({tilesets: {missing: ["a.png"]}, editor: roskevad.editor})'
+MISSING = 'roskevad.panel.showMissing.call({tilesets: {all: [], missing: ["a.png"]}, editor: roskevad.editor})'
 
 
 def test_bars_over_the_map():
