@@ -294,15 +294,15 @@ def test_replace():
         (bench.folder / 'few.tsj').write_text((bench.folder / 'walls.tsj').read_text().replace('"tilecount":32', '"tilecount":8'))
         page.js('return roskevad.documents.openPath("town.tmj")')
         page.settle()
-        layers = page.editor.shown()['layers']
+        layers = page.editor.map()['layers']
         page.click('#replace-tileset')
         assert page.texts('#choose-file h2') == ['Replace tiles']
         replace(page, 'walls.tsj')
-        assert page.texts('#steps li .name')[-1] == 'Replace Tileset' and standing(page) == (1, 1)
-        assert page.editor.shown()['tilesets'] == [{'firstgid': 1, 'source': 'walls.tsj'}] and page.editor.shown()['layers'] == layers
+        assert page.texts('#steps li .name')[-1] == 'Replace Tileset · walls.tsj' and standing(page) == (1, 1)
+        assert page.editor.map()['tilesets'] == [{'firstgid': 1, 'source': 'walls.tsj'}] and page.editor.map()['layers'] == layers
         assert page.texts('#tilesets option') == ['walls'] and page.notices() == []
         page.ctrl('z')
-        assert page.editor.shown()['tilesets'] == [{'firstgid': 1, 'source': 'tiles.tsx'}] and page.texts('#tilesets option') == ['tiles']
+        assert page.editor.map()['tilesets'] == [{'firstgid': 1, 'source': 'tiles.tsx'}] and page.texts('#tilesets option') == ['tiles']
         page.click('#replace-tileset')
         replace(page, 'few.tsj')
         page.wait(lambda: 'The map uses tiles that walls does not have: ' in said(page), 'it is said')
@@ -321,7 +321,7 @@ def test_replace_one_in_the_map():
         before = page.editor.shown()
         page.click('#replace-tileset')
         replace(page, 'tiles.tsx')
-        assert page.editor.shown()['tilesets'] == [{'firstgid': 1, 'source': 'tiles.tsx'}] and standing(page) == (1, 1)
+        assert page.editor.map()['tilesets'] == [{'firstgid': 1, 'source': 'tiles.tsx'}] and standing(page) == (1, 1)
         page.ctrl('z')
         assert page.editor.shown() == before
 
@@ -336,8 +336,9 @@ def test_replace_it():
         assert 'Not found: tiles.tsx.' in page.notices()[0], page.notices()
         page.answer('Replace it')
         replace(page, 'walls.tsj')
-        assert page.notices() == [] and page.editor.shown()['tilesets'] == [{'firstgid': 1, 'source': 'walls.tsj'}]
+        assert page.notices() == [] and page.editor.map()['tilesets'] == [{'firstgid': 1, 'source': 'walls.tsj'}]
         see_colours(page, [(x, 2) for x in range(0, 40, 5)])
+        assert all('404' in each['message'] for each in page.log()), 'the browser tells of files that are not there'
 
 
 # ---- hostile files

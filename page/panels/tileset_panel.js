@@ -21,7 +21,7 @@ const NONE_HERE = "There is no tileset here: a .tsx or .tsj file, in the folder 
 export class TilesetPanel {
   // `pictures` asks for a picture.
   constructor(bench, tilesets, palette, pictures) {
-    Object.assign(this, { bench, tilesets, palette, editor: bench.editor, uses: palette.uses, maker: new TilesetMaker(bench, pictures) });
+    Object.assign(this, { bench, tilesets, palette, editor: bench.editor, uses: palette.uses, maker: new TilesetMaker(bench, pictures), replaced: null });
     byId("tileset-actions").append(
       iconButton("minus", "Smaller tiles", "Smaller tiles: Ctrl and the wheel", () => palette.zoom(-1), { id: "palette-smaller" }),
       iconButton("plus", "Larger tiles", "Larger tiles: Ctrl and the wheel", () => palette.zoom(1), { id: "palette-larger" }),
@@ -46,6 +46,7 @@ export class TilesetPanel {
     this.palette.show();
     this.showButtons();
     this.showWrong();
+    if (this.replaced) this.sayTooFew(this.replaced);
   }
 
   showButtons() {
@@ -122,7 +123,7 @@ export class TilesetPanel {
     const { firstgid, source: old, ...others } = this.bench.map.data.tilesets.find(each => each.firstgid === tileset.first);
     const lines = [memberLine(owner, "source", source), ...Object.keys(others).map(name => memberRemoval(owner, name))];
     const done = this.bench.doAsOne("Replace Tileset || replace tileset", lines);
-    if (done.isAccepted) await this.sayTooFew(tileset.first);
+    if (done.isAccepted) this.replaced = { first: tileset.first, source };
     return done;
   }
 
@@ -132,12 +133,12 @@ export class TilesetPanel {
     return this.replace();
   }
 
-  // Says where a tileset lacks tiles that the map uses.
-  async sayTooFew(first) {
-    await this.tilesets.reading;
-    const tileset = this.tilesets.all.find(each => each.first === first);
-    if (!tileset?.size) return;
-    const where = this.uses.where(first + tileset.size, this.endOf(tileset));
+  // Says where the tileset that was put in another one's place lacks tiles that the map uses, once it is read.
+  sayTooFew({ first, source }) {
+    const tileset = this.tilesets.all.find(each => each.first === first && each.source === source);
+    if (!tileset) return;
+    this.replaced = null;
+    const where = tileset.size ? this.uses.where(first + tileset.size, this.endOf(tileset)) : [];
     if (where.length) this.bench.say(`The map uses tiles that ${tileset.name} does not have: ${named(where)}. They are drawn as numbers.`);
   }
 
