@@ -6,6 +6,7 @@ ghost use Rattle.map_model.specs.Groups.{drawn, tree};
 ghost use Rattle.map_model.specs.Heads.{tileset_head, tileset_with_head};
 ghost use Rattle.map_model.specs.Keeping.{layer_tier};
 ghost use Rattle.map_model.specs.Lists.{change_first};
+ghost use Rattle.map_model.specs.Renumbering.{tileset_with_first_id};
 ghost use Rattle.map_model.specs.NewMap.{external_tileset};
 ghost use Rattle.map_model.specs.Tilesets.{has_first_id, in_use, tileset_place, tileset_with, values_in, values_of, gids_of};
 ghost use Rattle.map_model.specs.Uses.{base_limit, end_of, is_between, nearer};
@@ -95,6 +96,17 @@ pub fn head_tileset_in(
     tilesets.get_mut(at).replace_head(head)
 }
 
+/// Gives the tileset with a first id another one.
+pub fn number_tileset_in(tilesets: &mut Chain<Tileset>, first_id: u32, to: u32)
+    requires { IsSome (find (has_first_id first_id) tilesets.old) }
+    ensures { tilesets.new ≡ change_first (has_first_id first_id) (tileset_with_first_id to) tilesets.old }
+{
+    let Some(at) = place_in(tilesets, first_id) else {
+        unreachable!();
+    };
+    tilesets.get_mut(at).first_id = to;
+}
+
 // The end so far, or the first id of a tileset if that is nearer: lower, but above this one.
 fn nearer_end(first_id: u32, end: u32, tileset: &Tileset) -> u32
     ensures { result ≡ nearer first_id end tileset.now }
@@ -106,8 +118,8 @@ fn nearer_end(first_id: u32, end: u32, tileset: &Tileset) -> u32
     }
 }
 
-// The lowest first id above this one, or 2^28, where there is none.
-fn end_of_tileset(tilesets: &Chain<Tileset>, first_id: u32) -> u32
+/// The lowest first id above this one, or 2^28, where there is none.
+pub fn end_of_tileset(tilesets: &Chain<Tileset>, first_id: u32) -> u32
     ensures { result ≡ end_of first_id base_limit tilesets.now }
 {
     let mut end = BASE_LIMIT;
@@ -117,8 +129,8 @@ fn end_of_tileset(tilesets: &Chain<Tileset>, first_id: u32) -> u32
     end
 }
 
-// Whether the base of a value is not below one number, and below another.
-fn is_base_between(value: Gid, low: u32, end: u32) -> bool
+/// Whether the base of a value is not below one number, and below another.
+pub fn is_base_between(value: Gid, low: u32, end: u32) -> bool
     ensures { result ≡ is_between low end value }
 {
     low <= value.base() && value.base() < end
