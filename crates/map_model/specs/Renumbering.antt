@@ -1,5 +1,6 @@
 -- A tileset that gets another first id, and its values with it.
-use Rattle.std.specs.Prelude.{◌≡◌, ◌≢◌, ◌⊎◌, ℕ, zero, suc, ◌+◌, ◌-◌, ◌<◌, ◌≤◌, List, map, true, false, if◌then◌else◌, IsSome}
+use Rattle.std.specs.Prelude.{◌≡◌, ◌≢◌, ◌⊎◌, ℕ, zero, suc, ◌+◌, ◌-◌, ◌<◌, ◌≤◌, List, map, Bool, true, false, nat_le, if◌then◌else◌, IsSome}
+use Rattle.std.specs.List.{list_any}
 use Rattle.std.specs.Option.{option_map}
 use Rattle.tile_id.specs.Gid.{base_of}
 use Rattle.map_model.specs.declared.limits.TheConstants.{MAX_FIRST_ID, MAX_GROUPS}
@@ -58,6 +59,14 @@ map_renumbered first_id to m = record m {
 pub record KeepsTileset (low end to value : ℕ) : Type 0 where
   pub along : is_between low end value ≡ true → base_of value + to < end + low
   pub stays : is_between low end value ≡ false → is_between to end value ≡ false
+
+-- whether a value would be of another tileset, of one where it was of none, of none where it was of one, or of another tile
+abbrev pub loses_tileset : ℕ → ℕ → ℕ → ℕ → Bool
+loses_tileset low end to value = if is_between low end value then nat_le (end + low) (base_of value + to) else is_between to end value
+
+-- whether some value in the map would
+abbrev pub has_losses : MapParts → ℕ → ℕ → Bool
+has_losses m first_id to = list_any (λ d. list_any (loses_tileset first_id (end_in m first_id) to) (values_of d)) (all_drawn m.layers)
 
 -- another tileset has neither of two first ids, nor one between them
 abbrev pub LiesApart : ℕ → ℕ → Tileset → Type 0

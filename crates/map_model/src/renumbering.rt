@@ -1,12 +1,12 @@
 // A tileset gets another first id, and its values go along.
-ghost use Rattle.std.specs.Prelude.{◌≡◌, ◌≤◌, map};
+ghost use Rattle.std.specs.Prelude.{◌≡◌, ◌<◌, ◌≤◌, ℕ, map};
 ghost use Rattle.std.specs.List.{flat_map};
 ghost use Rattle.map_model.specs.Groups.{body_with_layers, drawn, group_in, tree};
 ghost use Rattle.map_model.specs.Keeping.{layer_tier};
 ghost use Rattle.map_model.specs.Lists.{Each, or_empty};
-ghost use Rattle.map_model.specs.Renumbering.{KeepsTileset, body_with_values, layers_with_values, object_with_value, one_with_values, value_moved};
+ghost use Rattle.map_model.specs.Renumbering.{KeepsTileset, body_with_values, layers_with_values, loses_tileset, object_with_value, one_with_values, value_moved};
 ghost use Rattle.map_model.specs.Tilesets.{gids_of, values_in, values_of};
-ghost use Rattle.map_model.specs.Uses.{base_limit};
+ghost use Rattle.map_model.specs.Uses.{base_limit, is_between};
 
 use crate::contents::Cells;
 use crate::parts::{Body, Layer, Object};
@@ -119,5 +119,18 @@ fn move_inside(body: &mut Body, by: Move, groups: usize)
         Body::Tiles(_, _) => {}
         Body::Objects(_) => {}
         Body::Other => {}
+    }
+}
+
+/// The range of bases whose values would lose their tileset: from one number up to another.
+pub fn losses(range: Move) -> (u32, u32)
+    requires from { range.low < range.end }
+    requires to { range.to < range.end }
+    ensures { (value : ℕ) → is_between result.0 result.1 value ≡ loses_tileset range.low range.end range.to value }
+{
+    if range.to < range.low {
+        (range.to, range.low)
+    } else {
+        (range.end - (range.to - range.low), range.end)
     }
 }

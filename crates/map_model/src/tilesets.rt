@@ -1,12 +1,12 @@
 // Tilesets: where they stand, and whether they are in use.
-ghost use Rattle.std.specs.Prelude.{◌≡◌, Some, IsSome, find, position};
+ghost use Rattle.std.specs.Prelude.{◌≡◌, ◌<◌, Some, IsSome, find, position};
 ghost use Rattle.std.specs.List.{list_any};
 ghost use Rattle.std.specs.Option.{option_copied, option_map};
 ghost use Rattle.map_model.specs.Groups.{drawn, tree};
 ghost use Rattle.map_model.specs.Heads.{tileset_head, tileset_with_head};
 ghost use Rattle.map_model.specs.Keeping.{layer_tier};
 ghost use Rattle.map_model.specs.Lists.{change_first};
-ghost use Rattle.map_model.specs.Renumbering.{tileset_with_first_id};
+ghost use Rattle.map_model.specs.Renumbering.{end_in, has_losses, tileset_with_first_id};
 ghost use Rattle.map_model.specs.NewMap.{external_tileset};
 ghost use Rattle.map_model.specs.Tilesets.{has_first_id, in_use, tileset_place, tileset_with, values_in, values_of, gids_of};
 ghost use Rattle.map_model.specs.Uses.{base_limit, end_of, is_between, nearer};
@@ -17,6 +17,7 @@ use crate::heads::TilesetHead;
 use crate::limits::MAX_GROUPS;
 use crate::map::Map;
 use crate::parts::{Body, Layer, Object, Tileset};
+use crate::renumbering::{Move, losses};
 use link_chain::Chain;
 use link_tree::LinkTree;
 use std::alloc::Global;
@@ -68,6 +69,23 @@ impl Map {
         self.tileset_place(first_id)?;
         let end = end_of_tileset(&self.parts.tilesets, first_id);
         Some(is_in_layers(&self.parts.layers, first_id, end, MAX_GROUPS))
+    }
+
+    /// Whether a value of a cell or of an object would be of another tileset, of none, or of another tile, where the tileset with a
+    /// first id got another one: no other tileset has that one or lies between the two.
+    pub fn has_losses(&self, first_id: u32, to: u32) -> bool
+        requires from { first_id < end_in self.now first_id }
+        requires to { to < end_in self.now first_id }
+        ensures { result ≡ has_losses self.now first_id to }
+    {
+        let end = end_of_tileset(&self.parts.tilesets, first_id);
+        let range = Move {
+            low: first_id,
+            end,
+            to,
+        };
+        let (low, end) = losses(range);
+        is_in_layers(&self.parts.layers, low, end, MAX_GROUPS)
     }
 }
 
