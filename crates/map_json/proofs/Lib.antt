@@ -42,6 +42,7 @@ pub mod HeadedObjects
 pub mod LayerHeadLaws
 pub mod HeadedLayers
 pub mod MapHeadLaws
+pub mod TilesetHeadLaws
 pub mod GivenLaws
 pub mod Asides
 pub mod Noting

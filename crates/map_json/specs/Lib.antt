@@ -12,6 +12,7 @@ pub mod PartTexts
 pub mod ObjectHeads
 pub mod LayerHeads
 pub mod MapHeads
+pub mod TilesetHeads
 pub mod Moves
 pub mod Words
 pub mod Given

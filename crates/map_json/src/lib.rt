@@ -34,6 +34,7 @@ mod map_head;
 mod moved;
 mod object_head;
 mod same_head;
+mod tileset_head;
 mod word;
 
 pub use fractions::{Fractions, Moved, Place};
@@ -50,4 +51,7 @@ pub use part_text::{
 pub use reading::{read_map, read_map_along};
 pub use refusals::MapRefusal;
 pub use same_head::is_object_head;
+pub use tileset_head::{
+    is_tileset_head, is_tileset_member, read_tileset_head, tileset_head_members,
+};
 pub use word::{MAX_WORD_DEPTH, json_member, json_word, json_words};

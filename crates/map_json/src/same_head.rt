@@ -36,7 +36,8 @@ fn is_gid(gid: Option<Gid>, other: Option<Gid>) -> bool
     }
 }
 
-fn is_text(text: &Option<MapText>, other: &Option<MapText>) -> bool
+/// Whether a text is the other one.
+pub fn is_text(text: &Option<MapText>, other: &Option<MapText>) -> bool
     ensures { IsTrue result ↔ text.now ≡ other.now }
 {
     match (text, other) {

@@ -4,4 +4,5 @@ pub mod Names
 pub mod Changes
 pub mod Objects
 pub mod Layers
+pub mod Tilesets
 pub mod Maps

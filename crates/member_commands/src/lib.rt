@@ -8,6 +8,7 @@ mod making;
 mod map;
 mod object;
 mod set_head;
+mod tileset;
 
 pub use head::Head;
 pub use making::more_fault;
