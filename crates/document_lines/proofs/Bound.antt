@@ -9,7 +9,7 @@ use Rattle.paint_commands.proofs.Merges.{paint-WhenEqual}
 use Rattle.property_commands.specs.PropertyChanges.{put_property-alone}
 use Rattle.property_commands.proofs.Settings.{set-names}
 use Rattle.document_lines.specs.declared.planned.Edit.{Edit}
-use Rattle.document_lines.specs.declared.planned.Edit.TheVariants.{Paint, PlaceObject, SetProperty, SetObjectHead, SetLayerHead, SetMapHead, PutProperty}
+use Rattle.document_lines.specs.declared.planned.Edit.TheVariants.{Paint, PlaceObject, SetProperty, SetObjectHead, SetLayerHead, SetMapHead, PutProperty, SetTilesetHead}
 use Rattle.document_lines.specs.Planning.{edit_change}
 
 pub edit-bound : (e : Edit) → is_free (edit_change e).names.vanishing ≡ false
@@ -19,6 +19,7 @@ edit-bound (SetProperty c) = ap (λ (n : Names). is_free n.vanishing) (set-names
 edit-bound (SetObjectHead c) = ap is_free (member-WhenEqual c.value.edit (owners.Object c.value.id) c.value.follows)
 edit-bound (SetLayerHead c) = ap is_free (member-WhenEqual c.value.edit (owners.Layer c.value.id) c.value.follows)
 edit-bound (SetMapHead c) = ap is_free (member-WhenEqual c.value.edit owners.Map c.value.follows)
+edit-bound (SetTilesetHead c) = ap is_free (member-WhenEqual c.value.edit (owners.Tileset c.value.id) c.value.follows)
 edit-bound (PutProperty c) = (put_property-alone c).bound
 edit-bound other = refl
 

@@ -4,6 +4,7 @@ use Rattle.std.specs.List.{insert, remove}
 use Rattle.map_model.specs.declared.heads.LayerHead.{LayerHead}
 use Rattle.map_model.specs.declared.heads.MapHead.{MapHead}
 use Rattle.map_model.specs.declared.heads.ObjectHead.{ObjectHead}
+use Rattle.map_model.specs.declared.heads.TilesetHead.{TilesetHead}
 use Rattle.map_model.specs.declared.owner.Owner.{Owner}
 use Rattle.map_model.specs.declared.parts.Body.{Body}
 use Rattle.map_model.specs.declared.parts.Body.TheVariants.{Objects}
@@ -16,7 +17,7 @@ use Rattle.map_model.specs.Bodies.{body_with_objects, tile_at}
 use Rattle.map_model.specs.Document.{DocumentParts, with_map}
 use Rattle.map_model.specs.Given.{given_setting}
 use Rattle.map_model.specs.Groups.{inside}
-use Rattle.map_model.specs.Heads.{head, head_of_layer, head_of_map, head_with_id, layer_head_with_id}
+use Rattle.map_model.specs.Heads.{head, head_of_layer, head_of_map, head_with_id, layer_head_with_id, tileset_head_with_id}
 use Rattle.map_model.specs.Lens.{Lens, found, layer_objects, name, next_object_id, of_layer, of_object, placing, placing_with_id, siblings, tilesets}
 use Rattle.map_model.specs.Lens.{update_found, visible}
 use Rattle.map_model.specs.Lists.{change_at, or_empty}
@@ -44,6 +45,7 @@ use Rattle.member_commands.specs.Changes.{set_head_change, set_head_exchange}
 use Rattle.member_commands.specs.Layers.{layer_heads}
 use Rattle.member_commands.specs.Maps.{map_heads}
 use Rattle.member_commands.specs.Objects.{object_heads}
+use Rattle.member_commands.specs.Tilesets.{tileset_heads}
 use Rattle.object_commands.specs.declared.add.AddObject.{AddObject}
 use Rattle.object_commands.specs.declared.place.PlaceObject.{PlaceObject}
 use Rattle.object_commands.specs.declared.remove.RemoveObject.{RemoveObject}
@@ -130,6 +132,10 @@ layer_head-keeps id f = layer-keeps id (head_of_layer.update f) (λ l. refl) (λ
 
 map_head-keeps : KeepsCellsAt head_of_map
 map_head-keeps f = record { selection = λ d. refl; layers = λ d. record { width = refl; height = refl; ids = refl }; cells = λ d id x y. refl }
+
+tileset_head-keeps : (first_id : ℕ) → KeepsCellsAt (tileset_head_with_id first_id)
+tileset_head-keeps first_id f =
+    record { selection = λ d. refl; layers = λ d. record { width = refl; height = refl; ids = refl }; cells = λ d id x y. refl }
 
 tile_at-objects : (g : List Object → List Object) (number : ℕ) (b : Body) → tile_at (body_with_objects g b) number ≡ tile_at b number
 tile_at-objects g number (Objects os) = refl
@@ -245,6 +251,9 @@ set_object_head-covers c = outline-covers (set_head_exchange object_heads c) (he
 set_layer_head-covers : (c : SetHead LayerHead) → Covers outline_differs (set_head_change layer_heads c)
 set_layer_head-covers c = outline-covers (set_head_exchange layer_heads c) (held-keeps (layer_head_with_id c.id) c.head (layer_head-keeps c.id))
 
+set_tileset_head-covers : (c : SetHead TilesetHead) → Covers outline_differs (set_head_change tileset_heads c)
+set_tileset_head-covers c = outline-covers (set_head_exchange tileset_heads c) (held-keeps (tileset_head_with_id c.id) c.head (tileset_head-keeps c.id))
+
 set_map_head-covers : (c : SetHead MapHead) → Covers outline_differs (set_head_change map_heads c)
 set_map_head-covers c = outline-covers (set_head_exchange map_heads c) (held-keeps head_of_map c.head map_head-keeps)
 
@@ -334,7 +343,7 @@ pub outline_edit-covers : (e : Edit)
     → IsOf edits.RenameLayer e ⊎ (IsOf edits.ShowLayer e ⊎ (IsOf edits.AddObject e ⊎ (IsOf edits.RemoveObject e ⊎ (IsOf edits.PlaceObject e
     ⊎ (IsOf edits.SetProperty e ⊎ (IsOf edits.RemoveProperty e ⊎ (IsOf edits.AddTileset e
     ⊎ (IsOf edits.RemoveTileset e ⊎ (IsOf edits.SetObjectHead e ⊎ (IsOf edits.SetLayerHead e ⊎ (IsOf edits.SetMapHead e
-    ⊎ (IsOf edits.ReparentObject e ⊎ IsOf edits.PutProperty e))))))))))))
+    ⊎ (IsOf edits.ReparentObject e ⊎ (IsOf edits.PutProperty e ⊎ IsOf edits.SetTilesetHead e)))))))))))))
     → Covers outline_differs (edit_change e)
 outline_edit-covers e (inl h) = rw h.1 (rename-covers h.0)
 outline_edit-covers e (inr (inl h)) = rw h.1 (show-covers h.0)
@@ -349,7 +358,8 @@ outline_edit-covers e (inr (inr (inr (inr (inr (inr (inr (inr (inr (inl h)))))))
 outline_edit-covers e (inr (inr (inr (inr (inr (inr (inr (inr (inr (inr (inl h))))))))))) = rw h.1 (set_layer_head-covers h.0.value)
 outline_edit-covers e (inr (inr (inr (inr (inr (inr (inr (inr (inr (inr (inr (inl h)))))))))))) = rw h.1 (set_map_head-covers h.0.value)
 outline_edit-covers e (inr (inr (inr (inr (inr (inr (inr (inr (inr (inr (inr (inr (inl h))))))))))))) = rw h.1 (reparent_object-covers h.0)
-outline_edit-covers e (inr (inr (inr (inr (inr (inr (inr (inr (inr (inr (inr (inr (inr h))))))))))))) = rw h.1 (put_property-covers h.0)
+outline_edit-covers e (inr (inr (inr (inr (inr (inr (inr (inr (inr (inr (inr (inr (inr (inl h)))))))))))))) = rw h.1 (put_property-covers h.0)
+outline_edit-covers e (inr (inr (inr (inr (inr (inr (inr (inr (inr (inr (inr (inr (inr (inr h)))))))))))))) = rw h.1 (set_tileset_head-covers h.0.value)
 
 pub layer_edit-covers : (e : Edit) → IsOf edits.AddLayer e ⊎ (IsOf edits.RemoveLayer e ⊎ IsOf edits.MoveLayer e) → Covers layers_differ (edit_change e)
 layer_edit-covers e (inl h) = rw h.1 (add_layer-covers h.0)

@@ -14,12 +14,12 @@ use Rattle.member_commands.specs.Edits.{after_put_members, after_remove_member, 
 use Rattle.member_commands.specs.Names.{put_members_names, remove_member_names, set_member_names}
 use Rattle.member_commands.specs.Layers.{layer_heads}
 use Rattle.member_commands.specs.Maps.{map_heads}
+use Rattle.member_commands.specs.Tilesets.{tileset_heads}
 use Rattle.member_commands.specs.Objects.{object_heads}
 use Rattle.undo_stack.specs.History.{Step, current, step_named}
 use Rattle.refusals.specs.declared.line_fault.LineFault.{LineFault}
 use Rattle.refusals.specs.declared.line_fault.LineFault.TheVariants.{UnknownCommand}
 use Rattle.refusals.specs.declared.more_fault.MoreFault.{MoreFault}
-use Rattle.refusals.specs.declared.more_fault.MoreFault.TheVariants.{MemberOfOtherLines}
 use Rattle.refusals.specs.declared.refusal.Refusal.{Refusal}
 use Rattle.refusals.specs.declared.refusal.Refusal.TheVariants as refusals
 use Rattle.refusals.specs.Layers.{refusal_of_more}
@@ -52,7 +52,7 @@ more_names_of (PutTileset json) = add_tileset_names
 more_names_of (NumberTileset first_id number) = number_tileset_names
 more_names_of (Extend left top right bottom) = resize_names
 
--- the document after it, or its refusal; members of tilesets have no edit yet
+-- the document after it, or its refusal
 abbrev pub after_more : Fractions → MoreLine → DocumentParts → Result DocumentParts MoreFault
 after_more fractions (SetMember (owners.Object id) name json follows) d = after_set_member object_heads fractions d id name json
 after_more fractions (PutMembers (owners.Object id) json follows) d = after_put_members object_heads fractions d id json
@@ -63,6 +63,9 @@ after_more fractions (RemoveMember (owners.Layer id) name) d = after_remove_memb
 after_more fractions (SetMember owners.Map name json follows) d = after_set_member map_heads fractions d 0 name json
 after_more fractions (PutMembers owners.Map json follows) d = after_put_members map_heads fractions d 0 json
 after_more fractions (RemoveMember owners.Map name) d = after_remove_member map_heads fractions d 0 name
+after_more fractions (SetMember (owners.Tileset id) name json follows) d = after_set_member tileset_heads fractions d id name json
+after_more fractions (PutMembers (owners.Tileset id) json follows) d = after_put_members tileset_heads fractions d id json
+after_more fractions (RemoveMember (owners.Tileset id) name) d = after_remove_member tileset_heads fractions d id name
 after_more fractions (AddLayer kind name) d = made (after_add_more d kind name)
 after_more fractions (PutObject layer json) d = after_object_text fractions d layer json
 after_more fractions (ReparentObject object layer place) d = made (after_object_into d object layer place)
@@ -72,7 +75,6 @@ after_more fractions (TakeProperty owner json) d = after_take_property fractions
 after_more fractions (PutTileset json) d = after_tileset_text fractions d json
 after_more fractions (NumberTileset first_id number) d = made (after_number_tileset d first_id number)
 after_more fractions (Extend left top right bottom) d = made (after_extend d left top right bottom)
-after_more fractions line d = Err MemberOfOtherLines
 
 -- the step of an edit with these names, or the edit's refusal
 abbrev pub more_answer_of : Names → Result DocumentParts MoreFault → Result Step Refusal

@@ -9,6 +9,7 @@ use Rattle.layer_commands.specs.Changes.{add_change, remove_change, rename_chang
 use Rattle.member_commands.specs.Changes.{set_head_change, set_head_shown}
 use Rattle.member_commands.specs.Layers.{layer_heads}
 use Rattle.member_commands.specs.Maps.{map_heads}
+use Rattle.member_commands.specs.Tilesets.{tileset_heads}
 use Rattle.member_commands.specs.Objects.{object_heads}
 use Rattle.object_commands.specs.Changes.{add_object_change, remove_object_change, place_object_change, place_object_shown, reparent_object_change}
 use Rattle.property_commands.specs.PropertyChanges.{put_property_change, set_property_change, set_property_shown, remove_property_change}
@@ -27,7 +28,7 @@ use Rattle.session.specs.declared.reply.Reply.TheVariants as replies
 use Rattle.document_lines.specs.declared.planned.Edit.{Edit}
 use Rattle.document_lines.specs.declared.planned.Edit.TheVariants.{Paint, AddLayer, RemoveLayer, RenameLayer, ShowLayer, MoveLayer, Select, ResizeMap}
 use Rattle.document_lines.specs.declared.planned.Edit.TheVariants.{AddObject, RemoveObject, PlaceObject, SetProperty, RemoveProperty, AddTileset, RemoveTileset}
-use Rattle.document_lines.specs.declared.planned.Edit.TheVariants.{SetObjectHead, SetLayerHead, SetMapHead, ReparentObject, PutProperty}
+use Rattle.document_lines.specs.declared.planned.Edit.TheVariants.{SetObjectHead, SetLayerHead, SetMapHead, ReparentObject, PutProperty, SetTilesetHead}
 use Rattle.document_lines.specs.declared.planned.Planned.{Planned}
 use Rattle.document_lines.specs.declared.planned.Planned.TheVariants as planned
 use Rattle.document_lines.specs.Acts.{Act, answer_of}
@@ -57,6 +58,7 @@ edit_change (SetLayerHead command) = set_head_change layer_heads command.value
 edit_change (SetMapHead command) = set_head_change map_heads command.value
 edit_change (ReparentObject command) = reparent_object_change command
 edit_change (PutProperty command) = put_property_change command
+edit_change (SetTilesetHead command) = set_head_change tileset_heads command.value
 
 -- what a planned edit shows to the step before it
 abbrev pub edit_shown : Edit → Shown
@@ -66,6 +68,7 @@ edit_shown (SetProperty command) = set_property_shown command
 edit_shown (SetObjectHead command) = set_head_shown object_heads command.value
 edit_shown (SetLayerHead command) = set_head_shown layer_heads command.value
 edit_shown (SetMapHead command) = set_head_shown map_heads command.value
+edit_shown (SetTilesetHead command) = set_head_shown tileset_heads command.value
 edit_shown edit = Nothing
 
 -- a refusal has left all as it was

@@ -239,7 +239,8 @@ impl Edit {
             | Edit::SetLayerHead(_)
             | Edit::SetMapHead(_)
             | Edit::ReparentObject(_)
-            | Edit::PutProperty(_) => Differences::of_outline(),
+            | Edit::PutProperty(_)
+            | Edit::SetTilesetHead(_) => Differences::of_outline(),
         }
     }
 }

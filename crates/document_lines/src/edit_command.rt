@@ -31,6 +31,7 @@ macro_rules! with_command {
             Edit::SetMapHead($command) => $call,
             Edit::ReparentObject($command) => $call,
             Edit::PutProperty($command) => $call,
+            Edit::SetTilesetHead($command) => $call,
         }
     };
 }

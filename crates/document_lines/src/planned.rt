@@ -1,5 +1,5 @@
 use layer_commands::{AddLayer, MoveLayer, RemoveLayer, RenameLayer, ResizeMap, ShowLayer};
-use map_model::{LayerHead, MapHead, ObjectHead};
+use map_model::{LayerHead, MapHead, ObjectHead, TilesetHead};
 use member_commands::SetHead;
 use object_commands::{AddObject, PlaceObject, RemoveObject, ReparentObject};
 use paint_commands::{PaintCommand, SelectCommand};
@@ -29,6 +29,7 @@ pub enum Edit {
     SetMapHead(Box<SetHead<MapHead>>),
     ReparentObject(ReparentObject),
     PutProperty(PutProperty),
+    SetTilesetHead(Box<SetHead<TilesetHead>>),
 }
 
 /// What is to be done for a line.

@@ -62,6 +62,7 @@ impl Edit {
             Edit::SetMapHead(command) => Subject::of_members(command.owner()),
             Edit::ReparentObject(command) => Subject::Object(command.object()),
             Edit::PutProperty(command) => Subject::of_owner(command.owner()),
+            Edit::SetTilesetHead(command) => Subject::of_members(command.owner()),
         }
     }
 }

@@ -5,9 +5,10 @@ ghost use Rattle.member_commands.specs.Changes.{set_head_change};
 ghost use Rattle.member_commands.specs.Layers.{layer_heads};
 ghost use Rattle.member_commands.specs.Maps.{map_heads};
 ghost use Rattle.member_commands.specs.Objects.{object_heads};
+ghost use Rattle.member_commands.specs.Tilesets.{tileset_heads};
 
 use crate::planned::Edit;
-use map_model::{LayerHead, MapHead, ObjectHead};
+use map_model::{LayerHead, MapHead, ObjectHead, TilesetHead};
 use member_commands::{Head, SetHead};
 
 /// The head of an owner whose own members lines edit.
@@ -38,5 +39,13 @@ impl EditedHead for MapHead {
         ensures { IsSame (set_head_change map_heads command.value) (edit_change result) }
     {
         Edit::SetMapHead(command)
+    }
+}
+
+impl EditedHead for TilesetHead {
+    fn into_edit(command: Box<SetHead<TilesetHead>>) -> Edit
+        ensures { IsSame (set_head_change tileset_heads command.value) (edit_change result) }
+    {
+        Edit::SetTilesetHead(command)
     }
 }

@@ -13,7 +13,7 @@ use crate::planning::edited_head::EditedHead;
 use crate::planning::refused;
 use command_api::Command;
 use fractions::Fractions;
-use map_model::{Document, LayerHead, MapHead, MemberOwner, ObjectHead};
+use map_model::{Document, LayerHead, MapHead, MemberOwner, ObjectHead, TilesetHead};
 use member_commands::SetHead;
 use refusals::{MoreFault, Refusal};
 use session::{MoreLine, Text};
@@ -163,7 +163,36 @@ pub fn on_members<C: Command>(
             owner: MemberOwner::Map,
             name,
         } => plan_remove::<MapHead>(alloc, stack.document(), 0, name, fractions),
-        // Own members of tilesets have no edits yet.
-        _ => refused(Refusal::MemberOfOtherLines),
+        MoreLine::SetMember {
+            owner: MemberOwner::Tileset(first_id),
+            name,
+            json,
+            follows,
+        } => plan_set::<TilesetHead>(
+            alloc,
+            stack.document(),
+            *first_id,
+            name,
+            json,
+            *follows,
+            fractions,
+        ),
+        MoreLine::PutMembers {
+            owner: MemberOwner::Tileset(first_id),
+            json,
+            follows,
+        } => plan_put::<TilesetHead>(
+            alloc,
+            stack.document(),
+            *first_id,
+            json,
+            *follows,
+            fractions,
+        ),
+        MoreLine::RemoveMember {
+            owner: MemberOwner::Tileset(first_id),
+            name,
+        } => plan_remove::<TilesetHead>(alloc, stack.document(), *first_id, name, fractions),
+        _ => unreachable!(),
     }
 }

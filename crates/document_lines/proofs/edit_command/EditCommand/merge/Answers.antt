@@ -37,6 +37,9 @@ returns-in-SetLayerHead-clause-unchanged c = rw (c.in-SetLayerHead.is, sym c.der
 pub returns-in-SetMapHead-clause-unchanged : goal.returns-in-SetMapHead-clause-unchanged
 returns-in-SetMapHead-clause-unchanged c = rw (c.in-SetMapHead.is, sym c.deref_mut-in-SetMapHead.ensures.value) c.merge-in-SetMapHead.ensures.unchanged
 
+pub returns-in-SetTilesetHead-clause-unchanged : goal.returns-in-SetTilesetHead-clause-unchanged
+returns-in-SetTilesetHead-clause-unchanged c = rw (c.in-SetTilesetHead.is, sym c.deref_mut-in-SetTilesetHead.ensures.value) c.merge-in-SetTilesetHead.ensures.unchanged
+
 pub returns-in-ReparentObject-clause-unchanged : goal.returns-in-ReparentObject-clause-unchanged
 returns-in-ReparentObject-clause-unchanged c = rw c.in-ReparentObject.is c.merge-in-ReparentObject.ensures.unchanged
 

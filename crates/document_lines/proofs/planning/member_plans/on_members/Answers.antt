@@ -59,3 +59,21 @@ returns-in-RemoveMember-Map-default-clause-plans g c =
     let line = c.in-RemoveMember-Map-default in
     let owner : line.owner ≡ owners.Map = search rules in
     rw (line.is, owner, sym c.document-in-RemoveMember-Map-default.ensures) (c.plan_remove-in-RemoveMember-Map-default.ensures, refl)
+
+pub returns-in-SetMember-Tileset-default-default-default-clause-plans : goal.returns-in-SetMember-Tileset-default-default-default-clause-plans
+returns-in-SetMember-Tileset-default-default-default-clause-plans g c =
+    let line = c.in-SetMember-Tileset-default-default-default in
+    let owner : line.owner ≡ owners.Tileset line.first_id = search rules in
+    rw (line.is, owner, sym c.document-in-SetMember-Tileset-default-default-default.ensures) (c.plan_set-in-SetMember-Tileset-default-default-default.ensures, refl)
+
+pub returns-in-PutMembers-Tileset-default-default-clause-plans : goal.returns-in-PutMembers-Tileset-default-default-clause-plans
+returns-in-PutMembers-Tileset-default-default-clause-plans g c =
+    let line = c.in-PutMembers-Tileset-default-default in
+    let owner : line.owner ≡ owners.Tileset line.first_id = search rules in
+    rw (line.is, owner, sym c.document-in-PutMembers-Tileset-default-default.ensures) (c.plan_put-in-PutMembers-Tileset-default-default.ensures, refl)
+
+pub returns-in-RemoveMember-Tileset-default-clause-plans : goal.returns-in-RemoveMember-Tileset-default-clause-plans
+returns-in-RemoveMember-Tileset-default-clause-plans g c =
+    let line = c.in-RemoveMember-Tileset-default in
+    let owner : line.owner ≡ owners.Tileset line.first_id = search rules in
+    rw (line.is, owner, sym c.document-in-RemoveMember-Tileset-default.ensures) (c.plan_remove-in-RemoveMember-Tileset-default.ensures, refl)
