@@ -419,6 +419,9 @@ pub fn on_more_line<C: Command>(
         MoreLine::PutTileset { json } => {
             plan_put_tileset(alloc, stack.document(), json, fractions)
         }
+        MoreLine::NumberTileset { first_id, number } => {
+            plan_number_tileset(stack.document(), *first_id, *number)
+        }
         MoreLine::Extend {
             left,
             top,

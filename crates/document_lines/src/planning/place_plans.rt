@@ -28,6 +28,13 @@ pub fn plan_reparent_object(document: &Document, object: u32, layer: u32, place:
     planned(ReparentObject::new(document, object, layer, place).map(Edit::ReparentObject))
 }
 
+#[inline(never)]
+pub fn plan_number_tileset(document: &Document, first_id: u32, number: u32) -> Planned
+    ensures { PlansEdit (more_answer_of number_tileset_names (made (after_number_tileset document.now first_id number))) document.now result }
+{
+    planned(NumberTileset::new(document, first_id, number).map(Edit::NumberTileset))
+}
+
 // The group that a line names: none where the number is 0.
 fn parent_of(group: u32) -> Option<u32>
     ensures { result ≡ parent_of group }

@@ -40,6 +40,9 @@ returns-in-SetMapHead-clause-unchanged c = rw (c.in-SetMapHead.is, sym c.deref_m
 pub returns-in-SetTilesetHead-clause-unchanged : goal.returns-in-SetTilesetHead-clause-unchanged
 returns-in-SetTilesetHead-clause-unchanged c = rw (c.in-SetTilesetHead.is, sym c.deref_mut-in-SetTilesetHead.ensures.value) c.merge-in-SetTilesetHead.ensures.unchanged
 
+pub returns-in-NumberTileset-clause-unchanged : goal.returns-in-NumberTileset-clause-unchanged
+returns-in-NumberTileset-clause-unchanged c = rw c.in-NumberTileset.is c.merge-in-NumberTileset.ensures.unchanged
+
 pub returns-in-ReparentObject-clause-unchanged : goal.returns-in-ReparentObject-clause-unchanged
 returns-in-ReparentObject-clause-unchanged c = rw c.in-ReparentObject.is c.merge-in-ReparentObject.ensures.unchanged
 
