@@ -1,12 +1,14 @@
-// The edits that give an object or a layer another place in the map, or the map more room around it.
+// The edits that give an object or a layer another place in the map, a tileset another first id, or the map more room around it.
 ghost use Rattle.std.specs.Prelude.{◌≡◌, ◌+◌, false, pos, IfNone, IfSome};
 ghost use Rattle.edits.specs.LayerEdits.{after_layer_into};
 ghost use Rattle.edits.specs.ObjectEdits.{after_object_into};
 ghost use Rattle.edits.specs.Resizing.{IsDistance};
+ghost use Rattle.edits.specs.TilesetEdits.{after_number_tileset};
 ghost use Rattle.layer_commands.specs.Names.{move_names, resize_names};
 ghost use Rattle.map_model.specs.declared.limits.TheConstants.{MAX_SIDE};
 ghost use Rattle.map_model.specs.Sizes.{is_side};
 ghost use Rattle.object_commands.specs.Names.{reparent_object_names};
+ghost use Rattle.property_commands.specs.Names.{number_tileset_names};
 ghost use Rattle.document_lines.specs.GivenEdits.{made};
 ghost use Rattle.document_lines.specs.MoreRules.{more_answer_of};
 ghost use Rattle.document_lines.specs.PlaceEdits.{after_extend, parent_of};
@@ -18,6 +20,7 @@ use layer_commands::{MoveLayer, ResizeMap};
 use map_model::Document;
 use map_model::limits::MAX_SIDE;
 use object_commands::ReparentObject;
+use property_commands::NumberTileset;
 use refusals::EditFault;
 use std::alloc::Global;
 
