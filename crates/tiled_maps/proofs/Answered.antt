@@ -1,6 +1,6 @@
 -- The facts about an answer, from what was seen of its tree.
-use Rattle.std.proofs.Common.{◌≡◌, inr, ℕ, ◌≤◌, ◌<◌, nat_le, leb-false, List, Bool, true, false, not, ◌||◌, true≢false, Option, Some, None, is_some, Vec}
-use Rattle.std.proofs.Common.{Global, Err, refl, sym, ap, subst, ◌∙◌, arith}
+use Rattle.std.proofs.Common.{◌≡◌, inl, inr, ℕ, ◌≤◌, ◌<◌, nat_le, leb-false, List, Bool, true, false, not, ◌||◌, true≢false, Option, Some, None, is_some, Vec}
+use Rattle.std.proofs.Common.{Global, Result, Ok, Err, refl, sym, ap, subst, ◌∙◌, arith}
 use Rattle.std.proofs.lemmas.Bool.{or_right, leb-true}
 use Rattle.std.specs.Prelude.{unwrap_or}
 use Rattle.serde_json.specs.Data.{Data, depth}
@@ -19,7 +19,8 @@ use Rattle.fractions.specs.Aside.{reserved_name, set_aside_of}
 use Rattle.fractions.specs.Back.{back}
 use Rattle.tiled_maps.specs.Trees.{put_back_of, HasNoFinite, IsFiniteOf, MakesFinite}
 use Rattle.json_trees.specs.Texts.{IsTreeOf}
-use Rattle.tiled_maps.specs.Texts.{IsSetAside, IsPutBack, IsNotFinite, SetsAside, text_or}
+use Rattle.tiled_maps.specs.Texts.{IsSetAside, IsPutBack, IsNotFinite, SetsAside, SetsAsidePlain, SetsAsideUnpacked, IsUnpacked, IsNotUnpacked, text_or}
+use Rattle.tiled_maps.specs.Packed.{compression, note_name, unpacked_layers, IsPackedAs}
 use Rattle.tiled_maps.proofs.Meeting.{is_infinite-set_aside_of, put_back_of-plain, put_back_of-spread, put_back_of-free}
 use Rattle.fractions.proofs.Whole.{has_fraction-aside, HasFewFractions-none, aside-unchanged, back-unchanged, depth-back}
 use Rattle.fractions.proofs.ReadTrees.{IsReadTree-read}
@@ -89,7 +90,7 @@ infinite_fault : (bytes : List ℕ) (d a : Data) (IsSo : Data → Type 0) → Is
 infinite_fault bytes d a IsSo tree few is h = (d, tree, few, sym (is_infinite-set_aside_of d) ∙ ap is_infinite (sym is) ∙ h.0, subst IsSo is h.1)
 
 pub finite_fault : (bytes : List ℕ) (d a : Data) (fault : Fault) → IsTreeOf bytes d → HasFewFractions d → a ≡ set_aside_of d
-    → MakesFinite a (Err fault) → SetsAside bytes (Err fault)
+    → MakesFinite a (Err fault) → SetsAsidePlain bytes (Err fault)
 finite_fault bytes d a Memory tree few is h = tt
 finite_fault bytes d a NotJson tree few is h = absurd h
 finite_fault bytes d a NameTaken tree few is h = absurd h
@@ -100,13 +101,42 @@ finite_fault bytes d a Overlap tree few is h = infinite_fault bytes d a (λ t. h
 finite_fault bytes d a TooLarge tree few is h = infinite_fault bytes d a (λ t. is_too_large t ≡ true) tree few is h
 finite_fault bytes d a Unlike tree few is h = infinite_fault bytes d a HasNoFinite tree few is h
 
+-- ---- unpacked
+pub unpacked-none : (d : Data) → has_name compression d ≡ false → unpacked_layers d ≡ d
+unpacked-none d e = rw e refl
+
+same_text : (bytes plain : List ℕ) (own : Option (Vec ℕ Global)) → plain ≡ bytes → text_or bytes own ≡ text_or plain own
+same_text bytes plain None e = sym e
+same_text bytes plain (Some text) e = refl
+
+-- bytes that are their own plain text
+pub SetsAside-plain : (bytes : List ℕ) (d : Data) (r : Result (Option (Vec ℕ Global)) Fault) → IsUnpacked bytes bytes d → SetsAsidePlain bytes r
+    → SetsAside bytes r
+SetsAside-plain bytes d (Ok text) u s = (bytes, d, text, u, refl, s)
+SetsAside-plain bytes d (Err fault) u s = inr (bytes, d, u, s)
+
+-- bytes with another one
+pub SetsAside-unpacked : (bytes : List ℕ) (d t : Data) (r : Result (Option (Vec ℕ Global)) Fault) → IsTreeOf bytes d → has_name note_name d ≡ false
+    → t ≡ unpacked_layers d → SetsAsideUnpacked t r → SetsAside bytes r
+SetsAside-unpacked bytes d t (Ok text) tree free e (plain, own, plain_tree, same, s) =
+    (plain, d, own, record { tree = tree; free = free; plain_tree = subst (IsTreeOf plain) e plain_tree }, same bytes, s)
+SetsAside-unpacked bytes d t (Err fault) tree free e (inl memory) = inl (subst (IsNotUnpacked bytes) (sym memory) tt)
+SetsAside-unpacked bytes d t (Err fault) tree free e (inr (plain, plain_tree, s)) =
+    inr (plain, d, record { tree = tree; free = free; plain_tree = subst (IsTreeOf plain) e plain_tree }, s)
+
 -- ---- put back
--- a tree without the reserved name
-pub IsPutBack-none : (bytes : List ℕ) (d : Data) → IsTreeOf bytes d → has_name reserved_name d ≡ false → IsPutBack bytes None d
-IsPutBack-none bytes d tree none = record {
+pub neither : (a b : Bool) → (a || b) ≡ false → (a ≡ false) × (b ≡ false)
+neither true b e = absurd (true≢false e)
+neither false b e = (refl, e)
+
+-- a tree without the names of notes
+pub IsPutBack-none : (bytes : List ℕ) (d : Data) → IsTreeOf bytes d → has_name reserved_name d ≡ false → has_name note_name d ≡ false
+    → IsPutBack bytes None d d
+IsPutBack-none bytes d tree none unnoted = record {
   tree = tree;
-  text_tree = (tree.0, tree.1 ∙ ap (λ t. Some t) (sym (put_back_of-free d none ∙ back-unchanged d none)));
-  some = sym none;
+  packed = inr (sym (put_back_of-free d none ∙ back-unchanged d none));
+  text_tree = tree;
+  some = rw (none, unnoted) refl;
 }
 
 -- a tree that is too deep only as it is put back was one of an infinite map
@@ -117,11 +147,12 @@ was_infinite (Some t) d within deep = refl
 pub deeper : (n : ℕ) → nat_le n 127 ≡ false → max_depth < n
 deeper n e = leb-false n 127 e
 
--- a tree with the reserved name
-pub IsPutBack-some : (bytes : List ℕ) (text : Vec ℕ Global) (d : Data) → IsTreeOf bytes d → has_name reserved_name d ≡ true
-    → IsTreeOf text.items (put_back_of d) → IsPutBack bytes (Some text) d
-IsPutBack-some bytes text d tree some text_tree = record {
+-- a tree with one of the names
+pub IsPutBack-some : (bytes : List ℕ) (text : Vec ℕ Global) (d p : Data) → IsTreeOf bytes d → (has_name reserved_name d || has_name note_name d) ≡ true
+    → IsPackedAs (put_back_of d) p → IsTreeOf text.items p → IsPutBack bytes (Some text) d p
+IsPutBack-some bytes text d p tree some packed text_tree = record {
   tree = tree;
+  packed = packed;
   text_tree = text_tree;
   some = sym some;
 }

@@ -9,7 +9,7 @@ use Rattle.serde_json.specs.Data.{Data}
 use Rattle.serde_json.specs.Read.{of_json, max_depth}
 use Rattle.fractions.specs.Aside.{reserved_name}
 use Rattle.tiled_maps.specs.Look.{NeedsNothing, TextNeedsNothing}
-use Rattle.tiled_maps.specs.Lexemes.{infinite, IsWhole, BeginFalse, AreFalse, First, ArePlain}
+use Rattle.tiled_maps.specs.Lexemes.{infinite, IsWhole, IsOwnName, BeginFalse, AreFalse, First, ArePlain}
 use Rattle.tiled_maps.proofs.LookTree.{IsNotTrue, IsPlain, ArePlainItems, ArePlainMembers, IsPlain-NeedsNothing}
 
 -- ---- tokens
@@ -28,7 +28,7 @@ BeginNotTrue (null ∷ ts) = Unit {0}
 BeginNotTrue (bad ∷ ts) = Unit {0}
 
 abbrev IsPlainKey : List ℕ → List Token → Type 0
-IsPlainKey s ts = (s ≡ reserved_name → ⊥) × (s ≡ infinite → BeginNotTrue ts)
+IsPlainKey s ts = IsOwnName s × (s ≡ infinite → BeginNotTrue ts)
 
 abbrev Tokens : List Token → Type 0
 Tokens [] = Unit {0}
@@ -135,7 +135,7 @@ item_more : (more : Parse Items) → Keeps ArePlainItems more → (o : Option (J
 item_more more keeps None h = tt
 item_more more keeps (Some q) h = mapped ArePlainItems ArePlainItems (item q.0) (λ js x. (h.0, x)) (more q.1) (keeps q.1 h.1)
 
-member_more : (k : List ℕ) → (k ≡ reserved_name → ⊥) → (more : Parse Members) → Keeps ArePlainMembers more → (o : Option (Json × List Token))
+member_more : (k : List ℕ) → IsOwnName k → (more : Parse Members) → Keeps ArePlainMembers more → (o : Option (Json × List Token))
     → (k ≡ infinite → Values o) → Gives IsPlain o
     → Gives ArePlainMembers (option_and_then (λ q. parse_map (member k q.0) (more q.1)) o)
 member_more k n more keeps None t h = tt

@@ -17,7 +17,8 @@ use Rattle.json_trees.specs.Names.{has_name, items_have_name, members_have_name}
 use Rattle.fractions.specs.Fractions.{is_fraction, has_fraction, items_have_fraction, members_have_fraction}
 use Rattle.fractions.specs.Aside.{reserved_name}
 use Rattle.tiled_maps.specs.Look.{NeedsNothing}
-use Rattle.tiled_maps.specs.Lexemes.{infinite, IsWhole}
+use Rattle.tiled_maps.specs.Packed.{compression, note_name}
+use Rattle.tiled_maps.specs.Lexemes.{infinite, IsWhole, IsOwnName}
 use Rattle.json_members.proofs.MembersLemmas.{same_name}
 
 -- ---- of JSON
@@ -46,7 +47,7 @@ abbrev mutual
 
   pub ArePlainMembers : json.Members → Type 0
   ArePlainMembers json.no_members = Unit {0}
-  ArePlainMembers (json.member k j ms) = ((k ≡ reserved_name → ⊥) × (k ≡ infinite → IsNotTrue j)) × IsPlain j × ArePlainMembers ms
+  ArePlainMembers (json.member k j ms) = (IsOwnName k × (k ≡ infinite → IsNotTrue j)) × IsPlain j × ArePlainMembers ms
 
 -- ---- of the tree
 abbrev NotTrue : Data → Type 0
@@ -59,7 +60,7 @@ NotTrue (array ds) = Unit {0}
 NotTrue (object ms) = Unit {0}
 
 abbrev IsFreeName : List ℕ → Data → Type 0
-IsFreeName k d = (k ≡ reserved_name → ⊥) × (k ≡ infinite → NotTrue d)
+IsFreeName k d = IsOwnName k × (k ≡ infinite → NotTrue d)
 
 abbrev mutual
   IsFree : Data → Type 0
@@ -128,7 +129,7 @@ joined None h p k = tt
 joined (Some d) h None k = tt
 joined (Some d) h (Some ds) k = (h, k)
 
-member_in : (o : Option Data) (k : List ℕ) (ms : json.Members) (found : Members) → (k ≡ reserved_name → ⊥) → (k ≡ infinite → If NotTrue o) → If IsFree o
+member_in : (o : Option Data) (k : List ℕ) (ms : json.Members) (found : Members) → IsOwnName k → (k ≡ infinite → If NotTrue o) → If IsFree o
     → AreFreeMembers found
     → ((f : Members) → AreFreeMembers f → If AreFreeMembers (of_members ms f)) → If AreFreeMembers (option_and_then (λ d. of_members ms (put k d found)) o)
 member_in None k ms found n t h all later = tt
@@ -177,28 +178,30 @@ mutual
   members_no_fraction p no_members h = refl
   members_no_fraction p (member k d ms) h = or_from _ _ (no_fraction (below p k) d h.1) (members_no_fraction p ms h.2)
 
-other_name : (b : Bool) (k : List ℕ) → (b ≡ true → k ≡ reserved_name) → (k ≡ reserved_name → ⊥) → b ≡ false
-other_name true k f n = absurd (n (f refl))
-other_name false k f n = refl
+other_name : (b : Bool) (k name : List ℕ) → (b ≡ true → k ≡ name) → (k ≡ name → ⊥) → b ≡ false
+other_name true k name f n = absurd (n (f refl))
+other_name false k name f n = refl
 
-mutual
-  no_name : (d : Data) → IsFree d → has_name reserved_name d ≡ false
-  no_name null h = refl
-  no_name (boolean b) h = refl
-  no_name (number n) h = refl
-  no_name (string s) h = refl
-  no_name (array ds) h = items_no_name ds h
-  no_name (object ms) h = members_no_name ms h
+-- a name that none of the members has
+module _ (name : List ℕ) (other : (k : List ℕ) → IsOwnName k → k ≡ name → ⊥) where
+  mutual
+    no_name : (d : Data) → IsFree d → has_name name d ≡ false
+    no_name null h = refl
+    no_name (boolean b) h = refl
+    no_name (number n) h = refl
+    no_name (string s) h = refl
+    no_name (array ds) h = items_no_name ds h
+    no_name (object ms) h = members_no_name ms h
 
-  items_no_name : (ds : Items) → AreFreeItems ds → items_have_name reserved_name ds ≡ false
-  items_no_name no_items h = refl
-  items_no_name (item d ds) h = or_from _ _ (no_name d h.0) (items_no_name ds h.1)
+    items_no_name : (ds : Items) → AreFreeItems ds → items_have_name name ds ≡ false
+    items_no_name no_items h = refl
+    items_no_name (item d ds) h = or_from _ _ (no_name d h.0) (items_no_name ds h.1)
 
-  members_no_name : (ms : Members) → AreFreeMembers ms → members_have_name reserved_name ms ≡ false
-  members_no_name no_members h = refl
-  members_no_name (member k d ms) h =
-      or_from _ _ (or_from _ _ (other_name (bytes_eq reserved_name k) k (λ e. sym ((bytes_eq-Decides reserved_name k).0 e)) h.0.0) (no_name d h.1))
-      (members_no_name ms h.2)
+    members_no_name : (ms : Members) → AreFreeMembers ms → members_have_name name ms ≡ false
+    members_no_name no_members h = refl
+    members_no_name (member k d ms) h =
+        or_from _ _ (or_from _ _ (other_name (bytes_eq name k) k name (λ e. sym ((bytes_eq-Decides name k).0 e)) (other k h.0.0)) (no_name d h.1))
+        (members_no_name ms h.2)
 
 not_is_true : (d : Data) → NotTrue d → is_true (as_bool d) ≡ false
 not_is_true null h = refl
@@ -231,4 +234,10 @@ is_finite (object ms) h = members_finite ms h
 pub IsPlain-NeedsNothing : (j : json.Json) (d : Data) → IsPlain j → of_json j ≡ Some d → NeedsNothing d
 IsPlain-NeedsNothing j d h e =
     let f : IsFree d = subst (If IsFree) e (free j h) in
-    record { whole = no_fraction Map d f; free = no_name d f; finite = is_finite d f }
+    record {
+      whole = no_fraction Map d f;
+      free = no_name reserved_name (λ k n. n.0) d f;
+      unpacked = no_name compression (λ k n. n.1) d f;
+      unnoted = no_name note_name (λ k n. n.2) d f;
+      finite = is_finite d f;
+    }

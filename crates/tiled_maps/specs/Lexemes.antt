@@ -8,6 +8,7 @@ use Rattle.serde_json.specs.Data.{Num}
 use Rattle.serde_json.specs.Find.{is_float}
 use Rattle.serde_json.specs.Read.{number_of}
 use Rattle.fractions.specs.Aside.{reserved_name}
+use Rattle.tiled_maps.specs.Packed.{compression, note_name}
 
 abbrev pub infinite : List ℕ
 infinite = codes "infinite"
@@ -40,9 +41,13 @@ AreFalse (token t ∷ ls) = ⊥
 AreFalse (comma ∷ ls) = ⊥
 AreFalse (colon ∷ ls) = BeginFalse ls
 
+-- a name that is none of those of notes, and not `compression`
+abbrev pub IsOwnName : List ℕ → Type 0
+IsOwnName s = (s ≡ reserved_name → ⊥) × (s ≡ compression → ⊥) × (s ≡ note_name → ⊥)
+
 -- the text s, before the lexemes ls
 abbrev pub IsPlainText : List ℕ → List Lexeme → Type 0
-IsPlainText s ls = (s ≡ reserved_name → ⊥) × (s ≡ infinite → AreFalse ls)
+IsPlainText s ls = IsOwnName s × (s ≡ infinite → AreFalse ls)
 
 abbrev pub First : Token → List Lexeme → Type 0 → Type 0
 First begin_object ls later = later
@@ -62,9 +67,9 @@ ArePlain (token t ∷ ls) = First t ls (ArePlain ls)
 ArePlain (comma ∷ ls) = ArePlain ls
 ArePlain (colon ∷ ls) = ArePlain ls
 
--- what is read of a text begins with a byte that is no lowercase letter
+-- what is read of a text begins with a byte that is no lowercase letter and no underscore
 abbrev pub IsOther : ℕ → Type 0
-IsOther c = (c < 97) ⊎ (122 < c)
+IsOther c = (c < 95) ⊎ (122 < c)
 
 abbrev pub BeginsOther : Option (List ℕ) → Type 0
 BeginsOther None = Unit {0}
@@ -77,7 +82,7 @@ pub record LeavesText (text : List ℕ) (from end : ℕ) : Type 0 where
   pub within : end ≤ length text
   pub lexed : lex in_string (drop from text) ≡ lex between (drop end text)
 
--- The escape stands for no lowercase letter, and behind it the text closes before another place.
+-- The escape stands for no lowercase letter and no underscore, and behind it the text closes before another place.
 pub record LeavesEscaped (text : List ℕ) (escape end : ℕ) : Type 0 where
   pub inside : escape + 1 < length text
   pub other : BeginsOther (content plain (drop escape text))

@@ -4,3 +4,4 @@ pub mod Look
 pub mod Lexemes
 pub mod Sources
 pub mod Likeness
+pub mod Packed

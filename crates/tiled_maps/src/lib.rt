@@ -3,10 +3,12 @@
 
 mod fault;
 mod look;
+mod packing;
 mod shape;
 mod sources;
 mod text;
 mod tree;
+mod unpacking;
 
 pub use fault::Fault;
 pub use fractions::number_in;

@@ -8,6 +8,7 @@ ghost use Rattle.json.specs.Lex.{lex, between, in_word};
 ghost use Rattle.tiled_maps.specs.Look.{TextNeedsNothing};
 ghost use Rattle.tiled_maps.specs.Lexemes.{IsPlainText, AreFalse, BeginsLiteral, BeginsOther, ArePlain, EndsWell, LeavesText, LeavesEscaped, Ends, Leads};
 
+use crate::unpacking::{COMPRESSION, NOTE};
 use json_trees::RESERVED_NAME;
 use memchr::memchr2;
 
@@ -195,7 +196,10 @@ fn escaped_end(text: &[u8], escape: usize) -> Option<usize>
 fn is_plain_name(name: &[u8], rest: &[u8]) -> bool
     ensures { result ≡ true → IsPlainText name.now (lex between rest.now) }
 {
-    if name == RESERVED_NAME.as_bytes() {
+    if name == RESERVED_NAME.as_bytes()
+        || name == COMPRESSION.as_bytes()
+        || name == NOTE.as_bytes()
+    {
         return false;
     }
     name != b"infinite".as_slice() || is_false(rest)
@@ -285,11 +289,11 @@ fn lexeme_end(text: &[u8], at: usize) -> Option<usize>
     }
 }
 
-/// Whether a map's text surely needs nothing set aside: if it has a tree, that has no fraction and no member of the reserved
-/// name, and is no infinite map. It is one pass over the bytes.
+/// Whether a map's text surely needs nothing set aside: if it has a tree, that has no fraction, no member of the names of notes and
+/// no `compression`, and is no infinite map. It is one pass over the bytes.
 ///
 /// `false` says nothing of the text. It comes for a number that is no whole number of at most 18 digits, the version too, for an
-/// escaped letter in a text, for the reserved name, for a text `infinite` that is not followed by `false`, for a text that does not
+/// escaped letter in a text, for one of these names, for a text `infinite` that is not followed by `false`, for a text that does not
 /// end with a brace or a line feed, and for some that are not JSON.
 pub fn needs_nothing(text: &[u8]) -> bool
     ensures { result ≡ true → TextNeedsNothing text.now }
