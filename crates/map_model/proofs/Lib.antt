@@ -23,6 +23,9 @@ pub mod SlotLaws
 pub mod StayPut
 pub mod TilesetChanges
 pub mod TilesetLemmas
+pub mod RenumberedTrees
+pub mod Renumbered
+pub mod RenumberedCells
 pub mod Turns
 pub mod Walks
 pub mod Ways

@@ -23,6 +23,7 @@ pub mod Properties
 pub mod Readable
 pub mod PropertyLenses
 pub mod Refusing
+pub mod Renumbering
 pub mod Given
 pub mod Groups
 pub mod Ways

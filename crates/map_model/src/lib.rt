@@ -23,6 +23,7 @@ mod owner;
 mod parts;
 mod place;
 mod properties;
+mod renumbering;
 mod seek;
 mod selection;
 mod setting;

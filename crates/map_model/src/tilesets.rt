@@ -1,11 +1,12 @@
 // Tilesets: where they stand, and whether they are in use.
-ghost use Rattle.std.specs.Prelude.{◌≡◌, Some, IsSome, find, position};
+ghost use Rattle.std.specs.Prelude.{◌≡◌, ◌<◌, Some, IsSome, find, position};
 ghost use Rattle.std.specs.List.{list_any};
 ghost use Rattle.std.specs.Option.{option_copied, option_map};
 ghost use Rattle.map_model.specs.Groups.{drawn, tree};
 ghost use Rattle.map_model.specs.Heads.{tileset_head, tileset_with_head};
 ghost use Rattle.map_model.specs.Keeping.{layer_tier};
 ghost use Rattle.map_model.specs.Lists.{change_first};
+ghost use Rattle.map_model.specs.Renumbering.{end_in, has_losses, tileset_with_first_id};
 ghost use Rattle.map_model.specs.NewMap.{external_tileset};
 ghost use Rattle.map_model.specs.Tilesets.{has_first_id, in_use, tileset_place, tileset_with, values_in, values_of, gids_of};
 ghost use Rattle.map_model.specs.Uses.{base_limit, end_of, is_between, nearer};
@@ -16,6 +17,7 @@ use crate::heads::TilesetHead;
 use crate::limits::MAX_GROUPS;
 use crate::map::Map;
 use crate::parts::{Body, Layer, Object, Tileset};
+use crate::renumbering::{Move, losses};
 use link_chain::Chain;
 use link_tree::LinkTree;
 use std::alloc::Global;
@@ -68,6 +70,23 @@ impl Map {
         let end = end_of_tileset(&self.parts.tilesets, first_id);
         Some(is_in_layers(&self.parts.layers, first_id, end, MAX_GROUPS))
     }
+
+    /// Whether a value of a cell or of an object would be of another tileset, of none, or of another tile, where the tileset with a
+    /// first id got another one: no other tileset has that one or lies between the two.
+    pub fn has_losses(&self, first_id: u32, to: u32) -> bool
+        requires from { first_id < end_in self.now first_id }
+        requires to { to < end_in self.now first_id }
+        ensures { result ≡ has_losses self.now first_id to }
+    {
+        let end = end_of_tileset(&self.parts.tilesets, first_id);
+        let range = Move {
+            low: first_id,
+            end,
+            to,
+        };
+        let (low, end) = losses(range);
+        is_in_layers(&self.parts.layers, low, end, MAX_GROUPS)
+    }
 }
 
 // The place of the tileset with a first id.
@@ -95,6 +114,17 @@ pub fn head_tileset_in(
     tilesets.get_mut(at).replace_head(head)
 }
 
+/// Gives the tileset with a first id another one.
+pub fn number_tileset_in(tilesets: &mut Chain<Tileset>, first_id: u32, to: u32)
+    requires { IsSome (find (has_first_id first_id) tilesets.old) }
+    ensures { tilesets.new ≡ change_first (has_first_id first_id) (tileset_with_first_id to) tilesets.old }
+{
+    let Some(at) = place_in(tilesets, first_id) else {
+        unreachable!();
+    };
+    tilesets.get_mut(at).first_id = to;
+}
+
 // The end so far, or the first id of a tileset if that is nearer: lower, but above this one.
 fn nearer_end(first_id: u32, end: u32, tileset: &Tileset) -> u32
     ensures { result ≡ nearer first_id end tileset.now }
@@ -106,8 +136,8 @@ fn nearer_end(first_id: u32, end: u32, tileset: &Tileset) -> u32
     }
 }
 
-// The lowest first id above this one, or 2^28, where there is none.
-fn end_of_tileset(tilesets: &Chain<Tileset>, first_id: u32) -> u32
+/// The lowest first id above this one, or 2^28, where there is none.
+pub fn end_of_tileset(tilesets: &Chain<Tileset>, first_id: u32) -> u32
     ensures { result ≡ end_of first_id base_limit tilesets.now }
 {
     let mut end = BASE_LIMIT;
@@ -117,8 +147,8 @@ fn end_of_tileset(tilesets: &Chain<Tileset>, first_id: u32) -> u32
     end
 }
 
-// Whether the base of a value is not below one number, and below another.
-fn is_base_between(value: Gid, low: u32, end: u32) -> bool
+/// Whether the base of a value is not below one number, and below another.
+pub fn is_base_between(value: Gid, low: u32, end: u32) -> bool
     ensures { result ≡ is_between low end value }
 {
     low <= value.base() && value.base() < end
