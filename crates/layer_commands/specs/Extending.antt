@@ -48,8 +48,8 @@ with_margin by (Ok d) = Ok (with_map (notes_moved by) d)
 with_margin by (Err fault) = Err fault
 
 -- the document after a resizing to this width and height by which it gets so many columns and rows at its left and top
-abbrev pub after_extend : DocumentParts → ℕ → ℕ → ℕ → ℕ → Result DocumentParts EditFault
-after_extend d width height columns rows = with_margin (margin_of d.map columns rows) (after_resize d width height (pos columns) (pos rows))
+abbrev pub after_margin : DocumentParts → ℕ → ℕ → ℕ → ℕ → Result DocumentParts EditFault
+after_margin d width height columns rows = with_margin (margin_of d.map columns rows) (after_resize d width height (pos columns) (pos rows))
 
 -- ---- the heads that do it
 abbrev pub moved_map_head : Margin → MapHead → MapHead

@@ -3,7 +3,7 @@ ghost use Rattle.command_api.specs.Exchange.{FitsExchange, IsExchanged};
 ghost use Rattle.command_api.specs.Making.{IsRefusalOf, Makes};
 ghost use Rattle.edits.specs.Resizing.{after_resize, IsDistance};
 ghost use Rattle.layer_commands.specs.Changes.{resize_change, resize_exchange, size_exchange};
-ghost use Rattle.layer_commands.specs.Extending.{after_extend, margin_of};
+ghost use Rattle.layer_commands.specs.Extending.{after_margin, margin_of};
 ghost use Rattle.layer_commands.specs.Names.{resize_names};
 ghost use Rattle.map_model.specs.declared.limits.TheConstants.{MAX_SIDE};
 ghost use Rattle.map_model.specs.WellFormed.{IsTileSize};
@@ -105,8 +105,8 @@ impl ResizeMap {
     ) -> Result<ResizeMap, EditFault>
         requires columns { columns ≤ MAX_SIDE }
         requires rows { rows ≤ MAX_SIDE }
-        ensures command { IfOk result (λ c. Makes resize_names document.now (after_extend document.now width height columns rows) (resize_change c)) }
-        ensures refusal { IfErr result (IsRefusalOf (after_extend document.now width height columns rows)) }
+        ensures command { IfOk result (λ c. Makes resize_names document.now (after_margin document.now width height columns rows) (resize_change c)) }
+        ensures refusal { IfErr result (IsRefusalOf (after_margin document.now width height columns rows)) }
     {
         let canvas = resized_cells(alloc, document, width, height, columns as i32, rows as i32)?;
         let parts = document.map().parts();

@@ -4,7 +4,7 @@ use mir.Syntax.{w32}
 use Rattle.map_model.specs.declared.parts.MapParts.{MapParts}
 use Rattle.map_model.specs.Canvas.{with_canvas}
 use Rattle.edits.specs.Resizing.{after_resize}
-use Rattle.layer_commands.specs.Extending.{after_extend, margin_of, notes_of}
+use Rattle.layer_commands.specs.Extending.{after_margin, margin_of, notes_of}
 use Rattle.layer_commands.proofs.Extended.{extended-lead, with_margin-Ok}
 use Rattle.layer_commands.proofs.SizeLaws.{holding_makes}
 use Rattle.layer_commands.proofs.resize.ResizeMap.extend.Goals as goal
@@ -23,5 +23,5 @@ returns-clause-command c =
     ∙ ap (λ (m : MapParts). margin_of m c.args.columns c.args.rows) is) i) (is i)) in
     let lead = extended-lead by canvas d c.in_ok-canvas.ensures.fits (rw c.map.ensures at c.parts-parts.ensures.well_formed) in
     let held = rw notes at c.holding.ensures.notes in
-    holding_makes c.holding.result canvas (notes_of by d.map) d (after_extend d c.args.width c.args.height c.args.columns c.args.rows) c.holding.ensures.canvas
+    holding_makes c.holding.result canvas (notes_of by d.map) d (after_margin d c.args.width c.args.height c.args.columns c.args.rows) c.holding.ensures.canvas
     held c.holding.ensures.made (c.in_ok-canvas.ensures.fits, lead.0) (with_margin-Ok by _ _ after ∙ ap Ok (sym lead.1))
