@@ -19,8 +19,9 @@ from lib.edits import (
     see,
     siblings_of,
 )
+from lib.infinite import keep_place
 from lib.json_texts import depth_of
-from lib.json_words import MOST_READ, is_whole, json_word, object_word, tree_of
+from lib.json_words import MOST_READ, is_whole, json_word, object_word, sets_fractions_aside, tree_of
 from lib.maps import MOST_INSIDE, MOST_LAYERS, group, layer_of, layers_in, objects_in, text_of
 from lib.members import notes_of, see_object
 
@@ -156,6 +157,8 @@ def put_tileset(draft, text):
 def extend(draft, left, top, right, bottom):
     tree = draft.tree
     resize(draft, tree['width'] + left + right, tree['height'] + top + bottom, left, top)
+    if sets_fractions_aside():
+        keep_place(tree, left, top)
 
 
 WHOLE_EDITS = {
