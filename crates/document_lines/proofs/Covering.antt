@@ -54,6 +54,7 @@ use Rattle.object_commands.specs.Changes.{add_object_change, add_object_exchange
 use Rattle.object_commands.specs.Changes.{remove_object_exchange, reparent_object_change, reparent_object_exchange}
 use Rattle.paint_commands.specs.declared.select.SelectCommand.{SelectCommand}
 use Rattle.paint_commands.specs.Selection.{select_change, select_exchange}
+use Rattle.property_commands.specs.declared.number.NumberTileset.{NumberTileset}
 use Rattle.property_commands.specs.declared.put.PutKind.{PutKind}
 use Rattle.property_commands.specs.declared.put.PutKind.TheVariants as put_kinds
 use Rattle.property_commands.specs.declared.put.PutProperty.{PutProperty}
@@ -67,7 +68,7 @@ use Rattle.property_commands.specs.PropertyChanges.{property_set_exchange, remov
 use Rattle.property_commands.specs.PropertyChanges.{held_property, property_in, put_kind_exchange, put_property_change, put_property_exchange}
 use Rattle.property_commands.specs.PropertyChanges.{set_property_change}
 use Rattle.property_commands.specs.Names.{set_property_names}
-use Rattle.property_commands.specs.TilesetChanges.{add_tileset_change, add_tileset_exchange, remove_tileset_change, remove_tileset_exchange}
+use Rattle.property_commands.specs.TilesetChanges.{add_tileset_change, add_tileset_exchange, number_tileset_change, number_tileset_exchange, remove_tileset_change, remove_tileset_exchange}
 use Rattle.document_lines.specs.declared.differences.Differences.{Differences}
 use Rattle.document_lines.specs.declared.planned.Edit.{Edit}
 use Rattle.document_lines.specs.declared.planned.Edit.TheVariants as edits
@@ -317,6 +318,9 @@ remove_layer-covers c = layers-cover (remove_exchange c) (by_held c.layer)
 move_layer-covers : (c : MoveLayer) → Covers layers_differ (move_change c)
 move_layer-covers c = layers-cover (move_exchange c) (λ d. refl)
 
+number_tileset-covers : (c : NumberTileset) → Covers layers_differ (number_tileset_change c)
+number_tileset-covers c = layers-cover (number_tileset_exchange c) (λ d. refl)
+
 -- ---- others
 pub resize-covers : (c : ResizeMap) → Covers all_differs (resize_change c)
 resize-covers c = exchange-covers all_differs (resize_exchange c) (λ d h. record {
@@ -361,7 +365,9 @@ outline_edit-covers e (inr (inr (inr (inr (inr (inr (inr (inr (inr (inr (inr (in
 outline_edit-covers e (inr (inr (inr (inr (inr (inr (inr (inr (inr (inr (inr (inr (inr (inl h)))))))))))))) = rw h.1 (put_property-covers h.0)
 outline_edit-covers e (inr (inr (inr (inr (inr (inr (inr (inr (inr (inr (inr (inr (inr (inr h)))))))))))))) = rw h.1 (set_tileset_head-covers h.0.value)
 
-pub layer_edit-covers : (e : Edit) → IsOf edits.AddLayer e ⊎ (IsOf edits.RemoveLayer e ⊎ IsOf edits.MoveLayer e) → Covers layers_differ (edit_change e)
+pub layer_edit-covers : (e : Edit)
+    → IsOf edits.AddLayer e ⊎ (IsOf edits.RemoveLayer e ⊎ (IsOf edits.MoveLayer e ⊎ IsOf edits.NumberTileset e)) → Covers layers_differ (edit_change e)
 layer_edit-covers e (inl h) = rw h.1 (add_layer-covers h.0)
 layer_edit-covers e (inr (inl h)) = rw h.1 (remove_layer-covers h.0)
-layer_edit-covers e (inr (inr h)) = rw h.1 (move_layer-covers h.0)
+layer_edit-covers e (inr (inr (inl h))) = rw h.1 (move_layer-covers h.0)
+layer_edit-covers e (inr (inr (inr h))) = rw h.1 (number_tileset-covers h.0)

@@ -6,9 +6,10 @@ use Rattle.fractions.specs.declared.lines.Fractions.{Fractions}
 use Rattle.command_api.specs.Names.{Names}
 use Rattle.edits.specs.LayerEdits.{after_add_more, after_layer_into}
 use Rattle.edits.specs.ObjectEdits.{after_object_into}
+use Rattle.edits.specs.TilesetEdits.{after_number_tileset}
 use Rattle.layer_commands.specs.Names.{add_names, move_names, resize_names}
 use Rattle.object_commands.specs.Names.{add_object_names, reparent_object_names}
-use Rattle.property_commands.specs.Names.{add_tileset_names, put_property_names, remove_property_names}
+use Rattle.property_commands.specs.Names.{add_tileset_names, number_tileset_names, put_property_names, remove_property_names}
 use Rattle.member_commands.specs.Edits.{after_put_members, after_remove_member, after_set_member}
 use Rattle.member_commands.specs.Names.{put_members_names, remove_member_names, set_member_names}
 use Rattle.member_commands.specs.Layers.{layer_heads}
@@ -25,7 +26,7 @@ use Rattle.refusals.specs.Layers.{refusal_of_more}
 use Rattle.session.specs.declared.line.Line.{Line}
 use Rattle.session.specs.declared.more_line.MoreLine.{MoreLine}
 use Rattle.session.specs.declared.more_line.MoreLine.TheVariants.{SetMember, PutMembers, RemoveMember, AddLayer, PutObject, TakeProperty, PutTileset}
-use Rattle.session.specs.declared.more_line.MoreLine.TheVariants.{ReparentObject, ReparentLayer, PutProperty, Extend}
+use Rattle.session.specs.declared.more_line.MoreLine.TheVariants.{ReparentObject, ReparentLayer, PutProperty, NumberTileset, Extend}
 use Rattle.session.specs.Grammar.{line_of}
 use Rattle.session.specs.MoreGrammar.{more_line_of}
 use Rattle.document_lines.specs.Acts.{Act, Alone, OrNoMemory, Pushes, Refuses, WithActive}
@@ -48,6 +49,7 @@ more_names_of (ReparentLayer layer group place) = move_names
 more_names_of (PutProperty owner json) = put_property_names
 more_names_of (TakeProperty owner json) = remove_property_names
 more_names_of (PutTileset json) = add_tileset_names
+more_names_of (NumberTileset first_id number) = number_tileset_names
 more_names_of (Extend left top right bottom) = resize_names
 
 -- the document after it, or its refusal
@@ -71,6 +73,7 @@ after_more fractions (ReparentLayer layer group place) d = made (after_layer_int
 after_more fractions (PutProperty owner json) d = after_property_text fractions d owner json
 after_more fractions (TakeProperty owner json) d = after_take_property fractions d owner json
 after_more fractions (PutTileset json) d = after_tileset_text fractions d json
+after_more fractions (NumberTileset first_id number) d = made (after_number_tileset d first_id number)
 after_more fractions (Extend left top right bottom) d = made (after_extend d left top right bottom)
 
 -- the step of an edit with these names, or the edit's refusal

@@ -13,7 +13,7 @@ use Rattle.member_commands.specs.Tilesets.{tileset_heads}
 use Rattle.member_commands.specs.Objects.{object_heads}
 use Rattle.object_commands.specs.Changes.{add_object_change, remove_object_change, place_object_change, place_object_shown, reparent_object_change}
 use Rattle.property_commands.specs.PropertyChanges.{put_property_change, set_property_change, set_property_shown, remove_property_change}
-use Rattle.property_commands.specs.TilesetChanges.{add_tileset_change, remove_tileset_change}
+use Rattle.property_commands.specs.TilesetChanges.{add_tileset_change, number_tileset_change, remove_tileset_change}
 use Rattle.paint_commands.specs.Painting.{paint_change, paint_shown}
 use Rattle.paint_commands.specs.Selection.{select_change}
 use Rattle.undo_stack.specs.History.{History, current}
@@ -28,7 +28,7 @@ use Rattle.session.specs.declared.reply.Reply.TheVariants as replies
 use Rattle.document_lines.specs.declared.planned.Edit.{Edit}
 use Rattle.document_lines.specs.declared.planned.Edit.TheVariants.{Paint, AddLayer, RemoveLayer, RenameLayer, ShowLayer, MoveLayer, Select, ResizeMap}
 use Rattle.document_lines.specs.declared.planned.Edit.TheVariants.{AddObject, RemoveObject, PlaceObject, SetProperty, RemoveProperty, AddTileset, RemoveTileset}
-use Rattle.document_lines.specs.declared.planned.Edit.TheVariants.{SetObjectHead, SetLayerHead, SetMapHead, ReparentObject, PutProperty, SetTilesetHead}
+use Rattle.document_lines.specs.declared.planned.Edit.TheVariants.{SetObjectHead, SetLayerHead, SetMapHead, ReparentObject, PutProperty, SetTilesetHead, NumberTileset}
 use Rattle.document_lines.specs.declared.planned.Planned.{Planned}
 use Rattle.document_lines.specs.declared.planned.Planned.TheVariants as planned
 use Rattle.document_lines.specs.Acts.{Act, answer_of}
@@ -59,6 +59,7 @@ edit_change (SetMapHead command) = set_head_change map_heads command.value
 edit_change (ReparentObject command) = reparent_object_change command
 edit_change (PutProperty command) = put_property_change command
 edit_change (SetTilesetHead command) = set_head_change tileset_heads command.value
+edit_change (NumberTileset command) = number_tileset_change command
 
 -- what a planned edit shows to the step before it
 abbrev pub edit_shown : Edit → Shown

@@ -224,8 +224,10 @@ impl Edit {
                 selection: true,
                 ..Differences::of_layers()
             },
-            Edit::AddLayer(_) | Edit::RemoveLayer(_) | Edit::MoveLayer(_) =>
-                Differences::of_layers(),
+            Edit::AddLayer(_)
+            | Edit::RemoveLayer(_)
+            | Edit::MoveLayer(_)
+            | Edit::NumberTileset(_) => Differences::of_layers(),
             Edit::RenameLayer(_)
             | Edit::ShowLayer(_)
             | Edit::AddObject(_)

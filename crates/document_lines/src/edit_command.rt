@@ -32,6 +32,7 @@ macro_rules! with_command {
             Edit::ReparentObject($command) => $call,
             Edit::PutProperty($command) => $call,
             Edit::SetTilesetHead($command) => $call,
+            Edit::NumberTileset($command) => $call,
         }
     };
 }

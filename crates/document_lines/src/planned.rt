@@ -3,7 +3,9 @@ use map_model::{LayerHead, MapHead, ObjectHead, TilesetHead};
 use member_commands::SetHead;
 use object_commands::{AddObject, PlaceObject, RemoveObject, ReparentObject};
 use paint_commands::{PaintCommand, SelectCommand};
-use property_commands::{AddTileset, PutProperty, RemoveProperty, RemoveTileset, SetProperty};
+use property_commands::{
+    AddTileset, NumberTileset, PutProperty, RemoveProperty, RemoveTileset, SetProperty,
+};
 use session::Reply;
 
 /// An edit that is to be committed, as a command that fits the open document.
@@ -30,6 +32,7 @@ pub enum Edit {
     ReparentObject(ReparentObject),
     PutProperty(PutProperty),
     SetTilesetHead(Box<SetHead<TilesetHead>>),
+    NumberTileset(NumberTileset),
 }
 
 /// What is to be done for a line.

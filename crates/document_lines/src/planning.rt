@@ -26,7 +26,9 @@ use crate::planning::given_plans::{
     plan_add_more_layer, plan_put_object, plan_put_property, plan_put_tileset, plan_take_property,
 };
 use crate::planning::member_plans::on_members;
-use crate::planning::place_plans::{plan_extend, plan_reparent_layer, plan_reparent_object};
+use crate::planning::place_plans::{
+    plan_extend, plan_number_tileset, plan_reparent_layer, plan_reparent_object,
+};
 use crate::steps::{plan_answered, plan_begin, plan_limit, plan_show, plan_step_text, state_of};
 use crate::tile;
 use command_api::Command;
@@ -418,6 +420,9 @@ pub fn on_more_line<C: Command>(
         }
         MoreLine::PutTileset { json } => {
             plan_put_tileset(alloc, stack.document(), json, fractions)
+        }
+        MoreLine::NumberTileset { first_id, number } => {
+            plan_number_tileset(stack.document(), *first_id, *number)
         }
         MoreLine::Extend {
             left,

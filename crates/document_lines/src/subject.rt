@@ -63,6 +63,7 @@ impl Edit {
             Edit::ReparentObject(command) => Subject::Object(command.object()),
             Edit::PutProperty(command) => Subject::of_owner(command.owner()),
             Edit::SetTilesetHead(command) => Subject::of_members(command.owner()),
+            Edit::NumberTileset(command) => Subject::Tileset(command.first_id()),
         }
     }
 }

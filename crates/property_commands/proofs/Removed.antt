@@ -1,5 +1,5 @@
 -- What a command that removes a property holds: its place, and its owner.
-use Rattle.std.proofs.Common.{◌≡◌, ℕ, ◌<◌, ◌^◌, length, List, Option, Some, None, Ok, option_and_then, option_map, refl, sym, arith}
+use Rattle.std.proofs.Common.{◌≡◌, ℕ, ◌<◌, ◌^◌, List, Option, Some, None, Ok, option_and_then, option_map, refl, arith}
 use Rattle.std.specs.List.{slice_get}
 use Rattle.std.proofs.lemmas.Option.{slice_get_within}
 use Rattle.map_model.specs.declared.owner.Owner.{Owner}

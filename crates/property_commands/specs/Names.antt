@@ -24,5 +24,8 @@ remove_property_names = untagged (codes "Remove Property") (codes "remove proper
 abbrev pub add_tileset_names : Names
 add_tileset_names = untagged (codes "Add Tileset") (codes "add tileset") Never
 
+abbrev pub number_tileset_names : Names
+number_tileset_names = untagged (codes "Renumber Tileset") (codes "renumber tileset") Never
+
 abbrev pub remove_tileset_names : Names
 remove_tileset_names = untagged (codes "Remove Tileset") (codes "remove tileset") Never

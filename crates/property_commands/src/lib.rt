@@ -2,6 +2,7 @@
 #![tactic(auto)]
 
 mod link;
+mod number;
 mod owners;
 mod put;
 mod remove;
@@ -9,6 +10,7 @@ mod same;
 mod set;
 mod tilesets;
 
+pub use number::NumberTileset;
 pub use owners::place_of;
 pub use put::PutProperty;
 pub use remove::RemoveProperty;

@@ -6,7 +6,7 @@ use Rattle.refusals.specs.declared.line_fault.LineFault.{LineFault}
 use Rattle.session.specs.declared.line.Line.TheVariants.{Quiet}
 use Rattle.session.specs.declared.more_line.MoreLine.{MoreLine}
 use Rattle.session.specs.declared.more_line.MoreLine.TheVariants.{SetMember, PutMembers, RemoveMember, AddLayer, PutObject}
-use Rattle.session.specs.declared.more_line.MoreLine.TheVariants.{ReparentObject, ReparentLayer, PutProperty, TakeProperty, PutTileset, Extend}
+use Rattle.session.specs.declared.more_line.MoreLine.TheVariants.{ReparentObject, ReparentLayer, PutProperty, TakeProperty, PutTileset, NumberTileset, Extend}
 use Rattle.session.specs.Grammar.{is_quiet, line_form, line_of, read, word_at}
 use Rattle.session.specs.MoreSpelling.{MoreIsNotALine, more_spelling, more_tokens}
 use Rattle.session.specs.Spelling.{token_words}
@@ -33,6 +33,7 @@ refused (ReparentLayer layer group place) = record { fault = _; are = refl; loud
 refused (PutProperty owner json) = record { fault = _; are = refl; loud = refl }
 refused (TakeProperty owner json) = record { fault = _; are = refl; loud = refl }
 refused (PutTileset json) = record { fault = _; are = refl; loud = refl }
+refused (NumberTileset first_id number) = record { fault = _; are = refl; loud = refl }
 refused (Extend left top right bottom) = record { fault = _; are = refl; loud = refl }
 
 pub more_is_not_a_line : MoreIsNotALine

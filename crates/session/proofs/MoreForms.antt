@@ -10,7 +10,7 @@ use Rattle.map_model.specs.declared.parts.MoreLayerKind.TheVariants.{Group, Imag
 use Rattle.session.specs.declared.limits.TheConstants.{MAX_LINE}
 use Rattle.session.specs.declared.more_line.MoreLine.{MoreLine}
 use Rattle.session.specs.declared.more_line.MoreLine.TheVariants.{SetMember, PutMembers, RemoveMember, AddLayer, PutObject}
-use Rattle.session.specs.declared.more_line.MoreLine.TheVariants.{ReparentObject, ReparentLayer, PutProperty, TakeProperty, PutTileset, Extend}
+use Rattle.session.specs.declared.more_line.MoreLine.TheVariants.{ReparentObject, ReparentLayer, PutProperty, TakeProperty, PutTileset, NumberTileset, Extend}
 use Rattle.refusals.specs.declared.line_fault.LineFault.{LineFault}
 use Rattle.session.specs.Grammar.{Gives, read}
 use Rattle.session.specs.MoreGrammar.{more_form, more_line_of}
@@ -44,6 +44,7 @@ facts (ReparentLayer layer group place) = record { follows = refl; plain = refl;
 facts (PutProperty owner json) = record { follows = refl; plain = refl; first = _; more = _; words = refl }
 facts (TakeProperty owner json) = record { follows = refl; plain = refl; first = _; more = _; words = refl }
 facts (PutTileset json) = record { follows = refl; plain = refl; first = _; more = _; words = refl }
+facts (NumberTileset first_id number) = record { follows = refl; plain = refl; first = _; more = _; words = refl }
 facts (Extend left top right bottom) = record { follows = refl; plain = refl; first = _; more = _; words = refl }
 
 -- a spelling is UTF-8, and its words are those of the tokens

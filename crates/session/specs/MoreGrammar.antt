@@ -6,7 +6,7 @@ use Rattle.map_model.specs.declared.parts.MoreLayerKind.TheVariants.{Group, Imag
 use Rattle.session.specs.declared.limits.TheConstants.{MAX_LINE}
 use Rattle.session.specs.declared.more_line.MoreLine.{MoreLine}
 use Rattle.session.specs.declared.more_line.MoreLine.TheVariants.{SetMember, PutMembers, RemoveMember, AddLayer, PutObject}
-use Rattle.session.specs.declared.more_line.MoreLine.TheVariants.{ReparentObject, ReparentLayer, PutProperty, TakeProperty, PutTileset, Extend}
+use Rattle.session.specs.declared.more_line.MoreLine.TheVariants.{ReparentObject, ReparentLayer, PutProperty, TakeProperty, PutTileset, NumberTileset, Extend}
 use Rattle.refusals.specs.declared.line_fault.LineFault.{LineFault}
 use Rattle.refusals.specs.declared.line_fault.LineFault.TheVariants.{TooLong, NotUtf8, UnknownCommand, BadWord}
 use Rattle.session.specs.Grammar.{Number, Key, OwnerName, OwnerOfMembers, LineForm, Ends, Text, Json, Field, choose, read}
@@ -69,9 +69,12 @@ more_property_lines = (codes "take", take_property_form) ∷ (codes "put", put_p
 abbrev pub put_tileset_form : LineForm MoreLine
 put_tileset_form = Json PutTileset
 
+abbrev pub number_tileset_form : LineForm MoreLine
+number_tileset_form = Field Number λ first_id. Field Number λ number. Ends (NumberTileset first_id number)
+
 -- what else is done with a tileset
 abbrev pub more_tileset_lines : List (List ℕ × LineForm MoreLine)
-more_tileset_lines = (codes "put", put_tileset_form) ∷ []
+more_tileset_lines = (codes "put", put_tileset_form) ∷ (codes "number", number_tileset_form) ∷ []
 
 abbrev pub extend_form : LineForm MoreLine
 extend_form =

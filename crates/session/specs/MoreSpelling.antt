@@ -6,7 +6,7 @@ use Rattle.map_model.specs.declared.parts.MoreLayerKind.TheVariants.{Group, Imag
 use Rattle.session.specs.declared.limits.TheConstants.{MAX_LINE}
 use Rattle.session.specs.declared.more_line.MoreLine.{MoreLine}
 use Rattle.session.specs.declared.more_line.MoreLine.TheVariants.{SetMember, PutMembers, RemoveMember, AddLayer, PutObject}
-use Rattle.session.specs.declared.more_line.MoreLine.TheVariants.{ReparentObject, ReparentLayer, PutProperty, TakeProperty, PutTileset, Extend}
+use Rattle.session.specs.declared.more_line.MoreLine.TheVariants.{ReparentObject, ReparentLayer, PutProperty, TakeProperty, PutTileset, NumberTileset, Extend}
 use Rattle.refusals.specs.declared.line_fault.LineFault.TheVariants.{TooLong}
 use Rattle.session.specs.Grammar.{Number, Key, OwnerName, OwnerOfMembers, line_of}
 use Rattle.session.specs.MoreGrammar.{more_line_of}
@@ -44,6 +44,8 @@ more_tokens (ReparentLayer layer group place) =
 more_tokens (PutProperty owner json) = Fixed (codes "prop") ∷ Fixed (codes "put") ∷ Given OwnerName owner ∷ RestJson json ∷ []
 more_tokens (TakeProperty owner json) = Fixed (codes "prop") ∷ Fixed (codes "take") ∷ Given OwnerName owner ∷ RestJson json ∷ []
 more_tokens (PutTileset json) = Fixed (codes "tileset") ∷ Fixed (codes "put") ∷ RestJson json ∷ []
+more_tokens (NumberTileset first_id number) =
+    Fixed (codes "tileset") ∷ Fixed (codes "number") ∷ Given Number first_id ∷ Given Number number ∷ []
 more_tokens (Extend left top right bottom) =
     Fixed (codes "extend")
     ∷ Given Number left

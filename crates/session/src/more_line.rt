@@ -61,6 +61,11 @@ pub enum MoreLine<'a> {
     PutTileset {
         json: Text<'a>,
     },
+    /// The tileset with a first id gets another one, and its values go along.
+    NumberTileset {
+        first_id: u32,
+        number: u32,
+    },
     /// The map gets so many columns more on its left and right, and so many rows more at its top and bottom.
     Extend {
         left: u32,

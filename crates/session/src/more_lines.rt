@@ -3,7 +3,7 @@ ghost use Rattle.std.specs.Prelude.{◌≡◌, ◌∷◌, IfErr, IfOk, true};
 ghost use Rattle.refusals.specs.declared.line_fault.LineFault.TheVariants.{BadWord, UnknownCommand};
 ghost use Rattle.session.specs.Grammar.{Gives, choose, read};
 ghost use Rattle.session.specs.Left.{fault_at, next};
-ghost use Rattle.session.specs.MoreGrammar.{extend_form, more_form, more_layer_kinds, more_layer_lines, more_line_of, more_object_lines, more_property_lines, more_tileset_lines, put_object_form, put_property_form, put_tileset_form, reparent_layer_form, reparent_object_form, take_property_form};
+ghost use Rattle.session.specs.MoreGrammar.{extend_form, more_form, more_layer_kinds, more_layer_lines, more_line_of, more_object_lines, more_property_lines, more_tileset_lines, number_tileset_form, put_object_form, put_property_form, put_tileset_form, reparent_layer_form, reparent_object_form, take_property_form};
 ghost use Rattle.session.specs.MoreFaults.{IsMoreFaultAt};
 ghost use Rattle.session.specs.MoreSpelling.{CanBeSpelledMore, more_spelling};
 ghost use Rattle.session.specs.WordFaults.{is_at_more_word};
@@ -139,6 +139,18 @@ fn put_tileset<'a, T: Trail + Copy>(fields: &mut Fields<'a, T>) -> Result<MoreLi
     Ok(MoreLine::PutTileset { json })
 }
 
+fn number_tileset<'a, T: Trail + Copy>(
+    fields: &mut Fields<'a, T>,
+) -> Result<MoreLine<'a>, LineFault>
+    ensures value { Gives (λ x. x) result (read number_tileset_form fields.old.words) }
+    ensures place { IfErr result (λ _. fields.new.place ≡ fault_at number_tileset_form (next fields.old.place) fields.old.words) }
+{
+    let first_id = fields.number()?;
+    let number = fields.number()?;
+    fields.end()?;
+    Ok(MoreLine::NumberTileset { first_id, number })
+}
+
 // The line of tilesets that the words behind `tileset` are.
 fn tileset<'a, T: Trail + Copy>(fields: &mut Fields<'a, T>) -> Result<MoreLine<'a>, LineFault>
     ensures value { Gives (λ x. x) result (read (choose more_tileset_lines BadWord) fields.old.words) }
@@ -146,6 +158,7 @@ fn tileset<'a, T: Trail + Copy>(fields: &mut Fields<'a, T>) -> Result<MoreLine<'
 {
     match fields.word(Expected::Action)? {
         "put" => put_tileset(fields),
+        "number" => number_tileset(fields),
         _ => Err(LineFault::BadWord),
     }
 }

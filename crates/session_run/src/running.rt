@@ -362,6 +362,7 @@ pub fn run_lines<R: Read, W: Write, S: MapStore>(
             Edit::ReparentObject(command) => Some(boxed(alloc, command)?),
             Edit::PutProperty(command) => Some(boxed(alloc, command)?),
             Edit::SetTilesetHead(command) => Some(command),
+            Edit::NumberTileset(command) => Some(boxed(alloc, command)?),
         }
     };
     let stopped = match step_all(

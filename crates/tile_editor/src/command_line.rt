@@ -85,6 +85,7 @@ Further lines, with --all-edits:
   prop put OWNER JSON
   prop take OWNER JSON
   tileset put JSON
+  tileset number FIRST NUMBER
   extend LEFT TOP RIGHT BOTTOM
 
 Exit status:

@@ -1,12 +1,14 @@
-// The edits that give an object or a layer another place in the map, or the map more room around it.
+// The edits that give an object or a layer another place in the map, a tileset another first id, or the map more room around it.
 ghost use Rattle.std.specs.Prelude.{◌≡◌, ◌+◌, false, pos, IfNone, IfSome};
 ghost use Rattle.edits.specs.LayerEdits.{after_layer_into};
 ghost use Rattle.edits.specs.ObjectEdits.{after_object_into};
 ghost use Rattle.edits.specs.Resizing.{IsDistance};
+ghost use Rattle.edits.specs.TilesetEdits.{after_number_tileset};
 ghost use Rattle.layer_commands.specs.Names.{move_names, resize_names};
 ghost use Rattle.map_model.specs.declared.limits.TheConstants.{MAX_SIDE};
 ghost use Rattle.map_model.specs.Sizes.{is_side};
 ghost use Rattle.object_commands.specs.Names.{reparent_object_names};
+ghost use Rattle.property_commands.specs.Names.{number_tileset_names};
 ghost use Rattle.document_lines.specs.GivenEdits.{made};
 ghost use Rattle.document_lines.specs.MoreRules.{more_answer_of};
 ghost use Rattle.document_lines.specs.PlaceEdits.{after_extend, parent_of};
@@ -18,6 +20,7 @@ use layer_commands::{MoveLayer, ResizeMap};
 use map_model::Document;
 use map_model::limits::MAX_SIDE;
 use object_commands::ReparentObject;
+use property_commands::NumberTileset;
 use refusals::EditFault;
 use std::alloc::Global;
 
@@ -26,6 +29,13 @@ pub fn plan_reparent_object(document: &Document, object: u32, layer: u32, place:
     ensures { PlansEdit (more_answer_of reparent_object_names (made (after_object_into document.now object layer place))) document.now result }
 {
     planned(ReparentObject::new(document, object, layer, place).map(Edit::ReparentObject))
+}
+
+#[inline(never)]
+pub fn plan_number_tileset(document: &Document, first_id: u32, number: u32) -> Planned
+    ensures { PlansEdit (more_answer_of number_tileset_names (made (after_number_tileset document.now first_id number))) document.now result }
+{
+    planned(NumberTileset::new(document, first_id, number).map(Edit::NumberTileset))
 }
 
 // The group that a line names: none where the number is 0.

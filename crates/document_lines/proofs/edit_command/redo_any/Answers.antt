@@ -102,3 +102,9 @@ redo-requires-in-PutProperty c = rw c.in-PutProperty.is at c.requires
 
 pub returns-in-PutProperty : goal.returns-in-PutProperty
 returns-in-PutProperty c = rw c.in-PutProperty.is c.redo-in-PutProperty.ensures
+
+pub redo-requires-in-NumberTileset : goal.redo-requires-in-NumberTileset
+redo-requires-in-NumberTileset c = rw c.in-NumberTileset.is at c.requires
+
+pub returns-in-NumberTileset : goal.returns-in-NumberTileset
+returns-in-NumberTileset c = rw c.in-NumberTileset.is c.redo-in-NumberTileset.ensures

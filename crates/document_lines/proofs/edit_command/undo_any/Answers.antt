@@ -102,3 +102,9 @@ undo-requires-in-PutProperty c = rw c.in-PutProperty.is at c.requires
 
 pub returns-in-PutProperty : goal.returns-in-PutProperty
 returns-in-PutProperty c = rw c.in-PutProperty.is c.undo-in-PutProperty.ensures
+
+pub undo-requires-in-NumberTileset : goal.undo-requires-in-NumberTileset
+undo-requires-in-NumberTileset c = rw c.in-NumberTileset.is at c.requires
+
+pub returns-in-NumberTileset : goal.returns-in-NumberTileset
+returns-in-NumberTileset c = rw c.in-NumberTileset.is c.undo-in-NumberTileset.ensures

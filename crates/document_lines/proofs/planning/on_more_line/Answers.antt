@@ -1,4 +1,4 @@
-use Rattle.std.proofs.Common.{sym, ap, ◌∙◌}
+use Rattle.std.proofs.Common.{refl, sym, ap, ◌∙◌}
 use Rattle.undo_stack.specs.History.{current}
 use Rattle.document_lines.proofs.planning.on_more_line.Goals as goal
 
@@ -21,3 +21,7 @@ pub returns-in-ReparentObject-clause-plans : goal.returns-in-ReparentObject-clau
 returns-in-ReparentObject-clause-plans g c =
     let is = c.document-in-ReparentObject.ensures ∙ ap current c.seek_object.ensures.same in
     rw (c.in-ReparentObject.is, sym is) (c.plan_reparent_object.ensures, c.seek_object.ensures.same)
+
+pub returns-in-NumberTileset-clause-plans : goal.returns-in-NumberTileset-clause-plans
+returns-in-NumberTileset-clause-plans g c =
+    rw (c.in-NumberTileset.is, sym c.document-in-NumberTileset.ensures) (c.plan_number_tileset.ensures, refl)

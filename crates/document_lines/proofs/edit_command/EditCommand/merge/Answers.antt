@@ -41,6 +41,9 @@ pub returns-in-SetTilesetHead-clause-unchanged : goal.returns-in-SetTilesetHead-
 returns-in-SetTilesetHead-clause-unchanged c =
     rw (c.in-SetTilesetHead.is, sym c.deref_mut-in-SetTilesetHead.ensures.value) c.merge-in-SetTilesetHead.ensures.unchanged
 
+pub returns-in-NumberTileset-clause-unchanged : goal.returns-in-NumberTileset-clause-unchanged
+returns-in-NumberTileset-clause-unchanged c = rw c.in-NumberTileset.is c.merge-in-NumberTileset.ensures.unchanged
+
 pub returns-in-ReparentObject-clause-unchanged : goal.returns-in-ReparentObject-clause-unchanged
 returns-in-ReparentObject-clause-unchanged c = rw c.in-ReparentObject.is c.merge-in-ReparentObject.ensures.unchanged
 
