@@ -76,7 +76,8 @@ pub fn map_fault(alloc: Global, bytes: &[u8]) -> Result<Option<ToldFault>, Alloc
     match set_aside(alloc, bytes) {
         Ok(Some(text)) if text.len() > LONGEST => not_aside(alloc, TOO_LONG),
         Ok(Some(text)) => fault_of_text(alloc, bytes, text.as_slice(), true),
-        Ok(None) | Err(Fault::NotJson) => fault_of_text(alloc, bytes, bytes, false),
+        Ok(None) => fault_of_text(alloc, bytes, bytes, false),
+        Err(Fault::NotJson) => fault_of_text(alloc, bytes, bytes, false),
         Err(Fault::Memory) => Err(AllocError),
         Err(fault) => not_aside(alloc, fault.words()),
     }

@@ -26,7 +26,7 @@ pub enum Form {
 #[derive(Clone, Copy)]
 pub struct Manner {
     pub form: Form,
-    /// Whether maps are set aside first, so that infinite ones and those with fractions are read.
+    /// Whether maps are set aside first, so that packed ones, infinite ones and those with fractions are read.
     pub opens_all_maps: bool,
 }
 
