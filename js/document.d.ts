@@ -649,6 +649,12 @@ export class Tilesets {
       renumbers?: boolean;
     },
   ): Tileset;
+  /**
+   * Gives one another first id, in its place in the list, and gives it. Each cell and each object
+   * that has a tile of it keeps that tile. Throws TypeError, RangeError, NotFound, Refused (38,
+   * 39).
+   */
+  renumber(key: TilesetLike, firstId: number): Tileset;
   /** What JSON has of them: the list. */
   toJSON(): Tileset[];
   [Symbol.iterator](): IterableIterator<Tileset>;

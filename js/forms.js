@@ -34,7 +34,10 @@ export const FORMS = new Map([
     "prop set OWNER KEY object OBJECT", "prop set+ OWNER KEY TYPE VALUE", "prop remove OWNER KEY",
     "prop put OWNER JSON", "prop take OWNER JSON",
   ]],
-  ["tileset", ["tileset add FIRST SOURCE", "tileset remove FIRST", "tileset put JSON"]],
+  ["tileset", [
+    "tileset add FIRST SOURCE", "tileset remove FIRST", "tileset put JSON",
+    "tileset number FIRST NUMBER",
+  ]],
   ["undo", ["undo"]],
   ["redo", ["redo"]],
   ["goto", ["goto INDEX"]],

@@ -4,6 +4,7 @@ import { NoMemory } from "./faults.js";
 
 const NOT_JSON = 60;
 const COMPRESSED = 65;
+const BAD_DATA = 66;
 // The most letters of a text that are shown.
 const SHOWN = 40;
 
@@ -49,7 +50,8 @@ export function faultOfFile(module, code, given, { bytes, left }) {
   if (place !== null && code !== NOT_JSON && bytes !== given) {
     place = { ...place, line: null, column: null };
   }
-  const layer = code === COMPRESSED && place !== null ? layerAt(left, place.path.slice(0, -1)) : null;
+  const isOfData = code === COMPRESSED || code === BAD_DATA;
+  const layer = isOfData && place !== null ? layerAt(left, place.path.slice(0, -1)) : null;
   return layer === null
     ? { code, why: null, placeInMap: place }
     : { code: layer.code, why: layer.why, placeInMap: placeOfPacked(place, layer), cause: layer.cause };
@@ -67,7 +69,8 @@ function placeOfPacked(place, { code, members }) {
     return { ...place, ...members.get("compression").lineColumn };
   }
   const path = place.path.slice(0, -1);
-  const front = place.text.slice(0, place.text.lastIndexOf(".compression is "));
+  const member = place.text.slice(0, place.text.indexOf(" is "));
+  const front = member.slice(0, member.lastIndexOf("."));
   const data = members.get("data");
   if (typeof data?.value !== "string") {
     return { path, isExact: false, shown: "an object", text: `in ${front}`, line: null, column: null };

@@ -287,6 +287,16 @@ export class Tilesets {
     return this._added(first, line, `tilesets.addFromImage(${first}, ${JSON.stringify(name)}, ..)`, renumbers);
   }
 
+  /**
+   * Gives a tileset another first id, in its place in the list, and gives it. Each cell and each object that has a tile of it
+   * keeps that tile. Throws NotFound.
+   */
+  renumber(key, firstId) {
+    const first = words.number(firstId, FIRST_ID);
+    this.#document._edit(`tileset number ${this.get(key).firstId} ${first}`);
+    return new Tileset(this.#document, first);
+  }
+
   // Says a line that adds a tileset, and gives that.
   _added(first, line, call, renumbers) {
     const value = renumbers || !words.isId(first) ? null : this._valueAbove(first);

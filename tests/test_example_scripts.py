@@ -333,6 +333,27 @@ def test_crop():
     see_undo(maps.text_of(trees['things']), script('crop').crop)
 
 
+# ---- make_room
+
+
+def test_make_room():
+    tilesets = [{'firstgid': first, 'source': f'{first}.tsj'} for first in (1, 5, 300)]
+    made = drawn([[1, 4, 5], [7, 300, FLAGS | 302]], tilesets=tilesets, more=[maps.things(2, maps.thing(3, gid=FLAGS | 6), maps.thing(4, gid=301))])
+    with folder_of(made=made, roomy=drawn([[1, 2]]), cut=CUT, last=drawn([[1, 100]], tilesets=[{'firstgid': 1}, {'firstgid': 2**28 - 101}])) as folder:
+        paths = [folder / f'{name}.tmj' for name in ('made', 'roomy', 'cut', 'last')]
+        status, out, told = run('make_room', 200, *paths)
+        see((1, f'{paths[0]}: first ids 1 201 401\n'), (status, out))
+        see((True, ['made.tmj']), (CUT_PLACE in told, written_in(folder)))
+        tree = tree_in(paths[0])
+        see([(1, '1.tsj'), (201, '5.tsj'), (401, '300.tsj')], [(each['firstgid'], each['source']) for each in tree['tilesets']])
+        see([[1, 4, 201], [203, 401, FLAGS | 403]], rows_in(paths[0]))
+        see([FLAGS | 202, 402], [each['gid'] for each in maps.objects_in(tree)])
+        # There is no first id so great: such a map stays as it is.
+        status, out, told = run('make_room', 2**28 - 50, paths[0])
+        see((1, '', True), (status, out, 'out of range' in told))
+    see_undo(maps.text_of(made), lambda document: script('make_room').make_room(document, 200))
+
+
 # ---- text_map
 
 GRID = 'a 5\nb 2147483653\nc 7\n\n.ab\nc..\n'

@@ -172,9 +172,9 @@ SOUND = [
     ('at the ends of the plane', plane(spread(chunk(-FAR, -FAR, 1, 1), chunk(FAR, FAR, FAR, FAR, [])))),
     ('two layers', plane(spread(chunk(-16, 0, 2, 1)), spread(chunk(4, 4, 1, 2), height=0.5))),
 ]
-# With data that are compressed a layer stays as it is.
-ZLIB = {'encoding': 'base64', 'compression': 'zlib'}
-PACKED = ('packed', plane(spread(chunk(0, 0, 2, 2, 'eJxjYGBgAAAABAAB'), **ZLIB)))
+# With data that Zstandard compresses a layer stays as it is.
+ZSTANDARD = {'encoding': 'base64', 'compression': 'zstd'}
+PACKED = ('packed', plane(spread(chunk(0, 0, 2, 2, 'eJxjYGBgAAAABAAB'), **ZSTANDARD)))
 
 
 def fault_of_sound(case):

@@ -37,6 +37,7 @@ def test_to_the_right_and_down():
     what is drawn, on both sides of the edge. Nothing moves, and only the chunks that were drawn on are saved."""
     plane = Plane(infinite(chunk(0, 0)))
     with plane as page:
+        assert '16 × 16, infinite' in page.find('#properties').text
         before, corner = page.editor.map(), seen(page, (0, 0))
         page.drag([(14, 3), (16, 3), (17, 3)])
         assert size(page) == (32, 16) and standing(page) == (1, 1) and page.editor.state()['depth'] == 0

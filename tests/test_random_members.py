@@ -1,7 +1,7 @@
 # SPDX-License-Identifier: MIT OR Apache-2.0
 """Makes 20,000 sessions by chance of the lines for all edits: they set, put and remove own members of objects, layers and
 the map, put objects, properties and tilesets, take properties out, add groups and image layers, move layers and objects into
-other ones, and give the map more room. Other edits, clean marks, undos, limits and macros stand between them. Some begin with
+other ones, give tilesets other first ids, and give the map more room. Other edits, clean marks, undos, limits and macros stand between them. Some begin with
 groups in groups, up to as many as there may be, with a full owner of properties, or with a map that has a full layer or things
 that nest too deep for others. It compares the replies of the program with those of the plain model of tests/lib/model.py. 10,000
 more are heard with `--all-maps`, where fractions are set aside; 400 more save their maps, and the files are compared, too."""
@@ -203,7 +203,8 @@ def parts_of(tree):
 
 
 def place_line(chosen, document):
-    """A line that moves a layer or an object into another, or gives the map more room. It mostly names things that are there."""
+    """A line that moves a layer or an object into another, gives a tileset another first id, or the map more room. It mostly names things
+    that are there."""
     form, tree = chosen.random(), document.tree
     layers, groups, holders, objects = parts_of(tree)
     place = chosen.choice((0, 0, 0, 1, 1, 2, 3))
@@ -213,6 +214,11 @@ def place_line(chosen, document):
         some = (*objects[:6], *objects[-2:], 99)
         place = chosen.randint(MOST_OBJECTS - 4, MOST_OBJECTS) if len(objects) > 99 and chosen.random() < 0.4 else place
         return f'object into {chosen.choice(some)} {chosen.choice((*holders, *holders, *layers[:1], 9))} {place}'
+    if form < 0.92:
+        firsts = [tileset['firstgid'] for tileset in tree['tilesets']]
+        near = [first + step for first in firsts for step in (-2, -1, 1, 2)]
+        others = (0, 1, 2, 3, 40, 268435450, 268435455, 268435456, 4294967295)
+        return f'tileset number {chosen.choice((*firsts, *firsts, 9))} {max(chosen.choice((*firsts, *near, *others)), 0)}'
     most = chosen.choice((0, 1, 1, 2, 2, 4095, 4294967295))
     return 'extend ' + ' '.join(str(chosen.choice((0, 0, 1, most))) for _ in range(4))
 

@@ -256,7 +256,8 @@ def test_maps_that_all_maps_refuses():
     taken = json.dumps(reports.changed({'roskevad': 1})).encode()
     empty = {'line': 1, 'column': 1, 'text': 'line 1, column 1'}
     compressed = json.loads((EXAMPLE_MAPS / 'zlib.tmj').read_bytes())
-    place = {'path': ['layers', 0, 'compression'], 'text': 'layers[0].compression is "zlib"'}
+    compressed['layers'][0]['compression'] = 'zstd'
+    place = {'path': ['layers', 0, 'compression'], 'text': 'layers[0].compression is "zstd"'}
     rows = {
         'a name that is taken': (taken, unread(51, NAME_TAKEN)),
         'nothing': (b'', {'code': 60, 'words': 'not JSON', 'places': [empty]}),

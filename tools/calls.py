@@ -66,7 +66,7 @@ COSTS = {
     'Objects': {'1; by a name map': 'get has', 'answer': 'size put to_json', '1; with a shape answer': 'add'},
     'OwnMembers': {'1; of a layer answer': 'set put update delete'},
     'Properties': {'answer': 'size keys to_json'},
-    'Tilesets': {'map': 'add put add_from_image', 'answer': 'to_json'},
+    'Tilesets': {'map': 'add put add_from_image renumber', 'answer': 'to_json'},
     'Tileset': {'map': 'remove', 'answer': 'members tiles'},
     'Selection': {'answer': 'runs size'},
     'Difference': {'map': 'lines left'},
@@ -516,6 +516,12 @@ TILESETS = Kind('Tilesets', 'The tilesets, as they are at each call. A loop goes
           'refused 37': 'after("stamp 1 1 0 1 9") and document.tilesets.add_from_image(9, "a", "a.png", 64, 64, 16, 16)',
           'refused 38': 'document.tilesets.add_from_image(1, "a", "a.png", 64, 64, 16, 16)'},
          types={'image': 'string'}),
+    Call('renumber', 'key, first_id', 'Gives one another first id, in its place in the list, and gives it. Each cell and each object that has a tile of it '
+         'keeps that tile.', 'tileset number FIRST NUMBER', 'Tileset',
+         {'type': 'document.tilesets.renumber(1, "a")', 'value': 'document.tilesets.renumber(1, -1)',
+          'key': 'document.tilesets.renumber("a.tsj", 5)',
+          'refused 38': 'after("tileset add 33 a.tsj") and document.tilesets.renumber(1, 33)', 'refused 39': 'document.tilesets.renumber(1, 0)'},
+         types={'key': 'TilesetLike'}),
     to_json('tilesets', 'Tilesets[]', 'What JSON has of them: the list.'),
 ])
 

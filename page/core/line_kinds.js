@@ -12,7 +12,7 @@ const EDITS = new Set(["stamp", "erase", "fill", "select", "layer", "resize", "e
 const TURNS = new Set(["undo", "redo", "goto", "end"]);
 
 // The lines that an editor for all edits alone reads.
-const FOR_ALL_EDITS = /^(?:member|extend|object (?:put|into)|prop (?:put|take)|tileset put|layer (?:into|add (?:group|image))) /;
+const FOR_ALL_EDITS = /^(?:member|extend|object (?:put|into)|prop (?:put|take)|tileset (?:put|number)|layer (?:into|add (?:group|image))) /;
 
 export const wordOf = line => line.split(" ", 1)[0].replace(/\++$/, "");
 

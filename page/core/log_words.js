@@ -100,6 +100,7 @@ function ofObject(words, names) {
 function ofTileset(words) {
   const [, what] = words;
   if (what === "put") return added("tileset", jsonIn(rest(words, 2)));
+  if (what === "number") return `Renumber tileset ${words[2]} to ${words[3]}`;
   return what === "remove" ? `Remove tileset ${rest(words, 2)}` : `Add tileset ${rest(words, 3)}`;
 }
 

@@ -48,11 +48,16 @@ export class MapGrowth {
     Object.assign(this, { bench, editor: bench.editor, isOpen: false, told: new WeakSet(), asked: null, isInfinite: false });
   }
 
-  // Whether the active map grows where tiles are drawn outside of it.
+  // Whether the active map is infinite.
+  isOf(map) {
+    if (map && this.asked !== map) Object.assign(this, { asked: map, isInfinite: this.editor.chunks() !== null });
+    return Boolean(map) && this.isInfinite;
+  }
+
+  // Whether it grows where tiles are drawn outside of it.
   get grows() {
     const { map } = this.bench;
-    if (map && this.asked !== map) Object.assign(this, { asked: map, isInfinite: this.editor.chunks() !== null });
-    return Boolean(map) && this.isInfinite && !map.selected;
+    return this.isOf(map) && !map.selected;
   }
 
   // Has an infinite map grow so that it has a rectangle of cells. `stroke` is the stroke that goes on there: what it has drawn becomes a part of

@@ -31,7 +31,7 @@ FORMS: dict[str, tuple[str, ...]] = {
         'prop set OWNER KEY color COLOUR', 'prop set OWNER KEY object OBJECT', 'prop set+ OWNER KEY TYPE VALUE', 'prop remove OWNER KEY',
         'prop put OWNER JSON', 'prop take OWNER JSON',
     ),
-    'tileset': ('tileset add FIRST SOURCE', 'tileset remove FIRST', 'tileset put JSON'),
+    'tileset': ('tileset add FIRST SOURCE', 'tileset remove FIRST', 'tileset put JSON', 'tileset number FIRST NUMBER'),
     'undo': ('undo',),
     'redo': ('redo',),
     'goto': ('goto INDEX',),

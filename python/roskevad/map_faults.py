@@ -14,7 +14,7 @@ if TYPE_CHECKING:
 
 # The codes of a map that is read and refused, and some of them.
 _CODES = range(60, 70)
-_NOT_JSON, _COMPRESSED = 60, 65
+_NOT_JSON, _COMPRESSED, _BAD_DATA = 60, 65, 66
 # Most of what is told is shorter.
 _ROOM = 4096
 # The most letters of a text that are shown.
@@ -79,7 +79,7 @@ def refused_map(refusal: Refused, data: bytes, unpacked: 'Optional[UnpackedMap]'
     place = place_in(text, code)
     if place is not None and text is not data:
         place = place._replace(line=None, column=None)
-    if unpacked is not None and place is not None and place.path is not None and code == _COMPRESSED:
+    if unpacked is not None and place is not None and place.path is not None and code in (_COMPRESSED, _BAD_DATA):
         layer = unpacked.left.get(place.path[:-1])
         if layer is not None:
             code, why = layer.code, layer.why
@@ -92,7 +92,7 @@ def _place_of_packed(place: MapPlace, layer: 'PackedLayer') -> MapPlace:
     assert place.path is not None
     if layer.code == _COMPRESSED:
         return _at(place, layer.members['compression'])
-    front, way = place.text.partition(' is ')[0].rpartition('.compression')[0], place.path[:-1]
+    front, way = place.text.partition(' is ')[0].rpartition('.')[0], place.path[:-1]
     data = layer.members.get('data')
     if data is None or not isinstance(data.value(), str):
         return MapPlace(way, False, 'an object', f'in {front}', None, None)

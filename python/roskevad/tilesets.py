@@ -328,6 +328,14 @@ class Tilesets:
         line = _put_line(_text_of({'firstgid': first, **named, **grid}))
         return self._added(first, line, f'tilesets.add_from_image({first}, {name!r}, ..)', renumbers)
 
+    def renumber(self, key: Union[int, str, Tileset], first_id: int) -> Tileset:
+        """Gives a tileset another first id, in its place in the list, and gives it. Each cell and each object that has a tile of it keeps that
+        tile. Raises TypeError, ValueError, NotFound; Refused: 38 where another tileset has that first id, or lies between the two; 39 where it
+        is 0 or too great, or where a tile in use would be one of another tileset, or of none."""
+        first = words.number(first_id, _FIRST_ID)
+        self._document._edit(f'tileset number {self[key].first_id} {first}')
+        return Tileset(self._document, first)
+
     def _added(self, first: Any, line: str, call: str, renumbers: bool) -> Tileset:
         """Says a line that adds a tileset, and gives that."""
 

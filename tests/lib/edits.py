@@ -297,17 +297,21 @@ def add_tileset(draft, first_id, source):
     tilesets.append({'firstgid': first_id, 'source': source})
 
 
-def remove_tileset(draft, first_id):
-    tree = draft.tree
-    find_tileset(tree, first_id)
-    values = {
+def values_in(tree):
+    """The values of all cells, and those of all objects that are tiles."""
+    cells = {
         cell
         for layer in layers_in(tree['layers'])
         if layer['type'] == 'tilelayer'
         for cell in cells_of(layer)
     }
-    values |= {item['gid'] for item in objects_in(tree) if 'gid' in item}
-    see(all(tileset_of(tree, value) != first_id for value in values), 37)
+    return cells | {item['gid'] for item in objects_in(tree) if 'gid' in item}
+
+
+def remove_tileset(draft, first_id):
+    tree = draft.tree
+    find_tileset(tree, first_id)
+    see(all(tileset_of(tree, value) != first_id for value in values_in(tree)), 37)
     tree['tilesets'] = [tileset for tileset in tree['tilesets'] if tileset['firstgid'] != first_id]
 
 

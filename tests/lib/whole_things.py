@@ -1,6 +1,7 @@
 # SPDX-License-Identifier: MIT OR Apache-2.0
 """What each line for all edits does to a map, plainly, that adds a whole thing, takes one out or moves
-one, or gives the map more room: on the tree of its JSON text, by the rules of docs/session-lines.md."""
+one, gives a tileset another first id, or gives the map more room: on the tree of its JSON text, by the
+rules of docs/session-lines.md."""
 from lib.asides import OBJECT, RESERVED
 from lib.edits import (
     EDITS,
@@ -13,16 +14,19 @@ from lib.edits import (
     find_layer,
     find_object,
     find_owner,
+    find_tileset,
     remove_object,
     remove_property,
     resize,
     see,
     siblings_of,
+    tileset_of,
+    values_in,
 )
 from lib.infinite import keep_place
 from lib.json_texts import depth_of
 from lib.json_words import MOST_READ, is_whole, json_word, object_word, sets_fractions_aside, tree_of
-from lib.maps import MOST_INSIDE, MOST_LAYERS, group, layer_of, layers_in, objects_in, text_of
+from lib.maps import FLAGLESS, MOST_INSIDE, MOST_LAYERS, cells_of, group, layer_of, layers_in, objects_in, set_cells, text_of
 from lib.members import notes_of, see_object
 
 
@@ -154,6 +158,27 @@ def put_tileset(draft, text):
     tilesets.append(item)
 
 
+def number_tileset(draft, first_id, number):
+    tree = draft.tree
+    tileset = find_tileset(tree, first_id)
+    see(1 <= number <= LAST_FIRST_ID, 39)
+    low, high = sorted((first_id, number))
+    others = [other['firstgid'] for other in tree['tilesets'] if other is not tileset]
+    see(not any(low <= other <= high for other in others), 38)
+    new = {value: value + number - first_id if tileset_of(tree, value) == first_id else value for value in values_in(tree)}
+    olds = {value: tileset_of(tree, value) for value in new}
+    tileset['firstgid'] = number
+    for value, moved in new.items():
+        see(olds[value] != first_id or value % FLAGLESS + number - first_id < FLAGLESS, 39)
+        see(tileset_of(tree, moved) == (number if olds[value] == first_id else olds[value]), 39)
+    for layer in layers_in(tree['layers']):
+        if layer['type'] == 'tilelayer':
+            set_cells(layer, [new[cell] for cell in cells_of(layer)])
+    for item in objects_in(tree):
+        if 'gid' in item:
+            item['gid'] = new[item['gid']]
+
+
 def extend(draft, left, top, right, bottom):
     tree = draft.tree
     resize(draft, tree['width'] + left + right, tree['height'] + top + bottom, left, top)
@@ -169,6 +194,7 @@ WHOLE_EDITS = {
     'prop put': Edit(put_property, (str, str), 'Set Property', True),
     'prop take': Edit(take_property, (str, str), 'Remove Property'),
     'tileset put': Edit(put_tileset, (str,), 'Add Tileset'),
+    'tileset number': Edit(number_tileset, (int,) * 2, 'Renumber Tileset'),
     'extend': Edit(extend, (int,) * 4, 'Resize Map'),
 }
 

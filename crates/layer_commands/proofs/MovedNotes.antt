@@ -1,5 +1,6 @@
 -- What a map and its layers keep, with notes moved, is what they may keep.
-use Rattle.std.proofs.Common.{◌≡◌, IsUtf8, ℕ, ◌≤◌, ℤ, pos, negsuc, List, [], ◌∷◌, codes, bytes_eq, Bool, true, false, ◌||◌, Ordering, Less, Equal, Greater, nat_cmp, Option, Some, None, option_map, refl, ◌∙◌, arith, rules}
+use Rattle.std.proofs.Common.{◌≡◌, IsUtf8, ℕ, ◌≤◌, ℤ, pos, negsuc, List, [], ◌∷◌, codes, bytes_eq, Bool, true, false, ◌||◌, Ordering, Less, Equal, Greater}
+use Rattle.std.proofs.Common.{nat_cmp, Option, Some, None, option_map, refl, ◌∙◌, arith, rules}
 use Rattle.std.specs.Cmp.Lexicographic.{slice_cmp}
 use Rattle.std.specs.Int.{w64, int_wrapping_sub}
 use Rattle.std.specs.Ordering.{match_ordering}

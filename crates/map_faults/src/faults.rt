@@ -59,7 +59,7 @@ fn fault_of_text(
 /// longer than `LONGEST`. The text is an object of JSON with these members:
 ///
 /// - `code`, `words`: the number of the refusal, and its words.
-/// - `why`: where nothing can be set aside, the reason in words; else `null`.
+/// - `why`: where nothing can be set aside, or a layer is not unpacked, the reason in words; else `null`.
 /// - `path`: the way from the root of the file to the fault, names of members and indexes of elements; `null` where the bytes are no
 ///   JSON, or nothing can be set aside.
 /// - `exact`: whether the fault is there. If not, it is somewhere in what stands there: what is set aside of the file has more steps
@@ -76,7 +76,8 @@ pub fn map_fault(alloc: Global, bytes: &[u8]) -> Result<Option<ToldFault>, Alloc
     match set_aside(alloc, bytes) {
         Ok(Some(text)) if text.len() > LONGEST => not_aside(alloc, TOO_LONG),
         Ok(Some(text)) => fault_of_text(alloc, bytes, text.as_slice(), true),
-        Ok(None) | Err(Fault::NotJson) => fault_of_text(alloc, bytes, bytes, false),
+        Ok(None) => fault_of_text(alloc, bytes, bytes, false),
+        Err(Fault::NotJson) => fault_of_text(alloc, bytes, bytes, false),
         Err(Fault::Memory) => Err(AllocError),
         Err(fault) => not_aside(alloc, fault.words()),
     }

@@ -20,4 +20,4 @@ pub use members::Members;
 pub use output::Output;
 pub use place::Place;
 pub use shown::{is_shown_plain, write_short};
-pub use told::TOO_LONG;
+pub use told::{TOO_LONG, why_refused};

@@ -9,9 +9,14 @@ use refusals::{MapRefusal, StoreFault};
 use serde_json::{Error, Value};
 use std::alloc::{AllocError, Global};
 use std::io;
+use tiled_maps::why_damaged;
 
 /// Why a map can't be set aside, if its text would be longer than `LONGEST`.
 pub const TOO_LONG: &str = "set aside, it would be longer than 67,108,864 bytes";
+
+/// Why a map is refused whose layers are packed otherwise than by zlib or gzip, and the cure.
+const OTHER_COMPRESSION: &str =
+    "only zlib and gzip are unpacked: choose another Tile Layer Format in Map > Map Properties";
 
 // The place in a file where the reader has stopped, if it has read the file or what was set aside of it.
 #[derive(Clone, Copy)]
@@ -86,6 +91,42 @@ fn shown_at(place: &Place, root: &Value, found: InFile) -> io::Result<Vec<u8>> {
     write_value(place.alloc(), value, &mut words);
     words.end()?;
     Ok(text)
+}
+
+// Whether a layer has a compression that `--all-maps` takes.
+fn is_taken(compression: Option<&Value>) -> bool {
+    match compression {
+        Some(Value::String(name)) => name.as_str() == "zlib" || name.as_str() == "gzip",
+        _ => false,
+    }
+}
+
+/// Why a map is refused that stays packed, or is packed and damaged, in words: by the tree of its file, and the place at which the
+/// reader of what was set aside of it has stopped. `None` of any other fault.
+pub fn why_refused(
+    alloc: Global,
+    root: &Value,
+    refusal: MapRefusal,
+    place: &Place,
+) -> Result<Option<&'static str>, AllocError> {
+    let steps = place.steps().len();
+    match refusal {
+        MapRefusal::Compressed if !is_taken(place.value_behind(steps, root)) => {
+            Ok(Some(OTHER_COMPRESSION))
+        }
+        MapRefusal::BadData => match place.value_behind(steps.saturating_sub(1), root) {
+            Some(layer) => why_damaged(alloc, root, layer),
+            None => Ok(None),
+        },
+        _ => Ok(None),
+    }
+}
+
+fn put_why(why: Option<&str>, out: &mut Members) {
+    match why {
+        Some(why) => out.text("why", why),
+        None => out.nothing("why"),
+    }
 }
 
 // Puts a text that was written, if there was memory for it.
@@ -168,13 +209,16 @@ pub fn told_of_refusal(
         return Err(AllocError);
     }
     let mut out = begun(alloc, refusal.words());
-    out.nothing("why");
     match Value::from_slice(alloc, bytes) {
         Ok(root) => {
+            put_why(why_refused(alloc, &root, refusal, place)?, &mut out);
             let found = in_file(place, &root, refusal, is_set_aside);
             put_in_tree(bytes, &root, place, found, &mut out);
         }
-        Err(error) => put_no_json(alloc, bytes, &error, &mut out),
+        Err(error) => {
+            out.nothing("why");
+            put_no_json(alloc, bytes, &error, &mut out);
+        }
     }
     out.end_object();
     out.into_line()

@@ -1,5 +1,5 @@
 // The reports of files, one after the other.
-use crate::json_lines::{Outcome, line_of};
+use crate::json_lines::{Outcome, Refused, line_of};
 use crate::listing::write_listing;
 use crate::refused::{write_not_aside, write_refusal};
 use map_faults::{Output, Place, TOO_LONG};
@@ -26,7 +26,7 @@ pub enum Form {
 #[derive(Clone, Copy)]
 pub struct Manner {
     pub form: Form,
-    /// Whether maps are set aside first, so that infinite ones and those with fractions are read.
+    /// Whether maps are set aside first, so that packed ones, infinite ones and those with fractions are read.
     pub opens_all_maps: bool,
 }
 
@@ -76,10 +76,10 @@ fn write_lines<W: Write>(
             write_listing(file, map.parts(), out);
             true
         }
-        Outcome::Refused(bytes, fault, place) => {
+        Outcome::Refused(refused) => {
             out.text(file);
             out.text(": ");
-            write_refusal(alloc, bytes, fault, place, out);
+            write_refusal(alloc, refused, out);
             false
         }
         Outcome::NotAside(why) => {
@@ -122,20 +122,27 @@ fn report_unread<R: Eprint, W: Write>(
     write_outcome(alloc, form, file, Outcome::Unread(error), output)
 }
 
-// Reports the text of a map.
+// Reports the text of a map: the bytes of its file, or what was set aside of them.
 fn report_text<W: Write>(
     alloc: Global,
-    form: Form,
+    manner: Manner,
     file: &str,
     bytes: &[u8],
+    text: &[u8],
     output: &mut W,
 ) -> io::Result<bool> {
     let mut place = Place::new(alloc);
-    match read_map_along(alloc, bytes, &mut place) {
-        Ok(map) => write_outcome(alloc, form, file, Outcome::Map(&map), output),
+    match read_map_along(alloc, text, &mut place) {
+        Ok(map) => write_outcome(alloc, manner.form, file, Outcome::Map(&map), output),
         Err(fault) => {
-            let outcome = Outcome::Refused(bytes, fault, &place);
-            write_outcome(alloc, form, file, outcome, output)
+            let outcome = Outcome::Refused(Refused {
+                file: bytes,
+                text,
+                opens_all_maps: manner.opens_all_maps,
+                fault,
+                place: &place,
+            });
+            write_outcome(alloc, manner.form, file, outcome, output)
         }
     }
 }
@@ -150,17 +157,23 @@ fn report_bytes<W: Write>(
 ) -> io::Result<bool> {
     let form = manner.form;
     if !manner.opens_all_maps {
-        return report_text(alloc, form, file, bytes, output);
+        return report_text(alloc, manner, file, bytes, bytes, output);
     }
     match set_aside(alloc, bytes) {
         Ok(Some(text)) if text.len() > LONGEST => {
             write_outcome(alloc, form, file, Outcome::NotAside(TOO_LONG), output)
         }
-        Ok(Some(text)) => report_text(alloc, form, file, &text, output),
-        Ok(None) | Err(Fault::NotJson) => report_text(alloc, form, file, bytes, output),
+        Ok(Some(text)) => report_text(alloc, manner, file, bytes, &text, output),
+        Ok(None) | Err(Fault::NotJson) => report_text(alloc, manner, file, bytes, bytes, output),
         Err(Fault::Memory) => {
             let place = Place::new(alloc);
-            let outcome = Outcome::Refused(bytes, MapFault::Memory, &place);
+            let outcome = Outcome::Refused(Refused {
+                file: bytes,
+                text: bytes,
+                opens_all_maps: true,
+                fault: MapFault::Memory,
+                place: &place,
+            });
             write_outcome(alloc, form, file, outcome, output)
         }
         Err(fault) => {

@@ -7,12 +7,26 @@ use map_model::Map;
 use std::alloc::{AllocError, Global};
 use std::io;
 
+/// A map that is refused.
+#[derive(Clone, Copy)]
+pub struct Refused<'a> {
+    /// The bytes of the file.
+    pub file: &'a [u8],
+    /// What was read: these, or what was set aside of them.
+    pub text: &'a [u8],
+    /// Whether what the editor's format refuses was set aside, if there was any.
+    pub opens_all_maps: bool,
+    pub fault: MapFault,
+    /// Where the reader stopped.
+    pub place: &'a Place,
+}
+
 /// What came of a file.
 #[derive(Clone, Copy)]
 pub enum Outcome<'a> {
     Map(&'a Map),
-    /// It is refused for a fault at a place, with its bytes.
-    Refused(&'a [u8], MapFault, &'a Place),
+    /// It is refused for a fault at a place.
+    Refused(Refused<'a>),
     /// It can't be set aside, for a reason in words.
     NotAside(&'a str),
     Unread(&'a io::Error),
@@ -34,7 +48,7 @@ fn whole_line(alloc: Global, file: &str, outcome: Outcome<'_>) -> Result<Vec<u8>
             out.null();
             put_map(&mut out, map.parts());
         }
-        Outcome::Refused(bytes, fault, place) => put_refusal(alloc, bytes, fault, place, &mut out),
+        Outcome::Refused(refused) => put_refusal(alloc, refused, &mut out),
         Outcome::NotAside(why) => put_not_aside(why, &mut out),
         Outcome::Unread(error) => put_unread(alloc, error, &mut out),
     }

@@ -1,6 +1,8 @@
 // Why a file is refused, as an object of JSON: the code, its words, and the places of the fault.
 use crate::fraction_places::{Fractions, Owner, find_fractions, write_owner};
-use map_faults::{LineColumn, Members, Output, Place, TOO_LONG, place_of_fault};
+use crate::json_lines::Refused;
+use crate::refused::shown_tree;
+use map_faults::{LineColumn, Members, Output, Place, TOO_LONG, place_of_fault, why_refused};
 use map_json::{MapFault, read_map_along};
 use refusals::{MapRefusal, Refusal, StoreFault};
 use serde_json::{Error, Value};
@@ -99,19 +101,47 @@ fn put_places_in(
 }
 
 // Puts the places of a fault.
-fn put_places(alloc: Global, bytes: &[u8], refusal: MapRefusal, place: &Place, out: &mut Members) {
-    match Value::from_slice(alloc, bytes) {
+fn put_places(
+    alloc: Global,
+    file: &[u8],
+    text: &[u8],
+    refusal: MapRefusal,
+    place: &Place,
+    out: &mut Members,
+) {
+    match shown_tree(alloc, file, text, refusal, place) {
         Ok(root) => put_places_in(alloc, &root, refusal, place, out),
-        Err(error) => put_line(alloc, bytes, &error, out),
+        Err(error) => put_line(alloc, text, &error, out),
     }
 }
 
 // Puts the code, the words and the places of a refusal.
-fn put_refused(alloc: Global, bytes: &[u8], refusal: MapRefusal, place: &Place, out: &mut Members) {
+fn put_refused(
+    alloc: Global,
+    file: &[u8],
+    text: &[u8],
+    refusal: MapRefusal,
+    place: &Place,
+    out: &mut Members,
+) {
     out.code(refusal.words());
     out.begin_list("places");
-    put_places(alloc, bytes, refusal, place, out);
+    put_places(alloc, file, text, refusal, place, out);
     out.end_array();
+}
+
+// Puts why a layer is not unpacked.
+fn put_why(alloc: Global, file: &[u8], refusal: MapRefusal, place: &Place, out: &mut Members) {
+    match Value::from_slice(alloc, file) {
+        Ok(root) => match why_refused(alloc, &root, refusal, place) {
+            Ok(Some(why)) => out.text("reason", why),
+            Ok(None) => {}
+            Err(_) => out.lose(),
+        },
+        Err(error) => if error.is_memory() {
+            out.lose();
+        },
+    }
 }
 
 // Puts a refusal that has no place, and why, where there is a reason in words.
@@ -138,6 +168,7 @@ fn put_not_set_aside(out: &mut Members, why: &str) {
 // Puts why the editor does not open a map that is set aside.
 fn put_not_opened(
     alloc: Global,
+    file: &[u8],
     text: &[u8],
     refusal: MapRefusal,
     place: &Place,
@@ -146,30 +177,31 @@ fn put_not_opened(
     out.truth("opens", false);
     out.key("refused");
     out.begin_object();
-    put_refused(alloc, text, refusal, place, out);
+    put_refused(alloc, file, text, refusal, place, out);
+    put_why(alloc, file, refusal, place, out);
     out.end_object();
 }
 
 // Puts what the editor answers with `--all-maps` to a map that is set aside.
-fn put_aside(alloc: Global, text: &[u8], out: &mut Members) {
+fn put_aside(alloc: Global, file: &[u8], text: &[u8], out: &mut Members) {
     let mut place = Place::new(alloc);
     match read_map_along(alloc, text, &mut place) {
         Ok(_) => out.truth("opens", true),
         Err(MapFault::Refused(refusal)) if !place.is_lost() => {
-            put_not_opened(alloc, text, refusal, &place, out);
+            put_not_opened(alloc, file, text, refusal, &place, out);
         }
         Err(_) => out.lose(),
     }
 }
 
-// Puts what the editor answers with `--all-maps` to a map with fractions, or to an infinite one.
+// Puts what the editor answers with `--all-maps` to a map with fractions, a packed or an infinite one.
 fn put_with_all_maps(alloc: Global, bytes: &[u8], out: &mut Members) {
     out.key("allmaps");
     out.begin_object();
     match set_aside(alloc, bytes) {
         Ok(Some(text)) if text.len() > LONGEST => put_not_set_aside(out, TOO_LONG),
-        Ok(Some(text)) => put_aside(alloc, &text, out),
-        Ok(None) => out.truth("opens", true),
+        Ok(Some(text)) => put_aside(alloc, bytes, &text, out),
+        Ok(None) => put_aside(alloc, bytes, bytes, out),
         Err(Fault::Memory) => out.lose(),
         Err(fault) => put_not_set_aside(out, fault.words()),
     }
@@ -180,16 +212,23 @@ fn put_with_all_maps(alloc: Global, bytes: &[u8], out: &mut Members) {
 
 /// Puts why a map is refused, with the place at which the reader stopped. All is lost where there is no memory, and also where
 /// there was none for the map or for the place.
-pub fn put_refusal(alloc: Global, bytes: &[u8], fault: MapFault, place: &Place, out: &mut Members) {
-    let refusal = match fault {
+pub fn put_refusal(alloc: Global, refused: Refused<'_>, out: &mut Members) {
+    let place = refused.place;
+    let refusal = match refused.fault {
         MapFault::Refused(refusal) if !place.is_lost() => refusal,
         MapFault::Refused(_) | MapFault::Memory => return out.lose(),
     };
     out.begin_object();
-    put_refused(alloc, bytes, refusal, place, out);
-    match refusal {
-        MapRefusal::Fraction | MapRefusal::Infinite => put_with_all_maps(alloc, bytes, out),
-        _ => {}
+    put_refused(alloc, refused.file, refused.text, refusal, place, out);
+    if refused.opens_all_maps {
+        put_why(alloc, refused.file, refusal, place, out);
+    } else {
+        match refusal {
+            MapRefusal::Fraction | MapRefusal::Infinite | MapRefusal::Compressed => {
+                put_with_all_maps(alloc, refused.file, out)
+            }
+            _ => {}
+        }
     }
     out.end_object();
 }

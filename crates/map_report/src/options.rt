@@ -55,12 +55,14 @@ fn json_arg<'a>(alloc: Global) -> Arg<'a> {
         .help("Writes a line of JSON for each map: an object")
 }
 
-// The option that reads infinite maps and maps with fractions.
+// The option that reads packed maps, infinite ones and maps with fractions.
 fn all_maps_arg<'a>(alloc: Global) -> Arg<'a> {
     Arg::new(alloc, "all_maps")
         .long("all-maps")
         .action(ArgAction::SetTrue)
-        .help("Reads what tile_editor --all-maps opens: infinite maps and maps with fractions, too")
+        .help(
+            "Reads what tile_editor --all-maps opens: packed maps, infinite ones and maps with fractions, too",
+        )
 }
 
 // The option for the table.

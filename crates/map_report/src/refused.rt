@@ -1,6 +1,7 @@
 // Why a map is refused: the code, its words, and the place of the fault.
 use crate::fraction_places::{Fractions, Owner, find_fractions, write_owner};
-use map_faults::{Output, Place, TOO_LONG, place_of_fault};
+use crate::json_lines::Refused;
+use map_faults::{Output, Place, TOO_LONG, place_of_fault, why_refused};
 use map_json::{MapFault, read_map_along};
 use refusals::{MapRefusal, Refusal, StoreFault};
 use serde_json::{Error, Value};
@@ -19,33 +20,70 @@ fn write_line<W: Write>(alloc: Global, bytes: &[u8], error: &Error, out: &mut Ou
     }
 }
 
+// Writes why a layer is not unpacked, where there is memory to know it.
+fn write_why<W: Write>(
+    alloc: Global,
+    file: &[u8],
+    refusal: MapRefusal,
+    place: &Place,
+    out: &mut Output<'_, W>,
+) {
+    let Ok(root) = Value::from_slice(alloc, file) else {
+        return;
+    };
+    if let Ok(Some(why)) = why_refused(alloc, &root, refusal, place) {
+        out.text("\n  ");
+        out.text(why);
+    }
+}
+
+/// The tree in which a place is shown: what was read, or the file, if it has that of a packed layer.
+pub fn shown_tree(
+    alloc: Global,
+    file: &[u8],
+    text: &[u8],
+    refusal: MapRefusal,
+    place: &Place,
+) -> Result<Value, Error> {
+    let read = Value::from_slice(alloc, text)?;
+    if refusal == MapRefusal::BadData {
+        let given = Value::from_slice(alloc, file)?;
+        if place.steps_in(&given) >= place.steps_in(&read) {
+            return Ok(given);
+        }
+    }
+    Ok(read)
+}
+
 // Writes the code of a refusal, its words, and the place of the fault, where there is memory for the tree.
 fn write_refused<W: Write>(
     alloc: Global,
-    bytes: &[u8],
+    file: &[u8],
+    text: &[u8],
     refusal: MapRefusal,
     place: &Place,
     out: &mut Output<'_, W>,
 ) {
     out.text("no ");
     out.text(refusal.words());
-    match Value::from_slice(alloc, bytes) {
+    match shown_tree(alloc, file, text, refusal, place) {
         Ok(root) => {
             out.text(": ");
             place.write(&root, out);
         }
-        Err(error) => write_line(alloc, bytes, &error, out),
+        Err(error) => write_line(alloc, file, &error, out),
     }
 }
 
 // Writes what the editor answers with `--all-maps` to a map that is set aside, where there is memory to know it.
-fn write_aside<W: Write>(alloc: Global, text: &[u8], out: &mut Output<'_, W>) {
+fn write_aside<W: Write>(alloc: Global, file: &[u8], text: &[u8], out: &mut Output<'_, W>) {
     let mut place = Place::new(alloc);
     match read_map_along(alloc, text, &mut place) {
         Ok(_) => out.text("\n  with --all-maps the editor opens this map"),
         Err(MapFault::Refused(refusal)) if !place.is_lost() => {
             out.text("\n  with --all-maps: ");
-            write_refused(alloc, text, refusal, &place, out);
+            write_refused(alloc, file, text, refusal, &place, out);
+            write_why(alloc, file, refusal, &place, out);
         }
         Err(_) => {}
     }
@@ -57,12 +95,13 @@ fn write_not_set_aside<W: Write>(why: &str, out: &mut Output<'_, W>) {
     out.text(why);
 }
 
-// Writes what the editor answers with `--all-maps` to a map with fractions, or to an infinite one.
+// Writes what the editor answers with `--all-maps` to a map with fractions, a packed or an infinite one.
 fn write_with_all_maps<W: Write>(alloc: Global, bytes: &[u8], out: &mut Output<'_, W>) {
     match set_aside(alloc, bytes) {
         Ok(Some(text)) if text.len() > LONGEST => write_not_set_aside(TOO_LONG, out),
-        Ok(Some(text)) => write_aside(alloc, &text, out),
-        Ok(None) | Err(Fault::Memory) => {}
+        Ok(Some(text)) => write_aside(alloc, bytes, &text, out),
+        Ok(None) => write_aside(alloc, bytes, bytes, out),
+        Err(Fault::Memory) => {}
         Err(fault) => write_not_set_aside(fault.words(), out),
     }
 }
@@ -100,24 +139,37 @@ pub fn write_not_aside<W: Write>(why: &str, out: &mut Output<'_, W>) {
     out.text("\n");
 }
 
-/// Writes the line of a map that is refused, with the place at which the reader stopped. Where that is lost, there was no
-/// memory. If the map is refused for a fraction, a line for each of them follows. If it is refused for a fraction or as
-/// infinite, what the editor answers with `--all-maps` follows.
-pub fn write_refusal<W: Write>(
+// Writes what follows a refusal: a line for each fraction, and what the editor answers with `--all-maps`; or with that, why a layer is
+// not unpacked.
+fn write_more<W: Write>(
     alloc: Global,
-    bytes: &[u8],
-    fault: MapFault,
-    place: &Place,
+    refused: Refused<'_>,
+    refusal: MapRefusal,
     out: &mut Output<'_, W>,
 ) {
-    match fault {
+    if refused.opens_all_maps {
+        return write_why(alloc, refused.file, refusal, refused.place, out);
+    }
+    match refusal {
+        MapRefusal::Fraction => write_all_fractions(alloc, refused.file, out),
+        MapRefusal::Infinite | MapRefusal::Compressed => write_with_all_maps(
+            alloc,
+            refused.file,
+            out,
+        ),
+        _ => {}
+    }
+}
+
+/// Writes the line of a map that is refused, with the place at which the reader stopped. Where that is lost, there was no
+/// memory. If the map is refused for a fraction, a line for each of them follows. If it is refused for a fraction, as packed or as
+/// infinite, what the editor answers with `--all-maps` follows.
+pub fn write_refusal<W: Write>(alloc: Global, refused: Refused<'_>, out: &mut Output<'_, W>) {
+    let place = refused.place;
+    match refused.fault {
         MapFault::Refused(refusal) if !place.is_lost() => {
-            write_refused(alloc, bytes, refusal, place, out);
-            match refusal {
-                MapRefusal::Fraction => write_all_fractions(alloc, bytes, out),
-                MapRefusal::Infinite => write_with_all_maps(alloc, bytes, out),
-                _ => {}
-            }
+            write_refused(alloc, refused.file, refused.text, refusal, place, out);
+            write_more(alloc, refused, refusal, out);
         }
         MapFault::Refused(_) | MapFault::Memory => {
             out.text("no ");

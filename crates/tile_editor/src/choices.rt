@@ -9,7 +9,7 @@ pub struct Options<'a> {
     pub limit: usize,
     /// Whether the first refused line ends the program, and unsaved changes are a failure.
     pub is_strict: bool,
-    /// Whether infinite maps and maps with fractions are opened, too.
+    /// Whether packed maps, infinite ones and maps with fractions are opened, too.
     pub opens_all_maps: bool,
     /// Whether the lines for all edits are read, too.
     pub does_all_edits: bool,

@@ -153,7 +153,7 @@ fn strict_arg<'a>(alloc: Global) -> Arg<'a>
         .help("Stops at the first refused line, and fails where a document is left unsaved")
 }
 
-// The option that opens infinite maps and maps with fractions.
+// The option that opens packed maps, infinite ones and maps with fractions.
 fn all_maps_arg<'a>(alloc: Global) -> Arg<'a>
     ensures rule { rule_of result ≡ all_maps_option }
     ensures plain { IsPlainArg result }
@@ -163,7 +163,7 @@ fn all_maps_arg<'a>(alloc: Global) -> Arg<'a>
         .long("all-maps")
         .action(ArgAction::SetTrue)
         .help(
-            "Opens infinite maps and maps with fractions, too, and puts back what no edit changed",
+            "Opens packed maps, infinite ones and maps with fractions, too, and puts back what no edit changed",
         )
 }
 

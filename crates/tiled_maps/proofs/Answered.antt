@@ -1,9 +1,9 @@
 -- The facts about an answer, from what was seen of its tree.
-use Rattle.std.proofs.Common.{◌≡◌, inr, ℕ, ◌≤◌, ◌<◌, nat_le, leb-false, List, Bool, true, false, not, ◌||◌, true≢false, Option, Some, None, is_some, Vec}
-use Rattle.std.proofs.Common.{Global, Err, refl, sym, ap, subst, ◌∙◌, arith}
+use Rattle.std.proofs.Common.{◌≡◌, inl, inr, ℕ, zero, suc, ◌+◌, cond, option_map, ◌≤◌, ◌<◌, nat_le, leb-false, List, Bool, true, false, not, ◌||◌, true≢false, Option, Some, None, is_some, Vec}
+use Rattle.std.proofs.Common.{Global, Result, Ok, Err, refl, sym, ap, subst, ◌∙◌, arith}
 use Rattle.std.proofs.lemmas.Bool.{or_right, leb-true}
 use Rattle.std.specs.Prelude.{unwrap_or}
-use Rattle.serde_json.specs.Data.{Data, depth}
+use Rattle.serde_json.specs.Data.{Data, null, boolean, number, string, array, object, Items, no_items, item, Members, depth}
 use Rattle.serde_json.specs.Read.{max_depth}
 use Rattle.infinite_maps.specs.Finite.{finite_of}
 use Rattle.infinite_maps.specs.Infinite.{is_infinite}
@@ -19,7 +19,11 @@ use Rattle.fractions.specs.Aside.{reserved_name, set_aside_of}
 use Rattle.fractions.specs.Back.{back}
 use Rattle.tiled_maps.specs.Trees.{put_back_of, HasNoFinite, IsFiniteOf, MakesFinite}
 use Rattle.json_trees.specs.Texts.{IsTreeOf}
-use Rattle.tiled_maps.specs.Texts.{IsSetAside, IsPutBack, IsNotFinite, SetsAside, text_or}
+use Rattle.tiled_maps.specs.Texts.{IsSetAside, IsPutBack, IsNotFinite, SetsAside, SetsAsidePlain, SetsAsideUnpacked, IsUnpacked, IsNotUnpacked, text_or}
+use Rattle.tiled_maps.specs.Packed.{note_name, has_packed, unpacked_layers, packed_cells, most_packed, cells_of, is_packed, object_or, any_in, sum_in, any_below}
+use Rattle.tiled_maps.specs.Packed.{any_packed, own_cells, cells_in_chunks, all_cells}
+use Rattle.tiled_maps.specs.Sources.{layers_in, tiers}
+use Rattle.tiled_maps.specs.Packing.{MapPacked, IsPackedAs}
 use Rattle.tiled_maps.proofs.Meeting.{is_infinite-set_aside_of, put_back_of-plain, put_back_of-spread, put_back_of-free}
 use Rattle.fractions.proofs.Whole.{has_fraction-aside, HasFewFractions-none, aside-unchanged, back-unchanged, depth-back}
 use Rattle.fractions.proofs.ReadTrees.{IsReadTree-read}
@@ -89,7 +93,7 @@ infinite_fault : (bytes : List ℕ) (d a : Data) (IsSo : Data → Type 0) → Is
 infinite_fault bytes d a IsSo tree few is h = (d, tree, few, sym (is_infinite-set_aside_of d) ∙ ap is_infinite (sym is) ∙ h.0, subst IsSo is h.1)
 
 pub finite_fault : (bytes : List ℕ) (d a : Data) (fault : Fault) → IsTreeOf bytes d → HasFewFractions d → a ≡ set_aside_of d
-    → MakesFinite a (Err fault) → SetsAside bytes (Err fault)
+    → MakesFinite a (Err fault) → SetsAsidePlain bytes (Err fault)
 finite_fault bytes d a Memory tree few is h = tt
 finite_fault bytes d a NotJson tree few is h = absurd h
 finite_fault bytes d a NameTaken tree few is h = absurd h
@@ -100,13 +104,45 @@ finite_fault bytes d a Overlap tree few is h = infinite_fault bytes d a (λ t. h
 finite_fault bytes d a TooLarge tree few is h = infinite_fault bytes d a (λ t. is_too_large t ≡ true) tree few is h
 finite_fault bytes d a Unlike tree few is h = infinite_fault bytes d a HasNoFinite tree few is h
 
+-- ---- unpacked
+pub unpacked-none : (d : Data) → has_packed d ≡ false → unpacked_layers d ≡ d
+unpacked-none d e = rw e refl
+
+same_text : (bytes plain : List ℕ) (own : Option (Vec ℕ Global)) → plain ≡ bytes → text_or bytes own ≡ text_or plain own
+same_text bytes plain None e = sym e
+same_text bytes plain (Some text) e = refl
+
+-- bytes that are their own plain text
+pub SetsAside-plain : (bytes : List ℕ) (d : Data) (r : Result (Option (Vec ℕ Global)) Fault) → IsUnpacked bytes bytes d → SetsAsidePlain bytes r
+    → SetsAside bytes r
+SetsAside-plain bytes d (Ok text) u s = (bytes, d, text, u, refl, s)
+SetsAside-plain bytes d (Err fault) u s = inr (bytes, d, u, s)
+
+-- bytes with another one
+pub SetsAside-unpacked : (bytes : List ℕ) (d t : Data) (r : Result (Option (Vec ℕ Global)) Fault) → IsTreeOf bytes d → has_name note_name d ≡ false
+    → packed_cells d ≤ most_packed → t ≡ unpacked_layers d → SetsAsideUnpacked t r → SetsAside bytes r
+SetsAside-unpacked bytes d t (Ok text) tree free few e (plain, own, plain_tree, same, s) =
+    (plain, d, own, record { tree = tree; free = free; few = few; plain_tree = subst (IsTreeOf plain) e plain_tree }, same bytes, s)
+SetsAside-unpacked bytes d t (Err fault) tree free few e (inl memory) = inl (subst (IsNotUnpacked bytes) (sym memory) tt)
+SetsAside-unpacked bytes d t (Err fault) tree free few e (inr (plain, plain_tree, s)) =
+    inr (plain, d, record { tree = tree; free = free; few = few; plain_tree = subst (IsTreeOf plain) e plain_tree }, s)
+
 -- ---- put back
--- a tree without the reserved name
-pub IsPutBack-none : (bytes : List ℕ) (d : Data) → IsTreeOf bytes d → has_name reserved_name d ≡ false → IsPutBack bytes None d
-IsPutBack-none bytes d tree none = record {
+pub neither : (a b : Bool) → (a || b) ≡ false → (a ≡ false) × (b ≡ false)
+neither true b e = absurd (true≢false e)
+neither false b e = (refl, e)
+
+unnoted_packed : (u p : Data) → has_name note_name u ≡ false → p ≡ u → MapPacked (has_name note_name u) u p
+unnoted_packed u p e is = rw e is
+
+-- a tree without the names of notes
+pub IsPutBack-none : (bytes : List ℕ) (d : Data) → IsTreeOf bytes d → has_name reserved_name d ≡ false → has_name note_name d ≡ false
+    → IsPutBack bytes None d d
+IsPutBack-none bytes d tree none unnoted = let same = put_back_of-free d none ∙ back-unchanged d none in record {
   tree = tree;
-  text_tree = (tree.0, tree.1 ∙ ap (λ t. Some t) (sym (put_back_of-free d none ∙ back-unchanged d none)));
-  some = sym none;
+  packed = inr (unnoted_packed (put_back_of d) d (ap (has_name note_name) same ∙ unnoted) (sym same));
+  text_tree = tree;
+  some = rw (none, unnoted) refl;
 }
 
 -- a tree that is too deep only as it is put back was one of an infinite map
@@ -117,11 +153,55 @@ was_infinite (Some t) d within deep = refl
 pub deeper : (n : ℕ) → nat_le n 127 ≡ false → max_depth < n
 deeper n e = leb-false n 127 e
 
--- a tree with the reserved name
-pub IsPutBack-some : (bytes : List ℕ) (text : Vec ℕ Global) (d : Data) → IsTreeOf bytes d → has_name reserved_name d ≡ true
-    → IsTreeOf text.items (put_back_of d) → IsPutBack bytes (Some text) d
-IsPutBack-some bytes text d tree some text_tree = record {
+-- a tree with one of the names
+pub IsPutBack-some : (bytes : List ℕ) (text : Vec ℕ Global) (d p : Data) → IsTreeOf bytes d → (has_name reserved_name d || has_name note_name d) ≡ true
+    → IsPackedAs None (put_back_of d) p → IsTreeOf text.items p → IsPutBack bytes (Some text) d p
+IsPutBack-some bytes text d p tree some packed text_tree = record {
   tree = tree;
+  packed = packed;
   text_tree = text_tree;
   some = sym some;
 }
+
+-- no packed layer has no packed cells
+none_in : (f : Members → Bool) (g : Members → ℕ) → ((ms : Members) → f ms ≡ false → g ms ≡ 0) → (ds : Items) → any_in f ds ≡ false → sum_in g ds ≡ 0
+none_in f g none no_items e = refl
+none_in f g none (item d ds) e =
+    let parts = neither (object_or f false d) (any_in f ds) e in
+    omega (arith, none_at d parts.0, none_in f g none ds parts.1)
+  where
+    none_at : (d : Data) → object_or f false d ≡ false → object_or g 0 d ≡ 0
+    none_at null e = refl
+    none_at (boolean b) e = refl
+    none_at (number n) e = refl
+    none_at (string s) e = refl
+    none_at (array ds) e = refl
+    none_at (object ms) e = none ms e
+
+none_among : (f : Members → Bool) (g : Members → ℕ) → ((ms : Members) → f ms ≡ false → g ms ≡ 0) → (o : Option Items)
+    → unwrap_or (option_map (any_in f) o) false ≡ false → unwrap_or (option_map (sum_in g) o) 0 ≡ 0
+none_among f g none None e = refl
+none_among f g none (Some ds) e = none_in f g none ds e
+
+none_of : (b : Bool) (n : ℕ) → b ≡ false → cond b n 0 ≡ 0
+none_of true n e = absurd (true≢false e)
+none_of false n e = refl
+
+no_cells : (n cells : ℕ) (ms : Members) → any_packed n ms ≡ false → all_cells n cells ms ≡ 0
+unfolding any_packed all_cells
+no_cells zero cells ms e = refl
+no_cells (suc n) cells ms e =
+    let parts = neither (is_packed ms) (any_below (λ own. any_packed n own) ms) e in
+    omega (
+      arith,
+      none_of (is_packed ms) (own_cells cells ms + cells_in_chunks ms) parts.0,
+      none_among (λ own. any_packed n own) (λ own. all_cells n cells own) (no_cells n cells) (layers_in ms) parts.1,
+    )
+
+pub few_cells : (d : Data) → has_packed d ≡ false → packed_cells d ≤ most_packed
+few_cells null e = omega arith
+few_cells (boolean b) e = omega arith
+few_cells (number n) e = omega arith
+few_cells (string s) e = omega arith
+few_cells (array ds) e = omega arith
+few_cells (object ms) e = omega (arith, no_cells tiers (cells_of ms) ms e)

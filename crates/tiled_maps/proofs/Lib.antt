@@ -6,3 +6,6 @@ pub mod LookBytes
 pub mod LookTexts
 pub mod LookAnswers
 pub mod SourceWalks
+pub mod PackedWalks
+pub mod PackedLaws
+pub mod PackedDepths

@@ -14,6 +14,7 @@ use Rattle.std.specs.Char.{is_ascii_digit, digit_value}
 use Rattle.std.specs.Str.Parse.{AllDigits, digits_value, digits_value_after}
 use Rattle.fast_float.specs.Text.{Parts, scan, digits_of, IsWellFormed}
 use Rattle.json.specs.Token.{Token, begin_object, end_object, begin_array, end_array, boolean, null, bad}
+use Rattle.json.specs.Text.{content}
 use Rattle.json.specs.Word.{is_operator, is_space, head, ends_word, after_whole, after_fraction, after_exponent, after_number, word}
 use Rattle.json.specs.Lex.{Lexeme, token, comma, colon, quote, backslash, operator, space, other, class, operator_lexeme, Mode, between, in_word, lex_byte, lex}
 use Rattle.json.specs.Print.{IsNumber}
@@ -22,7 +23,7 @@ use Rattle.serde_json.specs.Data.{Num, unsigned}
 use Rattle.serde_json.specs.Find.{is_float}
 use Rattle.serde_json.specs.Read.{is_integer, number_from, number_of}
 use Rattle.serde_json.proofs.Numbers.{number_of-decimal}
-use Rattle.tiled_maps.specs.Lexemes.{IsWhole, BeginFalse, AreFalse, First, ArePlain, BeginsLiteral, Ends, Leads, EndsWell}
+use Rattle.tiled_maps.specs.Lexemes.{IsWhole, BeginFalse, AreFalse, AreEmpty, First, ArePlain, BeginsLiteral, Ends, Leads, EndsWell}
 
 -- ---- operators and spaces
 mark : (b : Bool) (l m : Lexeme) (ls : List Lexeme) → ArePlain (l ∷ ls) → ArePlain (m ∷ ls) → ArePlain (cond b l m ∷ ls)
@@ -295,6 +296,14 @@ colon_false xs = literal_false _ (lex in_word xs)
 pub colon_space_false : (xs : List ℕ) → AreFalse (lex between (58 ∷ 32 ∷ 102 ∷ xs))
 unfolding lex word
 colon_space_false xs = literal_false _ (lex in_word xs)
+
+pub colon_empty : (xs : List ℕ) → AreEmpty (lex between (58 ∷ 34 ∷ 34 ∷ xs))
+unfolding lex content
+colon_empty xs = tt
+
+pub colon_space_empty : (xs : List ℕ) → AreEmpty (lex between (58 ∷ 32 ∷ 34 ∷ 34 ∷ xs))
+unfolding lex content
+colon_space_empty xs = tt
 
 -- ---- at a place of the text, as the code says it
 pub nothing_left : (text : List ℕ) (at : ℕ) → length text ≤ at → ArePlain (lex between (drop at text))

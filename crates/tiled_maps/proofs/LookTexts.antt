@@ -11,7 +11,8 @@ use Rattle.json.specs.Text.{code_unit, short_escape, is_high_surrogate, is_low_s
 use Rattle.json.specs.Word.{is_operator, is_space}
 use Rattle.json.specs.Lex.{Lexeme, token, operator, space, other, string_token, Mode, between, in_string, lex_byte, lex}
 use Rattle.fractions.specs.Aside.{reserved_name}
-use Rattle.tiled_maps.specs.Lexemes.{infinite, IsPlainText, ArePlain, IsOther, BeginsOther, LeavesText, LeavesEscaped, Leads}
+use Rattle.tiled_maps.specs.Packed.{compression, note_name}
+use Rattle.tiled_maps.specs.Lexemes.{infinite, IsOwnName, IsPlainText, ArePlain, IsOther, BeginsOther, LeavesText, LeavesEscaped, Leads}
 use Rattle.tiled_maps.proofs.LookBytes.{ended_at}
 
 -- a text that has begun before xs closes after n bytes, with no escape
@@ -115,11 +116,11 @@ text_plain text at n xs is h opening l none closing end e p rest =
 -- ---- a text with an escape: the first one stands for no letter of a name
 abbrev AllLetters : List ℕ → Type 0
 AllLetters [] = Unit {0}
-AllLetters (x ∷ xs) = ((97 ≤ x) × (x ≤ 122)) × AllLetters xs
+AllLetters (x ∷ xs) = ((95 ≤ x) × (x ≤ 122)) × AllLetters xs
 
 all_letters : List ℕ → Bool
 all_letters [] = true
-all_letters (x ∷ xs) = (leb 97 x && leb x 122) && all_letters xs
+all_letters (x ∷ xs) = (leb 95 x && leb x 122) && all_letters xs
 
 are_letters : (xs : List ℕ) → all_letters xs ≡ true → AllLetters xs
 unfolding all_letters
@@ -127,22 +128,30 @@ are_letters [] e = tt
 are_letters (x ∷ xs) e =
     let parts = and_parts _ _ e in
     let first = and_parts _ _ parts.0 in
-    ((leb-true 97 x first.0, leb-true x 122 first.1), are_letters xs parts.1)
+    ((leb-true 95 x first.0, leb-true x 122 first.1), are_letters xs parts.1)
 
 reserved_letters : AllLetters reserved_name
 unfolding all_letters
 reserved_letters = are_letters reserved_name refl
 
+compression_letters : AllLetters compression
+unfolding all_letters
+compression_letters = are_letters compression refl
+
+note_letters : AllLetters note_name
+unfolding all_letters
+note_letters = are_letters note_name refl
+
 infinite_letters : AllLetters infinite
 unfolding all_letters
 infinite_letters = are_letters infinite refl
 
-letter_inside : (s t : List ℕ) (c : ℕ) → AllLetters (s ++ (c ∷ t)) → (97 ≤ c) × (c ≤ 122)
+letter_inside : (s t : List ℕ) (c : ℕ) → AllLetters (s ++ (c ∷ t)) → (95 ≤ c) × (c ≤ 122)
 letter_inside [] t c h = h.0
 letter_inside (x ∷ s) t c h = letter_inside s t c h.1
 
-no_letter : (c : ℕ) → IsOther c → (97 ≤ c) × (c ≤ 122) → ⊥
-no_letter c (inl e) h = let low : 97 ≤ c = h.0 in omega arith
+no_letter : (c : ℕ) → IsOther c → (95 ≤ c) × (c ≤ 122) → ⊥
+no_letter c (inl e) h = let low : 95 ≤ c = h.0 in omega arith
 no_letter c (inr e) h = let high : c ≤ 122 = h.1 in omega arith
 
 not_name : (name s t : List ℕ) (c : ℕ) → AllLetters name → IsOther c → s ++ (c ∷ t) ≡ name → ⊥
@@ -152,7 +161,11 @@ escaped_read : (s : List ℕ) (r : Option (List ℕ)) (ls : List Lexeme) → Beg
 escaped_read s None ls h rest = tt
 escaped_read s (Some []) ls h rest = absurd h
 escaped_read s (Some (c ∷ t)) ls h rest =
-    ((not_name reserved_name s t c reserved_letters h, λ e. absurd (not_name infinite s t c infinite_letters h e)), rest)
+    let own : IsOwnName (s ++ (c ∷ t)) = (
+      not_name reserved_name s t c reserved_letters h,
+      not_name note_name s t c note_letters h,
+    ) in
+    ((own, λ e. absurd (not_name infinite s t c infinite_letters h e), λ e. absurd (not_name compression s t c compression_letters h e)), rest)
 
 escaped_token : (o : Option (List ℕ)) (s : List ℕ) (r : Option (List ℕ)) (ls : List Lexeme) → (o ≡ None) ⊎ (o ≡ prepend s r) → BeginsOther r → ArePlain ls
     → ArePlain (token (string_token o) ∷ ls)
@@ -243,8 +256,8 @@ itself x e = first (or_cases _ _ e)
     first (inl e) = second (or_cases _ _ e)
     first (inr e) = inl (omega (arith, eqb-true x 47 e))
 
-small : (c : ℕ) → leb (suc c) 97 ≡ true → IsOther c
-small c e = inl (leb-true (suc c) 97 e)
+small : (c : ℕ) → leb (suc c) 95 ≡ true → IsOther c
+small c e = inl (leb-true (suc c) 95 e)
 
 short_other : (x : ℕ) → IfOther (short_escape x)
 unfolding short_escape

@@ -9,8 +9,9 @@ use Rattle.serde_json.specs.Data.{Data}
 use Rattle.serde_json.specs.Read.{of_json, max_depth}
 use Rattle.fractions.specs.Aside.{reserved_name}
 use Rattle.tiled_maps.specs.Look.{NeedsNothing, TextNeedsNothing}
-use Rattle.tiled_maps.specs.Lexemes.{infinite, IsWhole, BeginFalse, AreFalse, First, ArePlain}
-use Rattle.tiled_maps.proofs.LookTree.{IsNotTrue, IsPlain, ArePlainItems, ArePlainMembers, IsPlain-NeedsNothing}
+use Rattle.tiled_maps.specs.Lexemes.{infinite, IsWhole, IsOwnName, BeginFalse, AreFalse, BeginEmpty, AreEmpty, First, ArePlain}
+use Rattle.tiled_maps.specs.Packed.{compression}
+use Rattle.tiled_maps.proofs.LookTree.{Fits, IsPlain, ArePlainItems, ArePlainMembers, IsPlain-NeedsNothing}
 
 -- ---- tokens
 abbrev BeginNotTrue : List Token → Type 0
@@ -27,8 +28,25 @@ BeginNotTrue (boolean false ∷ ts) = Unit {0}
 BeginNotTrue (null ∷ ts) = Unit {0}
 BeginNotTrue (bad ∷ ts) = Unit {0}
 
+abbrev BeginsEmpty : List Token → Type 0
+BeginsEmpty [] = Unit {0}
+BeginsEmpty (begin_object ∷ ts) = Unit {0}
+BeginsEmpty (end_object ∷ ts) = Unit {0}
+BeginsEmpty (begin_array ∷ ts) = Unit {0}
+BeginsEmpty (end_array ∷ ts) = Unit {0}
+BeginsEmpty (key s ∷ ts) = Unit {0}
+BeginsEmpty (string s ∷ ts) = s ≡ []
+BeginsEmpty (number s ∷ ts) = Unit {0}
+BeginsEmpty (boolean b ∷ ts) = Unit {0}
+BeginsEmpty (null ∷ ts) = Unit {0}
+BeginsEmpty (bad ∷ ts) = Unit {0}
+
+-- a value begins that the member of this name may have
+abbrev Begins : List ℕ → List Token → Type 0
+Begins k ts = (k ≡ infinite → BeginNotTrue ts) × (k ≡ compression → BeginsEmpty ts)
+
 abbrev IsPlainKey : List ℕ → List Token → Type 0
-IsPlainKey s ts = (s ≡ reserved_name → ⊥) × (s ≡ infinite → BeginNotTrue ts)
+IsPlainKey s ts = IsOwnName s × Begins s ts
 
 abbrev Tokens : List Token → Type 0
 Tokens [] = Unit {0}
@@ -61,12 +79,40 @@ begins_value (token bad ∷ ls) h = tt
 begins_value (comma ∷ ls) h = absurd h
 begins_value (colon ∷ ls) h = absurd h
 
+placed_empty : (b : Bool) (k : Place → List Token) → BeginsEmpty (place_token fresh (string []) b k)
+placed_empty true k = tt
+placed_empty false k = refl
+
+begins_empty : (ls : List Lexeme) → BeginEmpty ls → BeginsEmpty (punctuate fresh ls)
+unfolding punctuate
+begins_empty [] h = absurd h
+begins_empty (token begin_object ∷ ls) h = absurd h
+begins_empty (token end_object ∷ ls) h = absurd h
+begins_empty (token begin_array ∷ ls) h = absurd h
+begins_empty (token end_array ∷ ls) h = absurd h
+begins_empty (token (key s) ∷ ls) h = absurd h
+begins_empty (token (string []) ∷ ls) h = placed_empty (begins_colon ls) (λ n. punctuate n ls)
+begins_empty (token (string (c ∷ s)) ∷ ls) h = absurd h
+begins_empty (token (number s) ∷ ls) h = absurd h
+begins_empty (token (boolean b) ∷ ls) h = absurd h
+begins_empty (token null ∷ ls) h = absurd h
+begins_empty (token bad ∷ ls) h = absurd h
+begins_empty (comma ∷ ls) h = absurd h
+begins_empty (colon ∷ ls) h = absurd h
+
 follows_key : (ls : List Lexeme) → AreFalse ls → BeginNotTrue (punctuate after_key ls)
 unfolding punctuate
 follows_key [] h = absurd h
 follows_key (token t ∷ ls) h = absurd h
 follows_key (comma ∷ ls) h = absurd h
 follows_key (colon ∷ ls) h = begins_value ls h
+
+empty_follows : (ls : List Lexeme) → AreEmpty ls → BeginsEmpty (punctuate after_key ls)
+unfolding punctuate
+empty_follows [] h = absurd h
+empty_follows (token t ∷ ls) h = absurd h
+empty_follows (comma ∷ ls) h = absurd h
+empty_follows (colon ∷ ls) h = begins_empty ls h
 
 allowed : (b : Bool) (t : Token) (k : Place → List Token) (next : Place) → Tokens (t ∷ k next) → Tokens (if_allowed b t k next)
 allowed true t k next h = h
@@ -79,7 +125,9 @@ placed p end_object b ls h k = allowed (may_close p) end_object (λ n. punctuate
 placed p begin_array b ls h k = allowed (may_begin p) begin_array (λ n. punctuate n ls) fresh (k fresh h)
 placed p end_array b ls h k = allowed (may_close p) end_array (λ n. punctuate n ls) after_value (k after_value h)
 placed p (key s) b ls h k = tt
-placed p (string s) true ls h k = allowed (may_begin p) (key s) (λ n. punctuate n ls) after_key ((h.0.0, λ e. follows_key ls (h.0.1 e)), k after_key h.1)
+placed p (string s) true ls h k =
+    allowed (may_begin p) (key s) (λ n. punctuate n ls) after_key
+    ((h.0.0, (λ e. follows_key ls (h.0.1 e), λ e. empty_follows ls (h.0.2 e))), k after_key h.1)
 placed p (string s) false ls h k = allowed (may_begin p) (string s) (λ n. punctuate n ls) after_value (k after_value h.1)
 placed p (number s) b ls h k = allowed (may_begin p) (number s) (λ n. punctuate n ls) after_value (h.0, k after_value h.1)
 placed p (boolean v) b ls h k = allowed (may_begin p) (boolean v) (λ n. punctuate n ls) after_value (k after_value h)
@@ -110,33 +158,34 @@ Gives Q (Some p) = Q p.0 × Tokens p.1
 abbrev Keeps : {A : Type 0} → (A → Type 0) → Parse A → Type 0
 Keeps Q p = (ts : List Token) → Tokens ts → Gives Q (p ts)
 
-abbrev Values : Option (Json × List Token) → Type 0
-Values None = Unit {0}
-Values (Some p) = IsNotTrue p.0
+-- what is read as the value of a member of that name fits it
+abbrev Values : List ℕ → Option (Json × List Token) → Type 0
+Values k None = Unit {0}
+Values k (Some p) = Fits k p.0
 
-abbrev GivesNotTrue : Parse Json → Type 0
-GivesNotTrue p = (ts : List Token) → BeginNotTrue ts → Values (p ts)
+abbrev GivesFit : Parse Json → Type 0
+GivesFit p = (k : List ℕ) (ts : List Token) → Begins k ts → Values k (p ts)
 
 mapped : {A B : Type 0} (P : A → Type 0) (Q : B → Type 0) (f : A → B) → ((a : A) → P a → Q (f a)) → (o : Option (A × List Token)) → Gives P o
     → Gives Q (parse_map f o)
 mapped P Q f g None h = tt
 mapped P Q f g (Some p) h = (g p.0 h.0, h.1)
 
-array_not_true : (o : Option (Items × List Token)) → Values (parse_map array o)
-array_not_true None = tt
-array_not_true (Some p) = tt
+array_fits : (k : List ℕ) (o : Option (Items × List Token)) → Values k (parse_map array o)
+array_fits k None = tt
+array_fits k (Some p) = tt
 
-object_not_true : (o : Option (Members × List Token)) → Values (parse_map object o)
-object_not_true None = tt
-object_not_true (Some p) = tt
+object_fits : (k : List ℕ) (o : Option (Members × List Token)) → Values k (parse_map object o)
+object_fits k None = tt
+object_fits k (Some p) = tt
 
 item_more : (more : Parse Items) → Keeps ArePlainItems more → (o : Option (Json × List Token)) → Gives IsPlain o
     → Gives ArePlainItems (option_and_then (λ q. parse_map (item q.0) (more q.1)) o)
 item_more more keeps None h = tt
 item_more more keeps (Some q) h = mapped ArePlainItems ArePlainItems (item q.0) (λ js x. (h.0, x)) (more q.1) (keeps q.1 h.1)
 
-member_more : (k : List ℕ) → (k ≡ reserved_name → ⊥) → (more : Parse Members) → Keeps ArePlainMembers more → (o : Option (Json × List Token))
-    → (k ≡ infinite → Values o) → Gives IsPlain o
+member_more : (k : List ℕ) → IsOwnName k → (more : Parse Members) → Keeps ArePlainMembers more → (o : Option (Json × List Token))
+    → Values k o → Gives IsPlain o
     → Gives ArePlainMembers (option_and_then (λ q. parse_map (member k q.0) (more q.1)) o)
 member_more k n more keeps None t h = tt
 member_more k n more keeps (Some q) t h = mapped ArePlainMembers ArePlainMembers (member k q.0) (λ ms x. ((n, t), h.0, x)) (more q.1) (keeps q.1 h.1)
@@ -176,7 +225,7 @@ naming (boolean v ∷ ts) h = tt
 naming (null ∷ ts) h = tt
 naming (bad ∷ ts) h = tt
 
-module _ (p : Parse Json) (keeps : Keeps IsPlain p) (not_true : GivesNotTrue p) where
+module _ (p : Parse Json) (keeps : Keeps IsPlain p) (fit : GivesFit p) where
   item_turn : (more : Parse Items) → Keeps ArePlainItems more → (ts : List Token) → Tokens ts → (o : Option (List Token)) → Rest o
       → Gives ArePlainItems (items_step p more ts o)
   item_turn more again ts h (Some r) q = (tt, q)
@@ -191,31 +240,31 @@ module _ (p : Parse Json) (keeps : Keeps IsPlain p) (not_true : GivesNotTrue p) 
       → Gives ArePlainMembers (option_and_then (λ q. members_step p more q.0 q.1) o)
   member_turn more again None h = tt
   member_turn more again (Some (None, s)) h = (tt, h)
-  member_turn more again (Some (Some k, s)) h = member_more k h.0.0 more again (p s) (λ e. not_true s (h.0.1 e)) (keeps s h.1)
+  member_turn more again (Some (Some k, s)) h = member_more k h.0.0 more again (p s) (fit k s h.0.1) (keeps s h.1)
 
   Keeps-members : (n : ℕ) → Keeps ArePlainMembers (members p n)
   unfolding members
   Keeps-members zero ts h = tt
   Keeps-members (suc n) ts h = member_turn (members p n) (Keeps-members n) (read_key ts) (naming ts h)
 
-GivesNotTrue-value_with : (a : Parse Items) (o : Parse Members) → GivesNotTrue (value_with a o)
-GivesNotTrue-value_with a o [] h = tt
-GivesNotTrue-value_with a o (begin_object ∷ ts) h = object_not_true (o ts)
-GivesNotTrue-value_with a o (end_object ∷ ts) h = tt
-GivesNotTrue-value_with a o (begin_array ∷ ts) h = array_not_true (a ts)
-GivesNotTrue-value_with a o (end_array ∷ ts) h = tt
-GivesNotTrue-value_with a o (key s ∷ ts) h = tt
-GivesNotTrue-value_with a o (string s ∷ ts) h = tt
-GivesNotTrue-value_with a o (number s ∷ ts) h = tt
-GivesNotTrue-value_with a o (boolean true ∷ ts) h = absurd h
-GivesNotTrue-value_with a o (boolean false ∷ ts) h = tt
-GivesNotTrue-value_with a o (null ∷ ts) h = tt
-GivesNotTrue-value_with a o (bad ∷ ts) h = tt
+GivesFit-value_with : (a : Parse Items) (o : Parse Members) → GivesFit (value_with a o)
+GivesFit-value_with a o k [] h = tt
+GivesFit-value_with a o k (begin_object ∷ ts) h = object_fits k (o ts)
+GivesFit-value_with a o k (end_object ∷ ts) h = tt
+GivesFit-value_with a o k (begin_array ∷ ts) h = array_fits k (a ts)
+GivesFit-value_with a o k (end_array ∷ ts) h = tt
+GivesFit-value_with a o k (key s ∷ ts) h = tt
+GivesFit-value_with a o k (string s ∷ ts) h = h.1
+GivesFit-value_with a o k (number s ∷ ts) h = tt
+GivesFit-value_with a o k (boolean true ∷ ts) h = h.0
+GivesFit-value_with a o k (boolean false ∷ ts) h = tt
+GivesFit-value_with a o k (null ∷ ts) h = tt
+GivesFit-value_with a o k (bad ∷ ts) h = tt
 
-GivesNotTrue-value : (depth : ℕ) → GivesNotTrue (value depth)
+GivesFit-value : (depth : ℕ) → GivesFit (value depth)
 unfolding value
-GivesNotTrue-value zero = GivesNotTrue-value_with (λ ts. None) (λ ts. None)
-GivesNotTrue-value (suc d) = GivesNotTrue-value_with (λ ts. items (value d) (length ts) ts) (λ ts. members (value d) (length ts) ts)
+GivesFit-value zero = GivesFit-value_with (λ ts. None) (λ ts. None)
+GivesFit-value (suc d) = GivesFit-value_with (λ ts. items (value d) (length ts) ts) (λ ts. members (value d) (length ts) ts)
 
 Keeps-value_with : (a : Parse Items) (o : Parse Members) → Keeps ArePlainItems a → Keeps ArePlainMembers o → Keeps IsPlain (value_with a o)
 Keeps-value_with a o p q [] h = tt
@@ -235,8 +284,8 @@ unfolding value
 Keeps-value zero = Keeps-value_with (λ ts. None) (λ ts. None) (λ ts h. tt) (λ ts h. tt)
 Keeps-value (suc d) =
     Keeps-value_with (λ ts. items (value d) (length ts) ts) (λ ts. members (value d) (length ts) ts)
-    (λ ts. Keeps-items (value d) (Keeps-value d) (GivesNotTrue-value d) (length ts) ts)
-    (λ ts. Keeps-members (value d) (Keeps-value d) (GivesNotTrue-value d) (length ts) ts)
+    (λ ts. Keeps-items (value d) (Keeps-value d) (GivesFit-value d) (length ts) ts)
+    (λ ts. Keeps-members (value d) (Keeps-value d) (GivesFit-value d) (length ts) ts)
 
 abbrev If : Option Data → Type 0
 If None = Unit {0}

@@ -8,6 +8,7 @@ use Rattle.serde_json.specs.Data.{Num}
 use Rattle.serde_json.specs.Find.{is_float}
 use Rattle.serde_json.specs.Read.{number_of}
 use Rattle.fractions.specs.Aside.{reserved_name}
+use Rattle.tiled_maps.specs.Packed.{compression, note_name}
 
 abbrev pub infinite : List ℕ
 infinite = codes "infinite"
@@ -40,9 +41,37 @@ AreFalse (token t ∷ ls) = ⊥
 AreFalse (comma ∷ ls) = ⊥
 AreFalse (colon ∷ ls) = BeginFalse ls
 
+-- the value that begins here is a text of nothing
+abbrev pub BeginEmpty : List Lexeme → Type 0
+BeginEmpty [] = ⊥
+BeginEmpty (token begin_object ∷ ls) = ⊥
+BeginEmpty (token end_object ∷ ls) = ⊥
+BeginEmpty (token begin_array ∷ ls) = ⊥
+BeginEmpty (token end_array ∷ ls) = ⊥
+BeginEmpty (token (key s) ∷ ls) = ⊥
+BeginEmpty (token (string []) ∷ ls) = Unit {0}
+BeginEmpty (token (string (c ∷ s)) ∷ ls) = ⊥
+BeginEmpty (token (number s) ∷ ls) = ⊥
+BeginEmpty (token (boolean b) ∷ ls) = ⊥
+BeginEmpty (token null ∷ ls) = ⊥
+BeginEmpty (token bad ∷ ls) = ⊥
+BeginEmpty (comma ∷ ls) = ⊥
+BeginEmpty (colon ∷ ls) = ⊥
+
+-- a colon stands here, and then a text of nothing
+abbrev pub AreEmpty : List Lexeme → Type 0
+AreEmpty [] = ⊥
+AreEmpty (token t ∷ ls) = ⊥
+AreEmpty (comma ∷ ls) = ⊥
+AreEmpty (colon ∷ ls) = BeginEmpty ls
+
+-- a name that is none of those of notes
+abbrev pub IsOwnName : List ℕ → Type 0
+IsOwnName s = (s ≡ reserved_name → ⊥) × (s ≡ note_name → ⊥)
+
 -- the text s, before the lexemes ls
 abbrev pub IsPlainText : List ℕ → List Lexeme → Type 0
-IsPlainText s ls = (s ≡ reserved_name → ⊥) × (s ≡ infinite → AreFalse ls)
+IsPlainText s ls = IsOwnName s × (s ≡ infinite → AreFalse ls) × (s ≡ compression → AreEmpty ls)
 
 abbrev pub First : Token → List Lexeme → Type 0 → Type 0
 First begin_object ls later = later
@@ -62,9 +91,9 @@ ArePlain (token t ∷ ls) = First t ls (ArePlain ls)
 ArePlain (comma ∷ ls) = ArePlain ls
 ArePlain (colon ∷ ls) = ArePlain ls
 
--- what is read of a text begins with a byte that is no lowercase letter
+-- what is read of a text begins with a byte that is no lowercase letter and no underscore
 abbrev pub IsOther : ℕ → Type 0
-IsOther c = (c < 97) ⊎ (122 < c)
+IsOther c = (c < 95) ⊎ (122 < c)
 
 abbrev pub BeginsOther : Option (List ℕ) → Type 0
 BeginsOther None = Unit {0}
@@ -77,7 +106,7 @@ pub record LeavesText (text : List ℕ) (from end : ℕ) : Type 0 where
   pub within : end ≤ length text
   pub lexed : lex in_string (drop from text) ≡ lex between (drop end text)
 
--- The escape stands for no lowercase letter, and behind it the text closes before another place.
+-- The escape stands for no lowercase letter and no underscore, and behind it the text closes before another place.
 pub record LeavesEscaped (text : List ℕ) (escape end : ℕ) : Type 0 where
   pub inside : escape + 1 < length text
   pub other : BeginsOther (content plain (drop escape text))

@@ -4,3 +4,5 @@ pub mod Look
 pub mod Lexemes
 pub mod Sources
 pub mod Likeness
+pub mod Packed
+pub mod Packing

@@ -11,7 +11,7 @@ pub enum Fault {
     Memory,
     /// The bytes are no JSON in UTF-8, nest deeper than 127, or have a number too great for a 64-bit float.
     NotJson,
-    /// A member has the name `roskevad`.
+    /// A member has the name `roskevad` or `roskevad_packed`.
     NameTaken,
     /// The map has more than 200,000 fractions.
     TooManyFractions,
@@ -21,7 +21,7 @@ pub enum Fault {
     BadChunk,
     /// Two chunks of a layer overlap.
     Overlap,
-    /// Made finite, the layers would have more than 16,777,216 cells in all.
+    /// The packed layers, or those of the map made finite, have more than 16,777,216 cells in all.
     TooLarge,
     /// Made finite, the map would not come back as it was: a chunk has members of its own, or a layer has chunks and data.
     Unlike,
@@ -33,13 +33,13 @@ impl Fault {
         match self {
             Fault::Memory => "out of memory",
             Fault::NotJson => "not JSON",
-            Fault::NameTaken => "a member has the reserved name \"roskevad\"",
+            Fault::NameTaken => "a member has a reserved name, \"roskevad\" or \"roskevad_packed\"",
             Fault::TooManyFractions => "it has more than 200,000 fractions",
             Fault::TooDeep => "set aside or put back, it would nest deeper than 127",
             Fault::BadChunk =>
                 "a chunk has no place, no size, or not a cell for each of its places",
             Fault::Overlap => "two chunks of a layer overlap",
-            Fault::TooLarge => "made finite, its layers have more than 16,777,216 cells",
+            Fault::TooLarge => "its layers have more than 16,777,216 cells",
             Fault::Unlike => "made finite, it would not come back as it was",
         }
     }

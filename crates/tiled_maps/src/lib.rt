@@ -1,13 +1,18 @@
 //! Maps as Tiled saves them: what the editor's format refuses is set aside before it is read, and put back when it is saved.
 #![tactic(auto)]
 
+mod damage;
 mod fault;
 mod look;
+mod packed_layers;
+mod packing;
 mod shape;
 mod sources;
 mod text;
 mod tree;
+mod unpacking;
 
+pub use damage::why_damaged;
 pub use fault::Fault;
 pub use fractions::number_in;
 pub use look::needs_nothing;

@@ -6,8 +6,9 @@ ghost use Rattle.json.specs.Text.{content, plain};
 ghost use Rattle.json.specs.Word.{is_operator, is_space, head};
 ghost use Rattle.json.specs.Lex.{lex, between, in_word};
 ghost use Rattle.tiled_maps.specs.Look.{TextNeedsNothing};
-ghost use Rattle.tiled_maps.specs.Lexemes.{IsPlainText, AreFalse, BeginsLiteral, BeginsOther, ArePlain, EndsWell, LeavesText, LeavesEscaped, Ends, Leads};
+ghost use Rattle.tiled_maps.specs.Lexemes.{IsPlainText, AreFalse, AreEmpty, BeginsLiteral, BeginsOther, ArePlain, EndsWell, LeavesText, LeavesEscaped, Ends, Leads};
 
+use crate::unpacking::{COMPRESSION, NOTE};
 use json_trees::RESERVED_NAME;
 use memchr::memchr2;
 
@@ -135,6 +136,13 @@ fn is_false(rest: &[u8]) -> bool
     rest.starts_with(b":f") || rest.starts_with(b": f")
 }
 
+// Whether a colon and a text of nothing follow a text, with at most one space in between.
+fn is_empty(rest: &[u8]) -> bool
+    ensures { result ≡ true → AreEmpty (lex between rest.now) }
+{
+    rest.starts_with(b":\"\"") || rest.starts_with(b": \"\"")
+}
+
 // Whether the escape at a place surely stands for no letter of a name: it is short, as `\/` is, or a character past ASCII.
 fn is_no_letter(text: &[u8], at: usize) -> bool
     requires within { at < length text.now }
@@ -195,8 +203,11 @@ fn escaped_end(text: &[u8], escape: usize) -> Option<usize>
 fn is_plain_name(name: &[u8], rest: &[u8]) -> bool
     ensures { result ≡ true → IsPlainText name.now (lex between rest.now) }
 {
-    if name == RESERVED_NAME.as_bytes() {
+    if name == RESERVED_NAME.as_bytes() || name == NOTE.as_bytes() {
         return false;
+    }
+    if name == COMPRESSION.as_bytes() {
+        return is_empty(rest);
     }
     name != b"infinite".as_slice() || is_false(rest)
 }
@@ -285,12 +296,13 @@ fn lexeme_end(text: &[u8], at: usize) -> Option<usize>
     }
 }
 
-/// Whether a map's text surely needs nothing set aside: if it has a tree, that has no fraction and no member of the reserved
-/// name, and is no infinite map. It is one pass over the bytes.
+/// Whether a map's text surely needs nothing set aside: if it has a tree, that has no fraction, no member of the names of notes and
+/// no packed layer, and is no infinite map. It is one pass over the bytes.
 ///
 /// `false` says nothing of the text. It comes for a number that is no whole number of at most 18 digits, the version too, for an
-/// escaped letter in a text, for the reserved name, for a text `infinite` that is not followed by `false`, for a text that does not
-/// end with a brace or a line feed, and for some that are not JSON.
+/// escaped letter in a text, for one of these names, for a text `infinite` that is not followed by `false`, for a text `compression`
+/// that is not followed by a text of nothing, for a text that does not end with a brace or a line feed, and for some that are not
+/// JSON.
 pub fn needs_nothing(text: &[u8]) -> bool
     ensures { result ≡ true → TextNeedsNothing text.now }
 {

@@ -8,7 +8,7 @@ use serde_json::{Map, Value};
 use std::alloc::{AllocError, Global};
 
 /// How deep groups are looked into.
-const TIERS: u8 = 17;
+pub const TIERS: u8 = 17;
 
 /// Whether a tree is that of a map: an object with layers.
 pub fn is_map(value: &Value) -> bool
@@ -54,8 +54,8 @@ fn layer_among(id: u64, layers: &Vec<Value>) -> Option<&Map<String, Value>>
     None
 }
 
-// The layers of a map or a group.
-fn layers_in(members: &Map<String, Value>) -> Option<&Vec<Value>>
+/// The layers of a map or a group.
+pub fn layers_in(members: &Map<String, Value>) -> Option<&Vec<Value>>
     ensures { option_map (λ v. items_view v.now.items) result ≡ layers_in (members_view members.now.entries) }
 {
     match found(members, "layers") {
@@ -64,8 +64,8 @@ fn layers_in(members: &Map<String, Value>) -> Option<&Vec<Value>>
     }
 }
 
-// The layer with the id of another, in a map or a group of the source.
-fn layer_like<'a>(
+/// The layer with the id of another, in a map or a group of the source.
+pub fn layer_like<'a>(
     olds: Option<&'a Map<String, Value>>,
     members: &Map<String, Value>,
 ) -> Option<&'a Map<String, Value>>
@@ -84,8 +84,8 @@ fn layer_like<'a>(
     }
 }
 
-// Whether a member is this text.
-fn has_text(members: &Map<String, Value>, name: &str, text: &str) -> bool
+/// Whether a member is this text.
+pub fn has_text(members: &Map<String, Value>, name: &str, text: &str) -> bool
     ensures { result ≡ has_text name.now text.now (members_view members.now.entries) }
 {
     match found(members, name) {

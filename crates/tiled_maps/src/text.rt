@@ -1,13 +1,22 @@
 // From text to text.
-ghost use Rattle.std.specs.Prelude.{◌≡◌, IfOk, option_map};
+ghost use Rattle.std.specs.Prelude.{◌≡◌, ◌≤◌, ◌||◌, IfOk, option_map};
+ghost use Rattle.serde_json.specs.Data.{depth};
+ghost use Rattle.serde_json.specs.Read.{max_depth};
 ghost use Rattle.serde_json.specs.View.{view as data_of};
 ghost use Rattle.tiled_maps.specs.Likeness.{IsSource, PutsBackLike, PutsTreeBack};
-ghost use Rattle.tiled_maps.specs.Texts.{Reads, SetsAside, PutsBack};
+ghost use Rattle.fractions.specs.Aside.{reserved_name};
+ghost use Rattle.json_trees.specs.Names.{has_name};
+ghost use Rattle.json_trees.specs.Texts.{IsTreeOf};
+ghost use Rattle.tiled_maps.specs.Packed.{note_name};
+ghost use Rattle.tiled_maps.specs.Texts.{Reads, SetsAside, SetsAsidePlain, SetsAsideUnpacked, PutsBack};
 
 use crate::fault::Fault;
+use crate::packed_layers::{has_packed, packed_cells};
+use crate::packing::{MOST_PACKED, packed};
 use crate::shape::{has_name, is_within};
 use crate::sources::{as_in, is_map};
 use crate::tree::{MAX_DEPTH, finite, infinite, whole};
+use crate::unpacking::{NOTE, unpacked};
 use fractions::{Place, back, has_few_fractions, has_fraction};
 use json_trees::RESERVED_NAME;
 use map_layout::{LaidText, discard, read_tree, value_laid_out_like};
@@ -27,23 +36,19 @@ fn read(alloc: Global, bytes: &[u8]) -> Result<Value, Fault>
     }
 }
 
-/// The text of a map with its fractions set aside and, if it is infinite, made finite; or `None` if it has no fraction and is not
-/// infinite: then the bytes can be read as they are.
-///
-/// A fraction is a number that is no whole number of 64 bits; the version of the map is none. In the text a stand-in takes its
-/// place: an object whose one member, `roskevad`, has the halves of the number's 64 bits. The `x`, `y`, `width` and `height` of
-/// an object of an object layer keep their whole part in its place, rounded down and as far as 64 bits reach; the object gets a
-/// member `roskevad`, which has the stand-in of each of them that is a fraction. Then the map is made finite as by
-/// `infinite_maps::made_finite`; a map above its limits gets its sizes alone.
-///
-/// `NotJson` where the bytes have no tree, `NameTaken` where a member has the name `roskevad` already, `TooManyFractions` where the
-/// map has more than 200,000, `TooDeep` where the text would nest too deep, and `Memory` where there was not enough. `BadChunk`,
-/// `Overlap`, `TooLarge` and `Unlike` come for infinite maps alone. What `put_back` makes of the text has the tree of the bytes
-/// again. The caller bounds how long the text may be.
-pub fn set_aside(alloc: Global, bytes: &[u8]) -> Result<Option<Vec<u8>>, Fault>
-    ensures { SetsAside bytes.now result }
+// Whether a member has one of the names of notes.
+fn has_note(value: &Value) -> bool
+    ensures { result ≡ (has_name reserved_name (data_of value.now) || has_name note_name (data_of value.now)) }
 {
-    let value = read(alloc, bytes)?;
+    has_name(RESERVED_NAME, value) || has_name(NOTE, value)
+}
+
+// The text of a map without packed layers, with its fractions set aside and, if it is infinite, made finite; or `None` if it has no
+// fraction and is not infinite.
+fn aside_of(alloc: Global, bytes: &[u8], value: Value) -> Result<Option<Vec<u8>>, Fault>
+    requires { IsTreeOf bytes.now (data_of value) }
+    ensures { SetsAsidePlain bytes.now result }
+{
     if has_name(RESERVED_NAME, &value) {
         return Err(Fault::NameTaken);
     }
@@ -65,11 +70,61 @@ pub fn set_aside(alloc: Global, bytes: &[u8]) -> Result<Option<Vec<u8>>, Fault>
     }
 }
 
+// The same of a map whose layers were unpacked.
+fn aside_of_unpacked(alloc: Global, plain: Value) -> Result<Option<Vec<u8>>, Fault>
+    requires { depth (data_of plain) ≤ max_depth }
+    ensures { SetsAsideUnpacked (data_of plain) result }
+{
+    let text = plain.to_vec(alloc)?;
+    match aside_of(alloc, &text, plain)? {
+        Some(own) => Ok(Some(own)),
+        None => Ok(Some(text)),
+    }
+}
+
+/// The text of a map with its packed layers unpacked, its fractions set aside and, if it is infinite, made finite; or `None` if it
+/// has none of these: then the bytes can be read as they are.
+///
+/// A layer is packed if its data are base64 and its `compression` is zlib or gzip. Its data, and those of its chunks, become base64
+/// of what they unpack to, four bytes a cell. Data that do not unpack to that become a text of nothing; so does a whole layer, in
+/// place of its chunks, if one of them does not. So a reader refuses them. A member `roskevad_packed` takes the place of its
+/// `compression`.
+///
+/// A fraction is a number that is no whole number of 64 bits; the version of the map is none. In the text a stand-in takes its
+/// place: an object whose one member, `roskevad`, has the halves of the number's 64 bits. The `x`, `y`, `width` and `height` of
+/// an object of an object layer keep their whole part in its place, rounded down and as far as 64 bits reach; the object gets a
+/// member `roskevad`, which has the stand-in of each of them that is a fraction. Then the map is made finite as by
+/// `infinite_maps::made_finite`; a map above its limits gets its sizes alone.
+///
+/// `NotJson` where the bytes have no tree, `NameTaken` where a member has one of the two names already, `TooManyFractions` where the
+/// map has more than 200,000, `TooDeep` where the text would nest too deep, and `Memory` where there was not enough. `BadChunk`,
+/// `Overlap` and `Unlike` come for infinite maps alone, `TooLarge` for these or where packed layers have too many cells in all. What
+/// `put_back` makes of the text unpacks to what the bytes unpack to. The caller bounds how long the text may be.
+pub fn set_aside(alloc: Global, bytes: &[u8]) -> Result<Option<Vec<u8>>, Fault>
+    ensures { SetsAside bytes.now result }
+{
+    let value = read(alloc, bytes)?;
+    if has_name(NOTE, &value) {
+        return Err(Fault::NameTaken);
+    }
+    if !has_packed(&value) {
+        return aside_of(alloc, bytes, value);
+    }
+    if packed_cells(&value) > MOST_PACKED {
+        return Err(Fault::TooLarge);
+    }
+    let plain = unpacked(alloc, value)?;
+    if !is_within(MAX_DEPTH, &plain) {
+        return Err(Fault::TooDeep);
+    }
+    aside_of_unpacked(alloc, plain)
+}
+
 /// The text of a map in which what was set aside is put back, or `None` if nothing was: then the bytes are the text.
 ///
 /// A map that was infinite is made infinite, as by `infinite_maps::made_infinite`. A stand-in becomes its number. A coordinate of
 /// an object becomes the number that the object's note of it has, if it still is that number's whole part; else an edit has
-/// changed it, and it stays. Notes go, and anything else under `roskevad` stays.
+/// changed it, and it stays. Notes go, and anything else under `roskevad` stays. Layers that note how they were packed are packed.
 ///
 /// `NotJson` where the bytes have no tree, `TooDeep` where the text would nest too deep, and `Memory` where there was not enough.
 /// No other fault comes, and of what `set_aside` gave only `Memory`. The caller bounds how long the text may be.
@@ -77,7 +132,7 @@ pub fn put_back(alloc: Global, bytes: &[u8]) -> Result<Option<Vec<u8>>, Fault>
     ensures { PutsBack bytes.now result }
 {
     let value = read(alloc, bytes)?;
-    if !has_name(RESERVED_NAME, &value) {
+    if !has_note(&value) {
         return Ok(None);
     }
     let map = infinite(alloc, value)?;
@@ -86,7 +141,8 @@ pub fn put_back(alloc: Global, bytes: &[u8]) -> Result<Option<Vec<u8>>, Fault>
     if !is_within(MAX_DEPTH, &exact) {
         return Err(Fault::TooDeep);
     }
-    let text = exact.to_vec(alloc)?;
+    let packed = packed(alloc, None, exact)?;
+    let text = packed.to_vec(alloc)?;
     Ok(Some(text))
 }
 
@@ -120,8 +176,9 @@ fn source_tree(alloc: Global, source: &[u8]) -> Result<Option<Value>, AllocError
 /// The text of a map in which what was set aside is put back, as `put_back` does, laid out as its source is: the bytes of the file
 /// that the map was, or that it replaces.
 ///
-/// The version of the map, and the empty compression of a layer, are as the source has them. Where the map is the source's, the
-/// source itself is given. Else each value that the source has, too, keeps its bytes, and what is new is laid out as its neighbours
+/// The version of the map, and the empty compression of a layer, are as the source has them. A layer that was packed is packed; where
+/// its cells are the source's, it has the source's text of them. Where the map is the source's, or that is what the source unpacks
+/// to, the source itself is given. Else each value that the source has, too, keeps its bytes, and what is new is laid out as its neighbours
 /// are. A source that is no map counts for nothing: then the text is in Tiled's layout.
 ///
 /// `NotJson`, `TooDeep` and `Memory` come, as of `put_back`. The caller bounds how long the text may be.
@@ -134,6 +191,7 @@ pub fn put_back_like(alloc: Global, bytes: &[u8], source: &[u8]) -> Result<LaidT
     if !is_within(MAX_DEPTH, &map) {
         return Err(Fault::TooDeep);
     }
+    let map = packed(alloc, tree.as_ref(), map)?;
     let laid = value_laid_out_like(alloc, &map, source, tree)?;
     discard(map);
     Ok(laid)
