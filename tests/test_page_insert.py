@@ -170,7 +170,7 @@ def test_keys_of_tiled():
         assert tool()[0] == 'eraser', 'no tool for tiles has this key'
         page.keys(Keys.F1)
         assert 'With an object layer, as in Tiled' in page.texts('#keys h3')
-        page.js('document.querySelector("#keys").close(); roskevad.toolbar.keys.own.give(arguments[0], "c", roskevad.toolbar.keys.rows); roskevad.toolbar.keys.bind()',
+        page.js('document.querySelector("#keys").close(); const {keys} = roskevad.toolbar; keys.own.give(arguments[0], "c", keys.rows); keys.bind()',
                 'Brush: draws the stamp; Shift draws a line from the last cell')
         choose(page, 'Places')
         page.keys('c')
