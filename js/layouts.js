@@ -4,20 +4,20 @@
 import { hasAside } from "./tiled_maps.js";
 import * as words from "./words.js";
 
-// The numbers that the library has for layouts, but for the compact one, in which each text is that it gives.
-const NUMBERS = new Map([["tiled", 0], ["rows", 1]]);
-// That of Tiled, that with rows of cells on lines of their own, and that without lines and spaces.
-const LAYOUTS = [...NUMBERS.keys(), "compact"];
+// The numbers that the library has for layouts: that of Tiled, that with rows of cells on lines of their own, and that without lines
+// and spaces.
+const NUMBERS = new Map([["tiled", 0], ["rows", 1], ["compact", 3]]);
+const LAYOUTS = [...NUMBERS.keys()];
 
 /** The name of a layout; null where none is named. Throws RangeError for any other word. */
 export function layoutOf(word) {
   return word === null ? null : words.oneOf(word, LAYOUTS, "the layout of a map");
 }
 
-/** The compact text of a map in a layout; without one as its source is. What was set aside is put back already. */
+/** The text of a map in a layout; without one as its source is. What was set aside is put back already. */
 export function laidOut(module, text, { layout, source }) {
   if (layout !== null) {
-    return NUMBERS.has(layout) ? module.laidOut(text, NUMBERS.get(layout)) : text;
+    return module.laidOut(text, NUMBERS.get(layout));
   }
   // What still stands under the reserved names is the map's own.
   return hasAside(text) ? module.laidOut(text, NUMBERS.get("tiled")) : module.laidOutLike(text, source);

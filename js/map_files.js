@@ -1,9 +1,8 @@
 // SPDX-License-Identifier: MIT OR Apache-2.0
 // Maps as the bytes of files: how they are opened, and how they are saved.
-import { Unpackable, packLayers, unpackLayers } from "./compressed_layers.js";
 import { Refused, refusedCall } from "./faults.js";
 import { laidOut } from "./layouts.js";
-import { faultOfFile, faultOfNoJson, isOfMap } from "./map_faults.js";
+import { faultOfFile, isOfMap } from "./map_faults.js";
 import { bytesOf, textOf } from "./module.js";
 import { hasAside } from "./tiled_maps.js";
 
@@ -19,15 +18,14 @@ export async function openedMap(editor, name, data, call) {
   editor._events.refuse(call);
   // The document keeps them, and the caller may change his own.
   const given = typeof data === "string" ? bytesOf(data) : bytesOf(data).slice();
-  const found = await unpacked(editor, given, call);
-  const text = made(editor, "set_aside", found.bytes, call);
+  const text = made(editor, "set_aside", given, call);
   try {
     const reply = openBytes(editor, name, text, call);
     editor._handle(name)._keepSource(given);
     return reply;
   } catch (fault) {
     if (fault instanceof Refused && isOfMap(fault.code)) {
-      const { code, ...more } = faultOfFile(editor._module, fault.code, given, found);
+      const { code, ...more } = faultOfFile(editor._module, fault.code, given);
       throw refusedCall(code, call, code === NOT_JSON && mayBePath(data) ? { ...more, why: NO_PATH } : more);
     }
     throw fault;
@@ -37,19 +35,6 @@ export async function openedMap(editor, name, data, call) {
 // Whether a text may be the path of a file: it has no object of JSON in it, which each map is.
 function mayBePath(data) {
   return typeof data === "string" && !data.includes("{");
-}
-
-// What is unpacked of a file. Throws Refused with the call.
-async function unpacked(editor, given, call) {
-  try {
-    return await unpackLayers(given);
-  } catch (fault) {
-    if (fault instanceof Unpackable) {
-      const { code, ...more } = faultOfNoJson(editor._module, given) ?? { code: fault.code, why: fault.why, cause: fault.cause };
-      throw refusedCall(code, call, more);
-    }
-    throw fault;
-  }
 }
 
 /**
@@ -66,17 +51,21 @@ export async function savedMap(editor, call, layout = null) {
   const document = editor._handle(name);
   const { _source: source } = document;
   const isAside = hasAside(shown);
-  const text = isAside ? made(editor, "put_back", shown, call) : shown;
+  const text = isAside ? putBack(editor, shown, source, call) : shown;
   editor._replyTo("clean", call);
   try {
-    const packed = isAside ? await packLayers(text, source) : text;
-    const bytes = laidOut(editor._module, packed, { layout, source });
+    const bytes = isAside && layout === null ? text : laidOut(editor._module, text, { layout, source });
     document._keepSource(bytes.slice());
     return bytes;
   } catch (fault) {
     markDirty(editor, name);
     throw fault;
   }
+}
+
+// The text of a map in which what was set aside is put back, laid out as its source is, if there is memory for that.
+function putBack(editor, text, source, call) {
+  return editor._module.putBackLike(text, source) ?? made(editor, "put_back", text, call);
 }
 
 // What a call of the library makes of the text of a map; the same bytes where it makes none.

@@ -22,11 +22,11 @@ export const KINDS = { 1: "tile", 2: "object", 3: "group", 4: "image" };
 const NOT_JSON = NONE - 5;
 // Why a map is not set aside, or put back: what the calls answer, and the words of the program.
 const ASIDE_FAULTS = new Map([
-  [NONE - 6, 'a member has the reserved name "roskevad"'],
+  [NONE - 6, 'a member has a reserved name, "roskevad" or "roskevad_packed"'],
   [NONE - 7, "set aside or put back, it would nest deeper than 127"],
   [NONE - 8, "a chunk has no place, no size, or not a cell for each of its places"],
   [NONE - 9, "two chunks of a layer overlap"],
-  [NONE - 10, "made finite, its layers have more than 16,777,216 cells"],
+  [NONE - 10, "its layers have more than 16,777,216 cells"],
   [NONE - 11, "made finite, it would not come back as it was"],
   [NONE - 12, "it has more than 200,000 fractions"],
 ]);
@@ -248,7 +248,7 @@ export class Module {
    */
   laidOut(text, layout) {
     const { lay_out: call } = this.#calls;
-    return this.#laid([text], 2 * text.length, (at, to, room) => call(at, text.length, layout, to, room));
+    return this.#laid([text], 2 * text.length, (at, to, room) => call(at, text.length, layout, to, room)) ?? text;
   }
 
   /**
@@ -256,6 +256,11 @@ export class Module {
    * back.
    */
   laidOutLike(text, source) {
+    return this.putBackLike(text, source) ?? text;
+  }
+
+  /** The same; null where it can't be laid out. */
+  putBackLike(text, source) {
     const { put_back_like: call } = this.#calls;
     const [size, sourceSize] = [text.length, source.length];
     return this.#laid([text, source], size + sourceSize, (at, to, room) => call(at, size, at + size, sourceSize, to, room));
@@ -263,10 +268,10 @@ export class Module {
 
   #laid(parts, expected, call) {
     try {
-      return this.#made(parts, expected, call).text ?? parts[0];
+      return this.#made(parts, expected, call).text;
     } catch (fault) {
       if (fault instanceof NoMemory) {
-        return parts[0];
+        return null;
       }
       throw fault;
     }

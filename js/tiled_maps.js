@@ -1,13 +1,13 @@
 // SPDX-License-Identifier: MIT OR Apache-2.0
 // What the library sets aside of a map, in its tree.
-import { NOTE } from "./json_scanner.js";
 
-// The name under which it stands, in the map, in layers and objects.
+// The name under which it stands, in the map, in layers and objects, and the one under which a layer notes how it was packed.
 const RESERVED = "roskevad";
+const PACKED = "roskevad_packed";
 // The names of an object's place, with what it was moved by, and of its size.
 const MOVED = [["x", "movedx"], ["y", "movedy"], ["width", null], ["height", null]];
 const HALF = 2 ** 32;
-// What a text has in it where anything stands under that name, or under the one of packed layers.
+// What a text has in it where anything stands under one of these names.
 const FRONT = `"${RESERVED}`;
 const FRONT_BYTES = new TextEncoder().encode(FRONT);
 
@@ -38,11 +38,11 @@ export function restored(value, note) {
   return value !== null && typeof value === "object" ? restoredMembers(value, note) : value;
 }
 
-/** Layers of which nothing notes any more how they were packed, nor those in them: where `unpackLayers` has put that. */
+/** Layers of which nothing notes any more how they were packed, nor those in them. */
 export function withoutPacking(layers) {
   for (const layer of Array.isArray(layers) ? layers : []) {
     if (layer !== null && typeof layer === "object") {
-      delete layer[NOTE];
+      delete layer[PACKED];
       withoutPacking(layer.layers);
     }
   }

@@ -7,8 +7,8 @@ fixed seed. Of an infinite map a text of a finite one must come, or one of the f
 have. A text that was set aside is put back: that is the tree of the source again.
 
 native/heap_peaks.c measures the heap that an opening of some of these texts takes with `--all-maps`:
-less than 320 bytes for a byte of the file, since a short fraction becomes an object, and for an
-infinite map less than 200 for each cell of the finite one. Each growth is refused in turn while a map
+less than 320 bytes for a byte of the file, since a short fraction becomes an object, for an infinite
+map less than 200 for each cell of the finite one, and for a packed one 300,000 more. Each growth is refused in turn while a map
 is set aside and put back."""
 import json
 import random
@@ -40,6 +40,7 @@ from lib.infinite import cells_in_all, is_infinite
 from lib.json_texts import tree_of
 from lib.maps import text_of
 from lib.native import interposed
+from lib.packed_layers import MOST_IN_ALL, has_note, has_packed, packed_cells, unpacked
 from lib.places import EXAMPLE_MAPS, IN_MEMORY, MAP_REPORT, TILE_EDITOR
 
 IS_LONG = True
@@ -47,8 +48,8 @@ SEED, TEXTS, TEXTS_OF_RUN, SECONDS = 20261126, 20_000, 100, 60
 # The longest map that is changed; the bytes of heap that a byte of a file may take, and the bytes that
 # a shorter file counts as.
 LONGEST, HEAP, SHORTEST = 12_000, 320, 128
-# The bytes of heap that a cell of a finite map may take which was infinite.
-CELL = 200
+# The bytes of heap that a cell of a finite map may take which was infinite; and those that unpacking takes.
+CELL, UNPACKING = 200, 300_000
 # Of so many texts the heap is measured in one.
 ONE_OF = 10
 AS_IT_IS = 'as it is'
@@ -125,16 +126,27 @@ def answers_of(data):
     found = tree_of(data)
     if not found:
         return Answer(NOT_JSON), Answer(NOT_JSON)
-    (tree,) = found
+    (given,) = found
+    put = Answer(tree=exact(put_back(given))) if has_name(given) or has_note(given) else Answer(AS_IT_IS)
+    if has_note(given):
+        return Answer(NAME_TAKEN), put
+    if has_packed(given) and packed_cells(given) > MOST_IN_ALL:
+        return Answer(INFINITE_FAULTS['TooLarge']), put
+    tree = unpacked(given)
+    return answer_of_plain(tree, has_packed(given)), put
+
+
+def answer_of_plain(tree, was_packed):
+    """What must be answered where a text without packed layers is set aside; where some were packed, there is a text at least."""
     if has_name(tree):
-        return Answer(NAME_TAKEN), Answer(tree=exact(put_back(tree)))
-    as_it_is = Answer(AS_IT_IS)
+        return Answer(NAME_TAKEN)
+    as_it_is = Answer(tree=exact(tree)) if was_packed else Answer(AS_IT_IS)
     if is_infinite(tree) and not is_too_deep(aside(tree)):
-        return Answer(is_finite=True), as_it_is
+        return Answer(is_finite=True)
     if not has_fraction(tree):
-        return as_it_is, as_it_is
+        return as_it_is
     new = aside(tree)
-    return Answer(TOO_DEEP) if is_too_deep(new) else Answer(tree=exact(new)), as_it_is
+    return Answer(TOO_DEEP) if is_too_deep(new) else Answer(tree=exact(new))
 
 
 # ---- the texts
@@ -189,6 +201,12 @@ def answered(lines, folder):
     ]
 
 
+def open_tree(data):
+    """The tree of a text with its packed layers unpacked: one that is damaged has no cells to be put back."""
+    (tree,) = tree_of(data)
+    return exact(unpacked(tree))
+
+
 def faults_of_again(cases, asides, folder):
     """The texts that are another tree once what was set aside of them is put back."""
     pairs = [(case, text) for case, text in zip(cases, asides) if text.startswith(('{', '['))]
@@ -196,7 +214,7 @@ def faults_of_again(cases, asides, folder):
     backs = answered(lines.encode(), folder) if pairs else []
     for (case, text), came in zip(pairs, backs):
         again = text if came == AS_IT_IS else came
-        if exact_text(again.encode()) != exact_text(case.given):
+        if open_tree(again.encode()) != open_tree(case.given):
             yield f'{case.name}: put back again {came[:400]!r}'
 
 
@@ -232,7 +250,8 @@ def faults_of_heap(cases, folder):
     for number, heap in zip(numbers, heaps):
         length = max(len(cases[number].given), SHORTEST)
         found = tree_of(cases[number].given)
-        if heap >= HEAP * length + CELL * (cells_in_all(aside(*found)) if found else 0):
+        is_packed = found and has_packed(*found)
+        if heap >= HEAP * length + CELL * (cells_in_all(aside(*found)) if found else 0) + UNPACKING * bool(is_packed):
             yield f'{cases[number].name}: {heap} bytes of heap for a file of {length}'
 
 

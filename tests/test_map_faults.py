@@ -6,8 +6,8 @@ tests/lib/broken.py; all from a fixed seed.
 
 Python's json module reads each place, too. What stands at the path is what is shown; the value that begins at the line and the
 column is that one, or the object that lacks it. Where a text is no JSON, what stands before the byte at fault can be a part of some
-JSON, and with that byte it can not. Then come maps with packed layers, some of them damaged, in the packages alone: the place is
-that in the file, and of two faults the first by the order of reading is told."""
+JSON, and with that byte it can not. Then come maps with packed layers, some of them damaged: the place is that in the file, and of two
+faults the first by the order of reading is told."""
 import base64
 import json
 import pickle
@@ -36,7 +36,8 @@ SEED, MAPS = 20261129, 3_000
 LONGEST, SECONDS = 12_000, 600
 READ = 'read'
 PLACE = ('path', 'exact', 'shown', 'text', 'line', 'column')
-BAD_DATA = 'the data of a layer does not unpack to 4 bytes a cell'
+CUT_OFF = 'its packed data are cut off'
+ONLY_TWO = 'only zlib and gzip are unpacked: choose another Tile Layer Format in Map > Map Properties'
 
 
 # ---- broken maps
@@ -214,8 +215,8 @@ def test_library():
 
 
 def is_packed(data):
-    """Whether a package may find a packed layer in a map."""
-    return b'zlib' in data or b'gzip' in data or b'zstd' in data
+    """Whether the Python package may find a layer in a map that it has to unpack itself."""
+    return b'zstd' in data
 
 
 def as_told(tells):
@@ -234,7 +235,7 @@ def test_node():
     see_alike(as_told(Told.by_table()), [None if is_packed(case.given) else told for case, told in zip(CASES, came)])
 
 
-# ---- packed layers, in the packages alone
+# ---- packed layers
 
 
 def packed(cells, cut=None):
@@ -259,19 +260,22 @@ GOOD, CUT = packed(range(30)), packed(range(30), -5)
 def packed_rows():
     """Maps with packed layers: the code, the path, why, and whether the line is told."""
     whole, damaged = layer(1, GOOD), layer(2, CUT)
-    yield 'the second is damaged', two_layers(whole, damaged), (66, ('layers', 1, 'data'), BAD_DATA, True)
-    yield 'both are damaged', two_layers(layer(1, CUT), damaged), (66, ('layers', 0, 'data'), BAD_DATA, True)
-    yield 'a member is absent before', two_layers(without(whole, 'id'), damaged), (62, ('layers', 0, 'id'), None, False)
-    yield 'a member is absent behind', two_layers(whole, without(damaged, 'id')), (62, ('layers', 1, 'id'), None, False)
-    yield 'a member of the map', two_layers(whole, damaged, tilewidth='a'), (63, ('tilewidth',), None, False)
-    yield 'an id twice', two_layers(whole, layer(1, GOOD)), (67, ('layers', 1, 'id'), None, False)
-    yield 'lzma', two_layers(whole, layer(2, '', compression='lzma')), (65, ('layers', 1, 'compression'), ..., True)
-    yield 'a width', two_layers(whole, {**layer(2, GOOD), 'width': 7}), (66, ('layers', 1, 'width'), None, False)
+    yield 'the second is damaged', two_layers(whole, damaged), (66, ('layers', 1, 'data'), CUT_OFF, True)
+    yield 'both are damaged', two_layers(layer(1, CUT), damaged), (66, ('layers', 0, 'data'), CUT_OFF, True)
+    yield 'a member is absent before', two_layers(without(whole, 'id'), damaged), (62, ('layers', 0, 'id'), None, True)
+    yield 'a member is absent behind', two_layers(whole, without(damaged, 'id')), (62, ('layers', 1, 'id'), None, True)
+    yield 'a member of the map', two_layers(whole, damaged, tilewidth='a'), (63, ('tilewidth',), None, True)
+    yield 'an id twice', two_layers(whole, layer(1, GOOD)), (67, ('layers', 1, 'id'), None, True)
+    yield 'lzma', two_layers(whole, layer(2, '', compression='lzma')), (65, ('layers', 1, 'compression'), ONLY_TWO, True)
+    yield 'a width', two_layers(whole, {**layer(2, GOOD), 'width': 7}), (66, ('layers', 1, 'width'), None, True)
     group = {'id': 3, 'name': 'g', 'type': 'group', 'visible': True, 'layers': [whole, damaged]}
-    yield 'in a group', text_of({**map_of(group, width=6, height=5)}), (66, ('layers', 0, 'layers', 1, 'data'), BAD_DATA, True)
+    yield 'in a group', text_of({**map_of(group, width=6, height=5)}), (66, ('layers', 0, 'layers', 1, 'data'), CUT_OFF, True)
+    chunk = {'x': 0, 'y': 0, 'width': 6, 'height': 5, 'data': CUT}
+    spread = {**without(layer(1, GOOD), 'data'), 'chunks': [{**chunk, 'data': GOOD}, {**chunk, 'x': 16}], 'startx': 0, 'starty': 0}
+    yield 'a chunk', two_layers(spread, {**spread, 'id': 2}, infinite=True), (66, ('layers', 0), CUT_OFF, ...)
     yield 'no JSON', two_layers(whole, damaged)[:-1], (60, None, None, True)
     yield 'no JSON in the midst', two_layers(whole, damaged).replace(b'"visible":', b'"visible"', 1), (60, None, None, True)
-    yield 'no JSON, with the note', two_layers(layer(1, GOOD, roskevad_compression='zlib'), damaged)[:-1], (60, None, None, True)
+    yield 'no JSON, with the note', two_layers(layer(1, GOOD, roskevad_packed='zlib'), damaged)[:-1], (60, None, None, True)
 
 
 def fault_of_packed(data, wanted, came):
@@ -280,9 +284,11 @@ def fault_of_packed(data, wanted, came):
         return 'it was opened'
     code, path, why, has_line = wanted
     place = dict(zip(PLACE, came[2]))
-    whole = [code, path, came[1] if why is ... else why, has_line]
-    told = [came[0], place['path'] and tuple(place['path']), came[1], place['line'] is not None]
-    return unlike(whole, told) or (fault_of_place(data, {'code': code, **place}) if has_line else None)
+    path_came = place['path'] and tuple(place['path'])
+    if has_line is ...:
+        # The reader has stopped in what is set aside of it.
+        return unlike([code, path, why], [came[0], path_came[:len(path)], came[1]])
+    return unlike([code, path, why, has_line], [came[0], path_came, came[1], place['line'] is not None]) or fault_of_place(data, {'code': code, **place})
 
 
 def see_packed(told):

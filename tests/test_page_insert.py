@@ -149,6 +149,34 @@ def test_names():
         assert newest(page)['id'] == number + 1 and added(page)['text']['text'] == 'Hello World', 'the tool is still in hand'
 
 
+def test_keys_of_tiled():
+    """With an object layer in hand keys take the shapes that they take in Tiled; with a tile layer the same keys take tools for tiles. A key of
+    one's own goes before them."""
+    with Bench() as page:
+        tool = lambda: page.js('return [roskevad.tools.name, roskevad.tools.all.insert.shape]')
+        choose(page, 'Places')
+        for key, shape in (('r', 'rectangle'), ('c', 'ellipse'), ('p', 'polygon'), ('t', 'tile'), ('e', 'text')):
+            page.keys(key)
+            assert tool() == ['insert', shape], key
+            passed()
+        page.keys('o')
+        assert tool()[0] == 'objects'
+        choose(page, 'Ground')
+        for key, name in (('r', 'select'), ('p', 'rectangle'), ('e', 'eraser')):
+            page.keys(key)
+            assert tool()[0] == name, key
+            passed()
+        page.keys('t')
+        assert tool()[0] == 'eraser', 'no tool for tiles has this key'
+        page.keys(Keys.F1)
+        assert 'With an object layer, as in Tiled' in page.texts('#keys h3')
+        page.js('document.querySelector("#keys").close(); const {keys} = roskevad.toolbar; keys.own.give(arguments[0], "c", keys.rows); keys.bind()',
+                'Brush: draws the stamp; Shift draws a line from the last cell')
+        choose(page, 'Places')
+        page.keys('c')
+        assert tool()[0] == 'brush'
+
+
 def test_fonts():
     """A text has fields for its font, the height and colour of its letters, its style and where it lies in its box; one value at a time
     is set, and what is as by default is not written."""

@@ -132,10 +132,14 @@ def test_still_hand():
         page.editor.lines('select replace 0 5 12 1')
         page.ctrl('c')
         page.ctrl('v')
-        assert page.js('return roskevad.overlay.hand.cells.slice(2)') == [12, 1]
+        assert page.js('return roskevad.overlay.hand.cells.slice(2)') == [12, 1] and words(page) == '12 × 1'
         page.js('roskevad.bench.takeStamp({width: 100, height: 100, values: new Array(10_000).fill(arguments[0])})', SAND)
         assert seen_in(page, [(0, 0)]) != seen_in(page, [(0, 5)]) and page.js('return roskevad.overlay.hand.valueAt(0, 0)') == SAND
-        assert spelled(page)[-1].startswith('select')
+        assert spelled(page)[-1].startswith('select') and words(page) == '', 'that is no paste'
+        page.ctrl('v')
+        assert words(page) == '12 × 1'
+        page.drag([(5, 2)])
+        assert words(page) == '', 'it is put down'
 
 
 def luminance(colour):

@@ -249,7 +249,7 @@ def test_many_steps():
         # The last stroke is listed a moment later.
         page.settle()
         assert page.find('#steps li.now').get_attribute('data-place') == str(standing(page)[0])
-        assert page.js('return document.querySelector("#all-steps > ul").checkVisibility({contentVisibilityAuto: true})') is False
+        assert page.js('return document.querySelector("#steps > ul").checkVisibility({contentVisibilityAuto: true})') is False
 
 
 GROWS = '''

@@ -110,7 +110,8 @@ def test_nothing_chosen():
     with Bench() as page:
         why = {'Cut': 'Select cells or choose an object first', 'Copy': 'Select cells or choose an object first', 'Paste': 'Nothing is copied',
                'Duplicate': 'Choose an object first', 'Delete': 'Select cells or choose an object first', 'Select nothing': 'Nothing is selected'}
-        row = 'return [...document.querySelectorAll("#menu button")].filter(each => each.ariaDisabled === "true").map(each => [each.querySelector(".words").textContent, each.title])'
+        row = '''const rows = [...document.querySelectorAll("#menu button")].filter(each => each.ariaDisabled === "true");
+                 return rows.map(each => [each.querySelector(".words").textContent, each.title]);'''
 
         def grey():
             page.click('#menu-button')

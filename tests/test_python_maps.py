@@ -5,7 +5,6 @@ Tiled exports them in each tile layer format, finite and infinite; Tiled exports
 that has the same numbers as its export of the source. Maps that need nothing set aside are opened and
 saved byte for byte as without. Data that are cut short, damaged, too long, or that would take very
 much memory are refused by name. Zstandard is packed and unpacked by Debian's `python3-zstandard`."""
-import base64
 import json
 import random
 import struct
@@ -26,6 +25,7 @@ from lib.compressions import (
     GZIP,
     ZLIB,
     ZSTANDARD,
+    cells_in,
     data_of,
     compressed_bytes,
     text_of_bytes,
@@ -41,10 +41,14 @@ IS_LONG = True
 PACKAGES = ('tiled', 'python3-zstandard')
 SEED, RUNS = 20261128, 60
 WORDS = {51: 'store failed', 65: 'compressed', 66: 'bad data'}
-NAME_TAKEN = 'a member has the reserved name "roskevad"'
+NAME_TAKEN = 'a member has a reserved name, "roskevad" or "roskevad_packed"'
 NOTE_TAKEN = 'a layer has a member of the reserved name "roskevad_compression"'
+# Why a layer is refused that Zstandard has packed.
 BAD_DATA = 'the data of a layer does not unpack to 4 bytes a cell'
-TOO_LONG = 'unpacked, its layers have more than 67,108,864 bytes'
+# Why one is that zlib or gzip has packed.
+NO_BASE64, CUT_OFF, NO_HEADER = 'its packed data are no base64', 'its packed data are cut off', "its packed data begin neither as zlib's do nor as gzip's"
+BEHIND, LONGER, SHORTER = 'bytes stand behind its packed data', 'its data unpack to more than 4 bytes a cell', 'its data unpack to fewer than 4 bytes a cell'
+ONLY_TWO = 'only zlib and gzip are unpacked: choose another Tile Layer Format in Map > Map Properties'
 
 
 def opened(data, **more):
@@ -90,7 +94,7 @@ def test_random_maps():
 
 
 def test_layers_stay_packed():
-    """With the level of the file; a layer that is added is an array."""
+    """By their own compression, Zstandard with the level of the file; a layer that is added is an array."""
     cells = [1 + at % 9 for at in range(30)]
     for compression in (ZLIB, GZIP, ZSTANDARD):
         for level in (-1, 1, 9):
@@ -99,21 +103,16 @@ def test_layers_stay_packed():
                 editor.step('stamp 1 0 0 1 3')
                 editor.step('layer add tile New')
                 first, second = json.loads(editor.save_map(all_maps=True))['layers']
-            wanted = compression, text_of_bytes(compressed_bytes(_words([3, *cells[1:]]), compression, level))
-            came = first['compression'], _without_system(first['data'], compression)
-            fault = unlike((wanted[0], _without_system(wanted[1], compression)), came) or unlike([0] * 30, second['data'])
+            wanted = [3, *cells[1:]]
+            fault = unlike((compression, wanted), (first['compression'], cells_in(first['data'], compression))) or unlike([0] * 30, second['data'])
+            if compression == ZSTANDARD:
+                fault = fault or unlike(text_of_bytes(compressed_bytes(_words(wanted), compression, level)), first['data'])
             assert not fault and 'compression' not in second, f'{compression} {level}: {fault}'
             passed()
 
 
 def _words(values):
     return b''.join(value.to_bytes(4, 'little') for value in values)
-
-
-def _without_system(text, compression):
-    """Packed data without the byte in which gzip tells its system."""
-    data = base64.b64decode(text)
-    return data[:9] + data[10:] if compression == GZIP else data
 
 
 def test_maps_that_need_nothing():
@@ -372,20 +371,21 @@ def damaged():
     for compression in (ZLIB, GZIP, ZSTANDARD):
         whole = compressed_bytes(cells, compression)
         rows = {
-            'nothing': b'',
-            'no such stream': b'abcdefgh' * 9,
-            'a byte behind it': whole + b'x',
-            'a stream behind it': whole * 2,
-            'a byte too few': compressed_bytes(cells[:-1], compression),
-            'a byte too many': compressed_bytes(cells + b'x', compression),
-            'ten million bytes': compressed_bytes(bytes(10_000_000), compression),
+            'nothing': (b'', CUT_OFF),
+            'no such stream': (b'abcdefgh' * 9, NO_HEADER),
+            'a byte behind it': (whole + b'x', BEHIND),
+            'a stream behind it': (whole * 2, BEHIND),
+            'a byte too few': (compressed_bytes(cells[:-1], compression), SHORTER),
+            'a byte too many': (compressed_bytes(cells + b'x', compression), LONGER),
+            'ten million bytes': (compressed_bytes(bytes(10_000_000), compression), LONGER),
         }
-        rows.update({f'cut at {at}': whole[:at] for at in range(1, len(whole), 7)})
-        rows['without its last byte'] = whole[:-1]
-        for name, data in rows.items():
-            yield Case(f'{compression}, {name}', with_data(text_of_bytes(data), compression), (66, BAD_DATA))
-    yield Case('no base64', with_data('a*b='), (66, BAD_DATA))
-    yield Case('base64 that is cut', with_data('abc'), (66, BAD_DATA))
+        rows.update({f'cut at {at}': (whole[:at], CUT_OFF) for at in range(1, len(whole), 7)})
+        rows['without its last byte'] = whole[:-1], CUT_OFF
+        for name, (data, why) in rows.items():
+            given = with_data(text_of_bytes(data), compression)
+            yield Case(f'{compression}, {name}', given, (66, BAD_DATA if compression == ZSTANDARD else why))
+    yield Case('no base64', with_data('a*b='), (66, NO_BASE64))
+    yield Case('base64 that is cut', with_data('abc'), (66, NO_BASE64))
 
 
 def test_damaged_data():
@@ -407,19 +407,21 @@ def kept(**members):
 def test_maps_that_are_refused():
     bad_chunk = 'a chunk has no place, no size, or not a cell for each of its places'
     two = [{'x': at, 'y': 0, 'width': 2, 'height': 1, 'data': [1, 2]} for at in (0, 1)]
-    overlapping = tiles(1, 1, 1, chunks=two)
-    del overlapping['data']
+    overlapping, cut = tiles(1, 1, 1, chunks=two), tiles(1, 1, 1, chunks=[{**two[0], 'data': [1]}])
+    del overlapping['data'], cut['data']
     rows = [
         ('the name', 51, NAME_TAKEN, kept(a=[{'roskevad': 1}])),
-        ('the note', 51, NOTE_TAKEN, with_data(data_of([1] * 30, ZLIB), roskevad_compression='zlib')),
+        ('the note', 51, NAME_TAKEN, with_data(data_of([1] * 30, ZLIB), roskevad_packed='zlib')),
+        ('the note of Zstandard', 51, NOTE_TAKEN, with_data(data_of([1] * 30, ZLIB), roskevad_compression='zstd')),
         ('too deep', 51, 'set aside or put back, it would nest deeper than 127',
          kept(a='deep').replace(b'"deep"', b'[' * 125 + b'0.5' + b']' * 125)),
         ('too many fractions', 51, 'it has more than 200,000 fractions', kept(a=[0.5] * 200_001)),
-        ('another compression', 65, "there is no compression 'lzma'", with_data('', 'lzma')),
-        ('a chunk of another size', 66, BAD_DATA, chunks_with(1, 16, data_of([1] * 255, ZLIB))),
-        ('a chunk without a size', 51, bad_chunk, chunks_with(1, 0, data_of([1], ZLIB))),
+        ('another compression', 65, ONLY_TWO, with_data('', 'lzma')),
+        ('a chunk of another size', 66, SHORTER, chunks_with(1, 16, data_of([1] * 255, ZLIB))),
+        ('a chunk without a size', 66, LONGER, chunks_with(1, 0, data_of([1], ZLIB))),
+        ('a chunk of no cells', 51, bad_chunk, kept(infinite=True, layers=[cut])),
         ('chunks that overlap', 51, 'two chunks of a layer overlap', kept(infinite=True, layers=[overlapping])),
-        ('too many bytes', 51, TOO_LONG, chunks_with(13, 1024, data_of([0] * 1024 * 1024, ZLIB))),
+        ('too many cells', 51, 'its layers have more than 16,777,216 cells', chunks_with(17, 1024, data_of([0] * 1024 * 1024, ZLIB))),
     ]
     check_each([Case(name, data, (code, why)) for name, code, why, data in rows],
                lambda case: refused(*case.wanted, case.given))

@@ -404,7 +404,7 @@ TABLE = [
         61,
         'layers[0].kept.roskevad',
         {'layers[0].kept': {'roskevad': 0.5}},
-        'with --all-maps: a member has the reserved name "roskevad"',
+        'with --all-maps: a member has a reserved name, "roskevad" or "roskevad_packed"',
     ),
     (61, DOOR + '.height', {DOOR + '.height': 1e300}, with_all_maps(68, DOOR + '.height', 2**63 - 1)),
     (

@@ -84,7 +84,7 @@ function matched(pattern, wanted, spelled = text => text) {
 
 // A name of at most so many characters.
 function named(most) {
-  return matched(new RegExp(`^[A-Za-z0-9_][A-Za-z0-9_.-]{0,${most - 1}}$`), `1 to ${most} letters of a to z, digits, and _ . -, the first neither . nor -`);
+  return matched(new RegExp(`^[A-Za-z0-9_][A-Za-z0-9_.-]{0,${most - 1}}$`), `1 to ${most} letters of a to z, digits, and _ . -; first a letter, a digit or _`);
 }
 
 const asIs = text => text;
@@ -104,7 +104,7 @@ export const KINDS = {
   cells: wholeKind(1, MAX_SIDE),
   bool: matched(/^(true|false)$/, "true or false"),
   colour: matched(/^#([0-9a-f]{6}|[0-9a-f]{8})$/, "#rrggbb or #aarrggbb, in digits of 0-9 and a-f", text => text.trim().toLowerCase()),
-  path: matched(/^(?!.*\.(tmx|tsx|xml)$).*[^/]$/i, "the name of a file that is not .tmx: maps are saved as JSON, as .tmj"),
+  path: matched(/^(?!.*\.(tmx|tsx|xml)$).*[^/]$/i, "the name of a file that is not .tmx: maps are saved as .tmj"),
   document: named(MAX_DOCUMENT_NAME),
   file: named(MAX_FILE_NAME),
 };

@@ -96,7 +96,7 @@ export const TASKS = [
       { name: "the house", words: "Undo the house at once: Ctrl+Z.", at: () => byId("undo"), isDone: (page, start) => stand(page).index < start.index },
       { name: "all", words: "Undo the rest: Ctrl+Z, or click the first row of Steps.", at: () => document.querySelector("#steps li"), isDone: page => stand(page).index === 0 },
       {
-        name: "and back", words: "Redo all: Ctrl+Shift+Z, or click the last row of Steps.", at: () => document.querySelector("#all-steps > :last-child > li:last-child"),
+        name: "and back", words: "Redo all: Ctrl+Shift+Z, or click the last row of Steps.", at: () => document.querySelector("#steps > :last-child > li:last-child"),
         isDone: page => stand(page).index === stand(page).count && stand(page).count > 0,
       },
     ],

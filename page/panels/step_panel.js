@@ -77,7 +77,7 @@ export class StepPanel {
   showAll() {
     const { state } = this.editor;
     Object.assign(this, { isLate: false, shownAt: performance.now(), shownChange: state.change, shownDocument: state.active });
-    const list = byId("all-steps");
+    const list = byId("steps");
     if (!state.active) {
       this.rows.clear();
       this.parts.clear();

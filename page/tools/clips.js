@@ -109,6 +109,7 @@ export class Clips {
   takeForPaste(stamp) {
     const { bench } = this;
     bench.takeStamp(stamp);
+    bench.pasted = stamp;
     if (bench.map.selected) bench.act(["select none"], { gesture: "paste" });
     this.tools.choose("brush");
   }

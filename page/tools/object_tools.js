@@ -40,7 +40,7 @@ export class ObjectTool {
   wordsOf(goal) {
     if (!goal || goal.polygon || goal.polyline) return "";
     if (goal.rotation !== undefined) return `${goal.rotation}°`;
-    return goal.width === undefined ? `${goal.x}, ${goal.y}` : `${goal.width} × ${goal.height}`;
+    return goal.width === undefined ? `${goal.x}, ${goal.y}` : `${goal.width} × ${goal.height} px`;
   }
 
   // The handle of the object that is chosen alone at a place, or null.

@@ -1,18 +1,19 @@
 # SPDX-License-Identifier: MIT OR Apache-2.0
-"""Maps whose layers are compressed: unpacked before the library reads them, and packed again behind it.
+"""Maps with layers that Zstandard compresses: unpacked before the library reads them, and packed again behind it. What zlib and gzip
+compress the library unpacks and packs itself.
 
     unpack_layers(data).data                 what the library reads of a file
     pack_layers(put_back(..), data)          what the file has then
 
-While a layer is unpacked, a member of it notes how it was packed. The level stands in the map's own `compressionlevel`, which the
-library keeps. Layers that are added meanwhile have no such note, and are arrays.
+While a layer is unpacked, a member of it notes that. The level stands in the map's own `compressionlevel`, which the library keeps.
+Layers that are added meanwhile have no such note, and are arrays.
 """
 import base64
 import binascii
 from typing import Any, Iterator, NamedTuple, Optional
 
 from .json_scanner import Edit, Members, Part, Path, edited, map_and_layers
-from .compressions import NOTE, pack, unpack, why_not
+from .compressions import NOTE, ZSTANDARD, pack, unpack, why_not
 from .limits import MAX_CELLS, MAX_FILE_BYTES
 
 _NOTE_TAKEN = f'a layer has a member of the reserved name "{NOTE}"'
@@ -33,7 +34,7 @@ class Unpackable(Exception):
 
 
 class PackedLayer(NamedTuple):
-    """A layer that stays packed."""
+    """A layer that stays packed by Zstandard."""
 
     #: Its members.
     members: Members
@@ -44,7 +45,7 @@ class PackedLayer(NamedTuple):
 
 
 class UnpackedMap(NamedTuple):
-    """A map that is unpacked as far as it can be."""
+    """A map of which what Zstandard has packed is unpacked, as far as it can be."""
 
     #: Its bytes: the same, where nothing was unpacked.
     data: bytes
@@ -53,7 +54,7 @@ class UnpackedMap(NamedTuple):
 
 
 def unpack_layers(data: bytes) -> UnpackedMap:
-    """A map with its layers unpacked, each to four bytes a cell and no further. Raises Unpackable, 51, where a layer has the member
+    """A map with the layers unpacked that Zstandard has packed, each to four bytes a cell and no further. Raises Unpackable, 51, where a layer has the member
     of a note, or they are too many bytes."""
     text = _text_of(data) if b'compression"' in data or b'\\u' in data else None
     if text is None:
@@ -97,11 +98,9 @@ def _value_of(members: Members, name: str) -> Any:
     return members[name].value() if name in members else None
 
 
-def _compression_of(layer: Members) -> Optional[str]:
-    """How a layer is packed; `None` where it is not."""
-    compression = _value_of(layer, 'compression')
-    is_packed = isinstance(compression, str) and compression and _value_of(layer, 'encoding') == 'base64'
-    return compression if is_packed else None
+def _is_packed(layer: Members) -> bool:
+    """Whether Zstandard has packed a layer."""
+    return _value_of(layer, 'compression') == ZSTANDARD and _value_of(layer, 'encoding') == 'base64'
 
 
 def _cells_of(members: Members) -> Optional[int]:
@@ -130,26 +129,25 @@ class _Unpacker:
 
     def edits(self, layer: Members) -> Iterator[Edit]:
         """What changes in the text of a layer. Raises Unpackable where it stays packed, and where layers are too many bytes."""
-        compression = _compression_of(layer)
-        if compression is None:
+        if not _is_packed(layer):
             return
-        why = why_not(compression)
+        why = why_not()
         if why is not None:
             raise Unpackable(65, why)
         named = layer['compression']
-        yield Edit(named.start, named.end, f'"","{NOTE}":"{compression}"')
+        yield Edit(named.start, named.end, f'"","{NOTE}":"{ZSTANDARD}"')
         for holder, cells in _holders_of(layer, self._cells):
             data = _value_of(holder, 'data')
             if not isinstance(data, str) or cells is None:
                 # The library says so.
                 return
-            yield _data_edit(holder, self._unpacked(compression, data, cells * _CELL_BYTES))
+            yield _data_edit(holder, self._unpacked(data, cells * _CELL_BYTES))
 
-    def _unpacked(self, compression: str, data: str, size: int) -> bytes:
+    def _unpacked(self, data: str, size: int) -> bytes:
         self._rest -= -(-size // 3) * 4
         if self._rest < 0:
             raise Unpackable(51, _TOO_LONG)
-        found = unpack(compression, _decoded(data) or b'', size)
+        found = unpack(_decoded(data) or b'', size)
         if found is None:
             raise Unpackable(66, BAD_DATA)
         return found
@@ -165,26 +163,25 @@ class _Packer:
 
     def edits(self, layer: Members) -> Iterator[Edit]:
         """What changes in the text of a layer that is packed, if it notes how."""
-        compression = _value_of(layer, NOTE)
-        if not isinstance(compression, str):
+        if _value_of(layer, NOTE) != ZSTANDARD:
             return
-        why = why_not(compression)
+        why = why_not()
         if why:
             raise Unpackable(51, why)
         note = layer[NOTE]
         yield Edit(note.name_start, note.name_end, '"compression"')
-        olds = self._olds_of(layer, compression)
+        olds = self._olds_of(layer)
         for holder, _ in _holders_of(layer, None):
             data = _value_of(holder, 'data')
             if isinstance(data, str):
                 cells = _decoded(data) or b''
-                kept = _kept_text(olds.get(_place_of(holder)), compression, cells)
-                yield _data_edit(holder, pack(compression, cells, self._level)) if kept is None else _text_edit(holder, kept)
+                kept = _kept_text(olds.get(_place_of(holder)), cells)
+                yield _data_edit(holder, pack(cells, self._level)) if kept is None else _text_edit(holder, kept)
 
-    def _olds_of(self, layer: Members, compression: str) -> dict[tuple[Any, ...], Part]:
+    def _olds_of(self, layer: Members) -> dict[tuple[Any, ...], Part]:
         """The data that a layer has in the source, if it is packed there in the same way, by the places of what holds them."""
         old = self._olds.get(_value_of(layer, 'id'), {})
-        holders = _holders_of(old, None) if _compression_of(old) == compression else ()
+        holders = _holders_of(old, None) if _is_packed(old) else ()
         return {_place_of(holder): holder['data'] for holder, _ in holders if 'data' in holder}
 
 
@@ -193,10 +190,10 @@ def _place_of(holder: Members) -> tuple[Any, ...]:
     return tuple(_value_of(holder, name) for name in ('x', 'y', 'width', 'height'))
 
 
-def _kept_text(old: Optional[Part], compression: str, cells: bytes) -> Optional[str]:
+def _kept_text(old: Optional[Part], cells: bytes) -> Optional[str]:
     """The text of packed data, if these are its cells."""
     packed = None if old is None else old.value()
-    if old is None or not isinstance(packed, str) or unpack(compression, _decoded(packed) or b'', len(cells)) != cells:
+    if old is None or not isinstance(packed, str) or unpack(_decoded(packed) or b'', len(cells)) != cells:
         return None
     return old.text[old.start:old.end]
 

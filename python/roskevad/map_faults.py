@@ -57,10 +57,15 @@ def _place_of(told: dict[str, Any]) -> MapPlace:
     return MapPlace(path, told['exact'], told['shown'], told['text'], told['line'], told['column'])
 
 
+def _told_as(data: bytes, code: int) -> tuple[Optional[MapPlace], Optional[str]]:
+    """Where the bytes of a file have the fault of that code, and why; `None` where another code is told of them."""
+    told = told_of(data)
+    return (_place_of(told), told['why']) if told is not None and told['code'] == code else (None, None)
+
+
 def place_in(data: bytes, code: int) -> Optional[MapPlace]:
     """Where the bytes of a file have the fault of that code; `None` where another code is told of them."""
-    told = told_of(data)
-    return _place_of(told) if told is not None and told['code'] == code else None
+    return _told_as(data, code)[0]
 
 
 def refused_as_no_json(data: bytes, call: str) -> Optional[Refused]:
@@ -72,11 +77,11 @@ def refused_as_no_json(data: bytes, call: str) -> Optional[Refused]:
 def refused_map(refusal: Refused, data: bytes, unpacked: 'Optional[UnpackedMap]', call: str) -> Refused:
     """How the bytes of a file are refused, by the refusal of what was unpacked of them: the place is the one in the file. `None` where
     that was not tried."""
-    code, why = refusal.code, refusal.why
+    code = refusal.code
     if code not in _CODES:
         return refusal
     text = data if unpacked is None or code == _NOT_JSON else unpacked.data
-    place = place_in(text, code)
+    place, why = _told_as(text, code)
     if place is not None and text is not data:
         place = place._replace(line=None, column=None)
     if unpacked is not None and place is not None and place.path is not None and code in (_COMPRESSED, _BAD_DATA):

@@ -8,7 +8,7 @@ from typing import TYPE_CHECKING, Any, Iterable, Iterator, Optional
 from . import library
 from .faults import Refused, refused_call
 from .compressions import NOTE
-from .layouts import laid_out, laid_out_like
+from .layouts import laid_out, laid_out_like, put_back_like
 from .limits import MAX_FILE_BYTES
 from .made_texts import made
 from .map_faults import refused_as_no_json
@@ -18,17 +18,21 @@ if TYPE_CHECKING:
 
 # The name under which it stands, in the map, in layers and objects.
 _RESERVED = 'roskevad'
-# What a text has in it where anything stands under that name, or under the one of compressed_layers.py.
+# The name under which a layer notes how the library has unpacked it.
+_PACKED = 'roskevad_packed'
+# What a text has in it where anything stands under that name, or under one of those that note how layers were packed.
 _RESERVED_FRONT = f'"{_RESERVED}'.encode()
+# What it has where a layer is to be packed by Zstandard.
+_ZSTANDARD_FRONT = f'"{NOTE}"'.encode()
 # The names of an object's place, with what it was moved by, and of its size.
 _MOVED = {'x': 'movedx', 'y': 'movedy', 'width': None, 'height': None}
 # Why that is refused, in the words of the program.
 _FAULTS = {
-    library.NAME_TAKEN: 'a member has the reserved name "roskevad"',
+    library.NAME_TAKEN: 'a member has a reserved name, "roskevad" or "roskevad_packed"',
     library.TOO_DEEP: 'set aside or put back, it would nest deeper than 127',
     library.BAD_CHUNK: 'a chunk has no place, no size, or not a cell for each of its places',
     library.OVERLAP: 'two chunks of a layer overlap',
-    library.TOO_LARGE: 'made finite, its layers have more than 16,777,216 cells',
+    library.TOO_LARGE: 'its layers have more than 16,777,216 cells',
     library.UNLIKE: 'made finite, it would not come back as it was',
     library.TOO_MANY_FRACTIONS: 'it has more than 200,000 fractions',
 }
@@ -52,12 +56,15 @@ def set_aside(data: bytes, call: str) -> 'tuple[bytes, UnpackedMap]':
 
 
 def put_back(data: bytes, source: bytes, call: str) -> bytes:
-    """The text of a map as it was before. Packed layers whose cells are those of a source have its text of them. Raises Refused, with the
-    call: 51."""
+    """The text of a map as it was before, laid out as a source. Packed layers whose cells are those of the source have its text of them.
+    Raises Refused, with the call: 51."""
+    text = put_back_like(data, source) or _made('put_back', data, call)
+    if _ZSTANDARD_FRONT not in text:
+        return text
     from .compressed_layers import Unpackable, pack_layers
 
     try:
-        return pack_layers(_made('put_back', data, call), source)
+        return laid_out_like(pack_layers(text, source), source)
     except Unpackable as fault:
         raise _refused(fault, call) from None
 
@@ -91,11 +98,13 @@ def notes_one(text: bytes, names: Iterable[str]) -> bool:
 def saved_text(data: bytes, sets_aside: bool, source: bytes, layout: Optional[str], call: str) -> bytes:
     """What a file has of a map that an editor holds: with all put back that was set aside, packed as it was, and laid out as its source is,
     or in a layout. Raises Refused, with the call: 51."""
-    text = put_back(data, source, call) if sets_aside and has_aside(data) else data
+    if sets_aside and has_aside(data):
+        text = put_back(data, source, call)
+        return text if layout is None else laid_out(text, layout)
     if layout is not None:
-        return laid_out(text, layout)
-    # Else a member of the reserved name is the map's own.
-    return laid_out(text, 'tiled') if not sets_aside and has_aside(data) else laid_out_like(text, source)
+        return laid_out(data, layout)
+    # A member of the reserved name is the map's own.
+    return laid_out(data, 'tiled') if has_aside(data) else laid_out_like(data, source)
 
 
 # ---- trees
@@ -117,10 +126,11 @@ def restored(tree: Any, note: Members) -> Any:
 
 
 def without_packing(layers: Any) -> Any:
-    """Layers of which nothing notes any more how they were packed, nor those in them: where `unpack_layers` has put that."""
+    """Layers of which nothing notes any more how they were packed, nor those in them."""
     for layer in layers if isinstance(layers, list) else ():
         if isinstance(layer, dict):
             layer.pop(NOTE, None)
+            layer.pop(_PACKED, None)
             without_packing(layer.get('layers'))
     return layers
 

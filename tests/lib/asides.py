@@ -1,6 +1,7 @@
 # SPDX-License-Identifier: MIT OR Apache-2.0
 """What `--all-maps` makes of a map's tree, plainly: its fractions are set aside, and put back, by the
-rules of docs/map-files.md; an infinite map is made finite, and back, by lib/infinite.py. Trees are
+rules of docs/map-files.md; an infinite map is made finite, and back, by lib/infinite.py; packed layers
+are unpacked, and packed again, by lib/packed_layers.py. Trees are
 those of lib/json_texts.py, in which a number that is no whole number of 64 bits is a float; and a run
 of the program with that option."""
 import json
@@ -11,11 +12,12 @@ from lib.infinite import finite_of, infinite_of
 from lib.json_texts import depth_of, text_behind, tree_of
 from lib.maps import text_of
 from lib.model import Editor, Play
+from lib.packed_layers import by_bytes, packed, unpacked
 from lib.sessions import ALL_MAPS as OPTION
 from lib.sessions import fault_of_reasons, fault_of_replies, heard
 
 RESERVED = 'roskevad'
-NAME_TAKEN = 'a member has the reserved name "roskevad"'
+NAME_TAKEN = 'a member has a reserved name, "roskevad" or "roskevad_packed"'
 MOST_FRACTIONS, TOO_MANY_FRACTIONS = 200_000, 'it has more than 200,000 fractions'
 TOO_DEEP = 'set aside or put back, it would nest deeper than 127'
 NOT_JSON = 'not JSON'
@@ -23,7 +25,7 @@ NOT_JSON = 'not JSON'
 INFINITE_FAULTS = {
     'BadChunk': 'a chunk has no place, no size, or not a cell for each of its places',
     'Overlap': 'two chunks of a layer overlap',
-    'TooLarge': 'made finite, its layers have more than 16,777,216 cells',
+    'TooLarge': 'its layers have more than 16,777,216 cells',
 }
 UNLIKE = 'made finite, it would not come back as it was'
 MAP, LAYER, OBJECT, COORDINATE, VERSION, ELSEWHERE = range(6)
@@ -121,13 +123,13 @@ def back(value):
 
 def set_aside(tree):
     """The tree of a map as it is set aside. A fault of lib/infinite.py says why there is none."""
-    whole = aside(tree)
+    whole = aside(unpacked(tree))
     return finite_of(whole) or whole
 
 
 def put_back(tree):
     """The tree of a map in which what was set aside is put back."""
-    return back(infinite_of(tree) or tree)
+    return packed(back(infinite_of(tree) or tree))
 
 
 # ---- as the file that is replaced
@@ -183,9 +185,9 @@ def has_fraction(value, place=MAP):
 
 def exact(value):
     """A tree with each float as its bits, so that trees are equal only if they have the same
-    numbers; and with truth values told from 0 and 1."""
+    numbers; with truth values told from 0 and 1; and with packed data as what they unpack to."""
     if isinstance(value, dict):
-        return {name: exact(member) for name, member in value.items()}
+        return {name: exact(member) for name, member in by_bytes(value).items()}
     if isinstance(value, list):
         return value if are_whole(value) else [exact(entry) for entry in value]
     if isinstance(value, float):
