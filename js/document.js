@@ -41,8 +41,6 @@ export class Document extends WithOwnMembers {
   #stroke = null;
   // The bytes that it was opened from, or that were saved last, in whose layout it is saved; none of a new map.
   #source = NOTHING;
-  // What its map says of how it was made finite, once that was asked for.
-  #note = null;
   // How the cells of its tile layers are written in its file, by their ids, once that was asked for.
   #encodings = new Map();
 
@@ -152,9 +150,9 @@ export class Document extends WithOwnMembers {
     return this.#editor._module.given(name, (at, size) => this._read(call, ...given, at, size));
   }
 
+  // What its map says of how it was made finite: columns that come at its left move that.
   _noteNow() {
-    this.#note ??= noteOf(this.#editor._parsed("map_head"));
-    return this.#note;
+    return noteOf(this.#editor._parsed("map_head"));
   }
 
   // How the cells of a tile layer are written in its file; undefined where as numbers. No edit changes that, and

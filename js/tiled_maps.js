@@ -60,7 +60,7 @@ export function* drawn(layers) {
 
 /**
  * What the tree of a map, or its head, says of how an infinite map was made finite; nothing of any other map.
- * No edit changes it.
+ * `extend` changes it.
  */
 export function noteOf(tree) {
   return tree[RESERVED]?.infinite ?? {};

@@ -245,7 +245,7 @@ class Page {
 async function servedBy(key) {
   const place = new ServedFiles(key);
   place.addEventListener("gone", ({ detail }) => {
-    const words = `${detail} Saving has to wait; all else goes on. If it starts at the same port with another key, open its new address in this tab.`;
+    const words = `${detail} Saving has to wait; all else goes on. Where it prints another address as it starts again, open that in this tab.`;
     notice("server", words, [["Try again", () => place.folderListing().then(() => true, () => false)]]);
   });
   place.addEventListener("back", () => endNotice("server"));

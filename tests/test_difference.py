@@ -231,6 +231,15 @@ def fault_of_pair(case):
         return unlike(tree_of(other), tree_of(Path(folder, 'one.tmj').read_bytes()))
 
 
+def test_infinite_maps_that_grew():
+    """One whose corner is farther left and farther up stays where it is on the plane: lines say so, by a line that has all stay there."""
+    with Editor() as editor:
+        one, other = (editor.open(TOP / 'sessions/all_edits/maps' / f'{name}.tmj') for name in ('corner', 'corner_extended'))
+        found = one.difference(other)
+        assert found.lines == ('extend 2 2 0 0', 'stamp 1 0 0 1 1'), found.lines
+        assert found[0].what == 'size', str(found)
+
+
 def test_lines_by_the_program():
     """Most pairs have lines: those that have none bring back a layer."""
     check_each([Case(f'pair {seed}', seed, None) for seed in range(SEED, SEED + PAIRS)], fault_of_pair, CORES)

@@ -5,7 +5,8 @@ plain program tests/lib/infinite.py, which has one entry for each cell: untouche
 as it was; edited, each cell stands where it stood; and what was put back is set aside again. New
 chunks are whole, and on the multiples of the map's chunk size, where there is room. Maps at
 the edges of the rules, and maps that are refused, are named here with what must come. Random sessions
-open, edit, undo and save infinite maps by `tile_editor --all-maps`, beside the plain model. Debian's
+open, edit, undo and save infinite maps by `tile_editor --all-maps`, beside the plain model; maps of all
+orientations get columns and rows at all sides, and stay where they were on the plane. Debian's
 package `tiled` has infinite maps: they are edited, moved and saved, and real Tiled, which exports what
 was saved, reads the same cells."""
 import base64
@@ -35,10 +36,12 @@ from lib.asides import (
 )
 from lib.cases import CORES, Case, check_each, fail_with, in_processes, passed, unlike
 from lib.json_texts import tree_of
+from lib.json_words import set_fractions_aside
 from lib.maps import cells_of, group, layer_of, map_of, packed, text_of, thing, things
 from lib.places import EXAMPLES, IN_MEMORY, MAP_REPORT
 from lib.refusals import refusal
-from lib.sessions import heard
+from lib.sessions import ALL_EDITS, heard
+from lib.whole_things import read_whole_things
 
 IS_LONG = True
 PACKAGES = ('tiled',)
@@ -465,8 +468,28 @@ class Drawing(TiledPlay):
         )
 
 
+class Growing(Drawing):
+    """One that also gets columns and rows at its sides, and stays where it was on the plane."""
+
+    def line(self):
+        if self.chosen.random() < 0.7:
+            return super().line()
+        return 'extend ' + ' '.join(str(self.chosen.choice((0, 0, 1, 2, 5, 16, 40))) for _ in range(4))
+
+
+def fault_of_growing(number):
+    read_whole_things()
+    set_fractions_aside()
+    run = Growing(number)
+    run.options.append(ALL_EDITS)
+    return fault_of_drawn(run)
+
+
 def fault_of_drawing(number):
-    run = Drawing(number)
+    return fault_of_drawn(Drawing(number))
+
+
+def fault_of_drawn(run):
     fault = fault_of_tiled_run(run)
     source = tree_of(run.before['m.tmj'])[0]
     for layer in infinite.every_layer(source['layers']):
@@ -479,6 +502,82 @@ def fault_of_drawing(number):
 def test_random_edits():
     fail_with(fault for fault in in_processes(fault_of_drawing, range(RUNS), 4) if fault)
     passed(RUNS)
+
+
+def test_random_growth():
+    fail_with(fault for fault in in_processes(fault_of_growing, range(RUNS), 4) if fault)
+    passed(RUNS)
+
+
+# ---- columns and rows at the left and top
+
+
+HOUSES = (
+    spread(chunk(-3, -5, 1, 1, [3]), chunk(8, 0, 4, 4), id=1),
+    group(
+        2,
+        spread(chunk(0, 16, 2, 1, packed([7, 8])), id=3, **BASE64),
+        group(4, spread(chunk(5, 5, 3, 3), id=5), things(6, thing(1, x=10.5, y=-20), thing(2, x=-7, y=3.25))),
+    ),
+    spread(id=7),
+    things(8, thing(3, x=-64, y=96)),
+)
+SHAPES = [
+    {'orientation': 'orthogonal'},
+    {'orientation': 'isometric', 'tilewidth': 32},
+    {'orientation': 'staggered', 'staggeraxis': 'y', 'staggerindex': 'odd'},
+    {'orientation': 'hexagonal', 'hexsidelength': 6, 'staggeraxis': 'x', 'staggerindex': 'even'},
+    {'orientation': 'orthogonal', 'editorsettings': {'chunksize': {'width': 7, 'height': 32}}},
+]
+SIDES = [(2, 2, 0, 0), (1, 0, 0, 0), (0, 3, 5, 0), (16, 32, 7, 1), (0, 0, 4, 4), (0, 0, 0, 0)]
+
+
+def fault_of_growth(case):
+    """A map gets columns and rows at its sides, and is drawn on in its new corner: all else is saved
+    where it was on the plane, and what is drawn at the new corner. Undone, the file is as it was."""
+    tree, sides = case.given
+    source = json.dumps(tree).encode()
+    left, top, _, _ = infinite.box_of(tree)
+    lines = [
+        'open m m.tmj', f'extend {" ".join(map(str, sides))}', 'save grown.tmj', 'stamp 1 0 0 1 9',
+        'save drawn.tmj', 'undo', 'save again.tmj', 'undo', 'redo', 'redo', 'goto 0', 'save m.tmj',
+    ]  # fmt: skip
+    text = ''.join(f'{line}\n' for line in lines).encode()
+    done, files = heard(text, {'m.tmj': source}, [ALL_EDITS, OPTION])
+    said = [reply.split(' ', 1)[0] for reply in done.stdout.decode().splitlines()]
+    fault = unlike(['saved' if line.startswith('save') else 'ok' for line in lines], said)
+    if fault:
+        return fault
+    cells, objects = cells_of_file(source), objects_of_file(source)
+    drawn = [{**cells[0], (top - sides[1], left - sides[0]): 9}, *cells[1:]]
+    for name, wanted in (('grown', cells), ('drawn', drawn), ('again', cells)):
+        file = files[f'{name}.tmj']
+        fault = fault or unlike((wanted, objects), (cells_of_file(file), objects_of_file(file)))
+    return fault or unlike(source, files['m.tmj'])
+
+
+def test_growth_at_all_sides():
+    cases = [
+        Case(f'{shape["orientation"]} {sides}', (plane(*HOUSES, **shape), sides), None)
+        for shape in SHAPES
+        for sides in SIDES
+    ]
+    check_each(cases, fault_of_growth, CORES)
+
+
+def fault_of_moving(case):
+    """A `resize` by the same columns and rows moves all on the plane."""
+    source = json.dumps(plane(*HOUSES, **case.given)).encode()
+    done, files = heard(b'open m m.tmj\nresize 42 42 2 3\nsave n.tmj\n', {'m.tmj': source}, [OPTION])
+    wanted = [
+        {(row + 3, column + 2): value for (row, column), value in cells.items()}
+        for cells in cells_of_file(source)
+    ]
+    return unlike(wanted, cells_of_file(files['n.tmj']))
+
+
+def test_a_resize_moves_all():
+    check_each([Case(shape['orientation'], shape, None) for shape in SHAPES], fault_of_moving, CORES)
 
 
 OPENED = [

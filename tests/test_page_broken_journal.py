@@ -394,7 +394,7 @@ def test_a_reload_of_a_broken_journal():
         for _ in range(2):
             page.reload()
             [told] = page.notices()
-            assert 'later steps are missing' in told and 'town.tmj (kept up to step 1 of 6)' in told, told
+            assert 'later steps are missing' in told and 'town.tmj (1 of 6 steps kept)' in told, told
             assert standing(page) == (1, 1)
         page.answer('OK')
         page.reload()
@@ -425,13 +425,13 @@ def test_an_offer_of_a_broken_journal():
         more = ('stamp 1 2 1 1 7', 'stamp 1 3 1 1 7', 'new hut 5 4 16 16 tiles.tsx')
         leave(page, lambda: page.editor.lines(*cave), *more)
         [told] = page.notices()
-        assert 'cave (kept up to step 1 of 3, not saved), hut (not kept)' in told, told
+        assert 'cave (1 of 3 steps kept, not saved), hut (not kept)' in told, told
         assert 'later steps are missing' in told, told
         page.answer('Forget')
         page.fill_in('Forget')
         leave(page, lambda: page.choose_files(bench.folder / 'layers.tmj'), 'prop set map author string me')
         [told] = page.notices()
-        assert 'layers.tmj (kept up to step 0 of 1)' in told, told
+        assert 'layers.tmj (0 of 1 steps kept)' in told, told
         page.answer('Forget')
         page.fill_in('Forget')
         page.reload()

@@ -280,7 +280,7 @@ def test_a_server_with_another_key():
         bench.server = bench.serve('--port', str(bench.server.parts.port))
         draw(page, 22)
         page.ctrl('s')
-        assert 'another key' in page.notices()[0]
+        assert 'was started anew' in page.notices()[0]
         page.driver.get_log('browser')
         page.address = bench.server.address
         page.open()

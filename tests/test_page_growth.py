@@ -37,6 +37,7 @@ def test_to_the_right_and_down():
     what is drawn, on both sides of the edge. Nothing moves, and only the chunks that were drawn on are saved."""
     plane = Plane(infinite(chunk(0, 0)))
     with plane as page:
+        assert '16 × 16, infinite' in page.find('#properties').text
         before, corner = page.editor.map(), seen(page, (0, 0))
         page.drag([(14, 3), (16, 3), (17, 3)])
         assert size(page) == (32, 16) and standing(page) == (1, 1) and page.editor.state()['depth'] == 0
@@ -58,23 +59,22 @@ def test_to_the_right_and_down():
 
 
 def test_to_the_left_and_up():
-    """Before the first column and row, too: what is seen stays where it is, behind an undo and a redo as well. All stays
-    beside each other in the file, and the page says once by how much that has moved there."""
+    """Before the first column and row, too: what is seen stays where it is, behind an undo and a redo as well. So it is in
+    the file, on its plane: what is drawn there has places below 0, and nothing is told."""
     plane = Plane(infinite(chunk(0, 0)))
     with plane as page:
         before, corner = page.editor.map(), seen(page, (0, 0))
         page.drag([(1, 3), (-2, 3)])
         assert size(page) == (32, 16) and standing(page) == (1, 1) and seen(page, (16, 0)) == corner
-        [told] = page.notices()
-        assert 'stays at 0, 0 in the file' in told and '16 columns to the right' in told and 'fractions' not in told
-        page.answer('OK')
+        assert page.notices() == []
         page.drag([(20, -1)])
         assert size(page) == (32, 32) and seen(page, (16, 16)) == corner and page.notices() == []
         see_colours(page, [(13, 19), (14, 19), (16, 19), (17, 19), (18, 19), (20, 15), (28, 28), (31, 31)])
         saved = plane.saved(page)
-        drawn = {(x, 19) for x in range(14, 18)} | {(20, 15)}
-        assert plane_of(saved) == {**{(x, y): 3 for x in range(16, 32) for y in range(16, 32)}, **dict.fromkeys(drawn, TILE)}
-        assert (saved['layers'][-1]['objects'][0]['x'], saved['layers'][-1]['objects'][0]['y']) == (40 + 256, 24 + 256)
+        drawn = {(x, 3) for x in range(-2, 2)} | {(4, -1)}
+        assert plane_of(saved) == {**{(x, y): 3 for x in range(16) for y in range(16)}, **dict.fromkeys(drawn, TILE)}
+        assert places(saved) == [(-16, 0, 16, 16), (0, -16, 16, 16), (0, 0, 16, 16)]
+        assert (saved['layers'][-1]['objects'][0]['x'], saved['layers'][-1]['objects'][0]['y']) == (40, 24)
         page.ctrl('z')
         assert seen(page, (16, 0)) == corner
         page.ctrl('z')
@@ -84,17 +84,15 @@ def test_to_the_left_and_up():
 
 
 def test_objects_at_fractions():
-    """Objects at fractions of a pixel lose these where all moves, which is said; an undo gives them back."""
+    """Objects at fractions of a pixel keep these where a map grows before its first column and row."""
     told = infinite(chunk(0, 0))
     told['layers'][-1]['objects'][0].update(x=40.5, y=24)
-    with Plane(told) as page:
-        page.drag([(20, -1)])
-        assert 'fractions' not in page.notices()[0], 'it has none down the map'
-        page.answer('OK')
-        page.ctrl('z')
-    with Plane(told) as page:
-        page.drag([(-1, 3)])
-        assert page.notices()[0].split('\n')[0].endswith('An object lay at fractions of a pixel, and now on whole ones.')
+    plane = Plane(told)
+    with plane as page:
+        page.drag([(-1, -1)])
+        assert page.notices() == []
+        saved = plane.saved(page)['layers'][-1]['objects'][0]
+        assert (saved['x'], saved['y']) == (40.5, 24)
         page.ctrl('z')
         assert page.js('return roskevad.editor.map.object(1).object.x') == 40.5
 

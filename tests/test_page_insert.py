@@ -149,6 +149,73 @@ def test_names():
         assert newest(page)['id'] == number + 1 and added(page)['text']['text'] == 'Hello World', 'the tool is still in hand'
 
 
+def test_keys_of_tiled():
+    """With an object layer in hand keys take the shapes that they take in Tiled; with a tile layer the same keys take tools for tiles. A key of
+    one's own goes before them."""
+    with Bench() as page:
+        tool = lambda: page.js('return [roskevad.tools.name, roskevad.tools.all.insert.shape]')
+        choose(page, 'Places')
+        for key, shape in (('r', 'rectangle'), ('c', 'ellipse'), ('p', 'polygon'), ('t', 'tile'), ('e', 'text')):
+            page.keys(key)
+            assert tool() == ['insert', shape], key
+            passed()
+        page.keys('o')
+        assert tool()[0] == 'objects'
+        choose(page, 'Ground')
+        for key, name in (('r', 'select'), ('p', 'rectangle'), ('e', 'eraser')):
+            page.keys(key)
+            assert tool()[0] == name, key
+            passed()
+        page.keys('t')
+        assert tool()[0] == 'eraser', 'no tool for tiles has this key'
+        page.keys(Keys.F1)
+        assert 'With an object layer, as in Tiled' in page.texts('#keys h3')
+        page.js('document.querySelector("#keys").close(); const {keys} = roskevad.toolbar; keys.own.give(arguments[0], "c", keys.rows); keys.bind()',
+                'Brush: draws the stamp; Shift draws a line from the last cell')
+        choose(page, 'Places')
+        page.keys('c')
+        assert tool()[0] == 'brush'
+
+
+def test_fonts():
+    """A text has fields for its font, the height and colour of its letters, its style and where it lies in its box; one value at a time
+    is set, and what is as by default is not written."""
+    with Bench() as page:
+        choose(page, 'Places')
+        insert(page, 'text')
+        drag(page, (40, 90))
+        number = newest(page)['id']
+        field = lambda name: f'#properties [data-key=" text {name}"]'
+        text = lambda: {name: value for name, value in object_of(page, number)['text'].items() if name != 'text'}
+        assert [page.find(field(name)).get_attribute('value') for name in ('fontfamily', 'pixelsize', 'color')] == ['sans-serif', '16', '#000000']
+        wanted = {'wrap': True}
+        for name, value in (('fontfamily', 'DejaVu Serif'), ('pixelsize', 24), ('color', '#80aa2200')):
+            page.type_into(field(name), value)
+            wanted[name] = value
+            assert text() == wanted, (name, text())
+        for name in ('bold', 'italic', 'underline', 'strikeout'):
+            page.click(field(name))
+            wanted[name] = True
+            assert text() == wanted, (name, text())
+        for name, value in (('halign', 'center'), ('valign', 'bottom')):
+            Select(page.find(field(name))).select_by_value(value)
+            page.settle()
+            wanted[name] = value
+            assert text() == wanted, (name, text())
+        assert page.texts('#steps .now .name') == [f'Set Text · object {number}']
+        for name, value in (('fontfamily', 'sans-serif'), ('pixelsize', 16), ('color', Keys.DELETE)):
+            page.type_into(field(name), value)
+            del wanted[name]
+            assert text() == wanted, (name, text())
+        for name in ('bold', 'wrap'):
+            page.click(field(name))
+            del wanted[name]
+            assert text() == wanted, (name, text())
+        lines = len(spelled(page))
+        page.type_into(field('pixelsize'), '0')
+        assert page.texts('#properties .fault') == ['a whole number from 1 to 4,096'] and len(spelled(page)) == lines
+
+
 def test_grids():
     """On a grid a drag takes the cells, or half cells, that it goes over; points, corners and tiles stand at its lines. Ctrl
     turns it round, of Objects, too. Without a grid a click takes a cell."""

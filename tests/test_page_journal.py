@@ -163,10 +163,10 @@ const {database} = roskevad.editor.journal;
   await database.write(({records: kept}) => records.forEach(each => kept.put(each)));
 })().then(() => done(""), fault => done(String(fault)));'''
 CHANGES = {
-    'edited': 'its record 1 is not as it was written',
-    'holed': 'its record 1 is missing',
-    'shortened': 'it has 2 of 3 records',
-    'otherwise': 'and gave',
+    'edited': 'a part of it is not as it was written',
+    'holed': 'a part of it is missing',
+    'shortened': 'its end is missing',
+    'otherwise': 'one of its steps comes out otherwise',
     'older': 'of version 0.0.1',
 }
 

@@ -271,8 +271,8 @@ def test_in_the_menu():
         choose(page, 'Ground')
         page.keys(Keys.F10)
         words = rows(page)
-        assert {'Merge down', 'Group', 'Ungroup', 'Move into the group beside it', 'Move out of its group'} <= set(words)
+        assert {'Merge down', 'Group', 'Ungroup', 'Into the group beside it', 'Out of its group'} <= set(words)
         keys = dict(zip(words, page.texts('#menu button .keys')))
-        assert keys['Move out of its group'] == 'Ctrl+Shift+←'
-        pick(page, 'Move into the group beside it')
+        assert keys['Out of its group'] == 'Ctrl+Shift+←'
+        pick(page, 'Into the group beside it')
         assert spelled(page)[-1].startswith('layer into ')

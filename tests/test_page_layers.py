@@ -2,6 +2,7 @@
 """Works with the list of layers on the page in Chromium, by mouse and keys: a double click, a drag within a
 group, groups that are folded, layers that are hidden or locked, on which nothing is drawn unasked, new layers,
 names that are typed in a row, the layer above and below, and tools that a layer does not take."""
+import contextlib
 import json
 
 from lib.maps import layers_in
@@ -263,16 +264,25 @@ def test_a_lock_bars_tiles():
         assert page.editor.map()['width'] == width + 2 and layer_of(page, 'Ground')['locked'] is True
 
 
-def test_a_locked_group_bars_objects():
-    """Of a layer in a locked group no object is dragged, resized, moved by keys, removed, cut, doubled or added."""
+@contextlib.contextmanager
+def grouped_page():
+    """The town with its layers of objects in the group Green, and one of these objects chosen: the page, and the id of that group."""
     bench = Bench(empty=True)
     with bench as page:
         page.choose_files(*grouped_town(bench, 'grouped.tmj'))
-        green = layer_of(page, 'Green')['id']
         page.keys('s')
         page.click('#objects li[data-object="2"]')
+        yield page, layer_of(page, 'Green')['id']
+
+
+def test_a_locked_group_bars_objects():
+    """Of a layer in a locked group no object is dragged, resized, moved by keys, removed, cut, doubled or added."""
+    with grouped_page() as (page, green):
         page.ctrl('c')
         page.click(f'#layers li[data-layer="{green}"] .lock')
+        # A copy changes nothing.
+        page.ctrl('c')
+        assert page.bubble().startswith('Inn is copied')
         x, y = middle_of(page, 2)
         corner = page.js('const {object} = roskevad.bench.chosenObject, {scale} = roskevad.view; return [object.width * scale / 2, object.height * scale / 2]')
         far = [x + int(corner[0]), y + int(corner[1])]
@@ -299,12 +309,7 @@ def test_a_locked_group_bars_objects():
 def test_a_lock_bars_lists_and_fields():
     """The fields of objects on a locked layer are grey, and it is said why, with a button that unlocks; the list and the menus rename, hide,
     raise and move none of them. Those of a hidden layer go on, and so do the fields of the locked layer."""
-    bench = Bench(empty=True)
-    with bench as page:
-        page.choose_files(*grouped_town(bench, 'grouped.tmj'))
-        green = layer_of(page, 'Green')['id']
-        page.keys('s')
-        page.click('#objects li[data-object="2"]')
+    with grouped_page() as (page, green):
         fields = 'return [...document.querySelectorAll("#properties :is(input, select, textarea, button)")].filter(each => !each.matches(":disabled")).length'
         assert page.js(fields) > 8 and not page.find('#why-locked').is_displayed()
         page.click(f'#layers li[data-layer="{green}"] .lock')

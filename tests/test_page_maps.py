@@ -115,7 +115,7 @@ def test_list():
         page.wait(lambda: active(page) == 'house', 'it is opened')
         page.ctrl('o')
         page.fill_in(file='broken.tmj')
-        assert 'no JSON' in page.bubble() and active(page) == 'house'
+        assert 'or is no map' in page.bubble() and active(page) == 'house'
         page.ctrl('o')
         page.fill_in('Cancel')
         assert len(tabs(page)) == 3

@@ -9,7 +9,7 @@ from page.browser import ActionChains, Keys, pixels
 
 NEEDS_BROWSER = True
 LEAST_CONTRAST = 3
-PANEL = (0xF6, 0xF7, 0xF9)
+PANELS = {'light': (0xF6, 0xF7, 0xF9), 'dark': (0x33, 0x37, 0x3D)}
 SAND, WALL, ROOF = 12, 9, 5
 
 
@@ -132,10 +132,14 @@ def test_still_hand():
         page.editor.lines('select replace 0 5 12 1')
         page.ctrl('c')
         page.ctrl('v')
-        assert page.js('return roskevad.overlay.hand.cells.slice(2)') == [12, 1]
+        assert page.js('return roskevad.overlay.hand.cells.slice(2)') == [12, 1] and words(page) == '12 × 1'
         page.js('roskevad.bench.takeStamp({width: 100, height: 100, values: new Array(10_000).fill(arguments[0])})', SAND)
         assert seen_in(page, [(0, 0)]) != seen_in(page, [(0, 5)]) and page.js('return roskevad.overlay.hand.valueAt(0, 0)') == SAND
-        assert spelled(page)[-1].startswith('select')
+        assert spelled(page)[-1].startswith('select') and words(page) == '', 'that is no paste'
+        page.ctrl('v')
+        assert words(page) == '12 × 1'
+        page.drag([(5, 2)])
+        assert words(page) == '', 'it is put down'
 
 
 def luminance(colour):
@@ -157,16 +161,17 @@ def tile_pixels(page, tile):
     return [tuple(data[at:at + 4]) for at in range(0, len(data), 4)]
 
 
-def over_panel(colour):
-    """A colour with an alpha over the panel of the light look."""
-    return tuple(round((each * colour[3] + ground * (255 - colour[3])) / 255) for each, ground in zip(colour, PANEL))
+def over(panel, colour):
+    """A colour with an alpha over that of a panel."""
+    return tuple(round((each * colour[3] + ground * (255 - colour[3])) / 255) for each, ground in zip(colour, panel))
 
 
 def test_palette():
     """Each pixel of each tile is seen in the palette, also beside its lines. The frame of a chosen tile
-    has a contrast of 3 at least to what was there."""
+    has a contrast of 3 at least to what was there, in light and dark. The tile that is in hand at first has it, too."""
     with Bench() as page:
-        assert page.js('return roskevad.palette.side') == 32
+        assert page.js('return [roskevad.palette.side, roskevad.bench.stamp.values]') == [32, [1]]
+        framed = tile_pixels(page, 0)
         choose(page, 'Ground')
         points = [(x, y) for y in range(16 * 4) for x in range(16 * 8)]
         image = pixels(page.driver, (EXAMPLE_MAPS / 'tiles.png').read_bytes(), points)
@@ -181,7 +186,10 @@ def test_palette():
                     assert wanted[3] != 255 or seen[y * 32 + x][:3] == wanted[:3], (tile, x, y, seen[y * 32 + x], wanted)
             take(page, tile + 1)
             page.settle()
-            pairs = [(over_panel(one), over_panel(other)) for one, other in zip(seen, tile_pixels(page, tile))]
-            marks = [(contrast(*pair), pair) for pair in pairs if pair[0] != pair[1]]
-            assert max(marks)[0] >= LEAST_CONTRAST, (tile, max(marks), len(marks))
-            passed()
+            chosen = tile_pixels(page, tile)
+            assert tile != 0 or chosen == framed
+            for look, panel in PANELS.items():
+                pairs = [(over(panel, one), over(panel, other)) for one, other in zip(seen, chosen)]
+                marks = [(contrast(*pair), pair) for pair in pairs if pair[0] != pair[1]]
+                assert max(marks)[0] >= LEAST_CONTRAST, (look, tile, max(marks), len(marks))
+                passed()

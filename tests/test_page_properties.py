@@ -81,7 +81,7 @@ def test_classes():
         value |= {'awake': True, 'post': {'x': -2}}
         assert property_of(page, 'guard') == {**GUARD, 'note': 'kept', 'value': value} and standing(page) == (4, 4)
         page.click('#properties .add-member')
-        page.fill_in(member='two words', type='mark')
+        page.fill_in(member='two words', type='yes or no')
         value['two words'] = False
         assert property_of(page, 'guard')['value'] == value
         page.js('[...document.querySelectorAll("#properties tr.member")].find(row => row.textContent.startsWith("cry")).querySelector("button").click()')

@@ -84,7 +84,7 @@ def test_all_of_a_layer():
         page.js('document.getElementById("menu-button").click()')
         pick(page, 'Select all')
         assert chosen(page) == [ids[0], ids[2]]
-        page.keys('r')
+        page.click('#tool-select')
         page.ctrl('a')
         assert spelled(page)[lines:] == ['select replace 0 0 40 30']
         page.keys('s')

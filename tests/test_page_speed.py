@@ -21,9 +21,9 @@ STROKE, TURN, STAMP, NUDGE, GROWTH = 16, 50, 1500, 30, 50
 SLACK, TRIES = 4, 5
 LAYERS, SIDE = 8, 1024
 OBJECTS = 4000
-# How many steps the list has, how many strokes a round has, how many rounds are measured before a look, and how much
-# longer a stroke may take than where the list is folded.
-STEPS, STROKES, ROUNDS, BESIDE = 450, 12, 4, 1.1
+# How many steps the list has, how many strokes a round has, quick ones and lone ones, how many rounds are measured before a
+# look, and how much longer a stroke may take than where the list is folded.
+STEPS, STROKES, LONE, ROUNDS, BESIDE = 450, 12, 4, 4, 1.1
 # Presses an arrow key some times, and gives how long the page has worked on each: at the key, in the next frame, and on its painting.
 PRESSES = '''
 const [times, done] = arguments;
@@ -164,7 +164,8 @@ def test_one_of_many_objects():
         assert quick <= NUDGE * 2 and standing(page)[0] == 1, times
 
 
-# Draws strokes, each a step, and gives how many rows of the list came, went or moved.
+# Takes another tile; and draws quick strokes, each a step, and gives how many rows of the list came, went or moved.
+TAKE = 'const {bench} = roskevad; bench.takeStamp({width: 1, height: 1, values: [1 + (bench.stamp.values[0] + 6) % 31]})'
 DRAWS = '''
 const [count, done] = arguments, {bench, editor, view} = roskevad;
 let moved = 0;
@@ -190,18 +191,51 @@ const tell = (kind, x, y) => {
 })();'''
 
 
-def work_of(page):
-    """Draws strokes, and gives how long the page's thread has worked on each, in milliseconds, and how many rows
-    of the list each has moved."""
+def draw_quickly(page):
+    moved = page.driver.execute_async_script(DRAWS, STROKES)
+    # With each stroke one comes, and the ends of the list move now and then.
+    assert moved < 8 * STROKES, moved
+    return STROKES
+
+
+def draw_alone(page):
+    """Strokes of the hand, each of which begins once the list waits for none."""
+    for _ in range(LONE):
+        page.js(TAKE)
+        page.drag([(x, 4 + x % 3) for x in range(2, 14)])
+        page.wait(lambda: page.js('const {steps} = roskevad; return !steps.isLate && performance.now() > steps.shownAt + steps.time'), 'the list is shown')
+    return LONE
+
+
+def work_of(page, draw):
+    """Draws strokes, and gives how long the page's thread has worked on each, in milliseconds."""
     told = lambda: {each['name']: each['value'] for each in page.driver.execute_cdp_cmd('Performance.getMetrics', {})['metrics']}
     before = told()['ThreadTime']
-    moved = page.driver.execute_async_script(DRAWS, STROKES)
-    return (told()['ThreadTime'] - before) * 1000 / STROKES, moved / STROKES
+    count = draw(page)
+    return (told()['ThreadTime'] - before) * 1000 / count
+
+
+def see_strokes(page, draw):
+    """A stroke takes little longer beside the list than where it is folded, by the middle of several rounds, which take turns."""
+    fold = 'const panel = document.getElementById("panel-steps"); if (panel.classList.contains("folded") !== arguments[0]) panel.querySelector("h2").click()'
+    work_of(page, draw)
+    times, told = {False: [], True: []}, []
+    for _ in range(TRIES):
+        for at in range(2 * ROUNDS):
+            is_folded = at % 2 == 1
+            page.js(fold, is_folded)
+            page.settle()
+            times[is_folded].append(work_of(page, draw))
+        beside, alone = median(times[False]), median(times[True])
+        told.append(f'{beside:.1f} ms beside the list, {alone:.1f} with it folded')
+        if beside <= BESIDE * alone:
+            break
+    assert beside <= BESIDE * alone, (draw.__name__, told)
 
 
 def test_many_steps():
-    """With 450 steps a stroke takes little longer than where their list is folded, by the middle of several rounds, which
-    take turns: of its rows a few change, and quick strokes share a change of the list. What is out of sight is not drawn."""
+    """With 450 steps a stroke takes little longer than where their list is folded, a lone one and quick ones: of its rows a
+    few change, and quick strokes share a change of the list. What is out of sight is not drawn."""
     with Bench(has_log=False) as page:
         page.driver.execute_cdp_cmd('Performance.enable', {})
         page.driver.set_script_timeout(120)
@@ -210,23 +244,8 @@ def test_many_steps():
         page.editor.lines(*(f'stamp {ground} {at % 30} {20 + at % 8} 1 {1 + at % 23}' for at in range(STEPS)))
         page.settle()
         assert standing(page)[1] > STEPS - 20 and len(page.texts('#steps li')) > 100
-        fold = 'const panel = document.getElementById("panel-steps"); if (panel.classList.contains("folded") !== arguments[0]) panel.querySelector("h2").click()'
-        work_of(page)
-        times, told = {False: [], True: []}, []
-        for _ in range(TRIES):
-            for at in range(2 * ROUNDS):
-                is_folded = at % 2 == 1
-                page.js(fold, is_folded)
-                page.settle()
-                time, moved = work_of(page)
-                times[is_folded].append(time)
-                # With each stroke one comes, and the ends of the list move now and then.
-                assert moved < 8, moved
-            beside, alone = median(times[False]), median(times[True])
-            told.append(f'{beside:.1f} ms beside the list, {alone:.1f} with it folded')
-            if beside <= BESIDE * alone:
-                break
-        assert beside <= BESIDE * alone, told
+        for draw in (draw_quickly, draw_alone):
+            see_strokes(page, draw)
         # The last stroke is listed a moment later.
         page.settle()
         assert page.find('#steps li.now').get_attribute('data-place') == str(standing(page)[0])

@@ -92,6 +92,10 @@ def test_nothing_open():
         for css in ('#save', '#save-as', '#resize', '#undo', '#redo', '#macro', '#take', '#layer-up', '#add-tile-layer', '#remove-layer', '#new-tileset'):
             at = page.find(css)
             assert not at.is_enabled() and 'Open a map first' in at.get_attribute('title'), (css, at.get_attribute('title'))
+        for css in page.js('return [...document.querySelectorAll("#tools button")].map(each => `#${each.id}`)'):
+            at = page.find(css)
+            assert 'off' in at.get_attribute('class') and 'Open a map first' in at.get_attribute('title'), css
+        assert not page.find('#macro-name').is_enabled()
         page.ctrl('s')
         assert told(page) == 'Open a map first.'
     with Bench() as page:
@@ -99,6 +103,41 @@ def test_nothing_open():
         assert 'Nothing is done yet' in page.find('#undo').get_attribute('title')
         page.ctrl('z')
         assert told(page) == 'There is nothing to undo.'
+
+
+def test_nothing_chosen():
+    """What is about something that is not chosen, or was not copied, is grey in menus and says so; so is the button of the selected cells."""
+    with Bench() as page:
+        why = {'Cut': 'Select cells or choose an object first', 'Copy': 'Select cells or choose an object first', 'Paste': 'Nothing is copied',
+               'Duplicate': 'Choose an object first', 'Delete': 'Select cells or choose an object first', 'Select nothing': 'Nothing is selected'}
+        row = '''const rows = [...document.querySelectorAll("#menu button")].filter(each => each.ariaDisabled === "true");
+                 return rows.map(each => [each.querySelector(".words").textContent, each.title]);'''
+
+        def grey():
+            page.click('#menu-button')
+            found = dict(page.js(row))
+            page.js('document.querySelector("#menu-ground").dispatchEvent(new PointerEvent("pointerdown"))')
+            return found
+
+        first = grey()
+        assert all(first.get(name) == words for name, words in why.items()), first
+        assert not page.find('#take').is_enabled() and 'Select cells first' in page.find('#take').get_attribute('title')
+        page.editor.lines('select replace 3 20 2 2')
+        assert set(why) & set(grey()) == {'Paste', 'Duplicate'} and page.find('#take').is_enabled()
+        draw(page)
+        page.ctrl('c')
+        assert 'Paste' not in grey()
+
+
+def test_name_of_a_macro():
+    """A macro without a name is not begun; it is said in words where that is wanted."""
+    with Bench() as page:
+        for name in ('', 'x' * 201, 'a || b'):
+            page.js('document.querySelector("#macro-name").value = arguments[0]', name)
+            page.click('#macro')
+            assert told(page).startswith('The name of a macro is wanted') and not MACHINE.search(told(page)), told(page)
+            assert page.editor.state()['depth'] == 0 and page.editor.state()['count'] == 0
+            passed()
 
 
 def test_thrown():

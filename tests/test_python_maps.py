@@ -288,6 +288,34 @@ def test_things_of_infinite_maps():
     passed(4)
 
 
+def test_infinite_maps_that_get_columns():
+    """Columns and rows that come at the left and above move what a map says of how it was made finite, and an undo moves that back: objects have
+    their fractions all the time, and the file the places of the plane."""
+    chunk = {'x': -16, 'y': -16, 'width': 16, 'height': 16, 'data': [1] * 256}
+    layer = tiles(1, 16, 16, chunks=[chunk], startx=-16, starty=-16)
+    del layer['data']
+    tree = new_map(16, 16, 16, 16, 'town.tsj')
+    tree.update(layers=[layer, things(2, thing(1, x=10.5, y=3.75))], nextlayerid=3, nextobjectid=2, infinite=True)
+    with Editor() as editor:
+        document = editor.open(json.dumps(tree).encode())
+        [only] = document.objects
+        before, behind = (266.5, 259.75, (-16, -16)), (298.5, 275.75, (-18, -17))
+        came = [(only.x, only.y, document.origin)]
+        for work in (lambda: document.extend(2, 1), document.undo, document.redo):
+            work()
+            came.append((only.x, only.y, document.origin))
+        fault = unlike([before, behind, before, behind], came)
+        assert not fault, fault
+        document.stamp(1, 0, 0, [[5]])
+        saved = json.loads(document.save_bytes())
+        assert (saved['layers'][1]['objects'][0]['x'], saved['layers'][1]['objects'][0]['y']) == (10.5, 3.75)
+        assert saved['layers'][0]['chunks'][0] == chunk
+        [new] = saved['layers'][0]['chunks'][1:]
+        at = new['data'].index(5)
+        assert (new['x'] + at % new['width'], new['y'] + at // new['width']) == (-18, -17) and sum(new['data']) == 5
+    passed(5)
+
+
 def drawn(layers):
     for layer in layers:
         yield layer

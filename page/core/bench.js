@@ -31,6 +31,8 @@ export class Bench extends EventTarget {
     // The stamp in hand: the numbers that its tiles have on the active map; and what it is, as a copy (see tile_numbers.js).
     this.stamp = null;
     this.hand = null;
+    // The stamp that was pasted, until it is put down.
+    this.pasted = null;
     this.carried.takeUsual();
     // Whether a button is down on the map: the panels wait until it is up.
     this.isHeld = false;

@@ -350,14 +350,14 @@ export class Journal extends EventTarget {
   async *entriesOf(row, held = null) {
     let count = 0;
     for await (const { at, entries, sum } of this.database.recordsOf(row.id)) {
-      if (at !== count || !Array.isArray(entries) || !entries.every(isEntry)) throw new Damaged(`its record ${count} is missing`);
+      if (at !== count || !Array.isArray(entries) || !entries.every(isEntry)) throw new Damaged("a part of it is missing");
       const isSame = recordSum(entries) === sum && (await areFilesSame(entries));
-      if (!isSame) throw new Damaged(`its record ${count} is not as it was written`);
+      if (!isSame) throw new Damaged("a part of it is not as it was written");
       for (const entry of entries) held?.add(entry);
       yield* entries;
       count++;
     }
-    if (count !== row.count) throw new Damaged(`it has ${count} of ${row.count} records`);
+    if (count !== row.count) throw new Damaged("its end is missing");
   }
 
   async forget(id) {

@@ -44,7 +44,7 @@ function spelledWhole(text) {
   return found[1] === "-" && found[2] !== "0" ? `-${found[2]}` : found[2];
 }
 
-function whole(least, most) {
+export function wholeKind(least, most) {
   const wanted = `a whole number from ${grouped(least)} to ${grouped(most)}`;
   const fault = text => {
     if (!/^-?\d+$/.test(text)) return "a whole number";
@@ -84,7 +84,7 @@ function matched(pattern, wanted, spelled = text => text) {
 
 // A name of at most so many characters.
 function named(most) {
-  return matched(new RegExp(`^[A-Za-z0-9_][A-Za-z0-9_.-]{0,${most - 1}}$`), `1 to ${most} letters of a to z, digits, and _ . -, the first neither . nor -`);
+  return matched(new RegExp(`^[A-Za-z0-9_][A-Za-z0-9_.-]{0,${most - 1}}$`), `1 to ${most} letters of a to z, digits, and _ . -; first a letter, a digit or _`);
 }
 
 const asIs = text => text;
@@ -97,20 +97,20 @@ export const KINDS = {
   lines: { wanted: "a text, which may have several lines", fault: linesFault, spelled: asIs },
   line: { wanted: "a text of one line", fault: lineFault, spelled: asIs },
   macro: { wanted: `a text of 1 to ${MAX_TEXT} letters`, fault: text => (text.includes(" || ") ? "without ' || ' in it" : textFault(text)), spelled: asIs },
-  coordinate: whole(-MAX_COORDINATE, MAX_COORDINATE),
-  size: whole(0, MAX_PIXELS),
-  number: whole(0, MAX_NUMBER),
-  side: whole(1, MAX_TILE_SIDE),
-  cells: whole(1, MAX_SIDE),
+  coordinate: wholeKind(-MAX_COORDINATE, MAX_COORDINATE),
+  size: wholeKind(0, MAX_PIXELS),
+  number: wholeKind(0, MAX_NUMBER),
+  side: wholeKind(1, MAX_TILE_SIDE),
+  cells: wholeKind(1, MAX_SIDE),
   bool: matched(/^(true|false)$/, "true or false"),
   colour: matched(/^#([0-9a-f]{6}|[0-9a-f]{8})$/, "#rrggbb or #aarrggbb, in digits of 0-9 and a-f", text => text.trim().toLowerCase()),
-  path: matched(/^(?!.*\.(tmx|tsx|xml)$).*[^/]$/i, "the name of a file that is not .tmx: maps are saved as JSON, as .tmj"),
+  path: matched(/^(?!.*\.(tmx|tsx|xml)$).*[^/]$/i, "the name of a file that is not .tmx: maps are saved as .tmj"),
   document: named(MAX_DOCUMENT_NAME),
   file: named(MAX_FILE_NAME),
 };
 
 // The types of properties, each with the kind of its values: of a class the name that it has in Tiled's project.
 export const TYPES = {
-  string: KINDS.lines, int: whole(-LARGEST_INT - 1, LARGEST_INT), float: numberKind(-LARGEST_FLOAT, LARGEST_FLOAT, 0.1), bool: KINDS.bool,
+  string: KINDS.lines, int: wholeKind(-LARGEST_INT - 1, LARGEST_INT), float: numberKind(-LARGEST_FLOAT, LARGEST_FLOAT, 0.1), bool: KINDS.bool,
   color: orNothing(KINDS.colour), file: KINDS.line, object: KINDS.number, class: KINDS.label,
 };

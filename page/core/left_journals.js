@@ -29,7 +29,7 @@ const titleOf = ({ name, path }) => (path ? lastOf(path) : name);
 const stepsOf = count => `${count} ${count === 1 ? "step" : "steps"}`;
 
 // How far a document is kept of a journal that was broken off.
-export const farOf = ({ kept, steps }) => (kept === null ? "not kept" : `kept up to step ${kept} of ${steps}`);
+export const farOf = ({ kept, steps }) => (kept === null ? "not kept" : `${kept} of ${steps} steps kept`);
 
 function nameOf(document, broken) {
   const far = broken.find(each => each.name === document.name);

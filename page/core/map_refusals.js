@@ -5,7 +5,7 @@ import { grouped } from "../files/image_files.js";
 
 // What each refusal means. Where a member is at fault it stands in front, with what it is.
 const WHY = {
-  60: "the file ends too early there, or is no JSON",
+  60: "the file ends too early there, or is no map",
   61: "a whole number is wanted",
   62: "each map has that",
   63: "Tiled writes another kind of value there",

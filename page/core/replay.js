@@ -141,7 +141,9 @@ export class Replay {
   }
 
   see(line, isSame, reply, came = "a refusal") {
-    if (!isSame) throw new Otherwise(`'${cut(line)}' gives '${cut(came ?? "")}', and gave '${cut(reply ?? "")}'`);
+    if (isSame) return;
+    console.warn(`'${cut(line)}' gives '${cut(came ?? "")}', and gave '${cut(reply ?? "")}'`);
+    throw new Otherwise("one of its steps comes out otherwise than it did");
   }
 
   // Takes what a journal tells of a file: that a save has sent bytes there, or that they have arrived.

@@ -328,8 +328,8 @@ export class ServedFiles extends EventTarget {
       throw new Failed("the server does not answer, and saving has to wait");
     }
     if (answer.status === 403) {
-      this.lose("Another server stands at this address, with another key.");
-      throw new Failed("the server has another key, and saving has to wait");
+      this.lose("The server was started anew, and does not know this page.");
+      throw new Failed("the server was started anew, and saving has to wait");
     }
     this.find();
     return answer;

@@ -39,7 +39,7 @@ function readJson(text) {
   try {
     members = JSON.parse(text);
   } catch {
-    throw new Wrong("its file is no JSON");
+    throw new Wrong("its file is broken, or no tileset");
   }
   if (!isRecord(members)) throw new Wrong("its file is no tileset");
   return members;

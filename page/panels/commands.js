@@ -54,15 +54,15 @@ export class Commands {
     return [
       ...["undo", "redo"].map(id => itemOf(byId(id))), ...this.clipItems(why),
       { text: "Select all", keys: "Ctrl+A", why, call: () => clips.selectAll() },
-      { text: "Select nothing", keys: "Ctrl+Shift+A", why, call: () => clips.selectNone() },
+      { text: "Select nothing", keys: "Ctrl+Shift+A", why: why || clips.whyNot("selectNone"), call: () => clips.selectNone() },
       ...["take", "macro", "group-steps"].map(id => itemOf(byId(id))),
     ];
   }
 
   clipItems(why = "") {
     const { clips } = this.page;
-    return [["Cut", "X", "cut"], ["Copy", "C", "copy"], ["Paste", "V", "paste"], ["Duplicate", "D", "duplicate"]].map(([text, key, call]) => ({ text, keys: `Ctrl+${key}`, why, call: () => clips[call]() }))
-      .concat({ text: "Delete", keys: "Del", picture: "remove", why, call: () => clips.remove() });
+    return [["Cut", "X", "cut"], ["Copy", "C", "copy"], ["Paste", "V", "paste"], ["Duplicate", "D", "duplicate"]].map(([text, key, call]) => ({ text, keys: `Ctrl+${key}`, why: why || clips.whyNot(call), call: () => clips[call]() }))
+      .concat({ text: "Delete", keys: "Del", picture: "remove", why: why || clips.whyNot("remove"), call: () => clips.remove() });
   }
 
   // ---- menus at what is under the hand

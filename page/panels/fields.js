@@ -99,10 +99,21 @@ export class NumberField extends TypedField {
   }
 }
 
+// The fields of texts by their inputs. One that gets another width takes other rows, with the next frame: in this one it has its size.
+const texts = new WeakMap();
+const widths = new ResizeObserver(all => requestAnimationFrame(() => all.forEach(({ target, contentRect }) => texts.get(target).widen(contentRect.width))));
+
 // A text: all of it is seen, on as many rows as it takes.
 class TextField extends TypedField {
   constructor(kind, value, take) {
     super(kind, value, take, element("textarea", { rows: 1, spellcheck: false, autocomplete: "off" }));
+    texts.set(this.input, this);
+    widths.observe(this.input);
+  }
+
+  widen(width) {
+    if (width > 0 && width !== this.width) this.fit();
+    this.width = width;
   }
 
   fit() {
@@ -205,6 +216,22 @@ class BoolField extends ChosenField {
   }
 }
 
+// One of some values, [value, its words] each.
+class ChoiceField extends ChosenField {
+  constructor(choices, value, take, title) {
+    super(value, take, element("select", { title, ariaLabel: title }, ...choices.map(([each, words]) => element("option", { value: each, textContent: words }))));
+  }
+
+  put(value) {
+    this.value = this.input.value = value;
+    mark(this.input, "");
+  }
+
+  chosen() {
+    return this.input.value;
+  }
+}
+
 // An object of the map: the list is made as it is opened.
 class ObjectField extends ChosenField {
   constructor(value, take, { map, pick }) {
@@ -276,6 +303,7 @@ export function fieldFor(type, value, take, around, kind = TYPES[type]) {
   return type === "string" ? new LinesField(kind, value, take) : new TextField(kind, value, take);
 }
 
+export const choiceField = (choices, value, take, title) => new ChoiceField(choices, value, take, title);
 export const colourField = (kind, value, take) => new ColourField(kind, value, take);
 export const linesField = (kind, value, take) => new LinesField(kind, value, take);
 export const textField = (kind, value, take) => new TextField(kind, value, take);

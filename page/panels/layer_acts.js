@@ -27,7 +27,7 @@ export class LayerActs {
     return [
       this.item("Duplicate", "Ctrl+Shift+D", "duplicate"), this.item("Merge down", "", "merge"),
       this.item("Group", "", "group"), this.item("Ungroup", "", "ungroup"),
-      this.item("Move into the group beside it", "Ctrl+Shift+→", "enter"), this.item("Move out of its group", "Ctrl+Shift+←", "leave"),
+      this.item("Into the group beside it", "Ctrl+Shift+→", "enter"), this.item("Out of its group", "Ctrl+Shift+←", "leave"),
     ];
   }
 

@@ -1,14 +1,15 @@
 // SPDX-License-Identifier: MIT OR Apache-2.0
-// What an object has beside its properties, in rows of the table: its name and class, the words of a text, its tile, its place, size and
-// rotation, and whether it is seen. The numbers follow the hand while it is dragged.
+// What an object has beside its properties, in rows of the table: its name and class, its text, its tile, its place, size and rotation, and
+// whether it is seen. The numbers follow the hand while it is dragged.
 import { button, element } from "./dom.js";
-import { fieldFor, linesField, numberField } from "./fields.js";
+import { fieldFor, numberField } from "./fields.js";
 import { isInherited } from "../core/inherited.js";
-import { KINDS, numberKind } from "../core/kinds.js";
+import { numberKind } from "../core/kinds.js";
 import { memberLine } from "../core/member_lines.js";
 import { MAX_COORDINATE, MAX_PIXELS } from "../../js/limits.js";
 import { MIXED, showMixed, shownOf } from "./shared_values.js";
 import { cellOf, rowOf } from "./table_rows.js";
+import { TextRows } from "./text_rows.js";
 import { ALIGNMENTS, align } from "../tools/alignments.js";
 import { wordsOf } from "../core/tile_words.js";
 
@@ -27,7 +28,7 @@ function ofTemplate(data, row, ...names) {
 export class ObjectRows {
   // `panel` is the panel of the properties, which keeps rows and sends lines.
   constructor(panel) {
-    Object.assign(this, { panel, bench: panel.bench });
+    Object.assign(this, { panel, bench: panel.bench, textRows: new TextRows(panel) });
     this.bench.addEventListener("dragged", () => this.follow());
   }
 
@@ -40,7 +41,7 @@ export class ObjectRows {
       ...(data.template ? [this.templateRow(data)] : []),
       ofTemplate(data, panel.memberRow(owner, "name", "name", data.name ?? ""), "name"),
       ofTemplate(data, panel.memberRow(owner, "class", kind, data[kind] ?? ""), kind),
-      ...(data.text ? [ofTemplate(data, this.textRow(owner), "text")] : []),
+      ...(data.text ? this.textRows.rows(owner).map(row => ofTemplate(data, row, "text")) : []),
       this.partRow(owner, "place"),
       ofTemplate(data, this.partRow(owner, "size"), "width", "height"),
       ofTemplate(data, this.rotationRow(owner), "rotation"),
@@ -53,21 +54,6 @@ export class ObjectRows {
   // The template, whose values are grey; where its file is not there, they are not known.
   templateRow({ template }) {
     return this.panel.fact("template", template, this.bench.editor.templates.has(template) ? "" : "Its file is not there: choose it, too.");
-  }
-
-  // The text that is drawn. The page may have a part of it.
-  textRow({ word, data }) {
-    const { panel } = this;
-    return panel.kept(` ${word} text`, [data.text.text ?? ""], () => {
-      const take = text => {
-        const whole = this.bench.editor.membersOf(data.id).text ?? panel.owner().data.text;
-        const isKnown = (whole.text ?? "") === (panel.owner().data.text.text ?? "");
-        return isKnown ? panel.send(memberLine(word, "text", { ...whole, text })) : "this text is longer than what is shown here";
-      };
-      const field = linesField(KINDS.words, data.text.text ?? "", take);
-      Object.assign(field.input.dataset, { key: " text", owner: word });
-      return { element: rowOf("text", "", "Shift+Enter begins another line", element("td", { colSpan: 2 }, field.box)), fields: [field] };
-    });
   }
 
   // Two numbers, beside one another.

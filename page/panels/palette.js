@@ -26,8 +26,8 @@ export class Palette {
     this.bench = bench;
     this.tilesets = tilesets;
     this.first = null;
-    // The tiles of the stamp, which have a frame.
-    this.framed = new Set();
+    // The tiles of a stamp, which have a frame, and the values of that stamp.
+    Object.assign(this, { framed: new Set(), framedOf: null });
     this.side = SIDES[USUAL];
     this.canvas = byId("palette");
     this.pen = this.canvas.getContext("2d");
@@ -163,7 +163,8 @@ export class Palette {
 
   // A frame around the tiles of the stamp, where they stand in this tileset.
   drawFrame() {
-    const { pen, side, tileset } = this;
+    const { pen, side, tileset, bench: { stamp: { values } } } = this;
+    if (values !== this.framedOf) Object.assign(this, { framed: new Set(values.filter(each => each !== 0).map(each => each & TILE)), framedOf: values });
     for (const value of this.framed) {
       const tile = value - tileset.first;
       if (tile < 0 || tile >= tileset.count) continue;
@@ -190,7 +191,6 @@ export class Palette {
   // Shows where the first tile of a stamp stands that was taken elsewhere.
   takeStamp() {
     const value = this.bench.stamp.values.find(each => each !== 0) ?? 0;
-    this.framed = new Set(this.bench.stamp.values.filter(each => each !== 0).map(each => each & TILE));
     const tileset = this.tilesets.of(value);
     if (!this.from && tileset && value) this.reveal(tileset, idIn(value, tileset));
     this.show();

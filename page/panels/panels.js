@@ -49,7 +49,7 @@ export class Panels {
     footer.prepend(this.grip("left-grip", "left", byId("left-edge"), aside => this.widen("left", aside)));
     footer.append(this.grip("right-grip", "right", byId("right-edge"), aside => this.widen("right", innerWidth - aside)));
     this.bindFooter(footer);
-    byId("line-box").before(this.edge("line-edge", "Drag: the height of the lines", event => this.heighten(event.clientY), true));
+    byId("line-box").before(this.edge("line-edge", "Drag: the height of the log", event => this.heighten(event.clientY), true));
     byId("turn-log").prepend(icon("log"));
     byId("turn-log").onclick = () => {
       this.showLog(byId("line-box").hidden);

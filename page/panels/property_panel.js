@@ -120,9 +120,14 @@ export class PropertyPanel {
   // The size and the class of the map; what a layer has, or an object.
   factRows(owner) {
     const { data } = owner;
-    if (this.kind === "map") return [this.fact("size", `${data.width} × ${data.height}`, ""), this.classRow(owner)];
+    if (this.kind === "map") return [this.fact("size", this.sizeOf(data), ""), this.classRow(owner)];
     if (this.kind === "layer") return this.layerRows.rows(owner, this.bench.layer);
     return this.objectRows.rows(owner);
+  }
+
+  // The size of the map. One that grows says so.
+  sizeOf({ width, height }) {
+    return `${width} × ${height}${this.bench.growth.isOf(this.bench.map) ? ", infinite" : ""}`;
   }
 
   // The class of the map, or of a layer.

@@ -20,7 +20,7 @@ const MOST_SHOWN = 1024;
 const CUT = `Only its first ${MOST_SHOWN.toLocaleString("en-US")} letters are shown: it is longer than what can be set here. It is kept as it is.`;
 const tooLong = count => `too long by ${count.toLocaleString("en-US")} ${count === 1 ? "letter" : "letters"}`;
 // The words of a member's type, which the map does not tell: its class stands in Tiled's project.
-const OF_MEMBERS = { float: "number", bool: "mark", string: "text" };
+const OF_MEMBERS = { float: "number", bool: "yes or no", string: "text" };
 const SETTABLE = Object.keys(TYPES).filter(type => type !== "class");
 
 export class PropertyRows {
@@ -130,7 +130,7 @@ export class PropertyRows {
       if (field.input.type === "checkbox") field.input.indeterminate = isMixed;
       else field.input.placeholder = isMixed ? MIXED : "";
       const remove = button("×", "Take this member out: it has the value of its class then", () => this.removeMember(name, path));
-      const row = rowOf(title, "", `${name}: ${title}, a ${OF_MEMBERS[type]}`, element("td", {}, field.box), element("td", {}, remove));
+      const row = rowOf(title, "", `${name}: ${title} (${OF_MEMBERS[type]})`, element("td", {}, field.box), element("td", {}, remove));
       row.classList.add("member");
       return { element: row, fields: [field] };
     });

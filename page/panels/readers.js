@@ -17,7 +17,7 @@ const PARTS = [
   ["#layers", { role: "tree", "aria-label": "Layers" }],
   ["#steps", { role: "listbox", "aria-label": "Steps" }],
   ["#objects", { role: "listbox", "aria-label": "Objects" }],
-  ["#lines", { role: "log", "aria-label": "Lines", "aria-live": "off", tabindex: "0" }],
+  ["#lines", { role: "log", "aria-label": "Log", "aria-live": "off", tabindex: "0" }],
   ["#palette", { role: "application", "aria-label": "Tiles", "aria-describedby": "tile-row", tabindex: "0" }],
   ["#view", { role: "application", "aria-label": "Map", "aria-describedby": "place", tabindex: "0" }],
   ["#left", { "aria-label": "Tiles and objects" }],

@@ -4,6 +4,7 @@
 import { button, byId, element, putText } from "./dom.js";
 import { groupSteps } from "./group_steps.js";
 import { putRows } from "./list_rows.js";
+import { widthOf } from "./text_widths.js";
 import { calledStep } from "../core/step_ways.js";
 
 const MORE = 1000;
@@ -12,6 +13,8 @@ const MOST_IN_SIGHT = 5;
 // How many rows stand in a part of the list, and how high one is, in pixels of the page.
 const IN_PART = 25;
 const ROW_HEIGHT = 24;
+// How many pixels of a row neither its text nor its marks have: its edges, the number, and what is between.
+const NOT_OF_TEXT = 64;
 // How long the list stands as it is where edits follow one another, in milliseconds: so many times as long as its last change took.
 const SHARE = 20;
 const LEAST_TIME = 400;
@@ -31,7 +34,18 @@ export class StepPanel {
     this.now = null;
     // Whether the list waits, when it was shown last, and what of.
     Object.assign(this, { isLate: false, shownAt: -Infinity, time: LEAST_TIME, shownChange: null, shownDocument: null });
-    new ResizeObserver(() => this.now?.scrollIntoView({ block: "nearest" })).observe(byId("steps"));
+    this.room = 0;
+    new ResizeObserver(() => this.takeRoom()).observe(byId("steps"));
+  }
+
+  // The list has another size. Where it has another width, other texts have no room.
+  takeRoom() {
+    const { clientWidth } = byId("steps");
+    if (clientWidth !== this.room) {
+      this.room = clientWidth;
+      this.showAll();
+    }
+    this.now?.scrollIntoView({ block: "nearest" });
   }
 
   // What a layer, an object or a tileset is called, or was before the last line.
@@ -100,7 +114,7 @@ export class StepPanel {
     let isOther = wanted.length !== this.rows.size;
     for (const each of wanted) {
       const key = each.more ?? each.place;
-      const shown = each.more ? each : { ...each, ...this.looksOf(each) };
+      const shown = each.more ? each : this.withRoom({ ...each, ...this.looksOf(each) });
       const kept = this.rows.get(key) ?? { row: each.more ? this.more() : this.row(each.place), said: "" };
       const said = JSON.stringify(shown);
       if (kept.said !== said) this.showRow(kept.row, shown);
@@ -184,6 +198,14 @@ export class StepPanel {
     return { saved, isOpen, isNow: place === index, isUndone: place > index && !isOpen };
   }
 
+  // What a row shows, with the words for its kind, and whether its text is cut off. The browser cuts no other one: each row that it cuts is
+  // drawn on its own, and that costs each frame of a stroke.
+  withRoom(shown) {
+    const kind = shown.isOpen ? "open macro" : shown.isMacro ? "macro" : "";
+    const isCut = NOT_OF_TEXT + widthOf(shown.text) + widthOf(kind) + widthOf(shown.saved) > this.room;
+    return { ...shown, kind, isCut };
+  }
+
   row(place) {
     return element("li", { data: { place }, onclick: event => this.click(place, event) },
       element("span", { className: "number", textContent: place }), element("span", { className: "name" }), element("span", { className: "kind" }), element("span", { className: "clean" }));
@@ -197,15 +219,15 @@ export class StepPanel {
   }
 
   // Has a row show how its step stands.
-  showRow(row, { more, text, isMacro, saved, isOpen, isNow, isUndone }) {
+  showRow(row, { more, text, kind: words, saved, isCut, isNow, isUndone }) {
     if (more) {
       row.firstElementChild.textContent = text;
       return;
     }
     const [, name, kind, clean] = row.children;
-    const words = [[name, text], [kind, isOpen ? "open macro" : isMacro ? "macro" : ""], [clean, saved]];
-    for (const [part, said] of words) putText(part, said);
+    for (const [part, said] of [[name, text], [kind, words], [clean, saved]]) putText(part, said);
     if (name.title !== text) name.title = text;
+    name.classList.toggle("cut", isCut);
     row.classList.toggle("now", isNow);
     row.classList.toggle("undone", isUndone);
   }

@@ -8,6 +8,7 @@ import { PanelKeys } from "./panel_keys.js";
 import { titleOf } from "../tools/insert_tool.js";
 import { Keys } from "../tools/keys.js";
 import { SNAPPINGS } from "../tools/snapping.js";
+import { KINDS } from "../core/kinds.js";
 import { whyNotOn } from "../tools/layer_tools.js";
 
 const TOOLS = [
@@ -106,7 +107,7 @@ export class Toolbar {
     allow(byId("undo"), `Undo${state.depth ? " the last edit of the macro" : ""} (Ctrl+Z)`, noMap || (canUndo ? "" : "Nothing is done yet"));
     allow(byId("redo"), "Redo (Ctrl+Shift+Z, Ctrl+Y)", noMap || (canRedo ? "" : "Nothing is undone"));
     allow(byId("group-steps"), "Group the last steps: they become one, with a name", macros.whyNot(1));
-    allow(byId("take"), "Take the selected cells as the stamp (Ctrl+C)", state.active ? "" : NO_MAP);
+    allow(byId("take"), "Take the selected cells as the stamp (Ctrl+C)", noMap || (this.bench.map?.selected ? "" : "Select cells first, with the tool Select"));
     this.showMacro(state);
     byId("turn-names").classList.toggle("on", this.bench.overlay.hasNames);
     byId("grid").classList.toggle("on", this.bench.overlay.hasGrid);
@@ -118,7 +119,7 @@ export class Toolbar {
     const { map, layer } = this.bench;
     for (const [name, text, key, words] of TOOLS) {
       const shown = byId(`tool-${name}`);
-      const why = whyNotOn(name, map, layer);
+      const why = map ? whyNotOn(name, map, layer) : `${NO_MAP}.`;
       const title = `${text} (${key}): ${why || words}`;
       shown.classList.toggle("on", name === this.tools.name);
       shown.classList.toggle("off", why !== "");
@@ -136,6 +137,7 @@ export class Toolbar {
     allow(macro, `${depth === 0 ? "Begin a macro" : "End the macro"}: what stands between begin and end is one step`, active ? "" : NO_MAP);
     macro.classList.toggle("on", depth > 0);
     byId("macro-name").hidden = depth > 0;
+    byId("macro-name").disabled = !active;
   }
 
   setBrush(size) {
@@ -172,8 +174,14 @@ export class Toolbar {
 
   turnMacro() {
     const name = byId("macro-name");
-    this.bench.act([this.editor.stand().depth ? "end" : `begin ${name.value}`]);
+    const isOpen = this.editor.stand().depth > 0;
+    const fault = isOpen ? "" : KINDS.macro.fault(name.value);
+    if (fault) {
+      name.select();
+      return this.bench.say(`The name of a macro is wanted beside its button: ${fault}.`);
+    }
     name.blur();
+    return this.bench.act([isOpen ? "end" : `begin ${name.value}`]);
   }
 
   flip(change) {

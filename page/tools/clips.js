@@ -22,6 +22,16 @@ export class Clips {
     return Boolean(map?.selected && layer?.isTiles);
   }
 
+  // Why one of these does nothing now: nothing is chosen, or nothing was copied. "" where it may do something.
+  whyNot(call) {
+    const { bench, clipboard } = this;
+    const isChosen = bench.objectIds.length > 0 || Boolean(bench.map?.selected);
+    if (call === "paste") return clipboard.tiles || clipboard.object ? "" : "Nothing is copied";
+    if (call === "duplicate") return bench.objectIds.length ? "" : "Choose an object first";
+    if (call === "selectNone") return isChosen ? "" : "Nothing is selected";
+    return isChosen || this.tools.now.isDrawing ? "" : "Select cells or choose an object first";
+  }
+
   copy() {
     this.clipboard.during(() => (this.objects ? this.objects.copy() : this.copyCells()));
   }
@@ -99,6 +109,7 @@ export class Clips {
   takeForPaste(stamp) {
     const { bench } = this;
     bench.takeStamp(stamp);
+    bench.pasted = stamp;
     if (bench.map.selected) bench.act(["select none"], { gesture: "paste" });
     this.tools.choose("brush");
   }

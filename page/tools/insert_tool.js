@@ -99,7 +99,7 @@ export class InsertTool {
     if (!layer || (this.shape === "tile" && !this.bench.fillValue)) return null;
     if (this.by === "corners") return this.outline(layer, this.spot(layer, place, event));
     const object = this.made(layer, place, event);
-    return { object, layer, colour: COLOUR, words: this.from && `${object.width} × ${object.height}` };
+    return { object, layer, colour: COLOUR, words: this.from && `${object.width} × ${object.height} px` };
   }
 
   // What is shown while the hand is not on the map.

@@ -33,6 +33,16 @@ function toolRows({ tools }) {
   ];
 }
 
+// With an object layer in hand these go before those of the tools for tiles, as in Tiled.
+function objectRows({ tools }) {
+  const shape = (key, name) => [[key], `Insert: draws a new ${name}`, () => {
+    tools.choose("insert");
+    tools.all.insert.take(name);
+  }];
+  const corners = [["o"], "Objects: its handles move corners", () => tools.choose("objects")];
+  return [shape("r", "rectangle"), shape("c", "ellipse"), shape("p", "polygon"), shape("t", "tile"), shape("e", "text"), corners];
+}
+
 function stampRows({ toolbar, stamps }) {
   return [
     [["x"], "Flips the stamp to the side", () => toolbar.flip(flippedToSide)],
@@ -128,6 +138,8 @@ export class Keys {
   constructor(parts) {
     Object.assign(this, { tools: parts.tools });
     this.own = new OwnKeys();
+    this.ofObjects = { title: "With an object layer, as in Tiled", rows: objectRows(parts) };
+    this.objectCalls = callsOf(this.ofObjects.rows);
     this.usual = GROUPS.map(([title, rowsOf]) => ({ title, rows: rowsOf(parts) }));
     this.bind();
     // What keys do where something has the focus: groups of rows, as those of the page.
@@ -157,7 +169,7 @@ export class Keys {
       if (this.inFields.has(word)) this.leaveField(event, word);
       return;
     }
-    if (event.altKey || !this.calls.has(word) || this.isText(word) || this.isForPaging(word) || this.isForFocus(word)) return;
+    if (event.altKey || !this.callOf(word) || this.isText(word) || this.isForPaging(word) || this.isForFocus(word)) return;
     this.run(event, word);
   }
 
@@ -165,19 +177,31 @@ export class Keys {
     return this.groups.flatMap(group => group.rows);
   }
 
+  // What a key does. One of one's own comes first, wherever it is.
+  callOf(word) {
+    const isOfObjects = this.tools.bench.layer?.type === "objectgroup" && !this.own.has(word);
+    return (isOfObjects && this.objectCalls.get(word)) || this.calls.get(word);
+  }
+
+  // The groups of the list: those of the page, and what keys do in its places.
+  get listed() {
+    const [tools, ...others] = this.groups;
+    return [tools, this.ofObjects, ...others, ...this.places];
+  }
+
   // Lists the keys; a row of the page's own table may get another one.
   list() {
     const change = (text, key) => {
       this.own.give(text, key, this.rows);
       this.bind();
-      return [...this.groups, ...this.places];
+      return this.listed;
     };
     const reset = () => {
       this.own.forget();
       this.bind();
-      return [...this.groups, ...this.places];
+      return this.listed;
     };
-    return showKeys([...this.groups, ...this.places], { isOwn: text => this.rows.some(([keys, other]) => other === text && isChangeable(keys)), change, reset });
+    return showKeys(this.listed, { isOwn: text => this.rows.some(([keys, other]) => other === text && isChangeable(keys)), change, reset });
   }
 
   // A field takes what was typed before the map is saved.
@@ -205,6 +229,6 @@ export class Keys {
   run(event, word) {
     event.preventDefault();
     const key = keyOf(word);
-    this.calls.get(word)(ARROWS[key] ?? Number(key), event);
+    this.callOf(word)(ARROWS[key] ?? Number(key), event);
   }
 }

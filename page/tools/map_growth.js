@@ -1,20 +1,19 @@
 // SPDX-License-Identifier: MIT OR Apache-2.0
 // An infinite map grows under the hand, by whole chunks at each side, in one step with what is drawn there.
 import { grouped } from "../files/image_files.js";
-import { notice } from "../panels/notice_bars.js";
 import { MAX_CELLS, MAX_SIDE } from "../../js/limits.js";
 
 // The most cells of all tile layers of an infinite map together: with more of them its file could not be opened again.
 const MOST_OF_LAYERS = 16_777_216;
-const ABOUT = "map growth";
 
 const unitOf = side => (side % 2 ? 2 * side : side);
+const down = (number, unit) => Math.floor(number / unit) * unit;
 const up = (number, unit) => Math.ceil(number / unit) * unit;
 
 // How many columns or rows come before a map and behind it, so that it has those from one place up to another: whole chunks, and as many
-// that a staggered map keeps its stagger. `corner` is the place of the map on the plane.
+// that a staggered map keeps its stagger, as its corner is even. `corner` is the place of the map on the plane.
 function along(from, to, length, corner, chunk) {
-  const before = from < 0 ? up(-from, unitOf(chunk)) : 0;
+  const before = from < 0 ? corner - down(corner + from, unitOf(chunk)) : 0;
   const behind = to > length ? up(corner + to, chunk) - corner - length : 0;
   return [before, behind];
 }
@@ -36,23 +35,22 @@ export function whyNotGrown(map, { left, top, right, bottom }) {
   return `The map cannot grow there: all its tile layers together have at most ${grouped(MOST_OF_LAYERS)} cells.`;
 }
 
-// How many objects lie at fractions of a pixel that are lost where all moves to the right, or down.
-function fractionsIn(map, right, down) {
-  const isLost = ({ x = 0, y = 0 }) => (right > 0 && !Number.isInteger(x)) || (down > 0 && !Number.isInteger(y));
-  return map.layers.flatMap(layer => layer.data.objects ?? []).filter(isLost).length;
-}
-
 export class MapGrowth {
   constructor(bench) {
-    // Whether a macro is open that has a growth and what is drawn there, and the open documents whose growth has moved them, of which that was said.
-    Object.assign(this, { bench, editor: bench.editor, isOpen: false, told: new WeakSet(), asked: null, isInfinite: false });
+    // Whether a macro is open that has a growth and what is drawn there.
+    Object.assign(this, { bench, editor: bench.editor, isOpen: false, asked: null, isInfinite: false });
   }
 
-  // Whether the active map grows where tiles are drawn outside of it.
+  // Whether the active map is infinite.
+  isOf(map) {
+    if (map && this.asked !== map) Object.assign(this, { asked: map, isInfinite: this.editor.chunks() !== null });
+    return Boolean(map) && this.isInfinite;
+  }
+
+  // Whether it grows where tiles are drawn outside of it.
   get grows() {
     const { map } = this.bench;
-    if (map && this.asked !== map) Object.assign(this, { asked: map, isInfinite: this.editor.chunks() !== null });
-    return Boolean(map) && this.isInfinite && !map.selected;
+    return this.isOf(map) && !map.selected;
   }
 
   // Has an infinite map grow so that it has a rectangle of cells. `stroke` is the stroke that goes on there: what it has drawn becomes a part of
@@ -64,17 +62,14 @@ export class MapGrowth {
     if (!chunks) return { moved: [0, 0], why: "" };
     const sides = sidesFor(map, chunks, box);
     const why = whyNotGrown(map, sides);
-    return why ? { moved: [0, 0], why } : this.grow(sides, chunks, stroke);
+    return why ? { moved: [0, 0], why } : this.grow(sides, stroke);
   }
 
-  grow({ left, top, right, bottom }, chunks, stroke) {
-    const rounded = fractionsIn(this.bench.map, left, top);
+  // All stays where it is on the plane: `extend` sees to that.
+  grow({ left, top, right, bottom }, stroke) {
     const lines = [...this.opening(stroke), `extend ${left} ${top} ${right} ${bottom}`];
     const done = this.bench.sayRefusal(this.editor.doLines(lines, { stroke }));
-    if (!done.isAccepted) return { moved: [0, 0], why: this.bench.bubble.words };
-    const { x, y } = this.editor.chunks();
-    this.note([x, y], x + left - chunks.x, y + top - chunks.y, rounded);
-    return { moved: [left, top], why: "" };
+    return done.isAccepted ? { moved: [left, top], why: "" } : { moved: [0, 0], why: this.bench.bubble.words };
   }
 
   // The lines that open a macro, with the step of the stroke in it; none where one is open.
@@ -99,18 +94,5 @@ export class MapGrowth {
     if (this.editor.stand().depth) this.editor.doLines(isTaken ? ["end", "undo"] : ["end"]);
     if (active !== name) this.editor.doLines([`use ${active ?? "-"}`]);
     return true;
-  }
-
-  // Where the corner of a map keeps its place on the plane, all that is in it moves there, which is said once, and what objects lose each time.
-  // `left` and `top` are by how much it has moved.
-  note([x, y], left, top, rounded) {
-    if (!left && !top) return;
-    const { document } = this.editor.openDocuments;
-    if (this.told.has(document) && !rounded) return;
-    this.told.add(document);
-    const ways = [left && `${left} columns to the right`, top && `${top} rows down`].filter(Boolean).join(" and ");
-    const words = `The map has grown before its first cell, which stays at ${x}, ${y} in the file: there all that was drawn has moved ${ways}.`;
-    const more = rounded ? ` ${rounded === 1 ? "An object" : `${rounded} objects`} lay at fractions of a pixel, and now on whole ones.` : "";
-    notice(ABOUT, words + more, [["OK", () => {}]], "mild");
   }
 }

@@ -40,7 +40,7 @@ export class ObjectTool {
   wordsOf(goal) {
     if (!goal || goal.polygon || goal.polyline) return "";
     if (goal.rotation !== undefined) return `${goal.rotation}°`;
-    return goal.width === undefined ? `${goal.x}, ${goal.y}` : `${goal.width} × ${goal.height}`;
+    return goal.width === undefined ? `${goal.x}, ${goal.y}` : `${goal.width} × ${goal.height} px`;
   }
 
   // The handle of the object that is chosen alone at a place, or null.
@@ -195,8 +195,11 @@ export class ObjectTool {
     return this.send({ lines: all.map(({ object }) => `object remove ${object.id}`), name: all.length > 1 ? name : null });
   }
 
+  // A copy changes nothing: it is also made of what is hidden, or on a locked layer.
   copy() {
-    return this.onChosen("copied", all => this.copies.keep(all));
+    const { bench } = this;
+    const all = bench.chosenObjects;
+    return all.length ? this.copies.keep(all) : bench.say("Choose an object first: click at one.");
   }
 
   cut() {

@@ -25,6 +25,11 @@ export class OwnKeys {
     return this.rows.size > 0;
   }
 
+  // Whether a key is one of these.
+  has(key) {
+    return [...this.rows.values()].some(keys => keys.includes(key));
+  }
+
   // A table with its own keys.
   of(rows) {
     return rows.map(([keys, text, call]) => [this.rows.get(text) ?? keys, text, call]);

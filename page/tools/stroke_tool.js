@@ -58,12 +58,18 @@ export class StrokeTool {
     return this.last?.document === this.bench.editor.openDocuments.active ? this.last.cell : null;
   }
 
+  // Whether a paste is in the hand that was not put down yet: its size is told.
+  get isPasted() {
+    const { bench } = this;
+    return this.name === "brush" && bench.pasted !== null && bench.pasted === bench.stamp;
+  }
+
   hover(place, event) {
     const { colour, stroke } = this;
     if (event?.shiftKey && this.start && !stroke) return { ...lineShown(cellsOnLine(this.start, place.cell), cell => this.blockAt(...cell)), colour, grows: this.bench.growth.grows };
     const { x, y, width, height, values } = this.blockAt(...place.cell);
     const valueAt = values && ((column, row) => values[(row - y) * width + column - x]);
-    return { cells: [x, y, width, height], valueAt, colour, grows: this.bench.growth.grows };
+    return { cells: [x, y, width, height], valueAt, colour, grows: this.bench.growth.grows, words: this.isPasted && `${width} × ${height}` };
   }
 
   down(place, event) {
@@ -82,6 +88,7 @@ export class StrokeTool {
   up() {
     if (this.stroke?.last) this.last = { document: this.document, cell: this.stroke.last };
     this.stroke = null;
+    this.bench.pasted = null;
     this.bench.growth.end();
   }
 

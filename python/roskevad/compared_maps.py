@@ -127,9 +127,14 @@ class Shift(NamedTuple):
     x: int
     y: int
 
-    def line(self, behind: MapNow) -> str:
-        """The line that gives a map the size of another one, and moves all so."""
-        return f'resize {behind.tree["width"]} {behind.tree["height"]} {self.x} {self.y}'
+    def line(self, copy: 'Document', behind: MapNow) -> str:
+        """The line that gives a map the size of another one, and moves all so. Of an infinite map whose corner goes to the left or up all stays
+        where it is on the plane, if it loses no cells at the other sides."""
+        width, height = behind.tree['width'], behind.tree['height']
+        sides = *self, width - copy.width - self.x, height - copy.height - self.y
+        if copy.origin != behind.document.origin and min(sides) >= 0:
+            return f'extend {" ".join(map(str, sides))}'
+        return f'resize {width} {height} {self.x} {self.y}'
 
 
 def shift_of(before: MapNow, behind: MapNow) -> Shift:
@@ -144,7 +149,7 @@ def shift_of(before: MapNow, behind: MapNow) -> Shift:
 def _can_be(copy: 'Document', behind: MapNow, shift: Shift) -> bool:
     """Whether a map takes the size of another one with this shift; it is as it was then."""
     try:
-        copy._edit(shift.line(behind))
+        copy._edit(shift.line(copy, behind))
     except Refused:
         return False
     copy.undo()

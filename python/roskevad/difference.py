@@ -121,7 +121,7 @@ def _changes_between(old: 'Document', goal: MapNow, shift: Optional[Shift]) -> l
 
 def _resized(old: 'Document', goal: MapNow, shift: Shift) -> list[Change]:
     before, after = ([map_[side] for side in ('width', 'height')] for map_ in (old.outline(), goal.tree))
-    old._edit(shift.line(goal))
+    old._edit(shift.line(old, goal))
     moved = f', all moved by {shift.x}, {shift.y}' if any(shift) else ''
     words = f'{before[0]} by {before[1]} cells -> {after[0]} by {after[1]}{moved}'
     return [Change(_MAP, '', 'size', before, [*after, *shift], words)]

@@ -21,7 +21,7 @@ def lines_between(copy: 'Document', goal: MapNow, shift: Optional[Shift]) -> lis
     """Lines that do to a copy of one map what makes it another one, as far as lines can say it."""
     way = _Way(copy, goal)
     if shift is not None:
-        way.say(shift.line(goal))
+        way.say(shift.line(copy, goal))
     for each in (_drop_layers, _add_tilesets, _add_layers, _place_layers, _change_objects, _paint, _set_members, _set_properties,
                  _change_tilesets, _drop_tilesets, _count):
         each(way)

@@ -77,7 +77,7 @@ class Document:
     """
 
     # So that a name that it has not is never set silently.
-    __slots__ = '_editor', '_name', '_is_closed', '_stroke', '_begins', '_path', '_source', '_written', '_sets_aside', '_note', '_encodings'
+    __slots__ = '_editor', '_name', '_is_closed', '_stroke', '_begins', '_path', '_source', '_written', '_sets_aside', '_encodings'
 
     def __init__(self, editor: 'Editor', name: str):
         """Editors make it: `new`, `open` and `documents` give it."""
@@ -95,8 +95,6 @@ class Document:
         # Whether what stands under the reserved names in its map was set aside or unpacked. Else it is the map's own, and is told and saved
         # as the editor holds it.
         self._sets_aside = True
-        # What its map says of how it was made finite, once that was asked for.
-        self._note: Optional[Members] = None
         # How the cells of its tile layers are written in its file, by their ids, once that was asked for.
         self._encodings: dict[int, Optional[str]] = {}
 
@@ -178,9 +176,8 @@ class Document:
         return without_packing([value])[0] if name == 'layer' else value
 
     def _note_now(self) -> Members:
-        if self._note is None:
-            self._note = note_of(json.loads(self._editor._copy_bytes('map_head') or b'{}'))
-        return self._note
+        """What its map says of how it was made finite, in a turn: columns that come at its left move that."""
+        return note_of(json.loads(self._editor._copy_bytes('map_head') or b'{}'))
 
     def _encoding_of(self, layer: int) -> Optional[str]:
         """How the cells of a tile layer are written in its file, in a turn; None where as numbers. No edit changes that, and the outline

@@ -144,7 +144,7 @@ def drawn(layers: Iterable[Members]) -> Iterator[Members]:
 
 
 def note_of(tree: Members) -> Members:
-    """What the tree of a map, or its head, says of how an infinite map was made finite; nothing of any other map. No edit changes it."""
+    """What the tree of a map, or its head, says of how an infinite map was made finite; nothing of any other map. `extend` changes it."""
     notes = tree.get(_RESERVED)
     note = notes.get('infinite') if isinstance(notes, dict) else None
     return note if isinstance(note, dict) else {}

@@ -188,6 +188,27 @@ def finite_of(tree):
     return tree
 
 
+# ---- what a finite map gets at its left and top
+
+
+def keep_place(tree, left, top):
+    """Moves the notes of a finite map that has got so many columns and rows at its left and top, in
+    place: so that all of it is saved where it was on the plane. A map without the note stays as it is."""
+    note = tree.get(MARK, {}).get('infinite')
+    if note is None:
+        return
+    for name, lost, side, moved, pixels, by in (
+        ('x', 'lostx', 'chunkwidth', 'movedx', 'tilewidth', left),
+        ('y', 'losty', 'chunkheight', 'movedy', 'tileheight', top),
+    ):
+        note[name] -= by
+        note[lost] = note[name] % note[side]
+        note[moved] -= by * tree[pixels]
+    for layer in every_layer(tree['layers']):
+        if layer['type'] == 'tilelayer' and MARK in layer:
+            layer[MARK]['chunks'] = [[x + left, y + top, *size] for x, y, *size in layer[MARK]['chunks']]
+
+
 # ---- back
 
 

@@ -23,8 +23,9 @@ from lib.edits import (
     tileset_of,
     values_in,
 )
+from lib.infinite import keep_place
 from lib.json_texts import depth_of
-from lib.json_words import MOST_READ, is_whole, json_word, object_word, tree_of
+from lib.json_words import MOST_READ, is_whole, json_word, object_word, sets_fractions_aside, tree_of
 from lib.maps import FLAGLESS, MOST_INSIDE, MOST_LAYERS, cells_of, group, layer_of, layers_in, objects_in, set_cells, text_of
 from lib.members import notes_of, see_object
 
@@ -181,6 +182,8 @@ def number_tileset(draft, first_id, number):
 def extend(draft, left, top, right, bottom):
     tree = draft.tree
     resize(draft, tree['width'] + left + right, tree['height'] + top + bottom, left, top)
+    if sets_fractions_aside():
+        keep_place(tree, left, top)
 
 
 WHOLE_EDITS = {

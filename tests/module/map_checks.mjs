@@ -294,6 +294,18 @@ async function thingsOfInfiniteMaps() {
   two.move(263, Math.floor(two.y) + 1);
   same([one.x, one.y, two.x, two.y], [266, 4, 263, 260]);
   same(sorted(document.layers.get(2).members), sorted(document.outline().layers[1]));
+  // Columns and rows that come at the left and above move what it says of that; an undo moves it back.
+  const other = await editor.open(source, "other");
+  const [moved] = other.objects;
+  const places = [];
+  for (const work of [() => other.extend(2, 1), () => other.undo(), () => other.redo()]) {
+    work();
+    places.push([moved.x, moved.y, ...other.origin]);
+  }
+  const longer = [298.5, 275, -18, -17];
+  same(places, [longer, [266.5, 259, -16, -16], longer]);
+  const { layers: [{ chunks }, { objects }] } = await savedTree(editor);
+  same([chunks.length, chunks[0].x, chunks[0].y, objects[0].x, objects[0].y], [1, -16, -16, 10.5, 3]);
   editor.close();
 }
 

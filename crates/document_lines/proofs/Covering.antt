@@ -68,7 +68,8 @@ use Rattle.property_commands.specs.PropertyChanges.{property_set_exchange, remov
 use Rattle.property_commands.specs.PropertyChanges.{held_property, property_in, put_kind_exchange, put_property_change, put_property_exchange}
 use Rattle.property_commands.specs.PropertyChanges.{set_property_change}
 use Rattle.property_commands.specs.Names.{set_property_names}
-use Rattle.property_commands.specs.TilesetChanges.{add_tileset_change, add_tileset_exchange, number_tileset_change, number_tileset_exchange, remove_tileset_change, remove_tileset_exchange}
+use Rattle.property_commands.specs.TilesetChanges.{add_tileset_change, add_tileset_exchange, number_tileset_change, number_tileset_exchange}
+use Rattle.property_commands.specs.TilesetChanges.{remove_tileset_change, remove_tileset_exchange}
 use Rattle.document_lines.specs.declared.differences.Differences.{Differences}
 use Rattle.document_lines.specs.declared.planned.Edit.{Edit}
 use Rattle.document_lines.specs.declared.planned.Edit.TheVariants as edits

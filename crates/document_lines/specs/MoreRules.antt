@@ -74,7 +74,7 @@ after_more fractions (PutProperty owner json) d = after_property_text fractions 
 after_more fractions (TakeProperty owner json) d = after_take_property fractions d owner json
 after_more fractions (PutTileset json) d = after_tileset_text fractions d json
 after_more fractions (NumberTileset first_id number) d = made (after_number_tileset d first_id number)
-after_more fractions (Extend left top right bottom) d = made (after_extend d left top right bottom)
+after_more fractions (Extend left top right bottom) d = made (after_extend fractions d left top right bottom)
 
 -- the step of an edit with these names, or the edit's refusal
 abbrev pub more_answer_of : Names → Result DocumentParts MoreFault → Result Step Refusal

@@ -28,7 +28,8 @@ use Rattle.session.specs.declared.reply.Reply.TheVariants as replies
 use Rattle.document_lines.specs.declared.planned.Edit.{Edit}
 use Rattle.document_lines.specs.declared.planned.Edit.TheVariants.{Paint, AddLayer, RemoveLayer, RenameLayer, ShowLayer, MoveLayer, Select, ResizeMap}
 use Rattle.document_lines.specs.declared.planned.Edit.TheVariants.{AddObject, RemoveObject, PlaceObject, SetProperty, RemoveProperty, AddTileset, RemoveTileset}
-use Rattle.document_lines.specs.declared.planned.Edit.TheVariants.{SetObjectHead, SetLayerHead, SetMapHead, ReparentObject, PutProperty, SetTilesetHead, NumberTileset}
+use Rattle.document_lines.specs.declared.planned.Edit.TheVariants.{SetObjectHead, SetLayerHead, SetMapHead, ReparentObject, PutProperty, SetTilesetHead}
+use Rattle.document_lines.specs.declared.planned.Edit.TheVariants.{NumberTileset}
 use Rattle.document_lines.specs.declared.planned.Planned.{Planned}
 use Rattle.document_lines.specs.declared.planned.Planned.TheVariants as planned
 use Rattle.document_lines.specs.Acts.{Act, answer_of}

@@ -429,6 +429,14 @@ pub fn on_more_line<C: Command>(
             top,
             right,
             bottom,
-        } => plan_extend(alloc, stack.document(), *left, *top, *right, *bottom),
+        } => plan_extend(
+            alloc,
+            stack.document(),
+            *left,
+            *top,
+            *right,
+            *bottom,
+            fractions,
+        ),
     }
 }

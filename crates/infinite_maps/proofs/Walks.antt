@@ -9,6 +9,7 @@ use Rattle.serde_json.specs.declared.value.Value.{Value}
 use Rattle.infinite_maps.specs.declared.plane.Plane.{Plane}
 use Rattle.infinite_maps.specs.declared.part.Part.{Part}
 use Rattle.infinite_maps.specs.Infinite.{below, spread, items_spread, members_spread}
+use Rattle.infinite_maps.specs.Margins.{each_item}
 use Rattle.json_members.proofs.MembersLemmas.{same_name}
 
 spread_put_at : (o : Ordering) (p : Plane) (part : Part) (k l : List ℕ) (d e : Data) (ms : Members) → slice_cmp nat_cmp k l ≡ o
@@ -29,6 +30,10 @@ members_spread-put p part k d (member l e ms) = spread_put_at (slice_cmp nat_cmp
 pub items_spread-items_of : (p : Plane) (part : Part) (ds : List Data) → items_of (map (spread p part) ds) ≡ items_spread p part (items_of ds)
 items_spread-items_of p part [] = refl
 items_spread-items_of p part (d ∷ ds) = ap (item (spread p part d)) (items_spread-items_of p part ds)
+
+pub each_item-items_of : (f : Data → Data) (ds : List Data) → items_of (map f ds) ≡ each_item f (items_of ds)
+each_item-items_of f [] = refl
+each_item-items_of f (d ∷ ds) = ap (item (f d)) (each_item-items_of f ds)
 
 -- a loop over all values
 pub map_whole : {A : Type 0} (f : Data → A) (vs : List Value) (n : ℕ) → length vs ≤ n → map (λ v. f (view v)) (take n vs) ≡ map f (map view vs)

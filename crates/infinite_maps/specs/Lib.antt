@@ -13,3 +13,4 @@ pub mod Overlaps
 pub mod Survey
 pub mod Pasted
 pub mod Finite
+pub mod Margins

@@ -98,8 +98,8 @@ fn pixels(value: &Value, cells: i64, side: &str) -> i64
     }
 }
 
-// How many columns or rows of a chunk lie before a place, where chunks of such a side stand side by side.
-fn lost(place: i64, side: u16) -> u16
+/// How many columns or rows of a chunk lie before a place, where chunks of such a side stand side by side.
+pub fn lost(place: i64, side: u16) -> u16
     ensures { result ≡ lost place side }
 {
     let side = side.max(1) as u64;
@@ -184,8 +184,8 @@ fn plane_of(value: &Value, around: Extent, layers: u64) -> Option<Plane>
     Some(plane_at(value, around, columns as u16, rows as u16, layers))
 }
 
-// Puts a whole number in.
-fn put_whole(
+/// Puts a whole number in.
+pub fn put_whole(
     alloc: Global,
     members: &mut Map<String, Value>,
     name: &str,

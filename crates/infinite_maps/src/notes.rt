@@ -37,7 +37,8 @@ pub fn integer(value: Option<&Value>) -> i64
     }
 }
 
-fn side(value: Option<&Value>) -> u16
+/// A number of columns or rows, at most as many as a map may have; 0 where there is none.
+pub fn side(value: Option<&Value>) -> u16
     ensures { result ≡ min (natural (option_map (λ value. data_of value.now) value.entry)) 4096 }
 {
     natural(value).min(4096) as u16

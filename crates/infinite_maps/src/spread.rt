@@ -104,7 +104,8 @@ fn members_spread(
     Ok(all)
 }
 
-fn note_of(members: &Map<String, Value>) -> Option<&Value>
+/// The note of a map that was infinite, where it has one.
+pub fn note_of(members: &Map<String, Value>) -> Option<&Value>
     ensures { option_map (λ value. data_of value.now) result
         ≡ note_of (members_view members.now.entries) }
 {

@@ -1,6 +1,7 @@
 -- What each command is and does.
-use Rattle.std.specs.Prelude.{false, None}
+use Rattle.std.specs.Prelude.{List, Bool, true, false, Option, None}
 use Rattle.map_model.specs.declared.place.LayerPlace.{LayerPlace}
+use Rattle.map_model.specs.declared.canvas.Canvas.{Canvas}
 use Rattle.map_model.specs.Canvas.{with_canvas, IsCanvasOf}
 use Rattle.map_model.specs.Lens.{of_layer, name, visible}
 use Rattle.map_model.specs.Slot.{layer_slot, next_layer_slot}
@@ -13,10 +14,13 @@ use Rattle.layer_commands.specs.declared.add.AddLayer.{AddLayer}
 use Rattle.layer_commands.specs.declared.remove.RemoveLayer.{RemoveLayer}
 use Rattle.layer_commands.specs.declared.move_layer.MoveLayer.{MoveLayer}
 use Rattle.layer_commands.specs.declared.rename.RenameLayer.{RenameLayer}
+use Rattle.layer_commands.specs.declared.notes.Note.{Note}
+use Rattle.layer_commands.specs.declared.resize.OtherSize.{OtherSize}
 use Rattle.layer_commands.specs.declared.resize.ResizeMap.{ResizeMap}
 use Rattle.layer_commands.specs.declared.show.ShowLayer.{ShowLayer}
-use Rattle.map_model.specs.Document.{with_map}
+use Rattle.map_model.specs.Document.{DocumentParts, with_map}
 use Rattle.edits.specs.LayerEdits.{with_layer_moved}
+use Rattle.layer_commands.specs.Notes.{with_notes, FitNotes}
 use Rattle.layer_commands.specs.Names.{rename_names, show_names, add_names, remove_names, move_names, resize_names}
 
 -- ---- parts of a layer that are exchanged
@@ -64,15 +68,30 @@ abbrev pub move_change : MoveLayer → Change
 move_change c = change_of (move_exchange c)
 
 -- ---- resize
--- the document and the canvas change places
-abbrev pub resize_exchange : ResizeMap → Exchange
-resize_exchange c = record {
+-- the document on the canvas and with the notes
+abbrev pub resized_with : Bool → Canvas → List (Option Note) → DocumentParts → DocumentParts
+resized_with false canvas notes d = with_notes notes (with_canvas canvas d)
+resized_with true canvas notes d = with_canvas canvas (with_notes notes d)
+
+abbrev pub FitsResized : Bool → Canvas → List (Option Note) → DocumentParts → Type 0
+FitsResized false canvas notes d = IsCanvasOf d canvas × FitNotes notes (with_canvas canvas d)
+FitsResized true canvas notes d = FitNotes notes d × IsCanvasOf (with_notes notes d) canvas
+
+-- the document changes places with the canvas, and owners with their notes; what was done last is undone first
+abbrev pub sized : Bool → Canvas → List (Option Note) → Exchange
+sized notes_first canvas notes = record {
   names = resize_names;
   obsolete = false;
   made = None;
-  exchanged = with_canvas c.canvas.value;
-  fits = λ d. IsCanvasOf d c.canvas.value;
+  exchanged = resized_with notes_first canvas notes;
+  fits = FitsResized notes_first canvas notes;
 }
+
+abbrev pub size_exchange : OtherSize → Exchange
+size_exchange o = sized o.notes_first o.canvas o.notes.items
+
+abbrev pub resize_exchange : ResizeMap → Exchange
+resize_exchange c = size_exchange c.other.value
 
 abbrev pub resize_change : ResizeMap → Change
 resize_change c = change_of (resize_exchange c)

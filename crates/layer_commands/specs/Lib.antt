@@ -1,2 +1,4 @@
 pub mod Changes
+pub mod Extending
 pub mod Names
+pub mod Notes

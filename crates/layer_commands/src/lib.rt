@@ -3,6 +3,7 @@
 
 mod add;
 mod move_layer;
+mod notes;
 mod parent;
 mod remove;
 mod rename;

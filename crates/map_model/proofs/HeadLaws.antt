@@ -1,7 +1,6 @@
 -- The laws of the lenses of heads.
 use Rattle.std.proofs.Common.{◌≡◌, ℕ, Some, refl, ◌∙◌}
 use Rattle.map_model.specs.declared.heads.ObjectHead.{ObjectHead}
-use Rattle.map_model.specs.declared.parts.Object.{Object}
 use Rattle.map_model.specs.declared.place.ObjectPlace.{ObjectPlace}
 use Rattle.map_model.specs.Document.{DocumentParts, with_map}
 use Rattle.map_model.specs.Heads.{head, head_with_id, object_head, object_with_head}

@@ -1,5 +1,6 @@
 -- A map in which a tileset got another first id: it is well formed, and comes back.
-use Rattle.std.proofs.Common.{◌≡◌, ◌≢◌, ℕ, ◌+◌, ◌-◌, ◌*◌, ◌%◌, ◌^◌, ◌<◌, ◌≤◌, ◌⊎◌, inl, inr, List, [], ◌∷◌, ◌++◌, length, map, Bool, true, false, cond, nat_lt, nat_le, nat_eq, ◌&&◌}
+use Rattle.std.proofs.Common.{◌≡◌, ◌≢◌, ℕ, ◌+◌, ◌-◌, ◌*◌, ◌%◌, ◌^◌, ◌<◌, ◌≤◌, ◌⊎◌, inl, inr, List, [], ◌∷◌, ◌++◌, map, Bool, true, false, cond}
+use Rattle.std.proofs.Common.{nat_lt, nat_le}
 use Rattle.std.specs.Prelude.{option_to_list}
 use Rattle.std.proofs.Common.{option_map, Option, Some, None, IfSome, IsSome, find, refl, sym, ap, ◌∙◌, subst, true≢false, arith}
 use Rattle.std.specs.List.{flat_map}
@@ -19,7 +20,8 @@ use Rattle.map_model.specs.Canvas.{AreCells}
 use Rattle.map_model.specs.Groups.{all_drawn}
 use Rattle.map_model.specs.Keeping.{layer_tier, object_tier}
 use Rattle.map_model.specs.Lists.{Distinct, Each, change_first}
-use Rattle.map_model.specs.Renumbering.{KeepsTileset, LiesApart, MayBeRenumbered, end_in, layers_with_values, map_renumbered, body_with_values, object_with_value, tileset_with_first_id, value_moved}
+use Rattle.map_model.specs.Renumbering.{KeepsTileset, LiesApart, MayBeRenumbered, end_in, layers_with_values, map_renumbered, body_with_values}
+use Rattle.map_model.specs.Renumbering.{object_with_value, tileset_with_first_id, value_moved}
 use Rattle.map_model.specs.Tilesets.{gids_of, has_first_id, values_in, values_of}
 use Rattle.map_model.specs.Uses.{base_limit, end_of, is_between, nearer}
 use Rattle.map_model.specs.WellFormed.{IsBody, IsDrawn, IsObject, IsTileValue, IsTileset, IsWellFormed, first_ids_of, ids_of, ids_of_object, object_ids_of}
@@ -37,10 +39,16 @@ pub record GoesAlong (low end to value : ℕ) : Type 0 where
   pub small : value < 2 ^ 32 → value - low + to < 2 ^ 32
 
 goes-along : (low end to value : ℕ) → low ≤ value % 2 ^ 28 → value % 2 ^ 28 + to < end + low → end ≤ 2 ^ 28 → GoesAlong low end to value
-goes-along low end to value from upto limit = record { base = omega (arith, from, upto, limit); is = omega (arith, from); small = λ h. omega (arith, from, upto, limit, h) }
+goes-along low end to value from upto limit = record {
+  base = omega (arith, from, upto, limit);
+  is = omega (arith, from);
+  small = λ h. omega (arith, from, upto, limit, h);
+}
 
 between : (low end value : ℕ) → is_between low end value ≡ true → (low ≤ base_of value) × (base_of value < end)
-between low end value e = let both = and_parts (nat_le low (base_of value)) (nat_lt (base_of value) end) e in (grind (arith, nat_tests, both.0), ltb-true (base_of value) end both.1)
+between low end value e =
+    let both = and_parts (nat_le low (base_of value)) (nat_lt (base_of value) end) e in
+    (grind (arith, nat_tests, both.0), ltb-true (base_of value) end both.1)
 
 -- what is of a tileset, by whether its value goes along
 value_moved-true : (low end to value : ℕ) → is_between low end value ≡ true → value_moved low end to value ≡ value - low + to
@@ -57,7 +65,9 @@ module _ (low end to value : ℕ) (limit : end ≤ base_limit) (keeps : KeepsTil
   there e =
       let b = between low end value e in
       let g = goes-along low end to value b.0 (keeps.along e) limit in
-      rw (value_moved-true low end to value e) (is_between-yes to end (value - low + to) (rw g.base (omega (arith, b.0))) (rw g.base (omega (arith, b.0, keeps.along e))))
+      rw (value_moved-true low end to value e) (
+      is_between-yes to end (value - low + to) (rw g.base (omega (arith, b.0))) (rw g.base (omega (arith, b.0, keeps.along e)))
+      )
 
   pub value-back : value_moved to end low (value_moved low end to value) ≡ value
   value-back = by_range (is_between low end value) refl
@@ -90,7 +100,9 @@ module _ (low end to value : ℕ) (limit : end ≤ base_limit) (keeps : KeepsTil
   value-small h = by_range (is_between low end value) refl
     where
       by_range : (q : Bool) → is_between low end value ≡ q → IsTileValue (value_moved low end to value)
-      by_range true e = let b = between low end value e in rw (value_moved-true low end to value e) ((goes-along low end to value b.0 (keeps.along e) limit).small h)
+      by_range true e =
+          let b = between low end value e in
+          rw (value_moved-true low end to value e) ((goes-along low end to value b.0 (keeps.along e) limit).small h)
       by_range false e = rw (value_moved-false low end to value e) h
 
 -- ---- tilesets

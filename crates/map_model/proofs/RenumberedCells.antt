@@ -2,7 +2,6 @@
 use Rattle.std.proofs.Common.{◌≡◌, ℕ, zero, suc, ◌<◌, List, [], ◌∷◌, get_or, length, map, Some, refl, sym, ap, ◌∙◌, arith}
 use Rattle.std.proofs.lemmas.Option.{slice_get_read}
 use Rattle.std.specs.List.{slice_get, slice_set}
-use Rattle.map_model.specs.Lists.{Each}
 
 -- a list with f of so many values at its front
 abbrev pub changed_up : {A : Type 0} → (A → A) → ℕ → List A → List A

@@ -1,21 +1,18 @@
 -- Trees of layers with other values in them.
-use Rattle.std.proofs.Common.{◌≡◌, ℕ, zero, suc, ◌-◌, ◌≤◌, arith, List, [], ◌∷◌, ◌++◌, length, map, option_map, Option, Some, None, refl, sym, ap, ◌∙◌}
+use Rattle.std.proofs.Common.{◌≡◌, ℕ, zero, suc, ◌-◌, ◌≤◌, arith, List, [], ◌∷◌, ◌++◌, map, option_map, Option, Some, None, refl, sym, ap, ◌∙◌}
 use Rattle.std.specs.Prelude.{option_to_list}
 use Rattle.std.specs.List.{flat_map}
-use Rattle.std.proofs.lemmas.List.{length-map, map-append}
+use Rattle.std.proofs.lemmas.List.{map-append}
 use Rattle.map_model.specs.declared.parts.Body.{Body}
 use Rattle.map_model.specs.declared.parts.Body.TheVariants.{Tiles, Objects}
 use Rattle.map_model.specs.declared.parts.Layer.{Layer}
 use Rattle.map_model.specs.declared.parts.Object.{Object}
-use Rattle.map_model.specs.Bodies.{body_with_contents, tiles_or_none}
-use Rattle.map_model.specs.Canvas.{AreCells}
 use Rattle.map_model.specs.Groups.{bare, body_with_layers, drawn, group_in, inside, layer_with_layers, tree}
-use Rattle.map_model.specs.Keeping.{inner_tier, layer_tier, object_tier}
+use Rattle.map_model.specs.Keeping.{inner_tier, layer_tier}
 use Rattle.map_model.specs.Lists.{Each, or_empty}
 use Rattle.map_model.specs.Renumbering.{body_with_values, layer_with_values, layers_with_values, object_with_value, one_with_values}
 use Rattle.map_model.specs.Tilesets.{gids_of, values_in, values_of}
-use Rattle.map_model.specs.WellFormed.{IsDrawn, IsLayer, IsObject, IsTileValue, ids_of_object}
-use Rattle.map_model.proofs.BodyLaws.{IsLayer-contents, body_with_contents-with, group_in-contents}
+use Rattle.map_model.proofs.BodyLaws.{body_with_contents-with, group_in-contents}
 use Rattle.map_model.proofs.GroupBodies.{bare-with, body_with_layers-along, body_with_layers-same, body_with_layers-twice, inside-with}
 use Rattle.map_model.proofs.Listings.{Each-append, Each-prefix, Each-rest}
 use Rattle.map_model.proofs.Trees.{tree-is}

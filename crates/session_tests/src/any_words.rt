@@ -7,7 +7,7 @@ type Case = (&'static str, usize, usize, &'static str);
 
 const OWNER: &str = "word 3 is not map, or layer: or object: or tileset: and an id";
 
-const AT_FAULT: [Case; 36] = [
+const AT_FAULT: [Case; 37] = [
     ("frob 1", 0, 4, "word 1 is not a command"),
     ("layers add group a", 0, 6, "word 1 is not a command"),
     (
@@ -132,6 +132,12 @@ const AT_FAULT: [Case; 36] = [
     ("prop take map", 13, 0, "word 4 is missing: a JSON text"),
     ("tileset put", 11, 0, "word 3 is missing: a JSON text"),
     ("tileset put ", 12, 0, "word 3 is not a JSON text"),
+    (
+        "tileset number 1",
+        16,
+        0,
+        "word 4 is missing: a whole number from 0 to 4294967295, with no zero in front",
+    ),
     ("tileset remove 1 2", 17, 1, "word 4 is one too many"),
     (
         "member",
@@ -152,7 +158,7 @@ const AT_FAULT: [Case; 36] = [
 ];
 
 // They are read by one of both, or refused as a whole.
-const WITHOUT: [&str; 20] = [
+const WITHOUT: [&str; 21] = [
     "",
     "# layer add",
     "undo",
@@ -170,6 +176,7 @@ const WITHOUT: [&str; 20] = [
     "extend 0 0 1 1",
     "tileset put [",
     "tileset add 1 a",
+    "tileset number 1 0",
     "member set tileset:1 name  1",
     "member put+ map {}",
     "member remove map a",

@@ -1,9 +1,10 @@
 // The edits that give an object or a layer another place in the map, a tileset another first id, or the map more room around it.
-ghost use Rattle.std.specs.Prelude.{◌≡◌, ◌+◌, false, pos, IfNone, IfSome};
+ghost use Rattle.std.specs.Prelude.{◌≡◌, ◌+◌, ◌≤◌, false, IfErr, IfNone, IfOk, IfSome};
+ghost use Rattle.command_api.specs.Making.{IsRefusalOf, Makes};
 ghost use Rattle.edits.specs.LayerEdits.{after_layer_into};
 ghost use Rattle.edits.specs.ObjectEdits.{after_object_into};
-ghost use Rattle.edits.specs.Resizing.{IsDistance};
 ghost use Rattle.edits.specs.TilesetEdits.{after_number_tileset};
+ghost use Rattle.layer_commands.specs.Changes.{resize_change};
 ghost use Rattle.layer_commands.specs.Names.{move_names, resize_names};
 ghost use Rattle.map_model.specs.declared.limits.TheConstants.{MAX_SIDE};
 ghost use Rattle.map_model.specs.Sizes.{is_side};
@@ -11,11 +12,12 @@ ghost use Rattle.object_commands.specs.Names.{reparent_object_names};
 ghost use Rattle.property_commands.specs.Names.{number_tileset_names};
 ghost use Rattle.document_lines.specs.GivenEdits.{made};
 ghost use Rattle.document_lines.specs.MoreRules.{more_answer_of};
-ghost use Rattle.document_lines.specs.PlaceEdits.{after_extend, parent_of};
+ghost use Rattle.document_lines.specs.PlaceEdits.{after_extend, after_longer, parent_of};
 ghost use Rattle.document_lines.specs.Planning.{PlansEdit};
 
 use crate::planned::{Edit, Planned};
 use crate::planning::planned;
+use fractions::Fractions;
 use layer_commands::{MoveLayer, ResizeMap};
 use map_model::Document;
 use map_model::limits::MAX_SIDE;
@@ -52,29 +54,40 @@ pub fn plan_reparent_layer(document: &Document, layer: u32, group: u32, place: u
     planned(MoveLayer::reparent(document, layer, parent_of(group), place).map(Edit::MoveLayer))
 }
 
-// A side of a map that got longer.
-#[derive(Drop)]
-struct LongerSide {
-    length: u32,
-    // By how many columns or rows the old map begins further on.
-    shift: i32,
-}
-
-// The side of a map that gets so many columns or rows more before it and behind it. None where no map may be so long.
-fn longer_side(side: u32, before: u32, behind: u32) -> Option<LongerSide>
-    ensures length { IfSome result (λ longer. longer.length ≡ side + before + behind) }
-    ensures shift { IfSome result (λ longer. longer.shift ≡ pos before) }
-    ensures distance { IfSome result (λ longer. IsDistance longer.shift) }
+// The length of a side of a map that gets so many columns or rows more before it and behind it. None where no map may be so long.
+fn longer_side(side: u32, before: u32, behind: u32) -> Option<u32>
+    ensures length { IfSome result (λ longer. longer ≡ side + before + behind) }
+    ensures before { IfSome result (λ longer. before ≤ MAX_SIDE) }
     ensures none { IfNone result (is_side (side + before + behind) MAX_SIDE ≡ false) }
 {
     let longer = u64::from(side) + u64::from(before) + u64::from(behind);
     if longer > u64::from(MAX_SIDE) {
         return None;
     }
-    Some(LongerSide {
-        length: longer as u32,
-        shift: before as i32,
-    })
+    Some(longer as u32)
+}
+
+// The command that gives the map this width and height, so that it gets so many columns and rows at its left and top.
+fn resized(
+    alloc: Global,
+    document: &Document,
+    width: u32,
+    height: u32,
+    left: u32,
+    top: u32,
+    fractions: Fractions,
+) -> Result<ResizeMap, EditFault>
+    requires left { left ≤ MAX_SIDE }
+    requires top { top ≤ MAX_SIDE }
+    ensures command { IfOk result (λ c. Makes resize_names document.now (after_longer fractions document.now width height left top) (resize_change c)) }
+    ensures refusal { IfErr result (IsRefusalOf (after_longer fractions document.now width height left top)) }
+{
+    match fractions {
+        Fractions::Refused => {
+            ResizeMap::new(alloc, document, width, height, left as i32, top as i32)
+        }
+        Fractions::SetAside => ResizeMap::extend(alloc, document, width, height, left, top),
+    }
 }
 
 #[inline(never)]
@@ -85,17 +98,17 @@ pub fn plan_extend(
     top: u32,
     right: u32,
     bottom: u32,
+    fractions: Fractions,
 ) -> Planned
-    ensures { PlansEdit (more_answer_of resize_names (made (after_extend document.now left top right bottom))) document.now result }
+    ensures { PlansEdit (more_answer_of resize_names (made (after_extend fractions document.now left top right bottom))) document.now result }
 {
     let parts = document.map().parts();
-    let Some(columns) = longer_side(parts.width, left, right) else {
+    let Some(width) = longer_side(parts.width, left, right) else {
         return planned(Err(EditFault::OutOfRange));
     };
-    let Some(rows) = longer_side(parts.height, top, bottom) else {
+    let Some(height) = longer_side(parts.height, top, bottom) else {
         return planned(Err(EditFault::OutOfRange));
     };
-    let (width, height) = (columns.length, rows.length);
-    let resized = ResizeMap::new(alloc, document, width, height, columns.shift, rows.shift);
+    let resized = resized(alloc, document, width, height, left, top, fractions);
     planned(resized.map(Edit::ResizeMap))
 }

@@ -248,10 +248,10 @@ impl Random {
         Ok(Spoken::other(text))
     }
 
-    // A line that gives an object or a layer another place, or the map more room.
+    // A line that gives an object or a layer another place, a tileset another first id, or the map more room.
     fn into(&mut self, alloc: Global) -> Result<Spoken, AllocError> {
         let (layer, place, group) = (self.layer(), self.below(3), self.below(8));
-        let (text, subject) = match self.below(4) {
+        let (text, subject) = match self.below(5) {
             0 => (
                 format!(in alloc; "object into 1 {layer} {place}")?,
                 Subject::Object(1),
@@ -264,6 +264,13 @@ impl Random {
                 format!(in alloc; "layer into {layer} {group} 0")?,
                 Subject::Layer(layer),
             ),
+            3 => {
+                let (first_id, number) = (1 + place % 2, 1 + group % 2);
+                (
+                    format!(in alloc; "tileset number {first_id} {number}")?,
+                    Subject::Tileset(number),
+                )
+            }
             _ => (format!(in alloc; "extend 0 {place} 1 0")?, Subject::Map),
         };
         Ok(Spoken::edit(text, Kind::Other, subject))

@@ -25,3 +25,6 @@ returns-in-ReparentObject-clause-plans g c =
 pub returns-in-NumberTileset-clause-plans : goal.returns-in-NumberTileset-clause-plans
 returns-in-NumberTileset-clause-plans g c =
     rw (c.in-NumberTileset.is, sym c.document-in-NumberTileset.ensures) (c.plan_number_tileset.ensures, refl)
+
+pub returns-in-Extend-clause-plans : goal.returns-in-Extend-clause-plans
+returns-in-Extend-clause-plans g c = rw (c.in-Extend.is, sym c.document-in-Extend.ensures) (c.plan_extend.ensures, refl)

@@ -1,4 +1,4 @@
-use Rattle.std.proofs.Common.{◌≡◌, ◌+◌, ◌≤◌, suc, length, refl, sym, ap, ◌∙◌, arith}
+use Rattle.std.proofs.Common.{◌≡◌, ◌+◌, ◌≤◌, suc, length, sym, ap, ◌∙◌, arith}
 use Rattle.std.specs.List.{slice_get}
 use Rattle.map_model.specs.Renumbering.{KeepsTileset, one_with_values, value_moved}
 use Rattle.map_model.specs.Keeping.{layer_tier}
@@ -43,7 +43,8 @@ move_layers-get_mut-requires t c =
 pub move_layers-move_layer-requires : goal.move_layers-move_layer-requires
 move_layers-move_layer-requires t c =
     let f = one_with_values c.args.groups (value_moved c.args.by.low c.args.by.end c.args.by.to) in
-    let own = sym (get-changed_up f c.loop-at.at c.args.layers.now) ∙ (ap (λ ls. slice_get ls c.loop-at.at) (sym c.loop-at.invariant) ∙ c.get_mut.ensures.value) in (
+    let there = ap (λ ls. slice_get ls c.loop-at.at) (sym c.loop-at.invariant) ∙ c.get_mut.ensures.value in
+    let own = sym (get-changed_up f c.loop-at.at c.args.layers.now) ∙ there in (
       omega (arith, c.decreases),
       (
         Each-tree_at (λ d. Each (KeepsTileset c.args.by.low c.args.by.end c.args.by.to) (values_of d)) c.args.groups c.args.layers.now c.loop-at.at

@@ -1,4 +1,4 @@
-use Rattle.std.proofs.Common.{◌≡◌, ◌+◌, ℕ, suc, length, Some, refl, ap, ◌∙◌, arith}
+use Rattle.std.proofs.Common.{◌≡◌, ◌+◌, suc, length, refl, ap, ◌∙◌, arith}
 use Rattle.map_model.specs.Renumbering.{KeepsTileset, value_moved}
 use Rattle.map_model.proofs.Changes.{Each-at}
 use Rattle.map_model.proofs.RenumberedCells.{changed_up, changed_up-all, read-changed_up, set-changed_up, within-changed_up}

@@ -1,4 +1,4 @@
-use Rattle.std.proofs.Common.{◌≡◌, ◌∙◌, ap}
+use Rattle.std.proofs.Common.{◌∙◌, ap}
 use Rattle.map_model.specs.declared.document.Document.TheInside.{Inside}
 use Rattle.map_model.specs.Document.{DocumentParts}
 use Rattle.map_model.proofs.Selections.{selection-IsSelectionOf}
