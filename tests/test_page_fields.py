@@ -447,6 +447,17 @@ def test_double_click():
         page.settle()
         assert spelled(page) == ['prop set map gold string x']
 
+
+def test_height_of_a_text():
+    """A text is as high as its rows, also where the panel gets another width."""
+    with Bench() as page:
+        told = 'const at = document.querySelector(\'#properties [data-key="author"]\'); return [at.clientHeight, at.scrollHeight]'
+        first = page.js(told)
+        for width, is_higher in ((200, True), (420, False)):
+            page.js('roskevad.panels.widen("right", arguments[0])', width)
+            page.wait(lambda: page.js(told)[0] == page.js(told)[1] and (page.js(told)[0] > first[0]) == is_higher, f'its height for {width}')
+
+
 def test_dialogs():
     """A dialog selects its text, stays open on a refusal, and marks the field at fault; what was
     typed stays."""

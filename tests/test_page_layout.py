@@ -4,7 +4,7 @@ and dark, pictures on buttons, the log in words, the page where no map is open, 
 from lib.cases import passed
 from lib.maps import layers_in
 from page.bench import Bench, Tiles, choose, colours_now, layer_of, middle_of, take_tile, wanted_colour
-from page.browser import Keys, browser
+from page.browser import ActionChains, Keys, browser
 
 NEEDS_BROWSER = True
 IS_LONG = True
@@ -111,6 +111,12 @@ def test_contrasts_and_targets():
                     page.wait(lambda: page.texts('dialog[open]'), 'a dialog')
                     seen += see_all(page, (theme, css))
                     page.fill_in('Cancel')
+                page.click('#menu-button')
+                seen += see_all(page, (theme, 'the menu'))
+                ActionChains(page.driver).send_keys(Keys.ESCAPE).perform()
+                page.keys(Keys.F1)
+                seen += see_all(page, (theme, 'the keys'))
+                page.js('document.querySelector("#keys").close()')
                 # A notice, and a field that is refused.
                 page.js('roskevad.panel.showMissing.call({tilesets: {all: [], missing: ["a.png"]}, editor: roskevad.editor})')
                 page.js('roskevad.status.showNotDrawn(["animations"])')

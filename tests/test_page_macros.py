@@ -125,6 +125,9 @@ def test_undo_in_a_macro():
         for each in (whole, one, two):
             page.ctrl('y')
             assert page.editor.shown() == each and page.editor.state()['depth'] == 1
+            # A window that is loaded anew has it, too.
+            page.reload()
+            assert page.find('#redo').is_enabled() == (each != two)
         page.ctrl('z')
         page.click('#undo')
         page.drag([(3, 22), (6, 22)])

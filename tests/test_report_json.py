@@ -20,6 +20,7 @@ from lib.places import EXAMPLE_MAPS, MAP_REPORT
 from lib.refusals import refusal
 
 NOT_REGULAR = 'not a regular file'
+OTHER_COMPRESSION = 'only zlib and gzip are unpacked: choose another Tile Layer Format in Map > Map Properties'
 ANOTHER_NAME = 'map_report: a word of the command line is not UTF-8'
 
 # ---- what is wanted of a map that is refused
@@ -76,11 +77,14 @@ def object_of_refusal(lines, tree):
     first, *rows = lines.split('\n')
     wanted = refused(first, tree)
     if rows:
-        *fractions, then = (row[2:] for row in rows)
-        if fractions:
+        rows = [row[2:] for row in rows]
+        at = next(at for at, row in enumerate(rows) if row.startswith('with --all-maps'))
+        if at > 0:
             # The last of these rows counts the others.
-            wanted['places'] = [place_of(text, tree) for text in fractions[:-1]]
-        wanted['allmaps'] = with_all_maps(then, tree)
+            wanted['places'] = [place_of(text, tree) for text in rows[:at - 1]]
+        wanted['allmaps'] = with_all_maps(rows[at], tree)
+        if rows[at + 1:]:
+            wanted['allmaps']['refused']['reason'] = rows[at + 1]
     return wanted
 
 
@@ -186,8 +190,18 @@ def fault_of(case):
     with tempfile.TemporaryDirectory() as folder:
         (Path(folder) / 'map.tmj').write_bytes(case.given)
         came = lines_of(['map.tmj'], folder)
+    if not any('allmaps' in (each['refused'] or {}) for each in case.wanted):
+        came = without_all_maps(came)
     wanted = [(0 if not each['refused'] else 1, [{'file': 'map.tmj', **each}], '') for each in case.wanted]
     return None if came in wanted else unlike(wanted[0], came)
+
+
+def without_all_maps(came):
+    """What came, of maps that are refused as compressed without what `--all-maps` makes of them."""
+    for line in came[1]:
+        if line['refused'] and line['refused']['code'] == 65:
+            line['refused'].pop('allmaps', None)
+    return came
 
 
 def as_json(case):
@@ -256,12 +270,16 @@ def test_maps_that_all_maps_refuses():
     taken = json.dumps(reports.changed({'roskevad': 1})).encode()
     empty = {'line': 1, 'column': 1, 'text': 'line 1, column 1'}
     compressed = json.loads((EXAMPLE_MAPS / 'zlib.tmj').read_bytes())
+    cut = json.loads(json.dumps(compressed))
+    cut['layers'][0]['data'] = compressed['layers'][0]['data'][:20]
+    data = {'path': ['layers', 0, 'data'], 'text': f'layers[0].data is "{cut["layers"][0]["data"]}"'}
     compressed['layers'][0]['compression'] = 'zstd'
     place = {'path': ['layers', 0, 'compression'], 'text': 'layers[0].compression is "zstd"'}
     rows = {
         'a name that is taken': (taken, unread(51, NAME_TAKEN)),
         'nothing': (b'', {'code': 60, 'words': 'not JSON', 'places': [empty]}),
-        'compressed': (json.dumps(compressed).encode(), {'code': 65, 'words': 'compressed', 'places': [place]}),
+        'compressed': (json.dumps(compressed).encode(), {'code': 65, 'words': 'compressed', 'places': [place], 'reason': OTHER_COMPRESSION}),
+        'cut off': (json.dumps(cut).encode(), {'code': 66, 'words': 'bad data', 'places': [data], 'reason': 'its packed data are cut off'}),
     }
     check_each(
         [Case(name, data, {'refused': refused}) for name, (data, refused) in rows.items()],

@@ -604,7 +604,7 @@ EXAMPLES = {
     'opacity_half.tmj': report_of_fractions(
         json.loads(example_maps()['opacity_half.tmj']), 'layers[0].opacity'
     ),
-    'zlib.tmj': f'{refusal(65)}: layers[0].compression is "zlib"',
+    'zlib.tmj': f'{refusal(65)}: layers[0].compression is "zlib"\n  {OPENS}',
 }
 
 
@@ -624,7 +624,16 @@ def fault_of(case):
     wanted = [
         (1 if line.startswith('no ') else 0, f'map.tmj: {line}\n', '') for line in case.wanted
     ]
-    return None if came in wanted else unlike(wanted, came)
+    is_short = not any('\n' in line for line in case.wanted)
+    return None if (first_of_packed(came) if is_short else came) in wanted else unlike(wanted, came)
+
+
+def first_of_packed(came):
+    """What came, of a map that is refused as compressed without what `--all-maps` makes of it."""
+    status, out, err = came
+    first, _, behind = out.partition('\n')
+    is_more = first.startswith(f'map.tmj: {refusal(65)}') and behind.startswith('  with --all-maps')
+    return (status, f'{first}\n', err) if is_more else came
 
 
 def test_members_at_fault():

@@ -5,6 +5,18 @@
 // done once more between `begin` and `end`. The page has the lines of all steps but of those before its journal began anew.
 import { isFollowing, wordOf } from "./line_kinds.js";
 
+// Where this window keeps what was taken back of an open macro, also behind a reload.
+const KEPT = "roskevad-taken-back";
+const NONE = { journal: null, life: null, count: 0, edits: [] };
+
+function kept() {
+  try {
+    return JSON.parse(sessionStorage.getItem(KEPT)) ?? NONE;
+  } catch {
+    return NONE;
+  }
+}
+
 const isBeginning = line => wordOf(line) === "begin";
 const isEnding = line => wordOf(line) === "end";
 
@@ -23,19 +35,26 @@ function lastEditIn(lines) {
 export class Macros {
   constructor(bench) {
     Object.assign(this, { bench, editor: bench.editor });
-    // What was taken back of an open macro, the last first: { document, count, edits }, good for as long as the document has so many lines.
-    this.taken = null;
+    // What was taken back of an open macro, the last first, by the document's life in the journal: good for as long as that has so many lines.
+    this.taken = kept();
   }
 
   // The edits that may be done again, each as its lines.
   get again() {
-    const { document } = this.editor.openDocuments;
-    return this.taken?.document === document && this.taken.count === document?.lines.length ? this.taken.edits : [];
+    const { openDocuments: { document }, journal } = this.editor;
+    const { life, count, edits } = this.taken;
+    return document && document.life === life && document.lines.length === count && journal.id === this.taken.journal ? edits : [];
   }
 
   keep(edits) {
-    const { document } = this.editor.openDocuments;
-    this.taken = { document, count: document.lines.length, edits };
+    const { openDocuments: { document }, journal } = this.editor;
+    this.taken = { journal: journal.id, life: document.life, count: document.lines.length, edits };
+    try {
+      sessionStorage.setItem(KEPT, JSON.stringify(this.taken));
+    } catch {
+      // Where the browser has no room for it a reload forgets it.
+      sessionStorage.removeItem(KEPT);
+    }
   }
 
   // ---- undo and redo, also in an open macro

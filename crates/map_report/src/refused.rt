@@ -37,7 +37,25 @@ fn write_why<W: Write>(
     }
 }
 
-/// The tree in which a place is shown: what was read, or the file, if it has that of a packed layer.
+// The tree of a file, if a place in it is shown there: that of the data of a packed layer, since others stand for them where they are
+// unpacked.
+fn packed_tree(
+    alloc: Global,
+    file: &[u8],
+    refusal: MapRefusal,
+    place: &Place,
+) -> Result<Option<Value>, Error> {
+    let given = Value::from_slice(alloc, file)?;
+    if place.steps_in(&given) < place.steps().len() {
+        return Ok(None);
+    }
+    match why_refused(alloc, &given, refusal, place) {
+        Ok(Some(_)) => Ok(Some(given)),
+        _ => Ok(None),
+    }
+}
+
+/// The tree in which a place is shown: of what was read, or of the file, if it is in a packed layer.
 pub fn shown_tree(
     alloc: Global,
     file: &[u8],
@@ -45,14 +63,12 @@ pub fn shown_tree(
     refusal: MapRefusal,
     place: &Place,
 ) -> Result<Value, Error> {
-    let read = Value::from_slice(alloc, text)?;
     if refusal == MapRefusal::BadData {
-        let given = Value::from_slice(alloc, file)?;
-        if place.steps_in(&given) >= place.steps_in(&read) {
+        if let Some(given) = packed_tree(alloc, file, refusal, place)? {
             return Ok(given);
         }
     }
-    Ok(read)
+    Value::from_slice(alloc, text)
 }
 
 // Writes the code of a refusal, its words, and the place of the fault, where there is memory for the tree.
