@@ -139,7 +139,8 @@ export class Document extends WithOwnMembers {
     if (!hasAside(text)) {
       return value;
     }
-    const told = restored(value, this._noteNow());
+    // Objects alone have places.
+    const told = restored(value, name === "object" ? this._noteNow() : {});
     return name === "layer" ? withoutPacking([told])[0] : told;
   }
 

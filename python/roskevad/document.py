@@ -172,7 +172,8 @@ class Document:
         value = json.loads(text)
         if not (has_aside(text) and self._sets_aside):
             return value
-        value = restored(value, self._note_now())
+        # Objects alone have places.
+        value = restored(value, self._note_now() if name == 'object' else {})
         return without_packing([value])[0] if name == 'layer' else value
 
     def _note_now(self) -> Members:
