@@ -157,10 +157,10 @@ export class StepPanel {
     byId("panel-steps").style.setProperty("--rows", inSight);
   }
 
-  // The row of the present place comes into sight with the next frame, which lays all out.
+  // The row of the present place comes into sight once all else is shown, and before the next frame: what scrolls in a frame takes another one.
   showNow() {
     const now = this.rows.get(this.editor.state.index)?.row ?? null;
-    if (now !== this.now) requestAnimationFrame(() => this.now?.scrollIntoView({ block: "nearest" }));
+    if (now !== this.now) queueMicrotask(() => this.now?.scrollIntoView({ block: "nearest" }));
     this.now = now;
   }
 
