@@ -38,10 +38,10 @@ export class StepPanel {
     new ResizeObserver(() => this.takeRoom()).observe(byId("steps"));
   }
 
-  // The list has another size. Where it has another width, other texts have no room.
+  // The list has another size. Where it has another width, other texts have no room; where it is folded it has none.
   takeRoom() {
     const { clientWidth } = byId("steps");
-    if (clientWidth !== this.room) {
+    if (clientWidth && clientWidth !== this.room) {
       this.room = clientWidth;
       this.showAll();
     }
