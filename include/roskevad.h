@@ -61,13 +61,14 @@ extern "C" {
 #define ROSKEVAD_TOO_GREAT (SIZE_MAX - 3)            /* the undo limit is above the greatest, or nothing has the number */
 #define ROSKEVAD_BAD_NAME (SIZE_MAX - 4)             /* no line can spell that name of a file */
 
-/* Why nothing is set aside of a map, or put back. Those from ROSKEVAD_BAD_CHUNK to ROSKEVAD_UNLIKE come for infinite maps alone. */
+/* Why nothing is set aside of a map, or put back. Those from ROSKEVAD_BAD_CHUNK to ROSKEVAD_UNLIKE come for infinite maps alone,
+ * but for ROSKEVAD_TOO_LARGE. */
 #define ROSKEVAD_NOT_JSON (SIZE_MAX - 5)             /* the bytes are no JSON in UTF-8, nest deeper than 127, or have too great a number */
-#define ROSKEVAD_NAME_TAKEN (SIZE_MAX - 6)           /* a member has the reserved name, `roskevad` */
+#define ROSKEVAD_NAME_TAKEN (SIZE_MAX - 6)           /* a member has a reserved name, `roskevad` or `roskevad_packed` */
 #define ROSKEVAD_TOO_DEEP (SIZE_MAX - 7)             /* the text that would be given nests deeper than 127 */
 #define ROSKEVAD_BAD_CHUNK (SIZE_MAX - 8)            /* a chunk has no place or size, lies too far away, or has not a value for each cell */
 #define ROSKEVAD_OVERLAP (SIZE_MAX - 9)              /* two chunks of a layer overlap */
-#define ROSKEVAD_TOO_LARGE (SIZE_MAX - 10)           /* made finite, the layers would have more than 16,777,216 cells */
+#define ROSKEVAD_TOO_LARGE (SIZE_MAX - 10)           /* packed layers, or those of the map made finite, have more than 16,777,216 cells */
 #define ROSKEVAD_UNLIKE (SIZE_MAX - 11)              /* made finite, the map would not come back as it was */
 #define ROSKEVAD_TOO_MANY_FRACTIONS (SIZE_MAX - 12)  /* the map has more than 200,000 fractions */
 
