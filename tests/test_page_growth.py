@@ -113,6 +113,11 @@ def test_all_sides_at_once():
         page.ctrl('v')
         page.drag([(24, 11)])
         assert standing(page)[0] == standing(page)[1] and size(page) == (32, 16)
+    # Where the corner lies within a chunk of the plane, the map grows up to the chunk's edge at each side.
+    with Plane(infinite(chunk(-4, -2, 4, 4), size=(8, 8))) as page:
+        page.keys('p')
+        page.drag([(-1, -1), (5, 0)])
+        assert [line for line in spelled(page) if line.startswith('extend')] == ['extend 4 6 8 0'] and size(page) == (16, 10)
 
 
 def test_before_it_grows():

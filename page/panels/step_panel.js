@@ -38,10 +38,10 @@ export class StepPanel {
     new ResizeObserver(() => this.takeRoom()).observe(byId("steps"));
   }
 
-  // The list has another size. Where it has another width, other texts have no room.
+  // The list has another size. Where it has another width, other texts have no room; where it is folded it has none.
   takeRoom() {
     const { clientWidth } = byId("steps");
-    if (clientWidth !== this.room) {
+    if (clientWidth && clientWidth !== this.room) {
       this.room = clientWidth;
       this.showAll();
     }
@@ -157,10 +157,10 @@ export class StepPanel {
     byId("panel-steps").style.setProperty("--rows", inSight);
   }
 
-  // The row of the present place comes into sight with the next frame, which lays all out.
+  // The row of the present place comes into sight once all else is shown, and before the next frame: what scrolls in a frame takes another one.
   showNow() {
     const now = this.rows.get(this.editor.state.index)?.row ?? null;
-    if (now !== this.now) requestAnimationFrame(() => this.now?.scrollIntoView({ block: "nearest" }));
+    if (now !== this.now) queueMicrotask(() => this.now?.scrollIntoView({ block: "nearest" }));
     this.now = now;
   }
 

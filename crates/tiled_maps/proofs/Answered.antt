@@ -1,6 +1,6 @@
 -- The facts about an answer, from what was seen of its tree.
-use Rattle.std.proofs.Common.{◌≡◌, inl, inr, ℕ, zero, suc, ◌+◌, cond, option_map, ◌≤◌, ◌<◌, nat_le, leb-false, List, Bool, true, false, not, ◌||◌, true≢false}
-use Rattle.std.proofs.Common.{Option, Some, None, is_some, Vec}
+use Rattle.std.proofs.Common.{◌≡◌, inl, inr, ℕ, zero, suc, ◌+◌, cond, option_map, ◌≤◌, ◌<◌, nat_le, leb-false, List, Bool, true, false, not, ◌||◌}
+use Rattle.std.proofs.Common.{true≢false, Option, Some, None, is_some, Vec}
 use Rattle.std.proofs.Common.{Global, Result, Ok, Err, refl, sym, ap, subst, ◌∙◌, arith}
 use Rattle.std.proofs.lemmas.Bool.{or_right, leb-true}
 use Rattle.std.specs.Prelude.{unwrap_or}
@@ -21,8 +21,7 @@ use Rattle.fractions.specs.Back.{back}
 use Rattle.tiled_maps.specs.Trees.{put_back_of, HasNoFinite, IsFiniteOf, MakesFinite}
 use Rattle.json_trees.specs.Texts.{IsTreeOf}
 use Rattle.tiled_maps.specs.Texts.{IsSetAside, IsPutBack, IsNotFinite, SetsAside, SetsAsidePlain, SetsAsideUnpacked, IsUnpacked, IsNotUnpacked, text_or}
-use Rattle.tiled_maps.specs.Packed.{note_name, has_packed, unpacked_layers, packed_cells, most_packed, cells_of, is_packed, object_or, any_in, sum_in}
-use Rattle.tiled_maps.specs.Packed.{any_below}
+use Rattle.tiled_maps.specs.Packed.{note_name, has_packed, unpacked_layers, packed_cells, most_packed, cells_of, is_packed, object_or, any_in, sum_in, any_below}
 use Rattle.tiled_maps.specs.Packed.{any_packed, own_cells, cells_in_chunks, all_cells}
 use Rattle.tiled_maps.specs.Sources.{layers_in, tiers}
 use Rattle.tiled_maps.specs.Packing.{MapPacked, IsPackedAs}

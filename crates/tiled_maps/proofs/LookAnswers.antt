@@ -7,7 +7,6 @@ use Rattle.serde_json.specs.Data.{Data}
 use Rattle.serde_json.specs.Read.{read}
 use Rattle.tiled_maps.specs.declared.fault.Fault.TheVariants.{NotJson}
 use Rattle.fractions.specs.Aside.{set_aside_of}
-use Rattle.tiled_maps.specs.Packed.{unpacked_layers}
 use Rattle.tiled_maps.specs.Look.{NeedsNothing, TextNeedsNothing}
 use Rattle.json_trees.specs.Texts.{IsTreeOf}
 use Rattle.tiled_maps.specs.Texts.{IsUnpacked, SetsAside, PutsBack}
@@ -31,8 +30,12 @@ tree_or_none bytes h = either bytes h (read bytes) refl (decided bytes (cases_Bo
 aside_by : (bytes : List ℕ) → ((d : Data) × IsTreeOf bytes d × NeedsNothing d) ⊎ (IsUtf8 bytes → read bytes ≡ None)
     → SetsAside bytes (Ok None) ⊎ SetsAside bytes (Err NotJson)
 aside_by bytes (inl (d, tree, n)) =
-    let plain : IsTreeOf bytes (unpacked_layers d) = subst (IsTreeOf bytes) (sym (unpacked-none d n.unpacked)) tree in
-    let same : IsUnpacked bytes bytes d = record { tree = tree; free = n.unnoted; few = few_cells d n.unpacked; plain_tree = plain } in
+    let same : IsUnpacked bytes bytes d = record {
+      tree = tree;
+      free = n.unnoted;
+      few = few_cells d n.unpacked;
+      plain_tree = subst (IsTreeOf bytes) (sym (unpacked-none d n.unpacked)) tree;
+    } in
     inl
     (SetsAside-plain bytes d (Ok None) same (d, set_aside_of d, SetsAside-none bytes d tree n.free n.whole (is_infinite-set_aside_of d ∙ n.finite)))
 aside_by bytes (inr none) = inr (inl none)
