@@ -147,7 +147,8 @@ return [...document.querySelectorAll("#steps li[data-place]")].map(row => {
 def test_long_steps():
     """A step whose text has no room beside its marks is cut off, and no other one, also where the panel gets another width."""
     with Bench(has_log=False) as page:
-        page.editor.lines('prop set map a int 1', 'begin A path to the beach', 'prop set map b int 2', 'end', f'begin {"long name " * 19}', 'prop set map c int 3', 'end')
+        page.editor.lines('prop set map a int 1', 'begin A path to the beach', 'prop set map b int 2', 'end')
+        page.editor.lines(f'begin {"long name " * 19}', 'prop set map c int 3', 'end')
         page.settle()
         for width, cut in ((420, [False, False, False, True]), (180, [False, False, True, True]), (420, [False, False, False, True])):
             page.js('roskevad.panels.widen("right", arguments[0])', width)
