@@ -61,13 +61,14 @@ extern "C" {
 #define ROSKEVAD_TOO_GREAT (SIZE_MAX - 3)            /* the undo limit is above the greatest, or nothing has the number */
 #define ROSKEVAD_BAD_NAME (SIZE_MAX - 4)             /* no line can spell that name of a file */
 
-/* Why nothing is set aside of a map, or put back. Those from ROSKEVAD_BAD_CHUNK to ROSKEVAD_UNLIKE come for infinite maps alone. */
+/* Why nothing is set aside of a map, or put back. Those from ROSKEVAD_BAD_CHUNK to ROSKEVAD_UNLIKE come for infinite maps alone,
+ * but for ROSKEVAD_TOO_LARGE. */
 #define ROSKEVAD_NOT_JSON (SIZE_MAX - 5)             /* the bytes are no JSON in UTF-8, nest deeper than 127, or have too great a number */
-#define ROSKEVAD_NAME_TAKEN (SIZE_MAX - 6)           /* a member has the reserved name, `roskevad` */
+#define ROSKEVAD_NAME_TAKEN (SIZE_MAX - 6)           /* a member has a reserved name, `roskevad` or `roskevad_packed` */
 #define ROSKEVAD_TOO_DEEP (SIZE_MAX - 7)             /* the text that would be given nests deeper than 127 */
 #define ROSKEVAD_BAD_CHUNK (SIZE_MAX - 8)            /* a chunk has no place or size, lies too far away, or has not a value for each cell */
 #define ROSKEVAD_OVERLAP (SIZE_MAX - 9)              /* two chunks of a layer overlap */
-#define ROSKEVAD_TOO_LARGE (SIZE_MAX - 10)           /* made finite, the layers would have more than 16,777,216 cells */
+#define ROSKEVAD_TOO_LARGE (SIZE_MAX - 10)           /* packed layers, or those of the map made finite, have more than 16,777,216 cells */
 #define ROSKEVAD_UNLIKE (SIZE_MAX - 11)              /* made finite, the map would not come back as it was */
 #define ROSKEVAD_TOO_MANY_FRACTIONS (SIZE_MAX - 12)  /* the map has more than 200,000 fractions */
 
@@ -566,9 +567,10 @@ static inline void roskevad_editor_close(roskevad_editor *editor)
     roskevad_close(editor);
 }
 
-/* The text of a map with what the editor's format refuses set aside: fractions, and that it is infinite. Put that text under a
- * name, and `open` reads it; docs/map-files.md says what becomes of a map. The text's size; ROSKEVAD_NONE where there is nothing to
- * set aside, so that the bytes themselves can be read; ROSKEVAD_NO_MEMORY; or ROSKEVAD_NOT_JSON and what follows it above.
+/* The text of a map with what the editor's format refuses set aside: fractions, that it is infinite, and how zlib or gzip packs its
+ * layers. Put that text under a name, and `open` reads it; docs/map-files.md says what becomes of a map. The text's size;
+ * ROSKEVAD_NONE where there is nothing to set aside, so that the bytes themselves can be read; ROSKEVAD_NO_MEMORY; or
+ * ROSKEVAD_NOT_JSON and what follows it above.
  *
  * No editor keeps the text, so a call with a larger buffer makes it anew. Twice the length and 65,536 bytes are room enough for most
  * maps; one of many fractions, or an infinite one whose chunks lie far apart, may need more. */
@@ -586,8 +588,8 @@ static inline size_t roskevad_editor_put_back(const void *bytes, size_t length, 
 }
 
 /* That text, laid out as a source is: the bytes of the file that the map was opened from. Its tree is the one of
- * `roskevad_editor_put_back`, but `version` of the map and the empty `compression` of a tile layer are as the source has them. Where that
- * is the source's tree, the text is the source. Else each value that the source has too keeps its bytes, and what is new is laid out as
+ * `roskevad_editor_put_back`, but `version` of the map and the empty `compression` of a tile layer are as the source has them, and so are
+ * the packed data of a layer with the source's cells. Where that is the source's tree, the text is the source. Else each value that the source has too keeps its bytes, and what is new is laid out as
  * its neighbours are. A source of no bytes, or of bytes that are no map, counts for nothing: then the text is in Tiled's layout. The
  * text's size; ROSKEVAD_NO_MEMORY, ROSKEVAD_NOT_JSON or ROSKEVAD_TOO_DEEP. It is made anew at each call; the length of both and 65,536
  * bytes are room enough for most maps. */

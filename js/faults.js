@@ -37,7 +37,7 @@ export class BadTileset extends Error {
  * many lines, `place` is its place among them, from 0, and `replies` are those to the lines before it,
  * which are done. `wordAtFault` says at which word a line is no line, and what is wrong with it. `line` of a call is the call, as `open(data, "town")`, and it has no forms; where the map
  * could not be set aside or unpacked, `why` has the reason in words. Where a map was read and refused,
- * `placeInMap` tells where in its file. Where the engine could not unpack or pack it, `cause` is what the engine threw.
+ * `placeInMap` tells where in its file. Where a file of `report` could not be read, `cause` is what the host threw.
  */
 export class Refused extends Error {
   constructor(code, words, line, place = null, replies = [], { isCall = false, why = null, placeInMap = null, wordAtFault = null, cause } = {}) {

@@ -34,7 +34,7 @@ export class OtherType extends Error {}
 /** A tileset in a map does not say which tiles it has. */
 export class BadTileset extends Error {}
 
-/** A line or a call was refused, and nothing was done. Where the engine could not unpack a map, `cause` is what it threw. */
+/** A line or a call was refused, and nothing was done. Where a file of `report` can't be read, `cause` is what the host threw. */
 export class Refused extends Error {
   constructor(
     code: number, words: string, line: string, place?: number | null, replies?: string[],

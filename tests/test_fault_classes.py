@@ -17,7 +17,6 @@ sys.path.insert(0, str(TOP / 'python'))
 import roskevad  # noqa: E402
 
 PACKAGES = ('nodejs',)
-ZLIB = TOP / 'examples' / 'maps' / 'zlib.tmj'
 # A map whose properties have all kinds of types, and which has a tileset that does not say how many tiles it has.
 PROPERTIES = [
     {'name': 'people', 'type': 'int', 'value': 12}, {'name': 'speed', 'type': 'float', 'value': 1.5},
@@ -151,19 +150,6 @@ def test_causes_in_python():
             ('a name that is taken', lambda: editor.open('no.tmj', 'town'), (11, 'NoneType')),
         ]
         check_each([Case(*row) for row in rows], lambda case: unlike(case.wanted, cause_of(case.given)))
-
-
-def test_causes_in_javascript():
-    """What the engine throws where data are damaged."""
-    tree = json.loads(ZLIB.read_text())
-    tree['layers'][0]['data'] = 'eJwAAAAA'
-    came = in_node("""import * as roskevad from "./js/roskevad.js";
-const editor = await roskevad.Editor.create();
-const fault = await editor.open(JSON.stringify(TREE)).catch((fault) => fault);
-console.log(JSON.stringify([fault instanceof roskevad.Error, fault.code, fault.cause instanceof Error]));
-""".replace('TREE', json.dumps(tree)))
-    fault = unlike([True, 66, True], came)
-    assert not fault, fault
 
 
 def test_a_loop_goes_on():

@@ -102,7 +102,7 @@ def test_packed_layers_that_are_refused():
     told = roskevad.report(json.dumps(tree).encode())
     reason = told['refused'].pop('reason', '')
     fault = unlike({'file': None, 'refused': {'code': 65, 'words': 'compressed', 'places': [place]}}, told)
-    assert not fault and 'none' in reason, fault or reason
+    assert not fault and 'Tile Layer Format' in reason, fault or reason
 
 
 def test_what_is_no_file():

@@ -451,11 +451,19 @@ def test_double_click():
 def test_height_of_a_text():
     """A text is as high as its rows, also where the panel gets another width."""
     with Bench() as page:
-        told = 'const at = document.querySelector(\'#properties [data-key="author"]\'); return [at.clientHeight, at.scrollHeight]'
-        first = page.js(told)
-        for width, is_higher in ((200, True), (420, False)):
+        # Its height, and how high its rows are.
+        told = '''const at = document.querySelector('#properties [data-key="author"]'), before = at.style.cssText, {clientHeight} = at;
+                  Object.assign(at.style, {height: "0", minHeight: "0", overflow: "hidden"});
+                  const {scrollHeight} = at;
+                  at.style.cssText = before;
+                  return [clientHeight, Math.max(24, scrollHeight)];'''
+        heights = {}
+        for width in (310, 280, 250, 200, 420):
             page.js('roskevad.panels.widen("right", arguments[0])', width)
-            page.wait(lambda: page.js(told)[0] == page.js(told)[1] and (page.js(told)[0] > first[0]) == is_higher, f'its height for {width}')
+            page.settle()
+            page.wait(lambda: page.js(told)[0] == page.js(told)[1], f'its height for {width}')
+            heights[width] = page.js(told)[0]
+        assert heights[200] > heights[420], heights
 
 
 def test_dialogs():

@@ -134,6 +134,30 @@ def test_contrasts_and_targets():
         look_as_before()
 
 
+# Of each row of the steps whether it is cut off, and by how much its text goes past what stands behind it, or past the list.
+STEP_ROWS = '''
+return [...document.querySelectorAll("#steps li[data-place]")].map(row => {
+  const [, name, ...marks] = row.children, text = document.createRange();
+  text.selectNodeContents(name);
+  const ends = [...marks.filter(each => each.textContent).map(each => each.getBoundingClientRect().left), row.getBoundingClientRect().right];
+  return [name.classList.contains("cut"), text.getBoundingClientRect().right - Math.min(...ends)];
+});'''
+
+
+def test_long_steps():
+    """A step whose text has no room beside its marks is cut off, and no other one, also where the panel gets another width."""
+    with Bench(has_log=False) as page:
+        page.editor.lines('prop set map a int 1', 'begin A path to the beach', 'prop set map b int 2', 'end')
+        page.editor.lines(f'begin {"long name " * 19}', 'prop set map c int 3', 'end')
+        page.settle()
+        for width, cut in ((420, [False, False, False, True]), (180, [False, False, True, True]), (420, [False, False, False, True])):
+            page.js('roskevad.panels.widen("right", arguments[0])', width)
+            page.settle()
+            rows = page.js(STEP_ROWS)
+            assert [is_cut for is_cut, _ in rows] == cut and all(past <= 0 for is_cut, past in rows if not is_cut), (width, rows)
+            passed()
+
+
 SHARE = '''
 const {width, height} = document.getElementById("view").getBoundingClientRect();
 return width * height / innerWidth / innerHeight;'''

@@ -111,6 +111,23 @@ def test_line():
         assert seen_in(page, [(8, 1)]) == before
 
 
+def test_paste():
+    """The tiles of a paste are seen where they would be put down, with its size beside the hand."""
+    with Bench(empty=True) as page:
+        new_map(page)
+        page.editor.lines(f'stamp 1 1 1 2 {SAND},{WALL},{ROOF},{SAND}', 'select replace 1 1 2 2')
+        page.ctrl('c')
+        page.ctrl('v')
+
+        def show():
+            page.hold_cells([(7, 3)], is_pressed=False)
+            assert words(page) == '2 × 2'
+
+        assert is_as_done(page, [(6, 2), (7, 2), (6, 3), (7, 3)], show, lambda: page.drag([(7, 3)]))
+        page.hold_cells([(7, 3)], is_pressed=False)
+        assert words(page) == '', 'it is put down'
+
+
 def test_still_hand():
     """Where the hand rests, another size, another stamp, a turn and a paste are seen at once, however
     large the stamp is. A size for a pattern is none, and that is said."""

@@ -132,7 +132,7 @@ def test_nothing_chosen():
 def test_name_of_a_macro():
     """A macro without a name is not begun; it is said in words where that is wanted."""
     with Bench() as page:
-        for name in ('', 'x' * 201, 'a || b'):
+        for name in ('', 'x' * 201, 'a || '):
             page.js('document.querySelector("#macro-name").value = arguments[0]', name)
             page.click('#macro')
             assert told(page).startswith('The name of a macro is wanted') and not MACHINE.search(told(page)), told(page)

@@ -74,12 +74,12 @@ const [town, zlib] = [await editor.open(readFileSync(TOWN), "town"), readFileSyn
 const told = (value) => console.log(JSON.stringify(value));
 """
 JAVASCRIPT = {
-    'other tasks go on while a map is opened': ("""
+    'a map is open before its promise is kept': ("""
 const opening = editor.open(zlib, "zlib");
 town.stamp("Ground", 2, 2, [[9]]);
 const [between, opened] = [editor.active.name, await opening];
 told([between, editor.active === opened, town.status.count, opened.status.count]);
-""", ['town', True, 1, 0]),
+""", ['town', False, 1, 0]),
     'a save has the map of its call': ("""
 const packed = await editor.open(zlib, "zlib");
 packed.stamp(1, 0, 0, [[5]]);

@@ -119,8 +119,10 @@ class TextField extends TypedField {
   fit() {
     const { input } = this;
     if (!input.isConnected) return requestAnimationFrame(() => input.isConnected && this.fit());
-    input.style.height = "auto";
-    input.style.height = `${Math.min(TALLEST, input.scrollHeight + 2)}px`;
+    // Without a bar of its own, which would take of its width.
+    Object.assign(input.style, { height: "auto", overflowY: "hidden" });
+    const height = input.scrollHeight + 2;
+    Object.assign(input.style, { height: `${Math.min(TALLEST, height)}px`, overflowY: height > TALLEST ? "auto" : "hidden" });
     return null;
   }
 }

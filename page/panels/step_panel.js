@@ -13,8 +13,10 @@ const MOST_IN_SIGHT = 5;
 // How many rows stand in a part of the list, and how high one is, in pixels of the page.
 const IN_PART = 25;
 const ROW_HEIGHT = 24;
-// How many pixels of a row neither its text nor its marks have: its edges, the number, and what is between.
-const NOT_OF_TEXT = 64;
+// How many pixels of a row neither its text nor its marks have: its edges, the number, and what is between. And how large the letters of the
+// marks are beside those of the text.
+const NOT_OF_TEXT = 58;
+const OF_MARKS = 11 / 13;
 // How long the list stands as it is where edits follow one another, in milliseconds: so many times as long as its last change took.
 const SHARE = 20;
 const LEAST_TIME = 400;
@@ -38,10 +40,10 @@ export class StepPanel {
     new ResizeObserver(() => this.takeRoom()).observe(byId("steps"));
   }
 
-  // The list has another size. Where it has another width, other texts have no room.
+  // The list has another size. Where it has another width, other texts have no room; where it is folded it has none.
   takeRoom() {
     const { clientWidth } = byId("steps");
-    if (clientWidth !== this.room) {
+    if (clientWidth && clientWidth !== this.room) {
       this.room = clientWidth;
       this.showAll();
     }
@@ -157,10 +159,10 @@ export class StepPanel {
     byId("panel-steps").style.setProperty("--rows", inSight);
   }
 
-  // The row of the present place comes into sight with the next frame, which lays all out.
+  // The row of the present place comes into sight once all else is shown, and before the next frame: what scrolls in a frame takes another one.
   showNow() {
     const now = this.rows.get(this.editor.state.index)?.row ?? null;
-    if (now !== this.now) requestAnimationFrame(() => this.now?.scrollIntoView({ block: "nearest" }));
+    if (now !== this.now) queueMicrotask(() => this.now?.scrollIntoView({ block: "nearest" }));
     this.now = now;
   }
 
@@ -202,7 +204,7 @@ export class StepPanel {
   // drawn on its own, and that costs each frame of a stroke.
   withRoom(shown) {
     const kind = shown.isOpen ? "open macro" : shown.isMacro ? "macro" : "";
-    const isCut = NOT_OF_TEXT + widthOf(shown.text) + widthOf(kind) + widthOf(shown.saved) > this.room;
+    const isCut = NOT_OF_TEXT + widthOf(shown.text) + OF_MARKS * (widthOf(kind) + widthOf(shown.saved)) > this.room;
     return { ...shown, kind, isCut };
   }
 

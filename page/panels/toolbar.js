@@ -175,7 +175,8 @@ export class Toolbar {
   turnMacro() {
     const name = byId("macro-name");
     const isOpen = this.editor.stand().depth > 0;
-    const fault = isOpen ? "" : KINDS.macro.fault(name.value);
+    // What a step does may be named behind its name.
+    const fault = isOpen ? "" : name.value.split(" || ").map(KINDS.text.fault).find(each => each) ?? "";
     if (fault) {
       name.select();
       return this.bench.say(`The name of a macro is wanted beside its button: ${fault}.`);

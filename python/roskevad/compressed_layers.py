@@ -100,7 +100,7 @@ def _value_of(members: Members, name: str) -> Any:
 
 def _is_packed(layer: Members) -> bool:
     """Whether Zstandard has packed a layer."""
-    return _value_of(layer, 'compression') == ZSTANDARD and _value_of(layer, 'encoding') == 'base64'
+    return bool(_value_of(layer, 'compression') == ZSTANDARD and _value_of(layer, 'encoding') == 'base64')
 
 
 def _cells_of(members: Members) -> Optional[int]:

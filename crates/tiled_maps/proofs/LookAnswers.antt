@@ -30,7 +30,12 @@ tree_or_none bytes h = either bytes h (read bytes) refl (decided bytes (cases_Bo
 aside_by : (bytes : List ℕ) → ((d : Data) × IsTreeOf bytes d × NeedsNothing d) ⊎ (IsUtf8 bytes → read bytes ≡ None)
     → SetsAside bytes (Ok None) ⊎ SetsAside bytes (Err NotJson)
 aside_by bytes (inl (d, tree, n)) =
-    let same : IsUnpacked bytes bytes d = record { tree = tree; free = n.unnoted; few = few_cells d n.unpacked; plain_tree = subst (IsTreeOf bytes) (sym (unpacked-none d n.unpacked)) tree } in
+    let same : IsUnpacked bytes bytes d = record {
+      tree = tree;
+      free = n.unnoted;
+      few = few_cells d n.unpacked;
+      plain_tree = subst (IsTreeOf bytes) (sym (unpacked-none d n.unpacked)) tree;
+    } in
     inl
     (SetsAside-plain bytes d (Ok None) same (d, set_aside_of d, SetsAside-none bytes d tree n.free n.whole (is_infinite-set_aside_of d ∙ n.finite)))
 aside_by bytes (inr none) = inr (inl none)

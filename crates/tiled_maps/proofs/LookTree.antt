@@ -1,6 +1,7 @@
 -- JSON of which the tree needs nothing set aside.
 use Rattle.std.specs.Prelude.{unwrap_or, codes, is_some}
-use Rattle.std.proofs.Common.{◌≡◌, ℕ, zero, suc, Bool, true, false, cond, ap, List, [], bytes_eq, Option, Some, None, option_map, Ordering, Less, Equal, Greater, nat_cmp, refl, sym}
+use Rattle.std.proofs.Common.{◌≡◌, ℕ, zero, suc, Bool, true, false, cond, ap, List, [], bytes_eq, Option, Some, None, option_map, Ordering, Less, Equal}
+use Rattle.std.proofs.Common.{Greater, nat_cmp, refl, sym}
 use Rattle.std.proofs.Common.{subst, option_and_then}
 use Rattle.std.proofs.lemmas.Bool.{or_from}
 use Rattle.std.proofs.lemmas.Slice.Eq.{bytes_eq-Decides}

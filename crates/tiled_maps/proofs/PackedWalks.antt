@@ -1,5 +1,6 @@
 -- The walks that unpack layers, and pack them.
-use Rattle.std.proofs.Common.{◌≡◌, ◌≤◌, ℕ, suc, ◌+◌, min, drop, true, List, [], ◌∷◌, ◌++◌, length, map, Option, Some, None, codes, refl, sym, ap, ◌∙◌, subst, append_assoc, arith}
+use Rattle.std.proofs.Common.{◌≡◌, ◌≤◌, ℕ, suc, ◌+◌, min, drop, true, List, [], ◌∷◌, ◌++◌, length, map, Option, Some, None, codes, refl, sym, ap, ◌∙◌, subst}
+use Rattle.std.proofs.Common.{append_assoc, arith}
 use Rattle.std.proofs.lemmas.List.{append-nil, map-append, drop_all}
 use Rattle.serde_json.specs.Data.{Data, item, Members, put}
 use Rattle.serde_json.specs.Find.{get_member}
@@ -7,7 +8,8 @@ use Rattle.serde_json.specs.View.{view, items_of, items_view}
 use Rattle.serde_json.specs.declared.value.Value.{Value}
 use Rattle.json_members.specs.Members.{without}
 use Rattle.tiled_maps.specs.Sources.{array_with, member_with}
-use Rattle.tiled_maps.specs.Packed.{compression, note_name, frame_at, is_packed, data_unpacked, chunk_unpacked, void_checked, renamed, layer_unpacked, layers_unpacked, item_unpacked}
+use Rattle.tiled_maps.specs.Packed.{compression, note_name, frame_at, is_packed, data_unpacked, chunk_unpacked, void_checked, renamed, layer_unpacked}
+use Rattle.tiled_maps.specs.Packed.{layers_unpacked, item_unpacked}
 use Rattle.tiled_maps.specs.Packed.{sum_in, sum_below, layer_cells, all_cells}
 use Rattle.tiled_maps.specs.Packing.{ItemsRelated, ArrayRelated, SomeRelated, MemberRelated, LayerPacked, LayersPacked, ItemPacked}
 

@@ -56,8 +56,8 @@ SetsAsidePlain bytes (Err Overlap) = IsNotFinite bytes (λ a. has_overlap a ≡ 
 SetsAsidePlain bytes (Err TooLarge) = IsNotFinite bytes (λ a. is_too_large a ≡ true)
 SetsAsidePlain bytes (Err Unlike) = IsNotFinite bytes HasNoFinite
 
--- The bytes have the tree d, in which no member has the name of a layer's note, and whose packed layers have few cells. The plain text has the tree in which its packed layers
--- are unpacked; it is that of the bytes, if that is d.
+-- The bytes have the tree d, in which no member has the name of a layer's note, and whose packed layers have few cells. The plain text
+-- has the tree in which its packed layers are unpacked; it is that of the bytes, if that is d.
 pub record IsUnpacked (bytes plain : List ℕ) (d : Data) : Type 0 where
   pub tree : IsTreeOf bytes d
   pub free : has_name note_name d ≡ false
