@@ -41,9 +41,10 @@ export class MapGrowth {
     Object.assign(this, { bench, editor: bench.editor, isOpen: false, asked: null, isInfinite: false });
   }
 
-  // Whether the active map is infinite.
+  // Whether the active map is infinite. No edit changes that, so it is asked once of each open document.
   isOf(map) {
-    if (map && this.asked !== map) Object.assign(this, { asked: map, isInfinite: this.editor.chunks() !== null });
+    const { document } = this.editor.openDocuments;
+    if (map && (!document || this.asked !== document)) Object.assign(this, { asked: document, isInfinite: this.editor.chunks() !== null });
     return Boolean(map) && this.isInfinite;
   }
 
