@@ -44,20 +44,22 @@ function fractionsIn(map, right, down) {
 
 export class MapGrowth {
   constructor(bench) {
-    // Whether a macro is open that has a growth and what is drawn there, and the open documents whose growth has moved them, of which that was said.
-    Object.assign(this, { bench, editor: bench.editor, isOpen: false, told: new WeakSet(), asked: null, isInfinite: false });
+    // Whether a macro is open that has a growth and what is drawn there, and the open documents whose growth has moved them, of which that was
+    // said; and of each document whether its map is infinite, which no edit changes.
+    Object.assign(this, { bench, editor: bench.editor, isOpen: false, told: new WeakSet(), known: new WeakMap() });
   }
 
   // Whether the active map is infinite.
-  isOf(map) {
-    if (map && this.asked !== map) Object.assign(this, { asked: map, isInfinite: this.editor.chunks() !== null });
-    return Boolean(map) && this.isInfinite;
+  get isInfinite() {
+    const { known, bench: { map }, editor: { openDocuments: { document } } } = this;
+    if (!map || !document) return false;
+    if (!known.has(document)) known.set(document, this.editor.chunks() !== null);
+    return known.get(document);
   }
 
   // Whether it grows where tiles are drawn outside of it.
   get grows() {
-    const { map } = this.bench;
-    return this.isOf(map) && !map.selected;
+    return this.isInfinite && !this.bench.map.selected;
   }
 
   // Has an infinite map grow so that it has a rectangle of cells. `stroke` is the stroke that goes on there: what it has drawn becomes a part of
