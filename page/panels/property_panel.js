@@ -127,7 +127,7 @@ export class PropertyPanel {
 
   // The size of the map. One that grows says so.
   sizeOf({ width, height }) {
-    return `${width} × ${height}${this.bench.growth.isOf(this.bench.map) ? ", infinite" : ""}`;
+    return `${width} × ${height}${this.bench.growth.isInfinite ? ", infinite" : ""}`;
   }
 
   // The class of the map, or of a layer.

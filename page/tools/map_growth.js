@@ -37,21 +37,21 @@ export function whyNotGrown(map, { left, top, right, bottom }) {
 
 export class MapGrowth {
   constructor(bench) {
-    // Whether a macro is open that has a growth and what is drawn there.
-    Object.assign(this, { bench, editor: bench.editor, isOpen: false, asked: null, isInfinite: false });
+    // Whether a macro is open that has a growth and what is drawn there; and of each document whether its map is infinite, which no edit changes.
+    Object.assign(this, { bench, editor: bench.editor, isOpen: false, known: new WeakMap() });
   }
 
-  // Whether the active map is infinite. No edit changes that, so it is asked once of each open document.
-  isOf(map) {
-    const { document } = this.editor.openDocuments;
-    if (map && (!document || this.asked !== document)) Object.assign(this, { asked: document, isInfinite: this.editor.chunks() !== null });
-    return Boolean(map) && this.isInfinite;
+  // Whether the active map is infinite.
+  get isInfinite() {
+    const { known, bench: { map }, editor: { openDocuments: { document } } } = this;
+    if (!map || !document) return false;
+    if (!known.has(document)) known.set(document, this.editor.chunks() !== null);
+    return known.get(document);
   }
 
   // Whether it grows where tiles are drawn outside of it.
   get grows() {
-    const { map } = this.bench;
-    return this.isOf(map) && !map.selected;
+    return this.isInfinite && !this.bench.map.selected;
   }
 
   // Has an infinite map grow so that it has a rectangle of cells. `stroke` is the stroke that goes on there: what it has drawn becomes a part of
