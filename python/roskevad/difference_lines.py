@@ -19,22 +19,29 @@ _COUNTED = 'nextlayerid', 'nextobjectid'
 
 def lines_between(copy: 'Document', goal: MapNow, shift: Optional[Shift]) -> list[str]:
     """Lines that do to a copy of one map what makes it another one, as far as lines can say it."""
-    way = _Way(copy, goal)
+    way = Way(copy)
     if shift is not None:
         way.say(shift.line(goal))
-    for each in (_drop_layers, _add_tilesets, _add_layers, _place_layers, _change_objects, _paint, _set_members, _set_properties,
-                 _change_tilesets, _drop_tilesets, _count):
-        each(way)
+    lead(way, goal)
     return way.lines
 
 
-class _Way:
-    """What is done to a copy."""
+def lead(way: 'Way', goal: MapNow) -> None:
+    """Does to a copy of one map what makes it another one of its size, as far as lines can say it."""
+    way.goal = goal
+    for each in (_drop_layers, _add_tilesets, _add_layers, _place_layers, _change_objects, _paint, _set_members, _set_properties,
+                 _change_tilesets, _drop_tilesets, _count):
+        each(way)
+
+
+class Way:
+    """What is done to a copy, and to which goal."""
 
     __slots__ = 'copy', 'goal', 'lines'
 
-    def __init__(self, copy: 'Document', goal: MapNow):
-        self.copy, self.goal = copy, goal
+    def __init__(self, copy: 'Document'):
+        self.copy = copy
+        self.goal: MapNow
         self.lines: list[str] = []
 
     def say(self, line: str) -> bool:
@@ -68,7 +75,7 @@ def _placed(current: list[int], wanted: list[int]) -> Iterator[tuple[int, int]]:
 # ---- layers
 
 
-def _drop_layers(way: _Way) -> None:
+def _drop_layers(way: Way) -> None:
     now = way.now()
     gone = {id for id, stand in now.layers.items() if not way.goal.has(id, stand)}
     for id, stand in now.layers.items():
@@ -79,7 +86,7 @@ def _drop_layers(way: _Way) -> None:
             way.say(f'layer remove {id}')
 
 
-def _add_layers(way: _Way) -> None:
+def _add_layers(way: Way) -> None:
     there = way.now().layers
     for id in sorted(way.goal.layers.keys() - there.keys()):
         members = way.goal.layers[id].members
@@ -89,7 +96,7 @@ def _add_layers(way: _Way) -> None:
             way.say(f'layer add {TYPES[members["type"]]} {name}')
 
 
-def _place_layers(way: _Way) -> None:
+def _place_layers(way: Way) -> None:
     """Those that would go into what stands in them are taken out of all groups, and placed in a second turn."""
     for _ in range(2):
         now, stuck = way.now(), list[int]()
@@ -105,7 +112,7 @@ def _place_layers(way: _Way) -> None:
 # ---- objects
 
 
-def _change_objects(way: _Way) -> None:
+def _change_objects(way: Way) -> None:
     now, goal = way.now(), way.goal
     for id in now.objects.keys() - goal.objects.keys():
         way.say(f'object remove {id}')
@@ -124,7 +131,7 @@ def _change_objects(way: _Way) -> None:
 # ---- cells
 
 
-def _paint(way: _Way) -> None:
+def _paint(way: Way) -> None:
     now = way.now()
     if any(now.tree[side] != way.goal.tree[side] for side in ('width', 'height')):
         return
@@ -133,7 +140,7 @@ def _paint(way: _Way) -> None:
             _paint_layer(way, id, now.cells(id), way.goal.cells(id), now.tree['width'])
 
 
-def _paint_layer(way: _Way, layer: int, old: memoryview, new: memoryview, wide: int) -> None:
+def _paint_layer(way: Way, layer: int, old: memoryview, new: memoryview, wide: int) -> None:
     bands = list[tuple[int, list[list[int]]]]()
     empties = list[tuple[int, int, int]]()
     for y in range(len(new) // wide if wide else 0):
@@ -151,7 +158,7 @@ def _paint_layer(way: _Way, layer: int, old: memoryview, new: memoryview, wide: 
         way.say(f'erase {layer} {x} {y} {width} {height}')
 
 
-def _stamp(way: _Way, layer: int, top: int, rows: list[list[int]]) -> None:
+def _stamp(way: Way, layer: int, top: int, rows: list[list[int]]) -> None:
     columns = [x for row in rows for x, value in enumerate(row) if value]
     left, right = min(columns), max(columns) + 1
     cut = [row[left:right] for row in rows]
@@ -191,7 +198,7 @@ def _owners(map: MapNow) -> dict[str, tuple[str, Members]]:
     return {'map': ('map', map.tree), **layers, **{f'object:{id}': ('object', stand.members) for id, stand in map.objects.items()}}
 
 
-def _set_members(way: _Way) -> None:
+def _set_members(way: Way) -> None:
     there, goal = _owners(way.now()), _owners(way.goal)
     for owner, (kind, members) in goal.items():
         if owner in there:
@@ -200,7 +207,7 @@ def _set_members(way: _Way) -> None:
             _set_own(way, owner, old, new)
 
 
-def _set_own(way: _Way, owner: str, old: Members, new: Members) -> None:
+def _set_own(way: Way, owner: str, old: Members, new: Members) -> None:
     changed = {name: value for name, value in new.items() if name not in old or said(old[name]) != said(value)}
     if changed and not way.say(f'member put {owner} {_json(changed)}'):
         for name, value in changed.items():
@@ -209,14 +216,14 @@ def _set_own(way: _Way, owner: str, old: Members, new: Members) -> None:
         way.say(f'member remove {owner} {name}')
 
 
-def _set_properties(way: _Way) -> None:
+def _set_properties(way: Way) -> None:
     there, goal = _owners(way.now()), _owners(way.goal)
     for owner, (_, members) in goal.items():
         if owner in there:
             _set_listed(way, owner, there[owner][1].get('properties', []), members.get('properties', []))
 
 
-def _set_listed(way: _Way, owner: str, old: list[Members], new: list[Members]) -> None:
+def _set_listed(way: Way, owner: str, old: list[Members], new: list[Members]) -> None:
     """Sets properties in their order: where that is another one, those behind are taken out and put anew."""
     names, known = [each['name'] for each in new], {each['name']: said(each) for each in old}
     kept = [each['name'] for each in old if each['name'] in names]
@@ -231,14 +238,14 @@ def _set_listed(way: _Way, owner: str, old: list[Members], new: list[Members]) -
 # ---- tilesets, and what a map counts
 
 
-def _add_tilesets(way: _Way) -> None:
+def _add_tilesets(way: Way) -> None:
     there = {each['firstgid'] for each in way.now().tree['tilesets']}
     for each in way.goal.tree['tilesets']:
         if each['firstgid'] not in there:
             way.say(f'tileset put {_json(each)}')
 
 
-def _change_tilesets(way: _Way) -> None:
+def _change_tilesets(way: Way) -> None:
     there = {each['firstgid']: each for each in way.now().tree['tilesets']}
     for each in way.goal.tree['tilesets']:
         first = each['firstgid']
@@ -246,14 +253,14 @@ def _change_tilesets(way: _Way) -> None:
             _set_own(way, f'tileset:{first}', there[first], each)
 
 
-def _drop_tilesets(way: _Way) -> None:
+def _drop_tilesets(way: Way) -> None:
     wanted = {each['firstgid'] for each in way.goal.tree['tilesets']}
     for each in way.now().tree['tilesets']:
         if each['firstgid'] not in wanted:
             way.say(f'tileset remove {each["firstgid"]}')
 
 
-def _count(way: _Way) -> None:
+def _count(way: Way) -> None:
     now = way.now().tree
     for name in _COUNTED:
         if now.get(name) != way.goal.tree.get(name):
