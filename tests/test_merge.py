@@ -106,7 +106,8 @@ WORDS = [
     ('what is cut off', 'map.resize(39, 30)', 'map.stamp("Ground", 38, 0, [[7, 7]])',
      ['layer 1 "Ground": 1 cell in 39,0 to 39,0: what theirs has there lies outside the map of ours'],
      ['layer 1 "Ground": 1 cell in 38,0 to 38,0: tiles.tsx:0 -> tiles.tsx:6']),
-    ('a tileset in use', 'map.layers["Things"].objects.add("box", 0, 0, tile=2)', 'for layer in map.layers.walk():\n  layer.kind == "tile" and map.erase(layer, 0, 0, 40, 30)\n'
+    ('a tileset in use', 'map.layers["Things"].objects.add("box", 0, 0, tile=2)',
+     'for layer in map.layers.walk():\n  layer.kind == "tile" and map.erase(layer, 0, 0, 40, 30)\n'
      'map.objects["key"].remove()\nmap.tilesets[1].remove()', ['tileset tiles.tsx: removed by theirs, in use by ours; it stays'], None),
     ('its tile', 'for layer in map.layers.walk():\n  layer.kind == "tile" and map.erase(layer, 0, 0, 40, 30)\nmap.objects["key"].remove()\n'
      'map.tilesets[1].remove()', 'map.stamp("Ground", 0, 0, [[2]])', ['layer 1 "Ground": 1 cell in 0,0 to 0,0: empty (ours), tiles.tsx:1 (theirs)'], []),
