@@ -161,6 +161,15 @@ def test_what_both_added_alike():
     see(1, sum(name == 'chest' for name in things(tree)))
 
 
+def test_one_object_in_two_layers():
+    """What both have added alike in layers that are not is in both."""
+    add = 'map.layers.add("object", "{}").objects.add("chest", 16, 16)'
+    conflicts, notices, _, tree = merged(add.format('Left'), add.format('Right'))
+    see([], conflicts)
+    see(['layer 17 "Right" of theirs has the id 18 now', 'object 7 "chest" of theirs has the id 8 now'], notices)
+    see([('Left', [7]), ('Right', [8])], [(each['name'], [one['id'] for one in each['objects']]) for each in tree['layers'][-2:]])
+
+
 def test_numbers_in_classes():
     """A number in a property of a class that may mean an object with a new id is told, and stays."""
     lever = 'lever = map.layers["Things"].objects.add("lever", 0, 0)\nlever.properties.set("link", {"target": box.id})\n'
@@ -196,6 +205,13 @@ def test_a_copy_that_is_renamed():
     copy = 'map.layers["Places"].objects.add("Inn", 128, 160)\nmap.objects["Inn"].name = "Old inn"'
     _, notices, changes, _ = merged(copy, f'{INN}.y = 96')
     see(([], ['object 2 "Old inn": y 160 -> 96']), (notices, changes))
+
+
+def test_a_layer_that_is_renamed():
+    """A new layer with its old name is another one."""
+    ours = 'map.layers["Ground"].name = "Old ground"\nmap.stamp(map.layers.add("tile", "Ground"), 5, 5, [[7]])'
+    _, notices, changes, _ = merged(ours, 'map.stamp("Ground", 0, 0, [[7]])')
+    see(([], ['layer 1 "Old ground": 1 cell in 0,0 to 0,0: tiles.tsx:0 -> tiles.tsx:6']), (notices, changes))
 
 
 # ---- tilesets
@@ -263,7 +279,7 @@ def test_all_that_is_moved():
     """Theirs has moved all with the size, ours has drawn and moved an object: it moves along, with its fraction."""
     conflicts, notices, changes, tree = merged('map.stamp("Ground", 0, 0, [[7]])\nmap.objects["Inn"].x = 1.5', 'map.extend(left=2, top=1)\n'
                                                'map.objects["Inn"].y = 16')
-    see(([], ['theirs moved all in the map by 2, 1']), (conflicts, notices))
+    see(([], ['theirs has another size, and all in the map was moved by 2, 1 with it, as far as the maps tell']), (conflicts, notices))
     see(('map: 40 by 30 cells -> 42 by 31', 7), (changes[0], tree['layers'][0]['data'][42 + 2]))
     inn = next(each for layer in tree['layers'] for each in layer.get('objects', []) if each['name'] == 'Inn')
     see((33.5, 16), (inn['x'], inn['y']))

@@ -49,7 +49,10 @@ def frame(base: 'Document', ours: 'Document', theirs: 'Document') -> Framed:
     conflicts: list[Conflict] = []
     infinite = tuple(map(_is_infinite, documents))
     goal = _room(maps, frames) if all(infinite) else _goal(maps, frames, conflicts)
-    notices = [f'{name} moved all in the map by {-each.x}, {-each.y}' for name, each in zip(('ours', 'theirs'), frames[1:]) if each.x or each.y]
+    # Where infinite maps lie is known.
+    notices = [] if all(infinite) else [
+        f'{name} has another size, and all in the map was moved by {-each.x}, {-each.y} with it, as far as the maps tell'
+        for name, each in zip(('ours', 'theirs'), frames[1:]) if each != frames[0]]
     if infinite[2] not in infinite[:2]:
         conflicts.append(_of_map('infinite', infinite, f'infinite is {str(infinite[2]).lower()} in theirs, which no edit here can do'))
     conflicts += _cut_off(maps, frames, goal)

@@ -10,7 +10,7 @@ import os
 import shutil
 import sys
 from pathlib import Path
-from typing import Iterable, Optional
+from typing import Optional, Sequence
 
 from .difference import Change
 from .difference_command import opened, write
@@ -20,6 +20,8 @@ from .faults import Error
 from .merging import Conflict, merge
 
 _MERGED, _IN_CONFLICT, _TROUBLE = 0, 1, 2
+# Conflicts that are not about one member of a thing.
+_WHOLE = {'removed', 'added', 'moved', 'order', 'shape', 'size', 'unsaid'}
 _BOTH_ADDED = 'both sides have added this map, and there is none that both began with; it is as ours has it'
 
 
@@ -87,11 +89,13 @@ def _checked(editor: Editor, chosen: argparse.Namespace) -> tuple[int, list[str]
     return _IN_CONFLICT if left else _MERGED, [f'not as merged: {each}' for each in left]
 
 
-def _is_of(change: Change, conflicts: Iterable[Conflict]) -> bool:
-    """Whether a change may be how somebody has resolved a conflict."""
-    names = {each.what.partition('.')[0] for each in conflicts if each.subject == change.subject}
-    return bool(names & {change.what, 'removed', 'added', 'moved', 'shape', 'size', 'unsaid'}) or change.what in ('moved', 'added') and bool(
-        {'order', 'moved', 'removed', 'added'} & {each.what for each in conflicts})
+def _is_of(change: Change, conflicts: Sequence[Conflict]) -> bool:
+    """Whether a change may be how somebody has settled a conflict: of the same thing, or, where it is about whole things, with another one
+    that was added or moved."""
+    of_the_same = {each.what.partition('.')[0] for each in conflicts if each.subject == change.subject}
+    if of_the_same & {change.what, *_WHOLE}:
+        return True
+    return change.what in ('added', 'moved') and any(each.what in _WHOLE for each in conflicts)
 
 
 def _trouble(text: str) -> int:

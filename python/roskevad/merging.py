@@ -93,7 +93,7 @@ class _Merging:
         base, ours, theirs = self._named_alike(*maps)
         for old, new in _in_turn([*numbers(shared_tilesets(base, ours, theirs), ours, theirs)]):
             if self._way.say(f'tileset number {old} {new}'):
-                self._notices.append(f'a tileset has the first id {new} now: {old}')
+                self._notices.append(f'the tileset of the first id {old} has the first id {new} now, and its tiles go along')
         ours = MapNow(self._ours)
         shared = shared_tilesets(base, ours, theirs)
         firsts = added_firsts(shared, ours, theirs)
@@ -153,10 +153,11 @@ class _Merging:
         old, mine, other = (things_of(map) for map in (base, ours, theirs))
         last = max(ours.layers, default=0)
         names: Names = {}
-        for subject in other:
-            if subject not in old and not (subject in mine and is_twin(subject, ours, theirs)):
-                if subject in mine or subject.kind == 'layer' and subject.id < last:
-                    names[subject] = self._next(subject.kind)
+        for subject, stand in other.items():
+            if subject in old or subject in mine and Subject('layer', stand.parent) not in names and is_twin(subject, ours, theirs):
+                continue
+            if subject in mine or subject.kind == 'layer' and subject.id < last:
+                names[subject] = self._next(subject.kind)
         return self._told_new(names, theirs, {})
 
     # ---- references

@@ -155,7 +155,7 @@ def another_names(base: MapNow, side: MapNow) -> Names:
     old, new = things_of(base), things_of(side)
     found: Names = {}
     for subject, stand in old.items():
-        if subject in new and _is_another(subject, stand, new[subject]):
+        if subject in new and _is_another(subject, base, side):
             free = [each for each in new if each not in old and each.kind == subject.kind and each.id not in found.values()]
             twin = _only(each for each in free if _is_alike(subject, base, each, side)) or _only(
                 each for each in free if stand.members.get('name') and _looks(each, new[each]) == _looks(subject, stand))
@@ -169,12 +169,30 @@ def _only(found: Iterable[Subject]) -> Optional[Subject]:
     return listed[0] if len(listed) == 1 else None
 
 
-def _is_another(subject: Subject, old: Stand, new: Stand) -> bool:
-    if subject.kind == 'layer' and old.members['type'] != new.members['type']:
+def _is_another(subject: Subject, base: MapNow, side: MapNow) -> bool:
+    """Whether a side has another thing under an id: an object of another name at another place, or a layer of another name in which hardly
+    anything is as it was."""
+    old, new = (stand_of(map, subject).members for map in (base, side))
+    if subject.kind == 'layer' and old['type'] != new['type']:
         return True
-    names = ('name', 'x', 'y') if subject.kind == 'object' else ('name',)
-    was, now = ([stand.members.get(name) for name in names] for stand in (old, new))
-    return was[0] != now[0] and (subject.kind == 'layer' or was[1:] != now[1:])
+    if old.get('name') == new.get('name'):
+        return False
+    if subject.kind == 'object':
+        return [old.get(name) for name in ('x', 'y')] != [new.get(name) for name in ('x', 'y')]
+    return not _shares(subject.id, base, side)
+
+
+def _shares(layer: int, base: MapNow, side: MapNow) -> bool:
+    """Whether a layer has half of its tiles, or one thing that stands in it, on both."""
+    kind = base.layers[layer].members['type']
+    if kind == 'tilelayer':
+        cells = base.cells(layer).tolist()
+        same = sum(value != 0 and value == other for value, other in zip(cells, side.cells(layer)))
+        return 2 * same >= max(sum(map(bool, cells)), 1)
+    if kind == 'imagelayer':
+        return bool(base.layers[layer].members.get('image') == side.layers[layer].members.get('image'))
+    inside = [{*map.objects_in(layer), *map.layers_in(layer)} for map in (base, side)]
+    return bool(inside[0] & inside[1])
 
 
 def _looks(subject: Subject, stand: Stand) -> str:

@@ -51,8 +51,8 @@ def edits(chosen, document, offset):
 
 
 # How often each kind is chosen, where not once.
-WEIGHTS = {'stamp': 8, 'erase': 2, 'object add': 4, 'object move': 4, 'object member': 4, 'prop set': 4, 'layer member': 2, 'layer move': 2, 'layer into': 2,
-           'object into': 2, 'layer add': 2}
+WEIGHTS = {'stamp': 8, 'erase': 2, 'object add': 4, 'object move': 6, 'object member': 4, 'shape': 4, 'prop set': 4, 'layer member': 2, 'layer move': 4,
+           'layer into': 3, 'object into': 3, 'layer add': 2, 'tileset add': 3, 'extend': 3}
 
 
 def added(chosen, document, layer, number):

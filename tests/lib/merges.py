@@ -273,7 +273,7 @@ class Checked:
     def see_added_by_theirs(self):
         wanted, lacking, got = collections.Counter(), [], collections.Counter(self.merged.whole(key) for key in self.merged.rows if key not in self.ours.rows)
         for key in [each for each in self.theirs.rows if each not in self.base.rows]:
-            is_twin = key in self.ours.rows and self.ours.whole(key) == self.theirs.whole(key)
+            is_twin = self.is_twin(key)
             lacks = [each for each in self.theirs.above(key) if each in self.base.rows and each not in self.ours.rows]
             tile = self.theirs.rows[key].get('gid')
             if lacks or tile and self.has_no_tileset(json.loads(tile)[0]):
@@ -288,6 +288,12 @@ class Checked:
             self.fault('added by theirs in what ours removed:', lacking, 'told:', told)
         if wanted != got:
             self.fault('added by theirs: lost', [*(wanted - got)][:2], 'and there', [*(got - wanted)][:2])
+
+    def is_twin(self, key):
+        """Whether both have added one thing, with all that stands in it."""
+        inside = [side.children.get(key, []) for side in (self.ours, self.theirs)]
+        is_alike = key in self.ours.rows and self.ours.whole(key) == self.theirs.whole(key)
+        return is_alike and inside[0] == inside[1] and all(map(self.is_twin, inside[0]))
 
     def take_out_cells(self, key):
         """Takes the cells out of a layer that theirs has added whose tileset ours removed: they are told, under the id that it has by now."""
