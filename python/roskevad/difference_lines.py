@@ -61,12 +61,16 @@ def _json(value: Any) -> str:
     return json_values.said(value, 'a value of a map')
 
 
-def _placed(current: list[int], wanted: list[int]) -> Iterator[tuple[int, int]]:
-    """What is to be put at which place, one after the other, so that a list is as it is wanted. What is not wanted stays somewhere."""
+def _placed(lists: dict[int, list[int]], holder: int, wanted: list[int]) -> Iterator[tuple[int, int]]:
+    """What is to be put at which place of a holder, one after the other, so that what stands there is as it is wanted. What is not wanted stays
+    somewhere; what comes out of another list is in that no more."""
+    current = lists[holder]
     stay = staying(current, wanted)
     for at, id in enumerate(wanted):
         if id not in stay:
-            current[:] = [each for each in current if each != id]
+            for each in lists.values():
+                if id in each:
+                    each.remove(id)
             place = current.index(wanted[at - 1]) + 1 if at else 0
             current.insert(place, id)
             yield id, place
@@ -100,9 +104,11 @@ def _place_layers(way: Way) -> None:
     """Those that would go into what stands in them are taken out of all groups, and placed in a second turn."""
     for _ in range(2):
         now, stuck = way.now(), list[int]()
-        for parent in [0, *(id for id, stand in way.goal.layers.items() if stand.members['type'] == 'group')]:
+        groups = [0, *(id for id, stand in now.layers.items() if stand.members['type'] == 'group')]
+        lists = {parent: now.layers_in(parent) for parent in groups}
+        for parent in [0, *(id for id in way.goal.layers if id in lists)]:
             wanted = [id for id in way.goal.layers_in(parent) if id in now.layers]
-            stuck += [id for id, place in _placed(now.layers_in(parent), wanted) if not way.say(f'layer into {id} {parent} {place}')]
+            stuck += [id for id, place in _placed(lists, parent, wanted) if not way.say(f'layer into {id} {parent} {place}')]
         if not stuck:
             return
         for id in stuck:
@@ -122,9 +128,10 @@ def _change_objects(way: Way) -> None:
         if id not in now.objects and stand.parent in now.layers:
             way.say(f'object put {stand.parent} {_json(stand.members)}')
     now = way.now()
-    for layer in now.layers:
+    lists = {layer: now.objects_in(layer) for layer, stand in now.layers.items() if stand.members['type'] == 'objectgroup'}
+    for layer in lists:
         wanted = [id for id in goal.objects_in(layer) if id in now.objects]
-        for id, place in _placed(now.objects_in(layer), wanted):
+        for id, place in _placed(lists, layer, wanted):
             way.say(f'object into {id} {layer} {place}')
 
 
