@@ -161,6 +161,22 @@ def test_what_both_added_alike():
     see(1, sum(name == 'chest' for name in things(tree)))
 
 
+def test_layers_that_are_cut():
+    """Where both have given the map another size, what theirs has drawn outside it is told, by the id that its layer has by now."""
+    ours = 'map.extend(right=1)\nmap.layers.add("tile", "Roofs")'
+    conflicts, _, _, _ = merged(ours, 'map.extend(bottom=1)\nmap.stamp(map.layers.add("tile", "Moss"), 0, 30, [[5]])')
+    see(['map: 40 by 30 cells -> 41 by 30 cells (ours), 40 by 31 cells (theirs)',
+         'layer 18 "Moss": 1 cell in 0,30 to 0,30: what theirs has there lies outside the map of ours'], conflicts)
+
+
+def test_objects_that_change_layers():
+    """Each is put at its place, also where others leave its layer."""
+    script = 'map.objects["Inn"].move_into("Things", 0)\nmap.objects["key"].move_into("Places")\nmap.objects["start"].move_into("Places")'
+    conflicts, _, _, tree = merged('pass', script)
+    see(([], [['Inn'], ['Smithy', 'Lake', 'Walk of the guard', 'key', 'start']]), (conflicts, [
+        [each['name'] for each in layer['objects']] for layer in tree['layers'] if layer['type'] == 'objectgroup']))
+
+
 def test_one_object_in_two_layers():
     """What both have added alike in layers that are not is in both."""
     add = 'map.layers.add("object", "{}").objects.add("chest", 16, 16)'
@@ -329,7 +345,7 @@ def pair(seed, most=MOST):
     for _ in range(2):
         with Editor() as editor:
             document = editor.open(data, 'side')
-            offsets.append(history(chosen, document, most, ('extend', 'cut') if name == 'infinite' else ()))
+            offsets.append(history(chosen, document, most, ('extend', 'cut', 'layer remove') if name == 'infinite' else ()))
             sides.append(document.save_bytes())
     return data, sides, offsets
 

@@ -60,7 +60,7 @@ def _do(ours: 'Document', lines: tuple[str, ...]) -> None:
 class _Merging:
     """A merge on copies of three maps."""
 
-    __slots__ = '_base', '_ours', '_theirs', '_way', '_notices', '_conflicts', '_first'
+    __slots__ = '_base', '_ours', '_theirs', '_way', '_notices', '_conflicts', '_first', '_renamed'
 
     def __init__(self, base: 'Document', ours: 'Document', theirs: 'Document'):
         self._base, self._ours, self._theirs = base, ours, theirs
@@ -69,6 +69,8 @@ class _Merging:
         self._conflicts: list[Conflict] = []
         # The first free ids.
         self._first: dict[str, int] = {}
+        # The new ids of theirs, one round behind the other.
+        self._renamed: list[Names] = []
 
     def found(self) -> Merge:
         before = self._ours.outline()
@@ -91,6 +93,7 @@ class _Merging:
 
     def _goal(self, *maps: MapNow) -> MergedMap:
         base, ours, theirs = self._named_alike(*maps)
+        self._conflicts = [self._with_new_id(each) for each in self._conflicts]
         for old, new in _in_turn([*numbers(shared_tilesets(base, ours, theirs), ours, theirs)]):
             if self._way.say(f'tileset number {old} {new}'):
                 self._notices.append(f'the tileset of the first id {old} has the first id {new} now, and its tiles go along')
@@ -99,7 +102,8 @@ class _Merging:
         firsts = added_firsts(shared, ours, theirs)
         joined = Joined(*_counted_alike(base, ours, theirs, shared, firsts), _Named(shared, firsts).tile)
         goal = joined.merged(shared, firsts)
-        self._conflicts += [each for each in joined.conflicts if each not in self._conflicts]
+        known = {(each.subject, each.what) for each in self._conflicts if each.what == 'removed'}
+        self._conflicts += [each for each in joined.conflicts if (each.subject, each.what) not in known]
         self._tell_dangling(goal, ours, theirs)
         return goal
 
@@ -120,7 +124,8 @@ class _Merging:
         return base, ours, renamed(theirs, self._clashing(base, ours, theirs))
 
     def _told_new(self, names: Names, theirs: MapNow, known: Names) -> Names:
-        """Tells of new ids, but for those that are known."""
+        """Notes new ids, and tells of them, but for those that are known."""
+        self._renamed.append(names)
         for subject, id in names.items():
             if subject not in known:
                 self._notices.append(f'{_told(subject, theirs)} of theirs has the id {id} now')
@@ -128,6 +133,13 @@ class _Merging:
         for name, number in numbers_in_classes(theirs, ids) if ids else ():
             self._notices.append(f'the property {name} of theirs has the number {number} in it: look whether it means that object')
         return names
+
+    def _with_new_id(self, conflict: Conflict) -> Conflict:
+        """A conflict about something of theirs, by its new id."""
+        subject = conflict.subject
+        for names in self._renamed:
+            subject = Subject(subject.kind, names.get(subject, subject.id))
+        return conflict._replace(subject=subject)
 
     def _apart(self, base: MapNow, ours: MapNow, theirs: MapNow) -> tuple[MapNow, MapNow]:
         """The base and theirs, in which layers of another kind than those of one id in ours have another id."""

@@ -296,13 +296,19 @@ class Checked:
         return is_alike and inside[0] == inside[1] and all(map(self.is_twin, inside[0]))
 
     def take_out_cells(self, key):
-        """Takes the cells out of a layer that theirs has added whose tileset ours removed: they are told, under the id that it has by now."""
+        """Takes the cells out of a layer that theirs has added whose tileset ours removed, or that lie outside the map: they are told, under the id
+        that it has by now."""
         lacking = [at for at, tile in self.theirs.cells.get(key, {}).items() if self.has_no_tileset(tile[0])]
         told = [each for each in self.told if each[1] == 'cells' and each[0][2:] in lacking and each[0][:2] not in self.ours.rows]
         if len(told) < len(lacking):
             self.fault('not told: cells of', key, 'whose tileset ours removed')
         self.met.update(told)
-        for at in lacking:
+        outside = [at for at in self.theirs.cells.get(key, {}) if not self.is_in(self.merged, at)]
+        cut = [each for each in self.told if each[0][2:] == ('cut',) and each[0][:2] not in self.ours.rows]
+        if outside and not cut:
+            self.fault('not told: cells of', key, 'outside the map')
+        self.met.update(cut if outside else ())
+        for at in {*lacking, *outside}:
             del self.theirs.cells[key][at]
 
     def see_tilesets(self):
