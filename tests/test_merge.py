@@ -593,6 +593,9 @@ def test_git():
         status, told = found.git('merge', '--no-edit', 'other')
         see((1, True), (status, 'town.tmj: conflict: object 2 "Inn": x 128 -> 96 (ours), 32 (theirs)' in told))
         see(True, 'UU town.tmj' in found.git('status', '--short')[1])
+        see((0, 'map town.tmj\n  in conflict\n'), found.git('diff', '--cached'))
+        see((0, 'map town.tmj\n  in conflict\nmap town.tmj\n  layer 1 "Ground": 1 cell in 0,0 to 0,0: tiles.tsx:0 -> tiles.tsx:6\n'
+             '  object 2 "Inn": x 32 -> 96\n  object 2 "Inn": y 160 -> 96\n'), found.git('diff', '--theirs'))
         see((96, 96, 7), found.told(WHERE))
         found.git('merge', '--abort')
         found.git('checkout', '-q', '-B', 'moved', 'right')

@@ -3,13 +3,15 @@
 
     roskevad diff [--json | --lines] A B
 
-As git calls it for two versions of a file, it is `roskevad diff --git` and seven words more.
+As git calls it for two versions of a file, it is `roskevad diff --git` and seven words more: the name of the file, and of each version where it
+stands, its hash and its mode.
 """
 import argparse
 import contextlib
 import os
 import sys
 from pathlib import Path
+from typing import Sequence
 
 from .difference import Difference, told_as_json
 from .document import Document
@@ -26,8 +28,8 @@ _HEAD = '# all edits, all maps'
 
 def main(given: list[str]) -> int:
     """Tells it on standard output, and gives the exit status: 0 where the maps are the same, 1 where they differ, 2 for trouble."""
-    if given[:1] == ['--git'] and len(given) >= _WORDS_OF_GIT:
-        return _tell_git(given[1], Path(given[2]), Path(given[5]))
+    if given[:1] == ['--git'] and len(given) > 1:
+        return _tell_git(given[1], [Path(each) for each in given[2:_WORDS_OF_GIT:3]])
     parser = argparse.ArgumentParser(prog='roskevad diff', description='Tells what differs between two maps.')
     parser.add_argument('before', metavar='A', type=Path, help='a map that Tiled saves as JSON')
     parser.add_argument('after', metavar='B', type=Path, help='another one')
@@ -45,15 +47,12 @@ def main(given: list[str]) -> int:
         return _trouble(str(fault) or 'no memory is left')
 
 
-def _tell_git(name: str, before: Path, after: Path) -> int:
-    """Tells git what differs between two versions of a file. It goes on with its next file, whatever becomes of this one."""
+def _tell_git(name: str, versions: Sequence[Path]) -> int:
+    """Tells git what differs between two versions of a file; of one that is in conflict it names none. It goes on with its next file, whatever
+    becomes of this one."""
     told = [f'map {name}']
     try:
-        if _NOWHERE in (before, after):
-            told.append('  added' if before == _NOWHERE else '  removed')
-        else:
-            with contextlib.closing(Editor()) as editor:
-                told += [f'  {each}' for each in opened(editor, before, 'before').difference(opened(editor, after, 'after'))]
+        told += [f'  {each}' for each in _told_of(versions)]
     except (Error, OSError, MemoryError) as fault:
         told.append(f'  what differs is not told: {fault}')
     try:
@@ -61,6 +60,17 @@ def _tell_git(name: str, before: Path, after: Path) -> int:
     except OSError as fault:
         return _trouble(str(fault))
     return _SAME
+
+
+def _told_of(versions: Sequence[Path]) -> list[str]:
+    """What is told of two versions."""
+    if len(versions) < 2:
+        return ['in conflict']
+    before, after = versions
+    if _NOWHERE in versions:
+        return ['added' if before == _NOWHERE else 'removed']
+    with contextlib.closing(Editor()) as editor:
+        return [str(each) for each in opened(editor, before, 'before').difference(opened(editor, after, 'after'))]
 
 
 def opened(editor: Editor, path: Path, name: str) -> Document:
