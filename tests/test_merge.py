@@ -186,6 +186,22 @@ def test_one_object_in_two_layers():
     see([('Left', [7]), ('Right', [8])], [(each['name'], [one['id'] for one in each['objects']]) for each in tree['layers'][-2:]])
 
 
+def test_a_removal_that_is_reverted():
+    """What was removed comes back, the layer by a new id, since no line brings it back below others; and what means an object of it."""
+    with Editor() as editor:
+        town, base, ours = three(editor)
+        for document in (base, ours):
+            document.layers['Things'].remove()
+            document.objects['Smithy'].properties.pop('key')
+        ours.stamp('Ground', 0, 0, [[7]])
+        found = merge(base, ours, town)
+        see(((), ('layer 15 "Things" of theirs has the id 17 now',)), (found.conflicts, found.notices))
+        see((17, [4], 4, 7), (ours.layers['Things'].id, [each.id for each in ours.layers['Things'].objects], ours.objects['Smithy'].properties['key'],
+                              ours.layers['Ground'].cells(0, 0, 1, 1)[0]))
+        see([each.name for each in town.layers], [each.name for each in ours.layers])
+        done(editor)
+
+
 def test_numbers_in_classes():
     """A number in a property of a class that may mean an object with a new id is told, and stays."""
     lever = 'lever = map.layers["Things"].objects.add("lever", 0, 0)\nlever.properties.set("link", {"target": box.id})\n'
