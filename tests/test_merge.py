@@ -307,6 +307,20 @@ def test_two_infinite_maps_that_grow():
         done(editor)
 
 
+def test_an_infinite_map_that_grows_at_the_left():
+    """No line makes room there, so what theirs has drawn is told; all else is merged."""
+    data = (MAPS / 'infinite.tmj').read_bytes()
+    tree = json.loads(data)
+    layer = next(each for each in tree['layers'] if each.get('chunks'))
+    corner = min(each['x'] for each in layer['chunks']), min(each['y'] for each in layer['chunks'])
+    layer['chunks'].append({'x': corner[0] - 16, 'y': corner[1], 'width': 16, 'height': 16, 'data': [2, 3, *[0] * 254]})
+    tree['properties'] = [*tree.get('properties', []), {'name': 'theirs', 'type': 'bool', 'value': True}]
+    found, result, origin, _ = merged_files(data, data, json.dumps(tree).encode())
+    see([f'layer {layer["id"]} "{layer["name"]}": 2 cells in -16,0 to -15,0: what theirs has there lies outside the map of ours'],
+        [str(each) for each in found.conflicts])
+    see((corner, True), (origin, {'name': 'theirs', 'type': 'bool', 'value': True} in json.loads(result)['properties']))
+
+
 def test_all_that_is_moved():
     """Theirs has moved all with the size, ours has drawn and moved an object: it moves along, with its fraction."""
     conflicts, notices, changes, tree = merged('map.stamp("Ground", 0, 0, [[7]])\nmap.objects["Inn"].x = 1.5', 'map.extend(left=2, top=1)\n'

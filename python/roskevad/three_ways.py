@@ -69,7 +69,8 @@ def merged_members(base: Members, ours: Members, theirs: Members, tell: Callable
 def merged_order(base: list[_Key], ours: list[_Key], theirs: list[_Key], tell: Callable[[set[_Key]], object]) -> list[_Key]:
     """Things in an order: what only one side has moved stands where that side has it, and what one has added behind what it stands behind
     there; of what both have added at one place ours comes first. What both have moved otherwise is told, and stands where ours has it."""
-    common = [each for each in base if each in {*ours} & {*theirs}]
+    both = {*ours} & {*theirs}
+    common = [each for each in base if each in both]
     known = {*common}
     mine, other = ([each for each in side if each in known] for side in (ours, theirs))
     if other in (common, mine):
@@ -110,8 +111,10 @@ def _place_behind(line: list[_Key], front: Iterable[_Key]) -> int:
 
 def _add_to(line: list[_Key], side: list[_Key], there: set[_Key], known: set[_Key]) -> None:
     """Puts what is not there yet behind what it stands behind on its side, and behind what ours has added there."""
+    placed = {*line}
     for at, each in enumerate(side):
-        if each not in line:
+        if each not in placed:
+            placed.add(each)
             place = _place_behind(line, side[:at])
             while place < len(line) and line[place] in there - known and line[place] not in side:
                 place += 1
