@@ -166,6 +166,8 @@ def test_functions():
 
     def fault_of(case):
         came = list(inspect.signature(getattr(roskevad, case.given.name)).parameters)
+        if case.given.only == 'python':
+            return unlike(case.wanted, came)
         declared = (TOP / 'js' / 'roskevad.d.ts').read_text()
         said = f'{case.given.takes}: {REFERENCE.typed(case.given, case.given.takes)}'
         front, back = f'export function {REFERENCE.camel(case.given.name)}(', f'): {REFERENCE.given(case.given, JAVASCRIPT)};'
@@ -173,7 +175,7 @@ def test_functions():
         line = f'{front}{said}{back}' if not case.given.written[JAVASCRIPT] else f'{front}\n  {case.given.takes}: '
         return unlike(case.wanted, came) or (None if line in declared and back in declared else f'no {line} in js/roskevad.d.ts')
 
-    check_each([Case(call.name, call, [call.takes]) for call in calls.FUNCTIONS], fault_of)
+    check_each([Case(call.name, call, call.takes.split(', ')) for call in calls.FUNCTIONS], fault_of)
 
 
 def test_records_of_python():

@@ -58,6 +58,12 @@ WORDS = [
     ('one behind the others', 'town.objects["Inn"].move_into("Places")', ['object 2 "Inn": moved to place 4']),
     ('the other way round', 'for each in list(town.layers["Places"].objects):\n  each.move_into("Places", 0)',
      ['object 5 "Lake": moved to place 1', 'object 3 "Smithy": moved to place 2', 'object 2 "Inn": moved to place 3', 'object 1 "start": moved to place 4']),
+    ('two layers of objects', 'for name in ("Inn", "Lake"):\n  town.objects[name].move_into("Things")\nfor name in ("start", "key"):\n'
+     '  town.objects[name].move_into("Places")',
+     ['object 2 "Inn": moved into layer 15 "Things"', 'object 5 "Lake": moved into layer 15 "Things"', 'object 1 "start": moved to place 2',
+      'object 4 "key": moved into layer 16 "Places"']),
+    ('two groups', 'town.layers["Cottages"].move_into("Green")\ntown.layers["Trees"].move_into("Houses")\ntown.layers["Inn"].move_into("Green")',
+     ['layer 12 "Trees": moved into layer 2 "Houses"', 'layer 10 "Cottages": moved into layer 11 "Green"', 'layer 3 "Inn": moved into layer 11 "Green"']),
     ('a property', 'town.properties["author"] = "me"', ['map: property author: "the Roskevad project" -> "me"']),
     ('its type', 'town.properties.set("people", "many", type="string")', ['map: property people: 12 (int) -> "many" (string)']),
     ('a new one, and none', 'del town.properties["night"]\ntown.properties["a b"] = 1.5', ['map: property night: false -> none', 'map: property a b: none -> 1.5']),

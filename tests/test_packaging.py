@@ -33,6 +33,7 @@ SCRIPT = '''
 from pathlib import Path
 from typing import Any, Optional
 from roskevad import Closed, Document, Editor, Layer, LayerKind, MapObject, Refused, Rows, Run, SelectionMode, Status, Tile, TilesetTile
+from roskevad import Change, Conflict, Merge, merge
 from roskevad import BadTileset, Corners, Error, NotFound, OtherType, OwnMembers, PropertyType, Tileset, document_name, report, turned_right
 def run(path: Path) -> Optional[int]:
     with Editor(limit=5, folder='.') as editor:
@@ -106,6 +107,12 @@ def drawn(editor: Editor, path: Path) -> Status:
         other.save(Path('a.tmj'))
     print(key, number, tile, runs, values, (0, 0) in document.selection, editor.documents['a'], path in document.layers)
     return document.status
+def joined(base: Document, ours: Document, theirs: Document) -> tuple[Conflict, ...]:
+    found: Merge = merge(base, ours, theirs)
+    changes: tuple[Change, ...] = found.changes
+    lines: Optional[tuple[str, ...]] = base.difference(ours).lines
+    print(found.document.undo_text, found.notices, found.lines, [each.subject.id for each in changes], lines)
+    return found.conflicts
 '''
 
 

@@ -16,7 +16,8 @@ NEEDED = (
     'threading', 'typing', 'warnings',
 )
 # The modules of the package that come later.
-LATER = ('__main__', 'compared_maps', 'compressed_layers', 'difference', 'difference_command', 'difference_lines', 'json_scanner', 'page', 'saving')
+LATER = ('__main__', 'compared_maps', 'compressed_layers', 'difference', 'difference_command', 'difference_lines', 'framed_maps', 'git_command', 'json_scanner',
+         'merge_command', 'merged_maps', 'merged_tilesets', 'merging', 'page', 'renamed_maps', 'saving', 'three_ways')
 # What is told of the modules behind a script: those of the package, and the others that were not there before.
 SCRIPT = """
 import json, sys
@@ -34,6 +35,7 @@ USES = {
     'a map that is opened': (OPENED, {'pathlib', 'hashlib', 'roskevad.compressed_layers', 'roskevad.json_scanner'}),
     'a difference': ('editor = roskevad.Editor(); one = editor.new("a", 1, 1, 1, 1, "a.tsj"); one.difference(one)', {
         'pathlib', 'roskevad.compared_maps', 'roskevad.difference', 'roskevad.difference_lines'}),
+    'a merge': ('roskevad.merge', {'roskevad.difference', 'roskevad.merging', 'roskevad.three_ways'}),
     'a save': (OPENED + '; editor.active.save({copy!r})', {'roskevad.saving'}),
     'a listener': ('import logging; logging.getLogger("roskevad")', {'logging'}),
 }

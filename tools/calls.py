@@ -52,7 +52,7 @@ ARGUMENTS = {
 #: What the time of calls grows with, by their classes, where that is more than the one thing that they are about: `answer` stands for
 #: what is given, changed or answered, and `map` for the whole map. All others have the cost 1.
 COSTS = {
-    '': {'map': 'report'},
+    '': {'map': 'merge report'},
     'Editor': {
         'answer': 'documents unsaved step step_bytes run_lines run_bytes put_file file files cells selection steps',
         'map': 'new open close open_map save_map open_file save_file map outline object_id',
@@ -568,6 +568,8 @@ FUNCTIONS = [
     Call('document_name', 'path', 'The name of a document that is made from that of a file.', gives='str', types={'path': 'string'}),
     Call('flipped_horizontally', 'rows', 'Rows of values flipped to the side, the tiles in them too.', gives='rows'),
     Call('flipped_vertically', 'rows', 'The same upside down.', gives='rows'),
+    Call('merge', 'base, ours, theirs', 'Does to the document `ours` what `theirs` has changed since `base`, [by meaning](merge.md), as one step.',
+         gives='Merge', raises={'type': 'merge(document, document, 5)', 'refused': ''}, only='python'),
     Call('report', 'source', 'What is in a map, or why it is not opened: the bytes of a file{file_of_report}; an object as '
          'that of [the report for scripts](map-files.md#the-report-for-scripts).', gives='members!',
          written=('report(source)', 'await report(source, { module })')),

@@ -28,20 +28,25 @@ from .word_faults import WordAtFault
 
 if TYPE_CHECKING:
     from .difference import Change, Difference
+    from .merging import Conflict, Merge, merge
 
 __all__ = [
-    'AddedLayerKind', 'BadTileset', 'CellArea', 'Change', 'Closed', 'Corners', 'Difference', 'Document', 'Editor', 'Error', 'InCallback',
-    'Layer', 'LayerKind', 'Layers', 'Layout', 'MapObject', 'MapPlace', 'NotFound', 'Objects', 'OtherType', 'OwnMembers', 'Properties',
+    'AddedLayerKind', 'BadTileset', 'CellArea', 'Change', 'Closed', 'Conflict', 'Corners', 'Difference', 'Document', 'Editor', 'Error', 'InCallback',
+    'Layer', 'LayerKind', 'Layers', 'Layout', 'MapObject', 'MapPlace', 'Merge', 'NotFound', 'Objects', 'OtherType', 'OwnMembers', 'Properties',
     'PropertyType', 'Refused', 'Rows', 'Run', 'Selection', 'SelectionMode', 'SetPropertyType', 'Status', 'Step', 'StepRow', 'Subject',
     'Tile', 'Tileset', 'TilesetTile', 'Tilesets', 'Told', 'Watch', 'WordAtFault', '__version__', 'document_name', 'flipped_horizontally',
-    'flipped_vertically', 'report', 'turned_right',
+    'flipped_vertically', 'merge', 'report', 'turned_right',
 ]
 
 
 def __getattr__(name: str) -> Any:
-    """What only a difference of maps needs comes with its first use."""
+    """What only a difference or a merge of maps needs comes with its first use."""
     if name in ('Change', 'Difference'):
         from . import difference
 
         return getattr(difference, name)
+    if name in ('Conflict', 'Merge', 'merge'):
+        from . import merging
+
+        return getattr(merging, name)
     raise AttributeError(f'module {__name__!r} has no attribute {name!r}')

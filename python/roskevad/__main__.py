@@ -3,24 +3,28 @@
 
     python3 -m roskevad [--folder DIR] [--limit N]
 
-Behind the word `diff` it tells what differs between two maps.
+Behind the word `diff` it tells what differs between two maps, behind `merge` it brings two sides of one map together, and behind `git` it has
+git do both.
 """
 import argparse
 import contextlib
 import os
 import sys
 from pathlib import Path
-from typing import Optional
+from typing import Callable, Optional
 
 from . import Editor, Refused, __version__
 from .forms import FORMS, forms_of
 from .limits import MAX_LIMIT
 from .names import document_name, is_document_name
 
+Command = Callable[[list[str]], int]
+
 
 def options() -> argparse.Namespace:
     """The options of the command line; a limit or a folder that cannot be is refused with status 2."""
-    more = 'roskevad diff A B tells what differs between two maps; roskevad diff --help says more.'
+    more = 'roskevad diff A B tells what differs between two maps; roskevad merge BASE OURS THEIRS -o OUT brings two sides of one map together; ' \
+        'roskevad git --enable has git do both. Each says more behind --help.'
     parser = argparse.ArgumentParser(prog='roskevad', description='Edits tile maps by session lines.', epilog=more)
     parser.add_argument('--folder', type=Path, default=Path('.'), help='the folder of the maps that are opened and saved')
     parser.add_argument('--limit', type=int, default=0, help='the most steps that a document keeps; 0 is no limit')
@@ -209,12 +213,32 @@ class Prompt:
             raise Unwritten(fault.strerror) from None
 
 
-def main() -> int:
-    """Reads lines to the end of the input, or tells what differs between two maps, and gives the exit status."""
-    if sys.argv[1:2] == ['diff']:
-        from .difference_command import main as tell_difference
+def _difference() -> Command:
+    from .difference_command import main as command
 
-        return tell_difference(sys.argv[2:])
+    return command
+
+
+def _merge() -> Command:
+    from .merge_command import main as command
+
+    return command
+
+
+def _git() -> Command:
+    from .git_command import main as command
+
+    return command
+
+
+# The words that do something else, each brought with its first use.
+COMMANDS = {'diff': _difference, 'merge': _merge, 'git': _git}
+
+
+def main() -> int:
+    """Reads lines to the end of the input, or does what the first word says, and gives the exit status."""
+    if sys.argv[1:] and sys.argv[1] in COMMANDS:
+        return COMMANDS[sys.argv[1]]()(sys.argv[2:])
     chosen = options()
     if sys.stdin is None or sys.stdout is None:
         say('read failed' if sys.stdin is None else 'write failed')

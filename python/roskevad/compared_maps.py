@@ -11,7 +11,6 @@ from .tiled_maps import Members
 if TYPE_CHECKING:
     from .document import Document
 
-_NAMES = 'before', 'behind'
 # The members of a place, with those of the side of a tile there.
 _SIDES = ('x', 'tilewidth'), ('y', 'tileheight')
 
@@ -24,15 +23,16 @@ def text_of(document: 'Document') -> bytes:
 
 @contextlib.contextmanager
 def copied(*texts: bytes) -> 'Iterator[list[Document]]':
-    """A `with` that has documents of two texts, in an editor of their own."""
+    """A `with` that has documents of texts, in an editor of their own."""
     from .editor import Editor
 
+    names = [f'copy{place}' for place in range(len(texts))]
     with contextlib.closing(Editor()) as editor:
-        for name, text in zip(_NAMES, texts):
+        for name, text in zip(names, texts):
             editor.put_file(name, text)
             editor.step(f'open {name} {name}')
             editor.remove_file(name)
-        yield [editor.documents[name] for name in _NAMES]
+        yield [editor.documents[name] for name in names]
 
 
 def said(value: Any) -> str:

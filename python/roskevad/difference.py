@@ -14,12 +14,12 @@ if TYPE_CHECKING:
     from .document import Document
 
 # What Tiled calls members, where it calls them otherwise than the file.
-_CALLED = {
+CALLED = {
     'type': 'class', 'tintcolor': 'tint', 'backgroundcolor': 'background', 'offsetx': 'horizontal offset', 'offsety': 'vertical offset',
     'parallaxx': 'horizontal parallax', 'parallaxy': 'vertical parallax', 'gid': 'tile', 'tilewidth': 'tile width', 'tileheight': 'tile height',
 }
 # What a map counts by itself, which is told where nothing else differs.
-_COUNTED = 'nextlayerid', 'nextobjectid'
+COUNTED = 'nextlayerid', 'nextobjectid'
 _LAYERS = {'tilelayer': 'a tile layer', 'objectgroup': 'an object layer', 'group': 'a group', 'imagelayer': 'an image layer'}
 _FLAGS = {HORIZONTALLY: 'horizontally', VERTICALLY: 'vertically', DIAGONALLY: 'diagonally', TURNED: 'by a turn'}
 # How many characters of a value are told in words, and how many pairs of tiles.
@@ -43,10 +43,14 @@ class Change(NamedTuple):
     words: str
 
     def __str__(self) -> str:
-        kind, id = self.subject
-        named = f' {_quoted(self.name)}' if self.name else ''
-        head = {'map': 'map', 'tileset': f'tileset {_plainly(self.name)}'}.get(kind, f'{kind} {id}{named}')
-        return f'{head}: {self.words}'
+        return f'{head_of(self.subject, self.name)}: {self.words}'
+
+
+def head_of(subject: Subject, name: str) -> str:
+    """What is spoken of, in words: a layer or an object by its id and its name."""
+    kind, id = subject
+    named = f' {quoted(name)}' if name else ''
+    return {'map': 'map', 'tileset': f'tileset {plainly(name)}'}.get(kind, f'{kind} {id}{named}')
 
 
 class Difference(Sequence[Change]):
@@ -110,13 +114,16 @@ class Difference(Sequence[Change]):
 def _changes_between(old: 'Document', goal: MapNow, shift: Optional[Shift]) -> list[Change]:
     """All that differs. The first map gets the size of the other one, and is a copy."""
     found = _resized(old, goal, shift) if shift else []
-    now = MapNow(old)
-    tilesets = [*_paired_tilesets(now, goal)]
-    tiles = _Tiles(tilesets, 0), _Tiles(tilesets, 1)
-    found += [*_of_the_map(now, goal), *_of_tilesets(tilesets), *_of_layers(now, goal, tiles), *_of_objects(now, goal, tiles)]
-    if not found:
-        found = _of_counts(now, goal)
+    found += told_changes(MapNow(old), goal)
     return found or _of_the_file(old, goal.document)
+
+
+def told_changes(now: MapNow, goal: MapNow) -> list[Change]:
+    """All that differs of two maps of one size, but for what is of the file itself."""
+    tilesets = [*paired_tilesets(now.tree['tilesets'], goal.tree['tilesets'])]
+    tiles = Tiles(tilesets, 0), Tiles(tilesets, 1)
+    found = [*_of_the_map(now, goal), *_of_tilesets(tilesets), *_of_layers(now, goal, tiles), *_of_objects(now, goal, tiles)]
+    return found or _of_counts(now, goal)
 
 
 def _resized(old: 'Document', goal: MapNow, shift: Shift) -> list[Change]:
@@ -124,33 +131,33 @@ def _resized(old: 'Document', goal: MapNow, shift: Shift) -> list[Change]:
     old._edit(shift.line(old, goal))
     moved = f', all moved by {shift.x}, {shift.y}' if any(shift) else ''
     words = f'{before[0]} by {before[1]} cells -> {after[0]} by {after[1]}{moved}'
-    return [Change(_MAP, '', 'size', before, [*after, *shift], words)]
+    return [Change(MAP, '', 'size', before, [*after, *shift], words)]
 
 
-_MAP = Subject('map', 0)
+MAP = Subject('map', 0)
 
 
 def _of_counts(now: MapNow, goal: MapNow) -> list[Change]:
-    return list(_of_values(_MAP, '', {name: now.tree.get(name) for name in _COUNTED}, {name: goal.tree.get(name) for name in _COUNTED}))
+    return list(_of_values(MAP, '', {name: now.tree.get(name) for name in COUNTED}, {name: goal.tree.get(name) for name in COUNTED}))
 
 
 def _of_the_file(old: 'Document', new: 'Document') -> list[Change]:
     """What is of the file itself, as that a map is infinite."""
     if are_saved_alike(old, new):
         return []
-    return [Change(_MAP, '', 'file', None, None, 'what is of the file itself, as how cells are written, and that a map is infinite')]
+    return [Change(MAP, '', 'file', None, None, 'what is of the file itself, as how cells are written, and that a map is infinite')]
 
 
 # ---- values
 
 
-def _quoted(name: str) -> str:
+def quoted(name: str) -> str:
     """A name in a message, in which nothing steers a terminal."""
     return json.dumps(name, ensure_ascii=not name.isprintable())
 
 
-def _plainly(name: str) -> str:
-    return name if name.isprintable() else _quoted(name)
+def plainly(name: str) -> str:
+    return name if name.isprintable() else quoted(name)
 
 
 def _of_values(subject: Subject, name: str, old: Members, new: Members, spelled: Any = None) -> Iterator[Change]:
@@ -158,11 +165,11 @@ def _of_values(subject: Subject, name: str, old: Members, new: Members, spelled:
     for key in [*old, *(key for key in new if key not in old)]:
         before, after = old.get(key), new.get(key)
         if said(before) != said(after) or (key in old) != (key in new):
-            shown = spelled.get(key) if spelled and key in spelled else (_shown(before, key in old), _shown(after, key in new))
-            yield Change(subject, name, key, before, after, f'{_CALLED.get(key, _plainly(key))} {shown[0]} -> {shown[1]}')
+            shown = spelled.get(key) if spelled and key in spelled else (shown_value(before, key in old), shown_value(after, key in new))
+            yield Change(subject, name, key, before, after, f'{CALLED.get(key, plainly(key))} {shown[0]} -> {shown[1]}')
 
 
-def _shown(value: Any, is_there: bool = True) -> str:
+def shown_value(value: Any, is_there: bool = True) -> str:
     text = json.dumps(value, ensure_ascii=False) if is_there else 'none'
     shown = text if text.isprintable() else json.dumps(value)
     return shown if len(shown) <= _SHOWN else f'{shown[:_SHOWN]}..'
@@ -174,9 +181,9 @@ def _of_properties(subject: Subject, name: str, before: Members, after: Members)
         one, other = old.get(key), new.get(key)
         if said(one) != said(other):
             texts = [_property(each, one, other) for each in (one, other)]
-            yield Change(subject, name, f'property {key}', one, other, f'property {_plainly(key)}: {texts[0]} -> {texts[1]}')
+            yield Change(subject, name, f'property {key}', one, other, f'property {plainly(key)}: {texts[0]} -> {texts[1]}')
     if set(old) == set(new) and list(old) != list(new):
-        yield Change(subject, name, 'order of properties', list(old), list(new), f'order of properties: {_shown(list(old))} -> {_shown(list(new))}')
+        yield Change(subject, name, 'order of properties', list(old), list(new), f'order of properties: {shown_value(list(old))} -> {shown_value(list(new))}')
 
 
 def _property(each: Optional[Members], one: Optional[Members], other: Optional[Members]) -> str:
@@ -185,16 +192,16 @@ def _property(each: Optional[Members], one: Optional[Members], other: Optional[M
         return 'none'
     kinds = {said([property.get(name) for name in ('type', 'propertytype')]) for property in (one, other) if property is not None}
     kind = f' ({each.get("propertytype") or each.get("type", "string")})' if len(kinds) > 1 else ''
-    return f'{_shown(each["value"])}{kind}'
+    return f'{shown_value(each["value"])}{kind}'
 
 
-def _own(kind: str, members: Members) -> Members:
-    return {name: value for name, value in members.items() if name not in OTHERS[kind] and name not in _COUNTED}
+def own_of(kind: str, members: Members) -> Members:
+    return {name: value for name, value in members.items() if name not in OTHERS[kind] and name not in COUNTED}
 
 
 def _of_the_map(now: MapNow, goal: MapNow) -> Iterator[Change]:
-    yield from _of_values(_MAP, '', _own('map', now.tree), _own('map', goal.tree))
-    yield from _of_properties(_MAP, '', now.tree, goal.tree)
+    yield from _of_values(MAP, '', own_of('map', now.tree), own_of('map', goal.tree))
+    yield from _of_properties(MAP, '', now.tree, goal.tree)
 
 
 # ---- tilesets, and tiles by them
@@ -203,32 +210,32 @@ def _of_the_map(now: MapNow, goal: MapNow) -> Iterator[Change]:
 Pair = tuple[Optional[Members], Optional[Members]]
 
 
-def _first_id(tileset: Members) -> int:
+def first_id(tileset: Members) -> int:
     return int(tileset['firstgid'])
 
 
-def _tileset_name(tileset: Members) -> str:
+def tileset_name(tileset: Members) -> str:
     return str(tileset.get('source') or tileset.get('name', ''))
 
 
-def _paired_tilesets(now: MapNow, goal: MapNow) -> Iterator[Pair]:
+def paired_tilesets(before: list[Members], behind: list[Members]) -> Iterator[Pair]:
     """Tilesets that are the same in two maps: by their file or name, and those that are left by their first ids."""
-    old, new = ([*map_.tree['tilesets']] for map_ in (now, goal))
-    for key in (lambda each: (_tileset_name(each), _first_id(each)), _tileset_name, _first_id):
-        for before in [*old]:
-            after = next((each for each in new if key(each) == key(before)), None)
+    old, new = [*before], [*behind]
+    for key in (lambda each: (tileset_name(each), first_id(each)), tileset_name, first_id):
+        for one in [*old]:
+            after = next((each for each in new if key(each) == key(one)), None)
             if after is not None:
-                old.remove(before)
+                old.remove(one)
                 new.remove(after)
-                yield before, after
+                yield one, after
     yield from ((each, None) for each in old)
     yield from ((None, each) for each in new)
 
 
 def _of_tilesets(tilesets: list[Pair]) -> Iterator[Change]:
-    for before, after in sorted(tilesets, key=lambda pair: _first_id(pair[0] or pair[1] or {})):
+    for before, after in sorted(tilesets, key=lambda pair: first_id(pair[0] or pair[1] or {})):
         one = after or before or {}
-        name, subject = _tileset_name(one), Subject('tileset', _first_id(before or one))
+        name, subject = tileset_name(one), Subject('tileset', first_id(before or one))
         if before is None or after is None:
             what = 'added' if before is None else 'removed'
             yield Change(subject, name, what, before, after, f'{what}, first id {subject.id}')
@@ -241,19 +248,19 @@ def _names_apart(tilesets: list[Pair]) -> Iterator[str]:
     """Their names in words of tiles: those that have one name are counted."""
     counts = dict[str, int]()
     for before, after in tilesets:
-        name = _tileset_name(after or before or {})
+        name = tileset_name(after or before or {})
         counts[name] = counts.get(name, 0) + 1
         yield name if counts[name] == 1 else f'{name} ({counts[name]})'
 
 
-class _Tiles:
+class Tiles:
     """Tiles by their tilesets and their ids there: so they are the same in two maps that count them otherwise."""
 
     __slots__ = '_firsts', '_known'
 
     def __init__(self, tilesets: list[Pair], at: int):
         there = [(pair[at], name) for pair, name in zip(tilesets, _names_apart(tilesets))]
-        self._firsts = sorted((_first_id(each), name) for each, name in there if each is not None)
+        self._firsts = sorted((first_id(each), name) for each, name in there if each is not None)
         self._known: dict[int, str] = {0: 'empty'}
 
     def name(self, value: int) -> str:
@@ -261,19 +268,19 @@ class _Tiles:
         if value not in self._known:
             first, tileset = max((pair for pair in self._firsts if pair[0] <= value & BASE), default=(0, 'no tileset'))
             flips = ' and '.join(word for flag, word in _FLAGS.items() if value & flag)
-            self._known[value] = f'{_plainly(tileset)}:{(value & BASE) - first}{f" flipped {flips}" if flips else ""}'
+            self._known[value] = f'{plainly(tileset)}:{(value & BASE) - first}{f" flipped {flips}" if flips else ""}'
         return self._known[value]
 
 
 # ---- layers
 
 
-def _named(id: int, map: MapNow) -> str:
+def layer_named(id: int, map: MapNow) -> str:
     name = map.layers[id].members.get('name', '')
-    return f'layer {id}' + (f' {_quoted(name)}' if name else '')
+    return f'layer {id}' + (f' {quoted(name)}' if name else '')
 
 
-def _of_layers(now: MapNow, goal: MapNow, tiles: tuple[_Tiles, _Tiles]) -> Iterator[Change]:
+def _of_layers(now: MapNow, goal: MapNow, tiles: tuple[Tiles, Tiles]) -> Iterator[Change]:
     for id, stand in now.layers.items():
         if not goal.has(id, stand):
             yield _one('layer', id, stand, 'removed', _LAYERS[stand.members['type']])
@@ -290,7 +297,7 @@ def _of_layers(now: MapNow, goal: MapNow, tiles: tuple[_Tiles, _Tiles]) -> Itera
 
 
 def _in(parent: int, map: MapNow) -> str:
-    return f', in {_named(parent, map)}' if parent else ''
+    return f', in {layer_named(parent, map)}' if parent else ''
 
 
 def _one(kind: str, id: int, stand: Stand, what: str, words: str) -> Change:
@@ -301,7 +308,7 @@ def _one(kind: str, id: int, stand: Stand, what: str, words: str) -> Change:
 
 def _of_layer(id: int, old: Stand, new: Stand) -> Iterator[Change]:
     subject, name = Subject('layer', id), new.members.get('name', '')
-    yield from _of_values(subject, name, _own('layer', old.members), _own('layer', new.members))
+    yield from _of_values(subject, name, own_of('layer', old.members), own_of('layer', new.members))
     yield from _of_properties(subject, name, old.members, new.members)
 
 
@@ -314,11 +321,11 @@ def _moves(
         if id in old and id not in stay:
             parent, other = old[id].parent, new[id].parent
             is_into = parent != other
-            goes = f'into {_named(other, goal)}' if is_into and other else 'out of all groups' if is_into else f'to place {at}'
+            goes = f'into {layer_named(other, goal)}' if is_into and other else 'out of all groups' if is_into else f'to place {at}'
             yield Change(Subject(kind, id), new[id].members.get('name', ''), 'moved', parent, [other, at], f'moved {goes}')
 
 
-def _of_cells(id: int, stand: Stand, now: MapNow, goal: MapNow, tiles: tuple[_Tiles, _Tiles]) -> Iterator[Change]:
+def _of_cells(id: int, stand: Stand, now: MapNow, goal: MapNow, tiles: tuple[Tiles, Tiles]) -> Iterator[Change]:
     """The cells of a layer that differ, by the rectangle around them and by the pairs of tiles that are the most."""
     old, new, wide = now.cells(id), goal.cells(id), goal.tree['width']
     pairs, places = dict[tuple[str, str], int](), list[tuple[int, int]]()
@@ -351,24 +358,24 @@ def _cells_changed(id: int, stand: Stand, pairs: dict[tuple[str, str], int], pla
 # ---- objects
 
 
-def _of_objects(now: MapNow, goal: MapNow, tiles: tuple[_Tiles, _Tiles]) -> Iterator[Change]:
+def _of_objects(now: MapNow, goal: MapNow, tiles: tuple[Tiles, Tiles]) -> Iterator[Change]:
     for id, stand in now.objects.items():
         if id not in goal.objects:
-            yield _one('object', id, stand, 'removed', f'in {_named(stand.parent, now)}')
+            yield _one('object', id, stand, 'removed', f'in {layer_named(stand.parent, now)}')
     for id, stand in goal.objects.items():
         if id in now.objects:
             yield from _of_object(id, now.objects[id].members, stand.members, tiles)
         else:
             x, y = (stand.members.get(name, 0) for name in ('x', 'y'))
-            yield _one('object', id, stand, 'added', f'in {_named(stand.parent, goal)} at {x}, {y}')
+            yield _one('object', id, stand, 'added', f'in {layer_named(stand.parent, goal)} at {x}, {y}')
     for layer, stand in goal.layers.items():
         if stand.members['type'] == 'objectgroup':
             yield from _moves('object', now.objects_in(layer), goal.objects_in(layer), now.objects, goal.objects, goal)
 
 
-def _of_object(id: int, old: Members, new: Members, tiles: tuple[_Tiles, _Tiles]) -> Iterator[Change]:
+def _of_object(id: int, old: Members, new: Members, tiles: tuple[Tiles, Tiles]) -> Iterator[Change]:
     subject, name = Subject('object', id), new.get('name', '')
-    before, after = _own('object', old), _own('object', new)
+    before, after = own_of('object', old), own_of('object', new)
     names = [each.name(members['gid']) if 'gid' in members else 'none' for each, members in zip(tiles, (old, new))]
     if names[0] == names[1] and 'gid' in before and 'gid' in after:
         before['gid'] = after['gid']

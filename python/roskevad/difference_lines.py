@@ -19,22 +19,29 @@ _COUNTED = 'nextlayerid', 'nextobjectid'
 
 def lines_between(copy: 'Document', goal: MapNow, shift: Optional[Shift]) -> list[str]:
     """Lines that do to a copy of one map what makes it another one, as far as lines can say it."""
-    way = _Way(copy, goal)
+    way = Way(copy)
     if shift is not None:
         way.say(shift.line(copy, goal))
-    for each in (_drop_layers, _add_tilesets, _add_layers, _place_layers, _change_objects, _paint, _set_members, _set_properties,
-                 _change_tilesets, _drop_tilesets, _count):
-        each(way)
+    lead(way, goal)
     return way.lines
 
 
-class _Way:
-    """What is done to a copy."""
+def lead(way: 'Way', goal: MapNow) -> None:
+    """Does to a copy of one map what makes it another one of its size, as far as lines can say it."""
+    way.goal = goal
+    for each in (_drop_layers, _add_tilesets, _add_layers, _place_layers, _change_objects, _paint, _set_members, _set_properties,
+                 _change_tilesets, _drop_tilesets, _count):
+        each(way)
+
+
+class Way:
+    """What is done to a copy, and to which goal."""
 
     __slots__ = 'copy', 'goal', 'lines'
 
-    def __init__(self, copy: 'Document', goal: MapNow):
-        self.copy, self.goal = copy, goal
+    def __init__(self, copy: 'Document'):
+        self.copy = copy
+        self.goal: MapNow
         self.lines: list[str] = []
 
     def say(self, line: str) -> bool:
@@ -54,12 +61,16 @@ def _json(value: Any) -> str:
     return json_values.said(value, 'a value of a map')
 
 
-def _placed(current: list[int], wanted: list[int]) -> Iterator[tuple[int, int]]:
-    """What is to be put at which place, one after the other, so that a list is as it is wanted. What is not wanted stays somewhere."""
+def _placed(lists: dict[int, list[int]], holder: int, wanted: list[int]) -> Iterator[tuple[int, int]]:
+    """What is to be put at which place of a holder, one after the other, so that what stands there is as it is wanted. What is not wanted stays
+    somewhere; what comes out of another list is in that no more."""
+    current = lists[holder]
     stay = staying(current, wanted)
     for at, id in enumerate(wanted):
         if id not in stay:
-            current[:] = [each for each in current if each != id]
+            for each in lists.values():
+                if id in each:
+                    each.remove(id)
             place = current.index(wanted[at - 1]) + 1 if at else 0
             current.insert(place, id)
             yield id, place
@@ -68,7 +79,7 @@ def _placed(current: list[int], wanted: list[int]) -> Iterator[tuple[int, int]]:
 # ---- layers
 
 
-def _drop_layers(way: _Way) -> None:
+def _drop_layers(way: Way) -> None:
     now = way.now()
     gone = {id for id, stand in now.layers.items() if not way.goal.has(id, stand)}
     for id, stand in now.layers.items():
@@ -79,7 +90,7 @@ def _drop_layers(way: _Way) -> None:
             way.say(f'layer remove {id}')
 
 
-def _add_layers(way: _Way) -> None:
+def _add_layers(way: Way) -> None:
     there = way.now().layers
     for id in sorted(way.goal.layers.keys() - there.keys()):
         members = way.goal.layers[id].members
@@ -89,13 +100,15 @@ def _add_layers(way: _Way) -> None:
             way.say(f'layer add {TYPES[members["type"]]} {name}')
 
 
-def _place_layers(way: _Way) -> None:
+def _place_layers(way: Way) -> None:
     """Those that would go into what stands in them are taken out of all groups, and placed in a second turn."""
     for _ in range(2):
         now, stuck = way.now(), list[int]()
-        for parent in [0, *(id for id, stand in way.goal.layers.items() if stand.members['type'] == 'group')]:
+        groups = [0, *(id for id, stand in now.layers.items() if stand.members['type'] == 'group')]
+        lists = {parent: now.layers_in(parent) for parent in groups}
+        for parent in [0, *(id for id in way.goal.layers if id in lists)]:
             wanted = [id for id in way.goal.layers_in(parent) if id in now.layers]
-            stuck += [id for id, place in _placed(now.layers_in(parent), wanted) if not way.say(f'layer into {id} {parent} {place}')]
+            stuck += [id for id, place in _placed(lists, parent, wanted) if not way.say(f'layer into {id} {parent} {place}')]
         if not stuck:
             return
         for id in stuck:
@@ -105,7 +118,7 @@ def _place_layers(way: _Way) -> None:
 # ---- objects
 
 
-def _change_objects(way: _Way) -> None:
+def _change_objects(way: Way) -> None:
     now, goal = way.now(), way.goal
     for id in now.objects.keys() - goal.objects.keys():
         way.say(f'object remove {id}')
@@ -115,16 +128,17 @@ def _change_objects(way: _Way) -> None:
         if id not in now.objects and stand.parent in now.layers:
             way.say(f'object put {stand.parent} {_json(stand.members)}')
     now = way.now()
-    for layer in now.layers:
+    lists = {layer: now.objects_in(layer) for layer, stand in now.layers.items() if stand.members['type'] == 'objectgroup'}
+    for layer in lists:
         wanted = [id for id in goal.objects_in(layer) if id in now.objects]
-        for id, place in _placed(now.objects_in(layer), wanted):
+        for id, place in _placed(lists, layer, wanted):
             way.say(f'object into {id} {layer} {place}')
 
 
 # ---- cells
 
 
-def _paint(way: _Way) -> None:
+def _paint(way: Way) -> None:
     now = way.now()
     if any(now.tree[side] != way.goal.tree[side] for side in ('width', 'height')):
         return
@@ -133,7 +147,7 @@ def _paint(way: _Way) -> None:
             _paint_layer(way, id, now.cells(id), way.goal.cells(id), now.tree['width'])
 
 
-def _paint_layer(way: _Way, layer: int, old: memoryview, new: memoryview, wide: int) -> None:
+def _paint_layer(way: Way, layer: int, old: memoryview, new: memoryview, wide: int) -> None:
     bands = list[tuple[int, list[list[int]]]]()
     empties = list[tuple[int, int, int]]()
     for y in range(len(new) // wide if wide else 0):
@@ -151,7 +165,7 @@ def _paint_layer(way: _Way, layer: int, old: memoryview, new: memoryview, wide: 
         way.say(f'erase {layer} {x} {y} {width} {height}')
 
 
-def _stamp(way: _Way, layer: int, top: int, rows: list[list[int]]) -> None:
+def _stamp(way: Way, layer: int, top: int, rows: list[list[int]]) -> None:
     columns = [x for row in rows for x, value in enumerate(row) if value]
     left, right = min(columns), max(columns) + 1
     cut = [row[left:right] for row in rows]
@@ -191,7 +205,7 @@ def _owners(map: MapNow) -> dict[str, tuple[str, Members]]:
     return {'map': ('map', map.tree), **layers, **{f'object:{id}': ('object', stand.members) for id, stand in map.objects.items()}}
 
 
-def _set_members(way: _Way) -> None:
+def _set_members(way: Way) -> None:
     there, goal = _owners(way.now()), _owners(way.goal)
     for owner, (kind, members) in goal.items():
         if owner in there:
@@ -200,7 +214,7 @@ def _set_members(way: _Way) -> None:
             _set_own(way, owner, old, new)
 
 
-def _set_own(way: _Way, owner: str, old: Members, new: Members) -> None:
+def _set_own(way: Way, owner: str, old: Members, new: Members) -> None:
     changed = {name: value for name, value in new.items() if name not in old or said(old[name]) != said(value)}
     if changed and not way.say(f'member put {owner} {_json(changed)}'):
         for name, value in changed.items():
@@ -209,14 +223,14 @@ def _set_own(way: _Way, owner: str, old: Members, new: Members) -> None:
         way.say(f'member remove {owner} {name}')
 
 
-def _set_properties(way: _Way) -> None:
+def _set_properties(way: Way) -> None:
     there, goal = _owners(way.now()), _owners(way.goal)
     for owner, (_, members) in goal.items():
         if owner in there:
             _set_listed(way, owner, there[owner][1].get('properties', []), members.get('properties', []))
 
 
-def _set_listed(way: _Way, owner: str, old: list[Members], new: list[Members]) -> None:
+def _set_listed(way: Way, owner: str, old: list[Members], new: list[Members]) -> None:
     """Sets properties in their order: where that is another one, those behind are taken out and put anew."""
     names, known = [each['name'] for each in new], {each['name']: said(each) for each in old}
     kept = [each['name'] for each in old if each['name'] in names]
@@ -231,14 +245,14 @@ def _set_listed(way: _Way, owner: str, old: list[Members], new: list[Members]) -
 # ---- tilesets, and what a map counts
 
 
-def _add_tilesets(way: _Way) -> None:
+def _add_tilesets(way: Way) -> None:
     there = {each['firstgid'] for each in way.now().tree['tilesets']}
     for each in way.goal.tree['tilesets']:
         if each['firstgid'] not in there:
             way.say(f'tileset put {_json(each)}')
 
 
-def _change_tilesets(way: _Way) -> None:
+def _change_tilesets(way: Way) -> None:
     there = {each['firstgid']: each for each in way.now().tree['tilesets']}
     for each in way.goal.tree['tilesets']:
         first = each['firstgid']
@@ -246,14 +260,14 @@ def _change_tilesets(way: _Way) -> None:
             _set_own(way, f'tileset:{first}', there[first], each)
 
 
-def _drop_tilesets(way: _Way) -> None:
+def _drop_tilesets(way: Way) -> None:
     wanted = {each['firstgid'] for each in way.goal.tree['tilesets']}
     for each in way.now().tree['tilesets']:
         if each['firstgid'] not in wanted:
             way.say(f'tileset remove {each["firstgid"]}')
 
 
-def _count(way: _Way) -> None:
+def _count(way: Way) -> None:
     now = way.now().tree
     for name in _COUNTED:
         if now.get(name) != way.goal.tree.get(name):

@@ -1,0 +1,244 @@
+# SPDX-License-Identifier: MIT OR Apache-2.0
+"""Two sides of one map brought together: what theirs has changed since both began is done to ours, as one step."""
+from typing import TYPE_CHECKING, Any, Iterator, NamedTuple, Optional
+
+from .compared_maps import MapNow, copied, text_of
+from .difference import Change, Tiles, head_of, told_changes
+from .difference_lines import Way, lead
+from .framed_maps import Framed, frame
+from .merged_maps import Conflict as Conflict, Joined, MergedMap
+from .merged_tilesets import Shared, added_firsts, counting, numbers, shared_tilesets
+from .renamed_maps import Names, another_names, counted, freed, is_twin, numbers_in_classes, renamed, stand_of, things_of
+from .told import Subject
+
+if TYPE_CHECKING:
+    from .document import Document
+
+#: The text of the step that a merge is.
+STEP = 'Merge'
+
+
+class Merge(NamedTuple):
+    """What a merge has done, and what it could not do."""
+
+    #: The document of ours, which has it.
+    document: 'Document'
+    #: What differs from ours as it was.
+    changes: tuple[Change, ...]
+    #: What both sides have changed otherwise, and what no line can do. It is as ours has it.
+    conflicts: tuple[Conflict, ...]
+    #: What else is to be known, in words: what has another id now.
+    notices: tuple[str, ...]
+    #: The lines for all edits that were done.
+    lines: tuple[str, ...]
+
+
+def merge(base: 'Document', ours: 'Document', theirs: 'Document') -> Merge:
+    """Does to `ours` what `theirs` has changed since `base`, as one step, a macro of the text Merge; where nothing is to be done there is none.
+    What both have changed to different values is told, and stays as ours has it. Raises TypeError where one of them is no document;
+    Refused where a map can't have the size of another one."""
+    from .document import Document
+
+    for each in (base, ours, theirs):
+        if not isinstance(each, Document):
+            raise TypeError(f'a merge is of documents: {type(each).__name__}')
+    with copied(*map(text_of, (base, ours, theirs))) as copies:
+        found = _Merging(*copies).found()
+    _do(ours, found.lines)
+    return found._replace(document=ours)
+
+
+def _do(ours: 'Document', lines: tuple[str, ...]) -> None:
+    """Does the lines, on all cells."""
+    with ours.macro(STEP):
+        if lines and ours.selection.runs:
+            ours.select_none()
+        for line in lines:
+            ours._edit(line)
+
+
+class _Merging:
+    """A merge on copies of three maps."""
+
+    __slots__ = '_base', '_ours', '_theirs', '_way', '_notices', '_conflicts', '_first', '_renamed'
+
+    def __init__(self, base: 'Document', ours: 'Document', theirs: 'Document'):
+        self._base, self._ours, self._theirs = base, ours, theirs
+        self._way = Way(ours)
+        self._notices: list[str] = []
+        self._conflicts: list[Conflict] = []
+        # The first free ids.
+        self._first: dict[str, int] = {}
+        # The new ids of theirs, one round behind the other.
+        self._renamed: list[Names] = []
+
+    def found(self) -> Merge:
+        before = self._ours.outline()
+        framed = self._framed()
+        goal = self._goal(*framed.maps)
+        changes = [*_resized(before, self._ours, framed), *told_changes(MapNow(self._ours), goal)]
+        lead(self._way, goal)
+        left = told_changes(MapNow(self._ours), goal)
+        self._conflicts += [Conflict(each.subject, each.name, 'unsaid', each.after, each.before, each.after, f'no edit here can do this: {each.words}')
+                            for each in left]
+        return Merge(self._ours, tuple(changes), tuple(self._conflicts), tuple(self._notices), tuple(self._way.lines))
+
+    def _framed(self) -> Framed:
+        """Gives all three the size of the merged map."""
+        framed = frame(self._base, self._ours, self._theirs)
+        self._conflicts += framed.conflicts
+        self._notices += framed.notices
+        self._way.lines += framed.lines
+        return framed
+
+    def _goal(self, *maps: MapNow) -> MergedMap:
+        base, ours, theirs = self._named_alike(*maps)
+        self._conflicts = [self._with_new_id(each) for each in self._conflicts]
+        for old, new in _in_turn([*numbers(shared_tilesets(base, ours, theirs), ours, theirs)]):
+            if self._way.say(f'tileset number {old} {new}'):
+                self._notices.append(f'the tileset of the first id {old} has the first id {new} now, and its tiles go along')
+        ours = MapNow(self._ours)
+        shared = shared_tilesets(base, ours, theirs)
+        firsts = added_firsts(shared, ours, theirs)
+        joined = Joined(*_counted_alike(base, ours, theirs, shared, firsts), _Named(shared, firsts).tile)
+        goal = joined.merged(shared, firsts)
+        known = {(each.subject, each.what) for each in self._conflicts if each.what == 'removed'}
+        self._conflicts += [each for each in joined.conflicts if (each.subject, each.what) not in known]
+        self._tell_dangling(goal, ours, theirs)
+        return goal
+
+    # ---- ids
+    def _named_alike(self, *maps: MapNow) -> tuple[MapNow, MapNow, MapNow]:
+        """The maps with ids that are the same for the same things: those of ours."""
+        base, ours, theirs = maps
+        self._first = {kind: max(map.tree[f'next{kind}id'] for map in maps) for kind in ('layer', 'object')}
+        names = another_names(base, ours)
+        self._notices += [f'{_told(subject, base)} has the id {id} in ours, since an earlier merge' for subject, id in names.items()]
+        theirs = renamed(theirs, self._told_new({**_of(names, theirs), **freed(theirs, names, self._first)}, theirs, names))
+        base = renamed(base, names)
+        found = another_names(base, theirs)
+        self._notices += [f'{_told(subject, base)} has the id {id} in theirs, since an earlier merge' for subject, id in found.items()]
+        back = {Subject(subject.kind, id): subject.id for subject, id in found.items()}
+        theirs = renamed(theirs, self._told_new({**back, **freed(theirs, back, self._first)}, theirs, back))
+        base, theirs = self._apart(base, ours, theirs)
+        return base, ours, renamed(theirs, self._clashing(base, ours, theirs))
+
+    def _told_new(self, names: Names, theirs: MapNow, known: Names) -> Names:
+        """Notes new ids, and tells of them, but for those that are known."""
+        self._renamed.append(names)
+        for subject, id in names.items():
+            if subject not in known:
+                self._notices.append(f'{_told(subject, theirs)} of theirs has the id {id} now')
+        ids = {subject.id for subject in names if subject.kind == 'object'}
+        for name, number in numbers_in_classes(theirs, ids) if ids else ():
+            self._notices.append(f'the property {name} of theirs has the number {number} in it: look whether it means that object')
+        return names
+
+    def _with_new_id(self, conflict: Conflict) -> Conflict:
+        """A conflict about something of theirs, by its new id."""
+        subject = conflict.subject
+        for names in self._renamed:
+            subject = Subject(subject.kind, names.get(subject, subject.id))
+        return conflict._replace(subject=subject)
+
+    def _apart(self, base: MapNow, ours: MapNow, theirs: MapNow) -> tuple[MapNow, MapNow]:
+        """The base and theirs, in which layers of another kind than those of one id in ours have another id."""
+        old: Names = {}
+        new: Names = {}
+        for id, stand in base.layers.items():
+            subject = Subject('layer', id)
+            if id in ours.layers and not ours.has(id, stand):
+                old[subject] = self._next('layer')
+                if id in theirs.layers and theirs.has(id, stand):
+                    new[subject] = old[subject]
+            elif id in theirs.layers and not theirs.has(id, stand):
+                new[subject] = self._next('layer')
+        return renamed(base, old), renamed(theirs, self._told_new(new, theirs, old))
+
+    def _next(self, kind: str) -> int:
+        self._first[kind] += 1
+        return self._first[kind] - 1
+
+    def _clashing(self, base: MapNow, ours: MapNow, theirs: MapNow) -> Names:
+        """New ids for what theirs has added under one that ours has for another thing; and for layers below one of ours, since none can be
+        added there."""
+        old, mine, other = (things_of(map) for map in (base, ours, theirs))
+        last = max(ours.layers, default=0)
+        names: Names = {}
+        for subject, stand in other.items():
+            if subject in old or subject in mine and Subject('layer', stand.parent) not in names and is_twin(subject, ours, theirs):
+                continue
+            if subject in mine or subject.kind == 'layer' and subject.id < last:
+                names[subject] = self._next(subject.kind)
+        return self._told_new(names, theirs, {})
+
+    # ---- references
+    def _tell_dangling(self, goal: MergedMap, ours: MapNow, theirs: MapNow) -> None:
+        """Tells of properties that mean an object which is there no more, where on neither side one means what is not there."""
+        known = {*_dangling(ours), *_dangling(theirs)}
+        for subject, name, id in _dangling(goal):
+            if (subject, name, id) not in known:
+                self._notices.append(f'{_told(subject, goal)}: property {name} means object {id}, which one side removed')
+
+
+def _dangling(map: MapNow) -> Iterator[tuple[Subject, str, int]]:
+    """What has a property that means an object which is not there, with its name and the id."""
+    for subject, stand in things_of(map).items():
+        for each in stand.members.get('properties', []):
+            if each.get('type') == 'object' and each.get('value') and each['value'] not in map.objects:
+                yield subject, each['name'], each['value']
+
+
+def _of(names: Names, map: MapNow) -> Names:
+    there = things_of(map)
+    return {subject: id for subject, id in names.items() if subject in there}
+
+
+def _told(subject: Subject, map: MapNow) -> str:
+    return head_of(subject, stand_of(map, subject).members.get('name', ''))
+
+
+def _resized(before: dict[str, Any], ours: 'Document', framed: Framed) -> Iterator[Change]:
+    """The change of the size."""
+    if framed.lines:
+        was, now = ([map['width'], map['height']] for map in (before, ours.outline()))
+        yield Change(Subject('map', 0), '', 'size', was, now, f'{was[0]} by {was[1]} cells -> {now[0]} by {now[1]}')
+
+
+def _in_turn(pairs: list[tuple[int, int]]) -> Iterator[tuple[int, int]]:
+    """First ids with new ones, in an order in which none goes past another."""
+    yield from ((old, new) for old, new in reversed(pairs) if new > old)
+    yield from ((old, new) for old, new in pairs if new < old)
+
+
+# ---- tiles
+
+
+def _counted_alike(
+    base: MapNow, ours: MapNow, theirs: MapNow, shared: list[Shared], firsts: dict[int, int],
+) -> tuple[MapNow, MapNow, MapNow]:
+    """The maps whose tiles are counted as the merged one counts them."""
+    goals = [_goal_of(each, firsts) for each in shared]
+    sides = [counting([each[at] for each in shared], goals) for at in (0, 2)]
+    return counted(base, sides[0]), ours, counted(theirs, sides[1])
+
+
+def _goal_of(shared: Shared, firsts: dict[int, int]) -> Optional[int]:
+    """The first id that a tileset has in the merged map; None where it is not there."""
+    if shared.ours is not None:
+        first: int = shared.ours['firstgid']
+        return first
+    return firsts.get(shared.theirs['firstgid']) if shared.theirs is not None and shared.base is None else None
+
+
+class _Named:
+    """Tiles in words: those of the merged map, and those of theirs that it has no room for."""
+
+    __slots__ = '_tiles', '_other'
+
+    def __init__(self, shared: list[Shared], firsts: dict[int, int]):
+        pairs = [(None if (first := _goal_of(each, firsts)) is None else {**(each.ours or each.theirs or {}), 'firstgid': first}, each.theirs) for each in shared]
+        self._tiles, self._other = Tiles(pairs, 0), Tiles(pairs, 1)
+
+    def tile(self, value: int) -> str:
+        return self._tiles.name(value) if value >= 0 else self._other.name(-value - 1)

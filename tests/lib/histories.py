@@ -1,0 +1,110 @@
+# SPDX-License-Identifier: MIT OR Apache-2.0
+"""Random edits of maps, as two people make them who do not know of one another: calls of the package, each of which may be refused."""
+import sys
+
+from lib.places import TOP
+
+sys.path.insert(0, str(TOP / 'python'))
+from roskevad import Error  # noqa: E402
+
+NAMES = 'door', 'guard', 'key', ''
+
+
+def edits(chosen, document, offset):
+    """Edits that can be made now, by their kinds. `offset` notes by how much all in the map was moved."""
+    layers, objects = list(document.layers.walk()), list(document.objects)
+    tiles, holders, groups = ([layer for layer in layers if layer.kind == kind] for kind in ('tile', 'object', 'group'))
+    owner = chosen.choice([document, *layers, *objects, *objects])
+    tilesets = list(document.tilesets)
+    value = chosen.choice(tilesets).value(chosen.randrange(6), flipped_vertically=chosen.random() < 0.2) if tilesets else 0
+    x, y = chosen.randint(-1, min(document.width, 12)), chosen.randint(-1, min(document.height, 8))
+    number = chosen.choice((0, 1, 16, 22.5, -3.25))
+    return {
+        'stamp': lambda: document.stamp(chosen.choice(tiles), x, y, [[chosen.choice((0, value, value)) for _ in range(4)] for _ in range(3)]),
+        'erase': lambda: document.erase(chosen.choice(tiles), x, y, 3, 2),
+        'fill': lambda: document.fill(chosen.choice(tiles), max(x, 0), max(y, 0), value),
+        'object add': lambda: added(chosen, document, chosen.choice(holders), number),
+        'object remove': lambda: chosen.choice(objects).remove(),
+        'object move': lambda: chosen.choice(objects).members.update(x=number, y=chosen.choice((0, 8))),
+        'object member': lambda: chosen.choice(objects).members.update(chosen.choice(
+            ({'rotation': 45}, {'rotation': 12.5}, {'name': 'n'}, {'type': 'Door'}, {'visible': False}, {'width': number}))),
+        'object into': lambda: chosen.choice(objects).move_into(chosen.choice(holders), chosen.choice((0, None))),
+        'object tile': lambda: setattr(chosen.choice([each for each in objects if each.tile] or objects), 'tile', value or None),
+        'text': lambda: text(chosen, chosen.choice([each for each in objects if 'text' in each.members])),
+        'shape': lambda: chosen.choice(objects).members.update(chosen.choice(({'ellipse': True}, {'point': True}))),
+        'layer add': lambda: painted(document, document.layers.add(chosen.choice(('tile', 'object', 'group', 'image')), chosen.choice(('A', 'B b'))), value),
+        'layer in a group': lambda: painted(document, chosen.choice(groups).layers.add('tile', 'inner'), value),
+        'layer remove': lambda: chosen.choice(layers).remove(),
+        'layer into': lambda: chosen.choice(layers).move_into(chosen.choice([None, *groups]), chosen.choice((0, None))),
+        'layer move': lambda: chosen.choice(layers).move(chosen.randrange(3)),
+        'layer member': lambda: chosen.choice(layers).members.update(chosen.choice(
+            ({'opacity': 0.25}, {'name': chosen.choice(('', 'L', 'M'))}, {'visible': False}, {'tintcolor': '#ff0000'}, {'offsetx': number}))),
+        'prop set': lambda: owner.properties.set(chosen.choice(('a', 'b c', 'd')), chosen.choice((1, True, 1.5, '', 'x\ny', {'k': 1}))),
+        'prop remove': lambda: owner.properties.pop(chosen.choice(list(owner.properties))),
+        'map member': lambda: document.members.update(chosen.choice(({'backgroundcolor': '#112233'}, {'backgroundcolor': '#445566'}, {'class': 'Town'}))),
+        'tileset add': lambda: document.tilesets.add(chosen.choice((900, 1000)), chosen.choice(('a.tsj', 'b.tsj'))),
+        'tileset remove': lambda: chosen.choice(tilesets).remove(),
+        'tileset member': lambda: chosen.choice(tilesets).members.update(origin=chosen.choice(('here', 'there'))),
+        'extend': lambda: extended(chosen, document, offset),
+        'cut': lambda: cut(chosen, document, offset),
+    }
+
+
+# How often each kind is chosen, where not once.
+WEIGHTS = {'stamp': 8, 'erase': 2, 'object add': 4, 'object move': 6, 'object member': 4, 'shape': 4, 'prop set': 4, 'layer member': 2, 'layer move': 4,
+           'layer into': 3, 'object into': 3, 'layer add': 2, 'tileset add': 3, 'extend': 3}
+
+
+def added(chosen, document, layer, number):
+    """An object, which may mean another one."""
+    name = chosen.choice(NAMES)
+    each = layer.objects.add(name, number, 8, point=chosen.random() < 0.3, properties={'a b': number})
+    if chosen.random() < 0.5:
+        each.properties.set('to', chosen.choice(list(document.objects)).id, type='object')
+
+
+def painted(document, layer, value):
+    if layer.kind == 'tile' and value:
+        document.stamp(layer, 1, 1, [[value, value]])
+
+
+def text(chosen, each):
+    """One member of the text of an object."""
+    each.members['text'] = {**each.members['text'], **chosen.choice(({'bold': True}, {'text': 'A'}, {'text': 'B'}, {'color': '#00ff00'}))}
+
+
+def extended(chosen, document, offset):
+    """More columns and rows, once, on one side of each: by how much all was moved is to be found from the maps alone."""
+    if len(offset) == 2:
+        columns, rows = chosen.choice((0, 1, 2)), chosen.choice((0, 1, 2))
+        left, top = chosen.choice((0, columns)), chosen.choice((0, rows))
+        document.extend(left, top, columns - left, rows - top)
+        offset[:] = left, top, 'extended'
+
+
+def cut(chosen, document, offset):
+    """A column or a row less, once, at one side."""
+    if len(offset) == 2:
+        columns, rows = chosen.choice(((1, 0), (0, 1), (1, 1)))
+        left, top = chosen.choice((0, columns)), chosen.choice((0, rows))
+        document.resize(document.width - columns, document.height - rows, -left, -top)
+        offset[:] = -left, -top, 'cut'
+
+
+def edit(chosen, document, offset, without=()):
+    """One edit by chance, and its kind; None where it was refused, or there was nothing to edit."""
+    kinds = edits(chosen, document, offset)
+    kind = chosen.choice([each for each in kinds if each not in without for _ in range(WEIGHTS.get(each, 1))])
+    try:
+        kinds[kind]()
+    except (Error, IndexError):
+        return None
+    return kind
+
+
+def history(chosen, document, most, without=()):
+    """Up to so many edits: by how much all was moved with them."""
+    offset = [0, 0]
+    for _ in range(chosen.randint(1, most)):
+        edit(chosen, document, offset, without)
+    return tuple(offset[:2])
