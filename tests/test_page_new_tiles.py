@@ -22,8 +22,8 @@ DROP = '''
 const [name, text, done] = arguments;
 const data = new DataTransfer(), bytes = Uint8Array.from(atob(text), letter => letter.charCodeAt(0));
 data.items.add(new File([bytes], name, {type: "image/png"}));
-document.body.dispatchEvent(new DragEvent("drop", {dataTransfer: data, bubbles: true, cancelable: true}));
-setTimeout(done, 300);'''
+const isTaken = !document.body.dispatchEvent(new DragEvent("drop", {dataTransfer: data, bubbles: true, cancelable: true}));
+setTimeout(() => done(isTaken), 300);'''
 
 
 def picture(name='tiles.png'):
@@ -31,7 +31,8 @@ def picture(name='tiles.png'):
 
 
 def drop(page, name, data):
-    page.driver.execute_async_script(DROP, name, base64.b64encode(data).decode())
+    """Drops a file. Where the page leaves it to the browser, that shows it in the place of the page."""
+    assert page.driver.execute_async_script(DROP, name, base64.b64encode(data).decode()), 'the browser has it'
     page.settle()
 
 
@@ -180,6 +181,18 @@ def test_dropped():
         page.fill_in(name='first', width='10', height='8')
         told = page.editor.map()
         assert (told['width'], told['height'], told['tilewidth']) == (10, 8, 16) and members(page)['image'] == 'tiles.png' and standing(page) == (0, 0)
+
+
+def test_dropped_on_a_served_folder():
+    """Where a server gives the folder, nothing is taken by a drop: the page stays, and says where the file has to be."""
+    bench = Bench(served=True)
+    with bench as page:
+        before = page.editor.map()
+        drop(page, 'stones.png', picture('smoke.png'))
+        assert page.bubble() == f'Put stones.png into the folder {bench.folder}: then it is listed by New tileset.', page.bubble()
+        drop(page, 'yard.tmj', b'{}')
+        assert page.bubble() == f'Put yard.tmj into the folder {bench.folder}: then it is listed by Open.', page.bubble()
+        assert page.editor.map() == before and page.notices() == [] and not (bench.folder / 'stones.png').exists()
 
 
 def test_image_layer():

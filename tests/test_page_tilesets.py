@@ -211,6 +211,24 @@ def test_behind_a_lost_one():
         assert spelled(page) == ['tileset add 2005 walls.tsj']
 
 
+def test_behind_one_that_is_lost_by_now():
+    """Behind a tileset that another open map has shown, and that is gone by now, another one begins where its tiles end."""
+    bench = Bench(served=True)
+    with bench as page:
+        town = json.loads((bench.folder / 'town.tmj').read_text())
+        (bench.folder / 'late.tmj').write_text(json.dumps({**town, 'tilesets': [{'firstgid': 5, 'source': 'tiles.tsx'}]}))
+        (bench.folder / 'tiles.tsx').unlink()
+        page.js('return roskevad.documents.openPath("late.tmj")')
+        page.settle()
+        assert 'Not found: tiles.tsx.' in page.notices()[0], page.notices()
+        page.find('#add-tileset').click()
+        page.wait(lambda: page.texts('dialog[open]'), 'a dialog')
+        page.fill_in(file='walls.tsj')
+        # Its file had 32 tiles.
+        assert spelled(page) == ['tileset add 37 walls.tsj']
+        assert all('404' in each['message'] for each in page.log()), 'the browser tells of files that are not there'
+
+
 def said(page):
     """What was said last at the hand, also where it is gone by now."""
     return page.js('return document.getElementById("bubble").textContent')

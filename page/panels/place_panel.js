@@ -22,6 +22,12 @@ const MOST_NAMED = 3;
 const MOST_UNASKED = 5;
 const IMAGE = /\.(png|jpe?g|gif|webp|bmp|svg|avif)$/i;
 
+// What lists a file of this name.
+function listerOf(name) {
+  if (isPictureName(name)) return "New tileset";
+  return isTilesetName(name) ? "Add a tileset" : "Open";
+}
+
 export class PlacePanel {
   constructor(bench, documents, tilesets) {
     Object.assign(this, { bench, documents, tilesets, editor: bench.editor });
@@ -35,7 +41,10 @@ export class PlacePanel {
 
   // Shows the buttons that choose files, where no server gives them.
   start() {
-    if (this.editor.place.kind === "served") return;
+    const isServed = this.editor.place.kind === "served";
+    addEventListener("dragover", event => event.preventDefault());
+    addEventListener("drop", event => (isServed ? this.refuseDrop(event) : this.drop(event)));
+    if (isServed) return;
     const input = element("input", { type: "file", multiple: true, hidden: true, id: "files", onchange: async () => {
       await this.takeChosen([...input.files]);
       input.value = "";
@@ -47,8 +56,6 @@ export class PlacePanel {
       more.unshift(iconButton("folder", "Open folder", said, () => this.chooseFolder(), { id: "open-folder" }));
     }
     byId("file-actions").append(...more);
-    addEventListener("dragover", event => event.preventDefault());
-    addEventListener("drop", event => this.drop(event));
   }
 
   async chooseFolder() {
@@ -192,6 +199,15 @@ export class PlacePanel {
     if (folder) await this.takeFolder(folder);
     else if (files.length && this.editor.place.kind === "folder" && files.every(({ name }) => isPictureName(name))) await this.takeIntoFolder(files);
     else if (files.length) await this.takeChosen(files);
+  }
+
+  // Where a server gives the folder no file is taken: says where it has to be. The browser, left to itself, would show it in the place of the page.
+  refuseDrop(event) {
+    event.preventDefault();
+    const [file, ...others] = event.dataTransfer.files;
+    if (!file) return null;
+    const [what, then] = others.length ? ["these files", "they are listed"] : [file.name, `it is listed by ${listerOf(file.name)}`];
+    return this.bench.say(`Put ${what} into the folder ${this.editor.place.title}: then ${then}.`);
   }
 
   // Has a file that is lost chosen from those of the folder: it is read from there.

@@ -126,7 +126,7 @@ export class Tilesets {
   // All images of the map may have `most` pixels together.
   constructor(editor, most = undefined) {
     Object.assign(this, { editor, most, all: [], said: "[]", shown: "[]", budget: new PixelBudget(most) });
-    // How many tiles each tileset has that was read, by its key; null where that is not known.
+    // How many tiles each tileset has that was read, by its key; null where that is not known. One that is lost by now has as many as it had.
     this.sizes = new Map();
     // Called where a colour is known that was not when the map was drawn.
     this.onLooks = () => {};
@@ -187,7 +187,7 @@ export class Tilesets {
       return false;
     }
     const all = read.map((each, at) => made(each, (sorted[at + 1]?.firstgid ?? TILE + 1) - 1, images, map, found));
-    read.forEach(({ key }, at) => this.sizes.set(key, all[at].size));
+    read.forEach(({ key, isLost }, at) => isLost || this.sizes.set(key, all[at].size));
     closeAll(this.images?.values() ?? []);
     Object.assign(this, found, { all, images, shown: said });
     this.forgetLooks();
@@ -204,15 +204,17 @@ export class Tilesets {
     this.looks = new TileLooks(value => this.of(value), () => this.onLooks());
   }
 
-  // Reads what a tileset tells, and the files of its images: { data, key, members, files, why }, where `why` is what is wrong with it.
+  // Reads what a tileset tells, and the files of its images: { data, key, members, files, isLost, why }, where
+  // `isLost` says that it has no file, and `why` is what is wrong with it.
   async read(data, found) {
-    const read = { data, key: keyOf(data, this.folder, this.editor.place), members: {}, files: new Map(), why: "" };
+    const read = { data, key: keyOf(data, this.folder, this.editor.place), members: {}, files: new Map(), isLost: false, why: "" };
     const odd = new OddMembers();
     found.odd.push(odd);
     try {
       const path = this.folder + (data.source ?? "");
       const members = data.source ? await this.readFile(path, found) : data;
-      read.members = checked(members, odd, data.source ? `the tileset ${data.source}` : "a tileset in the map");
+      read.isLost = members === null;
+      read.members = checked(members ?? {}, odd, data.source ? `the tileset ${data.source}` : "a tileset in the map");
       for (const [id, image] of imagesIn(read.members)) await this.readImage(read, id, folderOf(this.editor.place.pathOf(path)) + image, found);
     } catch (fault) {
       if (!(fault instanceof Wrong)) throw fault;
@@ -222,9 +224,10 @@ export class Tilesets {
     return read;
   }
 
+  // What the file of a tileset tells; null where there is none.
   async readFile(path, found) {
     const bytes = await this.bytesOf(path, found);
-    return bytes ? readTileset(path, bytes) : {};
+    return bytes ? readTileset(path, bytes) : null;
   }
 
   async readImage({ files, members }, id, path, found) {
