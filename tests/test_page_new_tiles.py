@@ -9,8 +9,8 @@ from pathlib import Path
 
 from lib.places import EXAMPLE_MAPS
 from page.bench import Bench, cell, choose, layer_of, spelled, standing, take_tile
-from page.browser import ActionChains, Keys
-from page.own_folder import bytes_in, folder_page
+from page.browser import ActionChains, Keys, Page, browser
+from page.own_folder import bytes_in, folder_page, put, site, take_folder
 from page.planes import to_middle
 from page.tiled_pictures import compared
 from test_page_menus import pick, right_click
@@ -326,6 +326,24 @@ def see_as_tiled(page, *names):
         for name in names:
             told = compared(page, Path(top) / name)
             assert told['colours'] > 3 and told['count'] == 0, (name, told)
+
+
+def test_a_folder_without_maps():
+    """A folder that has pictures alone asks for no map to open: the page without a map says how to begin there."""
+    with site() as address:
+        page = Page(browser(), f'{address}/roskevad.html')
+        page.clear(f'{address}/blank.html')
+        page.open()
+        put(page, {'tiles.png': picture()})
+        take_folder(page)
+        page.settle()
+        assert not page.texts('dialog[open]'), page.texts('dialog[open]')
+        page.wait(lambda: page.find('#start-hint').text == "There is no map in the browser's own folder yet: make a new one.", 'it is said')
+        page.press('#start-ways button', 'New map')
+        page.wait(lambda: page.texts('dialog[open]'), 'a dialog')
+        assert page.find('dialog [name=tiles]').get_attribute('value') == 'tiles.png'
+        page.fill_in('Cancel')
+        page.driver.get('about:blank')
 
 
 def test_the_whole_way():
