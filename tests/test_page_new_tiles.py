@@ -310,6 +310,25 @@ def test_new_maps_of_other_kinds():
             assert {name: told[name] for name in more} == more and told['orientation'] == kind and told['tilesets'] == [] and standing(page) == (0, 0)
 
 
+def test_chunks_of_a_new_map():
+    """A new infinite map is saved with the chunks that are drawn on, and with those at its two corners, which say how large it is."""
+    with folder_page() as page:
+        begin(page, '#new')
+        page.find('dialog [name=infinite]').click()
+        page.fill_in(name='wide', width='40', height='60')
+        page.wait(lambda: page.editor.state()['active'] == 'wide', 'it is made')
+        assert (page.editor.map()['width'], page.editor.map()['height']) == (48, 64)
+        to_middle(page)
+        take_tile(page, (1, 1))
+        page.keys('b')
+        page.drag([(17, 2), (18, 2)])
+        page.ctrl('s')
+        page.fill_in(file='wide.tmj')
+        page.wait(lambda: bytes_in(page, 'wide.tmj') is not None, 'it is saved')
+        chunks = json.loads(bytes_in(page, 'wide.tmj'))['layers'][0]['chunks']
+        assert sorted((each['x'], each['y'], any(each['data'])) for each in chunks) == [(0, 0, False), (16, 0, True), (32, 48, False)]
+
+
 def show_tileset(page, at):
     """Chooses a tileset of the map in the palette, by its place."""
     page.js('const at = document.getElementById("tilesets"); at.selectedIndex = arguments[0]; at.dispatchEvent(new Event("change"))', at)
