@@ -97,6 +97,27 @@ def test_objects_at_fractions():
         assert page.js('return roskevad.editor.map.object(1).object.x') == 40.5
 
 
+def test_image_layers():
+    """The picture of an image layer stays where it is, too, before the first column and row, behind an undo, and as the map is opened."""
+    told = infinite(chunk(0, 0))
+    told['layers'].append({'type': 'imagelayer', 'id': 3, 'name': 'Mist', 'image': 'tiles.png', 'opacity': 1, 'visible': True, 'x': 0, 'y': 0, 'offsetx': 32, 'offsety': 48})
+    told['nextlayerid'] = 4
+    with Plane(told) as page:
+        choose(page, 'Tiles 1')
+        points = seen(page, *((x, y) for x in range(3, 9) for y in range(4, 7)))
+        before = page.colours(points)
+        assert len(set(before)) > 3
+        page.drag([(0, 0), (-1, -1)])
+        assert size(page) == (32, 32) and page.colours(points) == before
+        page.ctrl('z')
+        assert size(page) == (16, 16) and page.colours(points) == before
+    told['layers'][0]['chunks'].append(chunk(-16, -16))
+    with Plane(told) as page:
+        page.js('roskevad.view.panBy(-256, -256)')
+        page.settle()
+        assert page.colours(seen(page, *((x, y) for x in range(19, 25) for y in range(20, 23)))) == before
+
+
 def test_all_sides_at_once():
     """A rectangle over all four edges makes one step, with one line for all sides; so does a stamp of several tiles, as what
     is pasted."""

@@ -9,8 +9,8 @@ from pathlib import Path
 
 from lib.places import EXAMPLE_MAPS
 from page.bench import Bench, cell, choose, layer_of, spelled, standing, take_tile
-from page.browser import ActionChains, Keys
-from page.own_folder import bytes_in, folder_page
+from page.browser import ActionChains, Keys, Page, browser
+from page.own_folder import bytes_in, folder_page, put, site, take_folder
 from page.planes import to_middle
 from page.tiled_pictures import compared
 from test_page_menus import pick, right_click
@@ -310,6 +310,25 @@ def test_new_maps_of_other_kinds():
             assert {name: told[name] for name in more} == more and told['orientation'] == kind and told['tilesets'] == [] and standing(page) == (0, 0)
 
 
+def test_chunks_of_a_new_map():
+    """A new infinite map is saved with the chunks that are drawn on, and with those at its two corners, which say how large it is."""
+    with folder_page() as page:
+        begin(page, '#new')
+        page.find('dialog [name=infinite]').click()
+        page.fill_in(name='wide', width='40', height='60')
+        page.wait(lambda: page.editor.state()['active'] == 'wide', 'it is made')
+        assert (page.editor.map()['width'], page.editor.map()['height']) == (48, 64)
+        to_middle(page)
+        take_tile(page, (1, 1))
+        page.keys('b')
+        page.drag([(17, 2), (18, 2)])
+        page.ctrl('s')
+        page.fill_in(file='wide.tmj')
+        page.wait(lambda: bytes_in(page, 'wide.tmj') is not None, 'it is saved')
+        chunks = json.loads(bytes_in(page, 'wide.tmj'))['layers'][0]['chunks']
+        assert sorted((each['x'], each['y'], any(each['data'])) for each in chunks) == [(0, 0, False), (16, 0, True), (32, 48, False)]
+
+
 def show_tileset(page, at):
     """Chooses a tileset of the map in the palette, by its place."""
     page.js('const at = document.getElementById("tilesets"); at.selectedIndex = arguments[0]; at.dispatchEvent(new Event("change"))', at)
@@ -326,6 +345,24 @@ def see_as_tiled(page, *names):
         for name in names:
             told = compared(page, Path(top) / name)
             assert told['colours'] > 3 and told['count'] == 0, (name, told)
+
+
+def test_a_folder_without_maps():
+    """A folder that has pictures alone asks for no map to open: the page without a map says how to begin there."""
+    with site() as address:
+        page = Page(browser(), f'{address}/roskevad.html')
+        page.clear(f'{address}/blank.html')
+        page.open()
+        put(page, {'tiles.png': picture()})
+        take_folder(page)
+        page.settle()
+        assert not page.texts('dialog[open]'), page.texts('dialog[open]')
+        page.wait(lambda: page.find('#start-hint').text == "There is no map in the browser's own folder yet: make a new one.", 'it is said')
+        page.press('#start-ways button', 'New map')
+        page.wait(lambda: page.texts('dialog[open]'), 'a dialog')
+        assert page.find('dialog [name=tiles]').get_attribute('value') == 'tiles.png'
+        page.fill_in('Cancel')
+        page.driver.get('about:blank')
 
 
 def test_the_whole_way():

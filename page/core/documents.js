@@ -71,6 +71,12 @@ export class Documents {
     if (path) await this.openPath(path);
   }
 
+  // The same, where the place has a map: else there is nothing to choose from.
+  async openAny() {
+    const maps = await this.editor.place.maps().catch(() => null);
+    if (!maps || maps.length || (await this.namesInXml())) await this.open();
+  }
+
   // What is said of the maps in XML that the place has; "" where it has none.
   async namesInXml() {
     const names = (await this.editor.place.names().catch(() => [])).map(each => each.path).filter(isXmlMapName);

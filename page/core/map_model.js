@@ -59,8 +59,8 @@ function placesIn(layers) {
 
 export class MapModel {
   // `outline` is the parsed outline, and `cells(layer, x, y, width, height)` gives the cells of a rectangle. `templates` has what templates say
-  // of their objects, where that is known.
-  constructor(outline, cells, templates = null) {
+  // of their objects, where that is known. `corner` is the column and row of the plane at which the corner of an infinite map stands.
+  constructor(outline, cells, templates = null, corner = [0, 0]) {
     // The members that are of another kind than Tiled writes.
     this.odd = new OddMembers();
     const { layers, ...data } = MAP.take(outline, this.odd, "the map");
@@ -71,6 +71,7 @@ export class MapModel {
     this.tileWidth = data.tilewidth;
     this.tileHeight = data.tileheight;
     this.templates = templates;
+    this.corner = corner;
     this.layers = flattened(layers, this.odd);
     for (const { data: own } of this.layers) if (own.objects?.some(({ template }) => template)) own.objects = own.objects.map(each => this.whole(each));
     this.places = placesIn(this.layers);
@@ -83,6 +84,14 @@ export class MapModel {
   // An object with what it has of its template.
   whole(object) {
     return object?.template ? withTemplate(object, this.templates?.of(object.template, this.data.tilesets)) : object;
+  }
+
+  // Where an image layer stands in the picture that is not moved, in pixels: on an infinite map at cell 0, 0 of its plane.
+  get imageStart() {
+    const { projection, corner: [x, y] } = this;
+    if (projection.isIsometric) return [0, 0];
+    const [from, to] = [projection.corner(0, 0), projection.corner(-x, -y)];
+    return [to[0] - from[0], to[1] - from[1]];
   }
 
   layer(id) {

@@ -7,17 +7,16 @@ const CHUNK = 16;
 
 export const ORIENTATIONS = ["orthogonal", "isometric", "staggered", "hexagonal"];
 
-// Empty chunks over as many columns and rows, so that there is something to draw on.
-function chunksOver(width, height) {
-  const chunks = [];
-  for (let y = 0; y < height; y += CHUNK) {
-    for (let x = 0; x < width; x += CHUNK) chunks.push({ data: new Array(CHUNK * CHUNK).fill(0), height: CHUNK, width: CHUNK, x, y });
-  }
-  return chunks;
+// Empty chunks at two corners of as many columns and rows, so that there is something to draw on. None is between them, since each would be
+// saved, though nothing is drawn there.
+function cornerChunks(width, height) {
+  const chunkAt = (x, y) => ({ data: new Array(CHUNK * CHUNK).fill(0), height: CHUNK, width: CHUNK, x, y });
+  const [x, y] = [width - CHUNK, height - CHUNK];
+  return x || y ? [chunkAt(0, 0), chunkAt(x, y)] : [chunkAt(0, 0)];
 }
 
 function layerOf({ width, height, isInfinite }) {
-  const cells = isInfinite ? { chunks: chunksOver(width, height), startx: 0, starty: 0 } : { data: new Array(width * height).fill(0) };
+  const cells = isInfinite ? { chunks: cornerChunks(width, height), startx: 0, starty: 0 } : { data: new Array(width * height).fill(0) };
   return { ...cells, height, id: 1, name: "Tile Layer 1", opacity: 1, type: "tilelayer", visible: true, width, x: 0, y: 0 };
 }
 

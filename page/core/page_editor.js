@@ -338,7 +338,7 @@ export class PageEditor extends EventTarget {
 
   // A model of the map that is active in the editor. Throws where it cannot be shown.
   modelNow() {
-    const map = new MapModel(this.editor.outline(), (...words) => this.editor.cells(...words), this.templates);
+    const map = new MapModel(this.editor.outline(), (...words) => this.editor.cells(...words), this.templates, this.editor.origin());
     map.select(this.editor.selection());
     return map;
   }

@@ -86,7 +86,7 @@ export class PlacePanel {
     this.onFolder(folder);
     if (isOther && [...this.editor.openDocuments.byName.values()].some(document => document.file)) this.part(before);
     this.editor.journal.keepSource();
-    if (!this.editor.openDocuments.byName.size) await this.documents.open();
+    if (!this.editor.openDocuments.byName.size) await this.documents.openAny();
   }
 
   // The documents are of files of another source: here they have none.

@@ -64,12 +64,16 @@ export class StartPage {
   put(maps) {
     this.seen.disconnect();
     this.waiting = [];
-    const hasOthers = this.editor.place.files?.size > 0;
-    const none = hasOthers ? "No map is among the chosen files: choose one, too, or make a new one."
-      : "Make a new map, or open some: choose them, or drop files or a folder here.";
-    this.hint.textContent = maps.length ? `Or go on with a map of ${this.editor.place.title || "this folder"}:` : none;
+    this.hint.textContent = maps.length ? `Or go on with a map of ${this.editor.place.title || "this folder"}:` : this.wordsOfNone();
     this.list.replaceChildren(...maps.map(each => this.card(each)));
     for (const card of this.list.children) this.seen.observe(card);
+  }
+
+  // What to do where the place has no map.
+  wordsOfNone() {
+    const { kind, title, files } = this.editor.place;
+    if (kind !== "chosen") return `There is no map in ${title || "this folder"} yet: make a new one.`;
+    return files.size ? "No map is among the chosen files: choose one, too, or make a new one." : "Make a new map, or open some: choose them, or drop files or a folder here.";
   }
 
   card({ path, size }) {

@@ -185,7 +185,8 @@ export class LayerPainter {
     const found = this.images.of(layer);
     if (!found) return;
     const image = layer.tint ? this.tints.of(found, layer.tint) : found;
-    const [left, top] = [view.originX + layer.offsetX * view.scale, view.originY + layer.offsetY * view.scale].map(Math.round);
+    const [startX, startY] = view.map.imageStart;
+    const [left, top] = [view.originX + (startX + layer.offsetX) * view.scale, view.originY + (startY + layer.offsetY) * view.scale].map(Math.round);
     const [width, height] = [found.width * view.scale, found.height * view.scale].map(Math.round);
     if (width < 1 || height < 1) return;
     const spread = (isRepeated, from, length, most) => (isRepeated ? [from - Math.ceil(from / length) * length, most] : [from, from + 1]);

@@ -15,7 +15,7 @@ const MOST_PIXELS = 16 * 1024 * 1024;
 
 // Paints the map of an editor into a canvas, as large as fits there. `isOver` tells whether it is not wanted any more.
 export async function sketch(editor, place, path, canvas, isOver) {
-  const map = new MapModel(editor.outline(), (...words) => editor.cells(...words));
+  const map = new MapModel(editor.outline(), (...words) => editor.cells(...words), null, editor.origin());
   const view = await viewOf(map, place, path, canvas);
   let isLate = true;
   view.tilesets.onLooks = view.images.onImage = () => {
