@@ -2,12 +2,21 @@
 """Draws past the edges of infinite maps on the page in Chromium: they grow by whole chunks, in one step with what is
 drawn, and all that is seen stays where it is; chunks that stay empty are not saved; past its limits a map grows no
 farther, and says so."""
+import json
+import shutil
+import tempfile
+from pathlib import Path
+
+from lib.cases import Case, check_each, unlike
 from lib.maps import layers_in
+from lib.places import EXAMPLE_MAPS
 from page.bench import Bench, choose, colours_now, layer_of, see_colours, spelled, standing
 from page.browser import ActionChains, Keys
 from page.planes import Plane, chunk, infinite
+from page.tiled_pictures import compared
 
 NEEDS_BROWSER = True
+PACKAGES = ('tiled',)
 IS_LONG = True
 TILE = 12
 
@@ -95,6 +104,56 @@ def test_objects_at_fractions():
         assert (saved['x'], saved['y']) == (40.5, 24)
         page.ctrl('z')
         assert page.js('return roskevad.editor.map.object(1).object.x') == 40.5
+
+
+# Maps whose objects do not count by cells, with what says how their cells lie.
+OTHERS = {
+    'isometric': {}, 'staggered': {'staggeraxis': 'y', 'staggerindex': 'odd'}, 'hexagonal': {'staggeraxis': 'x', 'staggerindex': 'odd', 'hexsidelength': 8},
+}
+
+
+def with_a_tile(kind, *chunks):
+    """An infinite map of a kind, with an object that is a tile."""
+    told = infinite(*chunks, orientation=kind, **OTHERS[kind])
+    told['layers'][-1]['objects'][0].update(gid=30, name='', x=80, y=64)
+    return told
+
+
+def around_object(page):
+    """Points of the screen around the object, and their colours."""
+    left, top = page.js('const {view} = roskevad, box = view.box.getBoundingClientRect(), at = view.map.projection.place(...arguments);'
+                        'return [box.left + view.originX + at[0], box.top + view.originY + at[1]]', *page.js('const {x, y} = roskevad.bench.map.object(1).object; return [x, y]'))
+    points = [(round(left) + x, round(top) - y) for x in range(-6, 20, 3) for y in range(-3, 20, 3)]
+    return points, page.colours(points)
+
+
+def test_objects_of_other_maps():
+    """On isometric, staggered and hexagonal maps, too, an object stays beside its cells where a map grows to the left and up, and behind an
+    undo."""
+    def fault_of(case):
+        with Plane(with_a_tile(case.name, chunk(0, 0))) as page:
+            choose(page, 'Tiles 1')
+            points, before = around_object(page)
+            assert len(set(before)) > 3
+            page.drag([(0, 0), (-1, -1)])
+            grown = size(page), page.colours(points), around_object(page)[0]
+            page.ctrl('z')
+            return unlike(((32, 32), before, points), grown) or unlike(((16, 16), before), (size(page), page.colours(points)))
+
+    check_each([Case(kind, None, None) for kind in OTHERS], fault_of)
+
+
+def test_objects_of_other_maps_as_opened():
+    """Where the first chunk lies before cell 0, 0 of the plane, an object stands where Tiled draws it."""
+    def fault_of(case):
+        with Bench(empty=True) as page, tempfile.TemporaryDirectory() as top:
+            for name in ('tiles.png', 'tiles.tsx'):
+                shutil.copy(EXAMPLE_MAPS / name, top)
+            path = Path(top) / 'plane.tmj'
+            path.write_text(json.dumps(with_a_tile(case.name, chunk(0, 0), chunk(-16, -16))))
+            return unlike(0, compared(page, path)['count'])
+
+    check_each([Case(kind, None, None) for kind in OTHERS if kind != 'isometric'], fault_of)
 
 
 def test_image_layers():

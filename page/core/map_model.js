@@ -1,6 +1,7 @@
 // SPDX-License-Identifier: MIT OR Apache-2.0
 // The map as the page knows it: its outline, and its cells where they are asked for.
 import { withTemplate } from "./inherited.js";
+import { NO_PLANE } from "./plane.js";
 import { LAYER, MAP, OBJECT, OddMembers, titleOfLayer, titleOfObject } from "../files/members.js";
 import { projectionOf } from "../view/projections.js";
 import { bothTints, partsOfColour } from "../view/tints.js";
@@ -59,8 +60,8 @@ function placesIn(layers) {
 
 export class MapModel {
   // `outline` is the parsed outline, and `cells(layer, x, y, width, height)` gives the cells of a rectangle. `templates` has what templates say
-  // of their objects, where that is known. `corner` is the column and row of the plane at which the corner of an infinite map stands.
-  constructor(outline, cells, templates = null, corner = [0, 0]) {
+  // of their objects, where that is known. `plane` is where an infinite map lies, as `planeOf` tells it.
+  constructor(outline, cells, templates = null, plane = NO_PLANE) {
     // The members that are of another kind than Tiled writes.
     this.odd = new OddMembers();
     const { layers, ...data } = MAP.take(outline, this.odd, "the map");
@@ -71,7 +72,7 @@ export class MapModel {
     this.tileWidth = data.tilewidth;
     this.tileHeight = data.tileheight;
     this.templates = templates;
-    this.corner = corner;
+    this.plane = plane;
     this.layers = flattened(layers, this.odd);
     for (const { data: own } of this.layers) if (own.objects?.some(({ template }) => template)) own.objects = own.objects.map(each => this.whole(each));
     this.places = placesIn(this.layers);
@@ -88,7 +89,7 @@ export class MapModel {
 
   // Where an image layer stands in the picture that is not moved, in pixels: on an infinite map at cell 0, 0 of its plane.
   get imageStart() {
-    const { projection, corner: [x, y] } = this;
+    const { projection, plane: { corner: [x, y] } } = this;
     if (projection.isIsometric) return [0, 0];
     const [from, to] = [projection.corner(0, 0), projection.corner(-x, -y)];
     return [to[0] - from[0], to[1] - from[1]];

@@ -17,6 +17,7 @@ import { hashOf } from "../files/hashes.js";
 import { FileNames, folderOf, freeName } from "../files/names.js";
 import { OpenDocuments } from "./open_documents.js";
 import { loadModule } from "./own_module.js";
+import { planeOf } from "./plane.js";
 import { Changed, ChosenFiles } from "../files/places.js";
 import { whyOf } from "./refusals.js";
 import { Replay } from "./replay.js";
@@ -338,7 +339,7 @@ export class PageEditor extends EventTarget {
 
   // A model of the map that is active in the editor. Throws where it cannot be shown.
   modelNow() {
-    const map = new MapModel(this.editor.outline(), (...words) => this.editor.cells(...words), this.templates, this.editor.origin());
+    const map = new MapModel(this.editor.outline(), (...words) => this.editor.cells(...words), this.templates, planeOf(this.editor));
     map.select(this.editor.selection());
     return map;
   }

@@ -4,6 +4,7 @@ import { LayerPainter } from "./layer_painter.js";
 import { MapImages } from "./map_images.js";
 import { MapModel } from "../core/map_model.js";
 import { MapView } from "./map_view.js";
+import { planeOf } from "../core/plane.js";
 import { CellCache } from "./cell_cache.js";
 import { Tilesets } from "./tilesets.js";
 
@@ -15,7 +16,7 @@ const MOST_PIXELS = 16 * 1024 * 1024;
 
 // Paints the map of an editor into a canvas, as large as fits there. `isOver` tells whether it is not wanted any more.
 export async function sketch(editor, place, path, canvas, isOver) {
-  const map = new MapModel(editor.outline(), (...words) => editor.cells(...words), null, editor.origin());
+  const map = new MapModel(editor.outline(), (...words) => editor.cells(...words), null, planeOf(editor));
   const view = await viewOf(map, place, path, canvas);
   let isLate = true;
   view.tilesets.onLooks = view.images.onImage = () => {

@@ -27,18 +27,22 @@ function boxOver(projection, cells) {
   return [left, top, right - left, bottom - top];
 }
 
-// What maps share whose objects count as the picture does: all but isometric ones.
+// What maps share whose objects count as the picture does: all but isometric ones. `aside` is how far they stand from where they are named: on an
+// infinite map they count from cell 0, 0 of its plane.
 class InPixels {
+  aside = [0, 0];
+
   place(x, y) {
-    return [x, y];
+    return [x + this.aside[0], y + this.aside[1]];
   }
 
   named(left, top) {
-    return [left, top];
+    return [left - this.aside[0], top - this.aside[1]];
   }
 
   objectBox(cells) {
-    return boxOver(this, cells);
+    const [left, top, width, height] = boxOver(this, cells);
+    return [...this.named(left, top), width, height];
   }
 }
 
@@ -87,6 +91,9 @@ class Isometric {
     Object.assign(this, { width: (width + height) * tileWidth / 2, height: (width + height) * tileHeight / 2 });
     this.side = [tileHeight, tileHeight];
     this.matrix = [tileWidth / 2 / tileHeight, 1 / 2, -tileWidth / 2 / tileHeight, 1 / 2];
+    // How far objects stand from where they are named, as they count: on an infinite map they count from cell 0, 0 of its plane.
+    const { corner, moved } = map.plane;
+    this.aside = [moved[0] - corner[0] * tileHeight, moved[1] - corner[1] * tileHeight];
   }
 
   // Where a point of the map stands that is named in cells.
@@ -135,15 +142,16 @@ class Isometric {
 
   // Objects count in pixels of which a cell has as many each way as it is high.
   place(x, y) {
-    return this.point(x / this.tileHeight, y / this.tileHeight);
+    return this.point((x + this.aside[0]) / this.tileHeight, (y + this.aside[1]) / this.tileHeight);
   }
 
   named(left, top) {
-    return this.inCells(left, top).map(cells => cells * this.tileHeight);
+    return this.inCells(left, top).map((cells, at) => cells * this.tileHeight - this.aside[at]);
   }
 
   objectBox([x0, y0, x1, y1]) {
-    return [x0, y0, x1 - x0, y1 - y0].map(cells => cells * this.tileHeight);
+    const [left, top, width, height] = [x0, y0, x1 - x0, y1 - y0].map(cells => cells * this.tileHeight);
+    return [left - this.aside[0], top - this.aside[1], width, height];
   }
 }
 
@@ -166,6 +174,8 @@ class Staggered extends InPixels {
     Object.assign(this, { stepX: this.slantX + sideX, stepY: this.slantY + sideY });
     this.width = byColumns ? width * this.stepX + this.slantX : width * (tileWidth + sideX) + (height > 1 ? this.stepX : 0);
     this.height = byColumns ? height * (tileHeight + sideY) + (width > 1 ? this.stepY : 0) : height * this.stepY + this.slantY;
+    const { corner, moved } = map.plane;
+    this.aside = [moved[0] - corner[0] * this.steps[0], moved[1] - corner[1] * this.steps[1]];
   }
 
   // How far a column is from the one before it, and a row.
