@@ -121,8 +121,9 @@ def with_a_tile(kind, *chunks):
 
 def around_object(page):
     """Points of the screen around the object, and their colours."""
-    left, top = page.js('const {view} = roskevad, box = view.box.getBoundingClientRect(), at = view.map.projection.place(...arguments);'
-                        'return [box.left + view.originX + at[0], box.top + view.originY + at[1]]', *page.js('const {x, y} = roskevad.bench.map.object(1).object; return [x, y]'))
+    left, top = page.js('const {view, bench} = roskevad, {x, y} = bench.map.object(1).object, box = view.box.getBoundingClientRect();'
+                        'const at = view.map.projection.place(x, y);'
+                        'return [box.left + view.originX + at[0], box.top + view.originY + at[1]]')
     points = [(round(left) + x, round(top) - y) for x in range(-6, 20, 3) for y in range(-3, 20, 3)]
     return points, page.colours(points)
 
@@ -159,7 +160,8 @@ def test_objects_of_other_maps_as_opened():
 def test_image_layers():
     """The picture of an image layer stays where it is, too, before the first column and row, behind an undo, and as the map is opened."""
     told = infinite(chunk(0, 0))
-    told['layers'].append({'type': 'imagelayer', 'id': 3, 'name': 'Mist', 'image': 'tiles.png', 'opacity': 1, 'visible': True, 'x': 0, 'y': 0, 'offsetx': 32, 'offsety': 48})
+    told['layers'].append({'type': 'imagelayer', 'id': 3, 'name': 'Mist', 'image': 'tiles.png', 'opacity': 1, 'visible': True, 'x': 0, 'y': 0,
+                           'offsetx': 32, 'offsety': 48})
     told['nextlayerid'] = 4
     with Plane(told) as page:
         choose(page, 'Tiles 1')
