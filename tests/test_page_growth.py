@@ -1,7 +1,7 @@
 # SPDX-License-Identifier: MIT OR Apache-2.0
 """Draws past the edges of infinite maps on the page in Chromium: they grow by whole chunks, in one step with what is
-drawn, and all that is seen stays where it is; chunks that stay empty are not saved; past its limits a map grows no
-farther, and says so."""
+drawn, and all that is seen stays where it is, objects of maps of each orientation too, which stand where Tiled has them;
+chunks that stay empty are not saved; past its limits a map grows no farther, and says so."""
 import json
 import shutil
 import tempfile
