@@ -1,7 +1,8 @@
 # SPDX-License-Identifier: MIT OR Apache-2.0
 """Opens, edits, undoes and saves packed maps by `tile_editor --all-maps`: the maps of Tiled's own examples as Tiled exports them, and one
 in each tile layer format, finite and infinite. Saved after the undo they are the same bytes; Tiled reads those that were packed anew,
-which are no larger than what zlib packs at its level 1.
+which are no larger than what zlib packs at its level 1. A layer that is added has the format of the others, in groups too, and a second
+save of it changes no byte.
 
 10,000 streams of zlib's, at all levels and strategies, with stored blocks, fixed codes and others, windows of all sizes and gzip's
 optional fields, unpack by `map_report --table` to what zlib unpacks them to. 20,000 that are damaged, cut short, longer or of another size
@@ -21,8 +22,8 @@ from lib import tiled_package
 from lib.any_maps import in_each_format
 from lib.asides import OPTION
 from lib.cases import CORES, Case, check_each, fail_with, in_processes, passed, unlike
-from lib.compressions import GZIP, ZLIB, cells_in, compression_of, holders
-from lib.maps import layers_in, map_of, text_of, tiles
+from lib.compressions import CSV, GZIP, PLAIN, ZLIB, ZSTANDARD, cells_in, compression_of, holders, with_compression
+from lib.maps import group, layers_in, map_of, text_of, tiles
 from lib.places import IN_MEMORY, MAP_REPORT, TILE_EDITOR
 
 IS_LONG = True
@@ -212,7 +213,7 @@ def test_hostile_maps():
 def played(folder, *lines):
     """The replies to lines, but for the numbers of steps and bytes."""
     text = ''.join(f'{line}\n' for line in lines).encode()
-    done = subprocess.run([TILE_EDITOR, OPTION, '--folder', folder], input=text, capture_output=True, timeout=SECONDS)
+    done = subprocess.run([TILE_EDITOR, OPTION, '--all-edits', '--folder', folder], input=text, capture_output=True, timeout=SECONDS)
     return done.stdout.decode().split('\n')[:-1]
 
 
@@ -306,3 +307,214 @@ def test_each_format():
                 fault = fault_of_map(path)
                 assert not fault, f'{path.name}: {fault}'
             passed()
+
+
+# ---- layers that are added
+
+
+# The cells that are drawn on an added layer, and where they come to lie from the corner of the map.
+DRAWN = (3, 0x80000002, 1, 2)
+PLACES = ((0, 0), (1, 0), (0, 1), (1, 1))
+
+
+def plane_of(layer):
+    """The cells of a tile layer that are not 0, by where they lie."""
+    plane = {}
+    for holder in holders(layer):
+        left, top, width = (0, 0, layer['width']) if holder is layer else (holder['x'], holder['y'], holder['width'])
+        for at, value in enumerate(cells_in(holder['data'], compression_of(layer))):
+            if value:
+                plane[left + at % width, top + at // width] = value
+    return plane
+
+
+def layer_of_id(tree, number):
+    return next(layer for layer in layers_in(tree['layers']) if layer['id'] == number)
+
+
+def drawing(number):
+    return f'stamp {number} 0 0 2 {",".join(map(str, DRAWN))}'
+
+
+def drawn_at(left, top):
+    """What an added layer has of these cells, where the corner of the map lies there on the plane."""
+    return {(left + x, top + y): value for (x, y), value in zip(PLACES, DRAWN)}
+
+
+def format_of(layer):
+    """How the cells of a layer are written: `encoding` and `compression`, and whether each of its data is an array."""
+    return layer.get('encoding'), layer.get('compression'), {isinstance(holder['data'], list) for holder in holders(layer)}
+
+
+def fault_of_added(path, lines, number, wanted, corner):
+    """What is wrong with the layer of that id, which lines have added to a map and drawn on, and with the saves of it; or None. It is to
+    have that format. The map that Tiled reads is to have its cells."""
+    data = path.read_bytes()
+    replies = played(path.parent, f'open m {path.name}', *lines, f'save {path.name}')
+    if any(reply.startswith('no ') for reply in replies):
+        return f'came {replies}'
+    once = path.read_bytes()
+    layer = layer_of_id(json.loads(once), number)
+    fault = unlike(wanted, format_of(layer)) or unlike(drawn_at(*corner), plane_of(layer))
+    if fault:
+        return fault
+    twice = fault_of_later_saves(path, data, lines, once)
+    if twice:
+        return twice
+    came = tiled_package.exported(path, path.parent, f'again_{path.name}')
+    if came is None:
+        return 'Tiled does not load it'
+    return unlike(drawn_at(*corner), plane_of(layer_of_id(json.loads(came), number)))
+
+
+def fault_of_later_saves(path, data, lines, once):
+    """What is wrong with the saves behind the first one, which has left these bytes: of the same map, of one that was opened again, and of
+    one in which all is undone."""
+    played(path.parent, f'open m {path.name}', 'prop set map again int 1', 'undo', f'save {path.name}')
+    if path.read_bytes() != once:
+        return 'opened and saved again, it has other bytes'
+    path.write_bytes(data)
+    played(path.parent, f'open m {path.name}', *lines, 'goto 0', f'save {path.name}')
+    if path.read_bytes() != data:
+        return 'saved after the undo it has other bytes'
+    played(path.parent, f'open m {path.name}', *lines, f'save {path.name}', f'save {path.name}')
+    if path.read_bytes() != once:
+        return 'saved twice, it has other bytes'
+    path.write_bytes(data)
+    played(path.parent, f'open m {path.name}', *lines, f'save {path.name}', 'goto 0', f'save {path.name}')
+    if path.read_bytes() != data:
+        return 'saved, undone and saved again, it has other bytes'
+    path.write_bytes(once)
+    return None
+
+
+def fault_of_added_to_export(path):
+    """The same of a layer that is added to a map that Tiled has exported."""
+    tree = json.loads(path.read_bytes())
+    layers = tile_layers(tree)
+    chunks = [chunk for layer in layers for chunk in layer.get('chunks', ())]
+    # An infinite map begins at an even column and row.
+    corner = tuple(min(chunk[name] for chunk in chunks) // 2 * 2 for name in ('x', 'y')) if chunks else (0, 0)
+    number = tree['nextlayerid']
+    first = layers[0]
+    wanted = first.get('encoding'), first.get('compression'), {not first.get('encoding')}
+    return fault_of_added(path, ['layer add tile New', drawing(number)], number, wanted, corner)
+
+
+def test_added_layers():
+    with tempfile.TemporaryDirectory() as folder:
+        sources = [path for path in tiled_package.unpacked(folder) if path.stem == 'desert']
+        tiled_package.exported(sources[0], sources[0].parent, 'desert.tmj')
+        for path in in_each_format(sources[0].parent / 'desert.tmj'):
+            if 'zstd' not in path.name:
+                fault = fault_of_added_to_export(path)
+                assert not fault, f'{path.name}: {fault}'
+                passed()
+
+
+def some_map(compression, is_infinite=False):
+    """A map of 4 by 3 cells in this format, whose first tile layer stands in a group, and its second one in no group."""
+    inside, outside = (tiles(number, 4, 3, data=[1, 2] * 6) for number in (2, 3))
+    if is_infinite:
+        for layer in (inside, outside):
+            layer['chunks'] = [{'x': 0, 'y': 0, 'width': 4, 'height': 3, 'data': layer.pop('data')}]
+            layer.update(startx=0, starty=0)
+    tileset = {'firstgid': 1, 'name': 't', 'tilewidth': 16, 'tileheight': 16, 'tilecount': 9, 'columns': 3, 'image': 't.png',
+               'imagewidth': 48, 'imageheight': 48, 'margin': 0, 'spacing': 0}
+    tree = map_of(group(1, inside), outside, width=4, height=3, infinite=is_infinite, nextlayerid=4, tilesets=[tileset])
+    return with_compression(tree, compression)
+
+
+FORMATS = {
+    CSV: (None, None, {True}),
+    PLAIN: ('base64', '', {False}),
+    ZLIB: ('base64', ZLIB, {False}),
+    GZIP: ('base64', GZIP, {False}),
+}
+
+
+def fault_of_made(case):
+    tree, lines, number = case.given
+    with tempfile.TemporaryDirectory() as folder:
+        path = Path(folder) / 'm.tmj'
+        path.write_bytes(json.dumps(tree, indent=4, sort_keys=True).encode())
+        return fault_of_added(path, lines, number, case.wanted, (0, 0))
+
+
+def made_cases():
+    """Layers that are added beside the others, into a group, and into a new one."""
+    ways = {
+        'beside': ['layer add tile New', drawing(4)],
+        'in a group': ['layer add tile New', drawing(4), 'layer into 4 1 0'],
+        'in a new group': ['layer add tile New', drawing(4), 'layer add group Own', 'layer into 4 5 0'],
+    }
+    for compression, wanted in FORMATS.items():
+        for is_infinite in (False, True):
+            for way, lines in ways.items():
+                yield Case(f'{compression} {is_infinite} {way}', (some_map(compression, is_infinite), lines, 4), wanted)
+    unnamed = some_map(PLAIN)
+    mixed = some_map(ZLIB)
+    for layer in tile_layers(unnamed):
+        del layer['compression']
+    tile_layers(mixed)[1].update(tiles(3, 4, 3, data=[1, 2] * 6))
+    for name in ('encoding', 'compression'):
+        del tile_layers(mixed)[1][name]
+    # The first tile layer says it.
+    yield Case('base64 without a compression', (unnamed, ways['beside'], 4), ('base64', None, {False}))
+    yield Case('zlib, and CSV behind it', (mixed, ways['beside'], 4), FORMATS[ZLIB])
+
+
+def test_added_to_made_maps():
+    check_each(made_cases(), fault_of_made, CORES)
+
+
+def saved_over(source, tree, *lines):
+    """The tree of a file that a map is saved over, which lines have edited."""
+    with tempfile.TemporaryDirectory(dir=IN_MEMORY) as folder:
+        (Path(folder) / 'm.tmj').write_bytes(json.dumps(tree).encode())
+        (Path(folder) / 'other.tmj').write_bytes(json.dumps(source).encode())
+        replies = played(folder, 'open m m.tmj', *lines, 'save other.tmj')
+        assert not any(reply.startswith('no ') for reply in replies), replies
+        return json.loads((Path(folder) / 'other.tmj').read_bytes())
+
+
+def named(compression):
+    """A map whose tile layers say that they are packed so."""
+    tree = some_map(PLAIN)
+    for layer in tile_layers(tree):
+        layer['compression'] = compression
+    return tree
+
+
+def test_other_sources():
+    """Over a file with other layers new ones are as its first one is; over one that Zstandard or nothing known packs, they are arrays. One
+    that the file has by its id is as it is there. An infinite layer without cells has the format alone."""
+    lines = ['layer add tile New', drawing(4)]
+    rows = {
+        'over zlib': (some_map(ZLIB), some_map(CSV), 4, FORMATS[ZLIB]),
+        'an old one over zlib': (some_map(ZLIB), some_map(CSV), 3, FORMATS[ZLIB]),
+        'over Zstandard': (named(ZSTANDARD), some_map(CSV), 4, FORMATS[CSV]),
+        'over another compression': (named('lzma'), some_map(CSV), 4, FORMATS[CSV]),
+        'over a map without tile layers': (map_of(), some_map(CSV), 4, FORMATS[CSV]),
+        'over no map': ({}, some_map(CSV), 4, FORMATS[CSV]),
+    }
+    for name, (source, tree, number, wanted) in rows.items():
+        saved = layer_of_id(saved_over(source, tree, *lines), number)
+        fault = unlike(wanted, format_of(saved))
+        assert not fault, f'{name}: {fault}'
+        passed()
+    empty = layer_of_id(saved_over(some_map(GZIP, True), some_map(GZIP, True), 'layer add tile New'), 4)
+    assert (empty['encoding'], empty['compression'], empty['chunks']) == ('base64', GZIP, []), empty
+    passed()
+
+
+def test_many_cells():
+    """A layer that is added to a map of eight layers with the most cells stays an array, so that the map can be opened again."""
+    full = base64.b64encode(zlib.compress(bytes(4 * 2**20))).decode()
+    layers = [tiles(at, 1024, 1024, data=full, encoding='base64', compression=ZLIB) for at in range(1, 9)]
+    for count, wanted in ((7, FORMATS[ZLIB]), (8, FORMATS[CSV])):
+        tree = map_of(*layers[:count], width=1024, height=1024)
+        number = tree['nextlayerid']
+        saved = saved_over(tree, tree, 'layer add tile New')
+        assert format_of(layer_of_id(saved, number)) == wanted, count
+        passed()

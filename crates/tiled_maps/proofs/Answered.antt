@@ -188,7 +188,7 @@ none_of : (b : Bool) (n : ℕ) → b ≡ false → cond b n 0 ≡ 0
 none_of true n e = absurd (true≢false e)
 none_of false n e = refl
 
-no_cells : (n cells : ℕ) (ms : Members) → any_packed n ms ≡ false → all_cells n cells ms ≡ 0
+no_cells : (n cells : ℕ) (ms : Members) → any_packed n ms ≡ false → all_cells is_packed n cells ms ≡ 0
 unfolding any_packed all_cells
 no_cells zero cells ms e = refl
 no_cells (suc n) cells ms e =
@@ -196,7 +196,7 @@ no_cells (suc n) cells ms e =
     omega (
       arith,
       none_of (is_packed ms) (own_cells cells ms + cells_in_chunks ms) parts.0,
-      none_among (λ own. any_packed n own) (λ own. all_cells n cells own) (no_cells n cells) (layers_in ms) parts.1,
+      none_among (λ own. any_packed n own) (λ own. all_cells is_packed n cells own) (no_cells n cells) (layers_in ms) parts.1,
     )
 
 pub few_cells : (d : Data) → has_packed d ≡ false → packed_cells d ≤ most_packed

@@ -1,5 +1,5 @@
 -- The walks that unpack layers, and pack them.
-use Rattle.std.proofs.Common.{◌≡◌, ◌≤◌, ℕ, suc, ◌+◌, min, drop, true, List, [], ◌∷◌, ◌++◌, length, map, Option, Some, None, codes, refl, sym, ap, ◌∙◌, subst}
+use Rattle.std.proofs.Common.{◌≡◌, ◌≤◌, ℕ, suc, ◌+◌, min, drop, Bool, true, List, [], ◌∷◌, ◌++◌, length, map, Option, Some, None, codes, refl, sym, ap, ◌∙◌, subst}
 use Rattle.std.proofs.Common.{append_assoc, arith}
 use Rattle.std.proofs.lemmas.List.{append-nil, map-append, drop_all}
 use Rattle.serde_json.specs.Data.{Data, item, Members, put}
@@ -26,10 +26,10 @@ layer_unpacked-packed cells ms own all ns is first chunks new =
     let b = ap (member_with (codes "chunks") (array_with chunk_unpacked)) first in
     rw is (new ∙ ap (λ m. renamed compression note_name (void_checked m)) (chunks ∙ b))
 
-pub all_cells-suc : (n m cells : ℕ) (ms : Members) → n ≡ suc m
-    → all_cells n cells ms ≡ layer_cells cells ms + sum_below (λ own. all_cells m cells own) ms
+pub all_cells-suc : (test : Members → Bool) (n m cells : ℕ) (ms : Members) → n ≡ suc m
+    → all_cells test n cells ms ≡ layer_cells test cells ms + sum_below (λ own. all_cells test m cells own) ms
 unfolding all_cells
-all_cells-suc n m cells ms e = ap (λ k. all_cells k cells ms) e
+all_cells-suc test n m cells ms e = ap (λ k. all_cells test k cells ms) e
 
 -- ---- members that are taken out and put in again
 pub member_put : (k : List ℕ) (R : Data → Data → Type 0) (ms left ns : Members) (d e : Data) → Some d ≡ get_member k ms → left ≡ without k ms → R d e

@@ -4,7 +4,9 @@ use Rattle.std.proofs.lemmas.List.{append-nil, map-append}
 use Rattle.serde_json.specs.Data.{Data, item, Members}
 use Rattle.serde_json.specs.View.{view, items_of, items_view}
 use Rattle.serde_json.specs.declared.value.Value.{Value}
-use Rattle.tiled_maps.specs.Sources.{items_with, layer_as, layers_like, compression_by, member_with, array_with}
+use Rattle.tiled_maps.specs.Sources.{items_with, or_else, member_with, array_with}
+use Rattle.tiled_maps.specs.Formats.{written_as}
+use Rattle.tiled_maps.specs.Alike.{layer_as, layers_like, compression_by}
 
 abbrev pub mapped : (Data → Data) → List Value → List Data
 mapped f vs = map (λ v. f (view v)) vs
@@ -33,7 +35,17 @@ pub IsMade-all : (f : Data → Data) (all done left : List Value) → IsMade f a
 IsMade-all f all done [] made none = ap items_of (sym (append-nil (map view done)) ∙ made.so_far) ∙ items_with-mapped f all
 IsMade-all f all done (x ∷ xs) made none = absurd (omega arith)
 
-pub layers_like-suc : (n m : ℕ) (olds : Option Members) (ms : Members) → n ≡ suc m
-    → layers_like n olds ms ≡ compression_by olds (member_with (codes "layers") (array_with (layer_as m olds)) ms)
+layers_like-suc : (n m : ℕ) (first olds : Option Members) (ms : Members) → n ≡ suc m
+    → layers_like n first olds ms
+    ≡ written_as (or_else olds first) (compression_by olds (member_with (codes "layers") (array_with (layer_as m first olds)) ms))
 unfolding layers_like
-layers_like-suc n m olds ms e = ap (λ k. layers_like k olds ms) e
+layers_like-suc n m first olds ms e = ap (λ k. layers_like k first olds ms) e
+
+-- what was made of a map, a group or a layer, step by step
+pub layers_like-made : (n m : ℕ) (first olds other : Option Members) (ms below own ns : Members) → n ≡ suc m
+    → below ≡ member_with (codes "layers") (array_with (layer_as m first olds)) ms → own ≡ compression_by olds below → other ≡ or_else olds first
+    → ns ≡ written_as other own → ns ≡ layers_like n first olds ms
+layers_like-made n m first olds other ms below own ns more layers compression like new =
+    let so_far : own ≡ compression_by olds (member_with (codes "layers") (array_with (layer_as m first olds)) ms)
+    = compression ∙ ap (compression_by olds) layers in
+    new ∙ (ap (λ o. written_as o own) like ∙ (ap (written_as (or_else olds first)) so_far ∙ sym (layers_like-suc n m first olds ms more)))

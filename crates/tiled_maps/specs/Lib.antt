@@ -6,3 +6,5 @@ pub mod Sources
 pub mod Likeness
 pub mod Packed
 pub mod Packing
+pub mod Formats
+pub mod Alike

@@ -11,7 +11,8 @@ use Rattle.tiled_maps.specs.declared.fault.Fault.TheVariants.{Memory, NotJson, N
 use Rattle.tiled_maps.specs.Packed.{note_name, unpacked_layers, packed_cells, most_packed}
 use Rattle.tiled_maps.specs.Packing.{IsPackedAs}
 use Rattle.json_trees.specs.Names.{has_name}
-use Rattle.tiled_maps.specs.Sources.{is_map, as_in}
+use Rattle.tiled_maps.specs.Sources.{is_map}
+use Rattle.tiled_maps.specs.Alike.{as_in}
 use Rattle.tiled_maps.specs.Trees.{put_back_of}
 
 -- the source is the text of this map, or of no map

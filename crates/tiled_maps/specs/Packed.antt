@@ -167,22 +167,24 @@ has_packed d = object_or (λ ms. any_packed tiers ms) false d
 abbrev pub unpacked_layers : Data → Data
 unpacked_layers d = if has_packed d then object_with map_unpacked d else d
 
--- how many cells the packed layers of a map with so many have in all: each as many as the map, if it has data, and those of its chunks
+-- how many cells those layers of a map with so many have in all that pass a test: each as many as the map, if it has data, and those of
+-- its chunks
 abbrev pub own_cells : ℕ → Members → ℕ
 own_cells cells ms = if is_some (get_member (codes "data") ms) then cells else 0
 
 abbrev pub cells_in_chunks : Members → ℕ
 cells_in_chunks ms = unwrap_or (option_map (sum_in (λ chunk. cells_of chunk)) (option_and_then as_array (get_member (codes "chunks") ms))) 0
 
-abbrev pub layer_cells : ℕ → Members → ℕ
-layer_cells cells ms = if is_packed ms then own_cells cells ms + cells_in_chunks ms else 0
+abbrev pub layer_cells : (Members → Bool) → ℕ → Members → ℕ
+layer_cells test cells ms = if test ms then own_cells cells ms + cells_in_chunks ms else 0
 
-unfoldable pub all_cells : ℕ → ℕ → Members → ℕ
-all_cells zero cells ms = 0
-all_cells (suc n) cells ms = layer_cells cells ms + sum_below (λ own. all_cells n cells own) ms
+unfoldable pub all_cells : (Members → Bool) → ℕ → ℕ → Members → ℕ
+all_cells test zero cells ms = 0
+all_cells test (suc n) cells ms = layer_cells test cells ms + sum_below (λ own. all_cells test n cells own) ms
 
+-- how many the packed layers of a map have in all
 abbrev pub packed_cells : Data → ℕ
-packed_cells d = object_or (λ ms. all_cells tiers (cells_of ms) ms) 0 d
+packed_cells d = object_or (λ ms. all_cells is_packed tiers (cells_of ms) ms) 0 d
 
 abbrev pub most_packed : ℕ
 most_packed = 16777216

@@ -1,9 +1,8 @@
--- A map as its source has it, in what the editor's format sets or leaves out: its version, and empty compressions.
-use Rattle.std.specs.Prelude.{ℕ, zero, suc, ◌==◌, ◌&&◌, List, [], codes, Bool, false, if◌then◌else◌}
-use Rattle.std.specs.Prelude.{Option, Some, None, option_map, option_and_then, is_some, is_none}
+-- The layers of a map and of its source, and walks over them.
+use Rattle.std.specs.Prelude.{ℕ, ◌==◌, List, codes, Bool, false, if◌then◌else◌, Option, Some, None, option_map, option_and_then, is_some}
 use Rattle.std.specs.Str.{bytes_eq}
-use Rattle.serde_json.specs.Data.{Data, null, boolean, number, string, array, object, Items, no_items, item, Members, put}
-use Rattle.serde_json.specs.Find.{get, get_member, as_number, as_u64, as_str, as_array, as_object}
+use Rattle.serde_json.specs.Data.{Data, null, boolean, number, string, array, object, Items, no_items, item, Members}
+use Rattle.serde_json.specs.Find.{get, get_member, as_number, as_u64, as_str, as_array}
 use Rattle.json_members.specs.Members.{without, put_some}
 
 -- whether a tree is that of a map: an object with layers
@@ -44,7 +43,7 @@ layers_in ms = option_and_then as_array (get_member (codes "layers") ms)
 abbrev pub layer_like : Option Members → Members → Option Members
 layer_like olds ms = option_and_then (λ id. option_and_then (layer_among id) (option_and_then layers_in olds)) (id_of ms)
 
--- ---- empty compressions
+-- ---- texts
 abbrev pub is_text : List ℕ → Option (List ℕ) → Bool
 is_text t None = false
 is_text t (Some s) = bytes_eq s t
@@ -52,15 +51,6 @@ is_text t (Some s) = bytes_eq s t
 -- whether a member is this text
 abbrev pub has_text : List ℕ → List ℕ → Members → Bool
 has_text k t ms = is_text t (option_and_then as_str (get_member k ms))
-
--- whether a layer of the source has an empty compression, and this one none, though its data are base64
-abbrev pub lacks_compression : Members → Members → Bool
-lacks_compression olds ms =
-    has_text (codes "compression") [] olds && has_text (codes "encoding") (codes "base64") ms && is_none (get_member (codes "compression") ms)
-
-abbrev pub compression_by : Option Members → Members → Members
-compression_by None ms = ms
-compression_by (Some olds) ms = if lacks_compression olds ms then put (codes "compression") (string []) ms else ms
 
 -- ---- a map's layers, those in groups too
 abbrev pub object_with : (Members → Members) → Data → Data
@@ -90,23 +80,3 @@ member_with k f ms = put_some k (option_map f (get_member k ms)) (without k ms)
 -- how deep groups are looked into
 abbrev pub tiers : ℕ
 tiers = 17
-
--- The members of a map, a group or a layer, with the empty compressions of the source: its own and those of its layers.
-unfoldable pub layers_like : ℕ → Option Members → Members → Members
-layers_like zero olds ms = ms
-layers_like (suc n) olds ms =
-    compression_by olds (member_with (codes "layers") (array_with (object_with (λ own. layers_like n (layer_like olds own) own))) ms)
-
--- a layer in a map or a group of which the source has these members
-abbrev pub layer_as : ℕ → Option Members → Data → Data
-layer_as n olds d = object_with (λ own. layers_like n (layer_like olds own) own) d
-
--- ---- the map
--- The version is the one that the source has; none, if it has none.
-abbrev pub with_version : Data → Members → Members
-with_version source ms = put_some (codes "version") (get (codes "version") source) (without (codes "version") ms)
-
--- The map as its source has it: with its version, and its empty compressions. Without a source it stays as it is.
-abbrev pub as_in : Option Data → Data → Data
-as_in None d = d
-as_in (Some source) d = object_with (λ ms. with_version source (layers_like tiers (as_object source) ms)) d

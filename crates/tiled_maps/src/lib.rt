@@ -3,6 +3,7 @@
 
 mod damage;
 mod fault;
+mod formats;
 mod look;
 mod packed_layers;
 mod packing;

@@ -1,9 +1,12 @@
-// Which layers of a map are packed, and how many cells they have.
+// Which layers of a map are packed, and how many cells they have, or all tile layers.
 ghost use Rattle.std.specs.Prelude.{◌≡◌, ◌+◌, ◌-◌, ◌^◌, ◌≤◌, false, option_map, unwrap_or, min};
 ghost use Rattle.serde_json.specs.View.{view as data_of, items_view, members_view};
 ghost use Rattle.tiled_maps.specs.Packed.{cells_of, object_or, any_in, sum_in, any_below, sum_below, any_packed, has_packed, own_cells, cells_in_chunks, layer_cells};
 ghost use Rattle.tiled_maps.specs.Packed.{all_cells, packed_cells};
+ghost use Rattle.tiled_maps.specs.Sources.{tiers};
+ghost use Rattle.tiled_maps.specs.Formats.{is_counted, tile_cells};
 
+use crate::formats::is_tiles;
 use crate::sources::{TIERS, layers_in};
 use crate::unpacking::{cells_of, is_packed};
 use json_members::found;
@@ -101,10 +104,28 @@ fn own_cells(cells: usize, members: &Map<String, Value>) -> u64
     }
 }
 
-fn layer_cells(cells: usize, members: &Map<String, Value>) -> u64
-    ensures { result ≡ min (layer_cells cells (members_view members.now.entries)) (2 ^ 64 - 1) }
+/// Which layers are counted.
+#[derive(Clone, Copy)]
+pub enum Counted {
+    /// Those that are packed.
+    Packed,
+    /// All tile layers.
+    Tiles,
+}
+
+fn is_counted(counted: Counted, members: &Map<String, Value>) -> bool
+    ensures { result ≡ is_counted counted (members_view members.now.entries) }
 {
-    if is_packed(members) {
+    match counted {
+        Counted::Packed => is_packed(members),
+        Counted::Tiles => is_tiles(members),
+    }
+}
+
+fn layer_cells(counted: Counted, cells: usize, members: &Map<String, Value>) -> u64
+    ensures { result ≡ min (layer_cells (is_counted counted) cells (members_view members.now.entries)) (2 ^ 64 - 1) }
+{
+    if is_counted(counted, members) {
         own_cells(cells, members).saturating_add(cells_in_chunks(members))
     } else {
         0
@@ -113,42 +134,56 @@ fn layer_cells(cells: usize, members: &Map<String, Value>) -> u64
 
 #[cycle(all_cells)]
 #[tactic(auto, unfolding(crate::specs::Packed::all_cells))]
-fn all_cells(tiers: u8, cells: usize, members: &Map<String, Value>) -> u64
-    ensures { result ≡ min (all_cells tiers cells (members_view members.now.entries)) (2 ^ 64 - 1) }
+fn all_cells(tiers: u8, counted: Counted, cells: usize, members: &Map<String, Value>) -> u64
+    ensures { result ≡ min (all_cells (is_counted counted) tiers cells (members_view members.now.entries)) (2 ^ 64 - 1) }
 {
     if tiers == 0 {
         return 0;
     }
-    layer_cells(cells, members).saturating_add(cells_below(tiers - 1, cells, members))
+    layer_cells(counted, cells, members).saturating_add(cells_below(
+        tiers - 1,
+        counted,
+        cells,
+        members,
+    ))
 }
 
 #[cycle(all_cells)]
-fn cells_below(tiers: u8, cells: usize, members: &Map<String, Value>) -> u64
-    ensures { result ≡ min (sum_below (λ own. all_cells tiers cells own) (members_view members.now.entries)) (2 ^ 64 - 1) }
+fn cells_below(tiers: u8, counted: Counted, cells: usize, members: &Map<String, Value>) -> u64
+    ensures { result ≡ min (sum_below (λ own. all_cells (is_counted counted) tiers cells own) (members_view members.now.entries)) (2 ^ 64 - 1) }
 {
     match layers_in(members) {
-        Some(layers) => cells_in(tiers, cells, layers),
+        Some(layers) => cells_in(tiers, counted, cells, layers),
         None => 0,
     }
 }
 
 #[cycle(all_cells)]
-fn cells_in(tiers: u8, cells: usize, layers: &Vec<Value>) -> u64
-    ensures { result ≡ min (sum_in (λ own. all_cells tiers cells own) (items_view layers.now.items)) (2 ^ 64 - 1) }
+fn cells_in(tiers: u8, counted: Counted, cells: usize, layers: &Vec<Value>) -> u64
+    ensures { result ≡ min (sum_in (λ own. all_cells (is_counted counted) tiers cells own) (items_view layers.now.items)) (2 ^ 64 - 1) }
 {
     let mut sum: u64 = 0;
     for layer in layers {
-        sum = sum.saturating_add(cells_at(tiers, cells, layer));
+        sum = sum.saturating_add(cells_at(tiers, counted, cells, layer));
     }
     sum
 }
 
 #[cycle(all_cells)]
-fn cells_at(tiers: u8, cells: usize, layer: &Value) -> u64
-    ensures { result ≡ min (object_or (λ own. all_cells tiers cells own) 0 (data_of layer.now)) (2 ^ 64 - 1) }
+fn cells_at(tiers: u8, counted: Counted, cells: usize, layer: &Value) -> u64
+    ensures { result ≡ min (object_or (λ own. all_cells (is_counted counted) tiers cells own) 0 (data_of layer.now)) (2 ^ 64 - 1) }
 {
     match layer {
-        Value::Object(members) => all_cells(tiers, cells, members),
+        Value::Object(members) => all_cells(tiers, counted, cells, members),
+        _ => 0,
+    }
+}
+
+fn cells_of_map(counted: Counted, map: &Value) -> u64
+    ensures { result ≡ min (object_or (λ ms. all_cells (is_counted counted) tiers (cells_of ms) ms) 0 (data_of map.now)) (2 ^ 64 - 1) }
+{
+    match map {
+        Value::Object(members) => all_cells(TIERS, counted, cells_of(members), members),
         _ => 0,
     }
 }
@@ -157,8 +192,12 @@ fn cells_at(tiers: u8, cells: usize, layer: &Value) -> u64
 pub fn packed_cells(map: &Value) -> u64
     ensures { result ≡ min (packed_cells (data_of map.now)) (2 ^ 64 - 1) }
 {
-    match map {
-        Value::Object(members) => all_cells(TIERS, cells_of(members), members),
-        _ => 0,
-    }
+    cells_of_map(Counted::Packed, map)
+}
+
+/// How many cells the tile layers of a map have in all, as far as a number goes.
+pub fn tile_cells(map: &Value) -> u64
+    ensures { result ≡ min (tile_cells (data_of map.now)) (2 ^ 64 - 1) }
+{
+    cells_of_map(Counted::Tiles, map)
 }

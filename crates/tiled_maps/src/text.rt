@@ -125,6 +125,7 @@ pub fn set_aside(alloc: Global, bytes: &[u8]) -> Result<Option<Vec<u8>>, Fault>
 /// A map that was infinite is made infinite, as by `infinite_maps::made_infinite`. A stand-in becomes its number. A coordinate of
 /// an object becomes the number that the object's note of it has, if it still is that number's whole part; else an edit has
 /// changed it, and it stays. Notes go, and anything else under `roskevad` stays. Layers that note how they were packed are packed.
+/// Those that were added note nothing, and stay arrays: there is no source that says how others are written.
 ///
 /// `NotJson` where the bytes have no tree, `TooDeep` where the text would nest too deep, and `Memory` where there was not enough.
 /// No other fault comes, and of what `set_aside` gave only `Memory`. The caller bounds how long the text may be.
@@ -177,9 +178,14 @@ fn source_tree(alloc: Global, source: &[u8]) -> Result<Option<Value>, AllocError
 /// that the map was, or that it replaces.
 ///
 /// The version of the map, and the empty compression of a layer, are as the source has them. A layer that was packed is packed; where
-/// its cells are the source's, it has the source's text of them. Where the map is the source's, or that is what the source unpacks
-/// to, the source itself is given. Else each value that the source has, too, keeps its bytes, and what is new is laid out as its neighbours
-/// are. A source that is no map counts for nothing: then the text is in Tiled's layout.
+/// its cells are the source's, it has the source's text of them. A tile layer that is an array is written as the source has it or, where
+/// the source has no such layer, as the source's first one: it stays an array, becomes base64, or is packed by zlib or gzip. It stays
+/// an array, too, beside one that is packed in another way, if a cell is no whole number of 32 bits, and, without one of its own in the
+/// source, if the tile layers of the map have more than 8,388,608 cells.
+///
+/// Where the map is the source's, or that is what the source unpacks to, the source itself is given. Else each value that the source
+/// has, too, keeps its bytes, and what is new is laid out as its neighbours are. A source that is no map counts for nothing: then the
+/// text is in Tiled's layout.
 ///
 /// `NotJson`, `TooDeep` and `Memory` come, as of `put_back`. The caller bounds how long the text may be.
 pub fn put_back_like(alloc: Global, bytes: &[u8], source: &[u8]) -> Result<LaidText, Fault>

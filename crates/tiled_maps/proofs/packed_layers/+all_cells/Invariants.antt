@@ -1,6 +1,7 @@
 use Rattle.std.proofs.Common.{◌≡◌, ◌≤◌, ◌+◌, ◌-◌, ◌*◌, ◌^◌, min, drop}
 use Rattle.serde_json.specs.View.{items_view}
 use Rattle.tiled_maps.specs.Packed.{sum_in, all_cells}
+use Rattle.tiled_maps.specs.Formats.{is_counted}
 use Rattle.tiled_maps.proofs.packed_layers.+all_cells.Given as goal
 
 abbrev pub decreases-all_cells : goal.decreases-all_cells
@@ -17,6 +18,6 @@ decreases-cells_below l = 4 * l.tiers + 3
 
 abbrev pub invariant-cells_in-loop-layer : goal.invariant-cells_in-loop-layer
 invariant-cells_in-loop-layer l =
-    (min (l.sum + sum_in (λ own. all_cells l.tiers l.cells own) (items_view (drop l.layer-index l.layer-items))) (2 ^ 64 - 1)
-    ≡ min (sum_in (λ own. all_cells l.tiers l.cells own) (items_view l.layer-items)) (2 ^ 64 - 1))
+    (min (l.sum + sum_in (λ own. all_cells (is_counted l.counted) l.tiers l.cells own) (items_view (drop l.layer-index l.layer-items))) (2 ^ 64 - 1)
+    ≡ min (sum_in (λ own. all_cells (is_counted l.counted) l.tiers l.cells own) (items_view l.layer-items)) (2 ^ 64 - 1))
     × (l.sum ≤ 2 ^ 64 - 1)

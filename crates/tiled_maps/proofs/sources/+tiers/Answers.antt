@@ -1,6 +1,6 @@
-use Rattle.std.proofs.Common.{rules, ◌≡◌, suc, ◌-◌, length, sym, ap, ◌∙◌, arith}
+use Rattle.std.proofs.Common.{rules, ◌≡◌, suc, ◌-◌, length, ap, arith}
 use Rattle.std.specs.Vec.Iter.{into_iter_items}
-use Rattle.tiled_maps.proofs.SourceWalks.{IsMade-none, IsMade-pushed, IsMade-all, layers_like-suc}
+use Rattle.tiled_maps.proofs.SourceWalks.{IsMade-none, IsMade-pushed, IsMade-all, layers_like-made}
 use Rattle.tiled_maps.proofs.sources.+tiers.Goals as goal
 
 pub items_like-loop-item-init : goal.items_like-loop-item-init
@@ -23,6 +23,6 @@ items_like-returns t c =
 
 pub put_likeness-returns : goal.put_likeness-returns
 put_likeness-returns t c =
-    let tiers = c.args.tiers in
-    let more : tiers ≡ suc (tiers - 1) = omega arith in
-    (rw c.in_ok-put_layers.ensures at c.in_ok-put_compression.ensures) ∙ sym (layers_like-suc tiers (tiers - 1) _ _ more)
+    let more : c.args.tiers ≡ suc (c.args.tiers - 1) = omega arith in
+    layers_like-made c.args.tiers (c.args.tiers - 1) _ _ _ _ _ _ _ more c.in_ok-put_layers.ensures c.in_ok-put_compression.ensures c.or_first.ensures
+    c.in_ok-write_as.ensures

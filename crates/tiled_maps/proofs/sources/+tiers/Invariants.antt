@@ -1,7 +1,7 @@
 use Rattle.std.proofs.Common.{◌≡◌, ◌+◌, ◌*◌, length, option_map}
 use Rattle.std.specs.Vec.Iter.{into_iter_items, into_iter_len}
 use Rattle.serde_json.specs.View.{members_view}
-use Rattle.tiled_maps.specs.Sources.{layer_as}
+use Rattle.tiled_maps.specs.Alike.{layer_as}
 use Rattle.tiled_maps.proofs.SourceWalks.{IsMade}
 use Rattle.tiled_maps.proofs.sources.+tiers.Given as goal
 
@@ -22,5 +22,5 @@ decreases-put_layers l = 5 * l.tiers + 4
 
 abbrev pub invariant-items_like-loop-item : goal.invariant-items_like-loop-item
 invariant-items_like-loop-item l =
-    IsMade (layer_as l.tiers (option_map (λ m. members_view m.now.entries) l.olds)) l.fn.items.items l.all.items (into_iter_items l.item-iterator)
+    IsMade (layer_as l.tiers (option_map (λ m. members_view m.now.entries) l.first) (option_map (λ m. members_view m.now.entries) l.olds)) l.fn.items.items l.all.items (into_iter_items l.item-iterator)
     × (into_iter_len l.item-iterator ≡ length (into_iter_items l.item-iterator))

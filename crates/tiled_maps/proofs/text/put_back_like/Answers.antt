@@ -6,7 +6,7 @@ use Rattle.serde_json.specs.View.{view}
 use Rattle.json_trees.specs.Texts.{IsTreeOf}
 use Rattle.tiled_maps.specs.Likeness.{IsSource}
 use Rattle.tiled_maps.specs.Packing.{IsPackedAs, IsKept}
-use Rattle.tiled_maps.specs.Sources.{as_in}
+use Rattle.tiled_maps.specs.Alike.{as_in}
 use Rattle.tiled_maps.specs.Trees.{put_back_of}
 use Rattle.tiled_maps.proofs.PackedLaws.{source_within, unpacks_to_source, seen_by}
 use Rattle.tiled_maps.proofs.text.put_back_like.Goals as goal
