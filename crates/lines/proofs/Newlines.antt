@@ -1,15 +1,15 @@
 -- The offset of the first newline.
-use Rattle.std.proofs.Common.{◌≡◌, ℕ, ◌+◌, ◌^◌, ◌<◌, ◌≤◌, Bool, true, false, eqb, ltb, cond, not, List, ◌∷◌, ◌++◌, length, map, take, drop, get_or, refl, sym}
+use Rattle.std.proofs.Common.{◌≡◌, ℕ, ◌+◌, ◌-◌, ◌^◌, ◌<◌, ◌≤◌, Bool, true, false, eqb, ltb, cond, not, List, ◌∷◌, ◌++◌, length, map, take, drop, get_or, refl, sym}
 use Rattle.std.proofs.Common.{ap, ◌∙◌, arith, w64}
 use Rattle.std.specs.List.{before_first, after_first}
 use Rattle.std.specs.Int.{bit_at, trailing_zeros}
 use Rattle.std.specs.Simd.Lanes.{mask_l}
 use Rattle.std.proofs.lemmas.Bool.{ne_eqb, eq-eqb, eqb-true, eqb-false, ltb-true, ltb-false, false_from_ne_true}
-use Rattle.std.proofs.lemmas.Nat.Bits.{bit_at-trailing_zeros}
+use Rattle.std.proofs.lemmas.Nat.Bits.{bit_at-trailing_zeros, bit_at-zero}
 use Rattle.std.proofs.lemmas.Simd.{bit_mask_l}
 use Rattle.std.proofs.Math.ListN.{get_or-map}
 use Rattle.memchr.specs.Find.{NoneBefore, Nowhere, Passes, is_byte}
-use Rattle.std.proofs.lemmas.List.{get_or-take, get_or_past, length-take}
+use Rattle.std.proofs.lemmas.List.{get_or-take, get_or_past, get_or_default, length-take, length-drop, take_all, take-append-drop, drop-drop}
 use Rattle.std.proofs.lemmas.List.Sums.{position_or_len_is, fails_before_first, passes_at_first, split_at_first}
 use Rattle.std.proofs.lemmas.List.Folds.{prefix_len-append}
 use Rattle.lines.specs.Lines.{HasNoNewline}
@@ -96,3 +96,21 @@ first_moved range old s i e h l = omega (arith, ap first_newline e, first_of_non
 pub first_filled : (range old more : List ℕ) (s i n : ℕ) → range ≡ old ++ more → HasNoNewline old → length old ≡ i → n ≡ first_newline more
     → s + i + n ≡ s + first_newline range
 first_filled range old more s i n e h l k = omega (arith, ap first_newline e, first-append old more h, l, k)
+
+-- where no bit of the mask is set, no newline is among the first n bytes
+pub first_far : (bs : List ℕ) (n bits : ℕ) → n ≤ length bs → bits ≡ mask_l (map newline (take n bs)) → bits ≡ 0
+    → first_newline bs ≡ n + first_newline (drop n bs)
+first_far bs n bits within is none =
+    let clear : (k : ℕ) → newline (get_or (take n bs) k 0) ≡ false = λ k. is_not_set _
+    (sym (bit_of_mask (take n bs) k) ∙ ap (λ m. bit_at m k) (sym is ∙ none) ∙ bit_at-zero k) in
+    let no : HasNoNewline (take n bs) = λ k d l e. eqb-false _ 10 (clear k) (get_or_default (take n bs) k 0 d l ∙ e) in
+    ap first_newline (sym (take-append-drop n bs)) ∙ first-append (take n bs) (drop n bs) no ∙ omega (arith, length-take n bs, within)
+
+-- the first newline behind bytes that have none
+pub first_on : (bs : List ℕ) (seen more : ℕ) → first_newline bs ≡ seen + first_newline (drop seen bs)
+    → first_newline (drop seen bs) ≡ more + first_newline (drop more (drop seen bs)) → first_newline bs ≡ seen + more + first_newline (drop (seen + more) bs)
+first_on bs seen more e f = omega (arith, e, f, ap first_newline (drop-drop more seen bs))
+
+-- what stands behind the bytes that were seen, as a slice
+pub behind : (bs : List ℕ) (seen : ℕ) → take (length bs - seen) (drop seen bs) ≡ drop seen bs
+behind bs seen = take_all (length bs - seen) (drop seen bs) (omega (arith, length-drop seen bs))

@@ -88,15 +88,17 @@ fn newline_at(bytes: &[u8]) -> usize
     ensures offset { result ≡ first_newline bytes.now }
     ensures within { result ≤ length bytes.now }
 {
-    // Most lines are short: their newline is found at once.
-    if bytes.len() >= LOOK_AHEAD {
-        let bits = newline_bits(bytes);
+    // Most lines are short: their newline is found in the first steps.
+    let mut seen = 0;
+    while bytes.len() - seen >= LOOK_AHEAD {
+        let bits = newline_bits(&bytes[seen..]);
         if bits != 0 {
-            return bits.trailing_zeros() as usize;
+            return seen + bits.trailing_zeros() as usize;
         }
+        seen += LOOK_AHEAD;
     }
-    match memchr(b'\n', bytes) {
-        Some(n) => n,
+    match memchr(b'\n', &bytes[seen..]) {
+        Some(n) => seen + n,
         None => bytes.len(),
     }
 }

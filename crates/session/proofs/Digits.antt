@@ -6,7 +6,8 @@ use Rattle.std.specs.Str.Parse.{digits_value}
 use Rattle.std.proofs.lemmas.Bool.{le-ltb}
 use Rattle.std.proofs.lemmas.Bool.Decides.{nat_tests}
 use Rattle.std.proofs.lemmas.Int.Digits.{digits_value_more}
-use Rattle.std.proofs.lemmas.Str.Parse.{digits_value-take-le}
+use Rattle.std.proofs.lemmas.List.{length-take}
+use Rattle.std.proofs.lemmas.Str.Parse.{digits_value-take-le, digits_value_short}
 use Rattle.std.proofs.lemmas.Str.Parse.{IsNumeralModel, numerals_by_value, IsDigitsTest}
 use Rattle.session.specs.Words.{digits_of}
 
@@ -32,3 +33,9 @@ pub digits_large : (bs : List ℕ) (i : ℕ) → 2 ^ 32 ≤ digits_value 10 (tak
 digits_large bs i h =
     let l : 2 ^ 32 ≤ digits_value 10 bs = omega (arith, h, digits_value-take-le 10 bs i (omega arith)) in
     rw (le-ltb (digits_value 10 bs) (2 ^ 32) l) (and_none (list_all is_ascii_digit bs) (digits_value 10 bs))
+
+-- eight digits have a value below 10^8
+pub few_digits : (bs : List ℕ) (i n : ℕ) → i ≤ 8 → list_all is_ascii_digit (take i bs) ≡ true → n ≡ digits_value 10 (take i bs) → n < 10 ^ 8
+few_digits bs i n few digits e =
+    let short : length (take i bs) ≤ 8 = omega (arith, length-take i bs, few) in
+    omega (arith, digits_value_short decimal_numerals (take i bs) 8 digits short, e)

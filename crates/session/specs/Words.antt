@@ -224,3 +224,12 @@ abbrev pub IsFirst : {A : Type 0} → (List ℕ → Option A) → List (List ℕ
 IsFirst meaning [] separator found = ⊥
 IsFirst meaning (w ∷ ws) separator None = meaning w ≡ None
 IsFirst meaning (w ∷ ws) separator (Some x) = (meaning w ≡ Some x.0) × (ws ≡ pieces_left separator x.1)
+
+-- the digits in front of other bytes are a number of that length and value
+pub record IsLeadingNumber (bytes : List ℕ) (len value : ℕ) : Type 0 where
+  pub digits : AreLeadingDigits bytes len value
+  pub prefix : is_numeral_prefix (take len bytes) ≡ true
+
+-- no number stands in front, whatever separates the pieces
+abbrev pub HasNoNumber : List ℕ → Type 0
+HasNoNumber bytes = (separator : ℕ) → is_ascii_digit separator ≡ false → IsFirst number_of (slice_split (λ b. b == separator) bytes) separator None

@@ -11,7 +11,8 @@ use crate::limits::{MAX_DOCUMENT_NAME, MAX_FILE_NAME};
 use crate::text::Text;
 use crate::trail::{Expected, Trail};
 use crate::words::{
-    are_texts_here, coordinate_before, cut, cut_at_bars, is_name_word, is_text_here, number_before,
+    are_texts_here, coordinate_before, cut, cut_at_bars, cut_long, is_name_word, is_text_here,
+    number_before, short_coordinate_before,
 };
 use map_model::limits::MAX_SIDE;
 use refusals::LineFault;
@@ -109,6 +110,20 @@ impl<'a, T: Trail + Copy> Fields<'a, T> {
         Ok(word)
     }
 
+    // The word of a block's values, which may be long, and of which the trail is told already.
+    fn next_values(&mut self) -> Result<&'a str, LineFault>
+        ensures ok { IfOk result (λ word. self.old.words ≡ word.now ∷ self.new.words) }
+        ensures err { IfErr result (λ fault. (fault ≡ BadWord) × (self.old.words ≡ [])) }
+        ensures place { self.new.place ≡ self.old.place }
+    {
+        let Some(rest) = self.rest else {
+            return Err(LineFault::BadWord);
+        };
+        let (word, rest) = cut_long(rest, b' ');
+        self.rest = rest;
+        Ok(word)
+    }
+
     // A number, and what else it is to be.
     #[inline(always)]
     #[tactic(auto, unfolding(crate::specs::Grammar::word_at))]
@@ -136,6 +151,23 @@ impl<'a, T: Trail + Copy> Fields<'a, T> {
         self.number_as(Expected::Number)
     }
 
+    // A coordinate, of which the trail is told already.
+    #[inline(never)]
+    #[tactic(auto, unfolding(crate::specs::Grammar::word_at))]
+    fn any_coordinate(&mut self) -> Result<i32, LineFault>
+        ensures value { Gives (λ x. (x, self.new.words)) result (word_at coordinate_of self.old.words) }
+        ensures place { self.new.place ≡ self.old.place }
+    {
+        let Some(rest) = self.rest else {
+            return Err(LineFault::BadWord);
+        };
+        let Some((coordinate, rest)) = coordinate_before(rest) else {
+            return Err(LineFault::BadWord);
+        };
+        self.rest = rest;
+        Ok(coordinate)
+    }
+
     /// A coordinate.
     // (its code stands once, and not at each place of the loop that wants one)
     #[inline(never)]
@@ -145,14 +177,14 @@ impl<'a, T: Trail + Copy> Fields<'a, T> {
         ensures place { self.new.place ≡ next self.old.place }
     {
         self.trail.wants(Expected::Coordinate);
-        let Some(rest) = self.rest else {
-            return Err(LineFault::BadWord);
-        };
-        let Some((coordinate, rest)) = coordinate_before(rest) else {
-            return Err(LineFault::BadWord);
-        };
-        self.rest = rest;
-        Ok(coordinate)
+        // Nearly all coordinates are short. The call of the other way stands last, so that this one needs no frame.
+        if let Some(rest) = self.rest {
+            if let Some((coordinate, rest)) = short_coordinate_before(rest) {
+                self.rest = rest;
+                return Ok(coordinate);
+            }
+        }
+        self.any_coordinate()
     }
 
     // The values of a block of that width.
@@ -165,7 +197,7 @@ impl<'a, T: Trail + Copy> Fields<'a, T> {
         if width >= 1 && width <= MAX_SIDE {
             self.trail.wants(Expected::Tiles(width));
         }
-        let word = self.next_word()?;
+        let word = self.next_values()?;
         let Some(values) = Gids::of_word(word) else {
             return Err(LineFault::BadWord);
         };

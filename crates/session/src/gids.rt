@@ -24,6 +24,7 @@ impl<'a> Model for Gids<'a> {
 
 impl<'a> Gids<'a> {
     /// The values that a word is.
+    #[inline(always)]
     #[tactic(auto, unfolding(crate::specs::Words::numbers_of))]
     pub(crate) fn of_word(word: &'a str) -> Option<Gids<'a>>
         ensures { result ≡ numbers_of word.now }

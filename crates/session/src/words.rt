@@ -1,8 +1,9 @@
 ghost use Rattle.std.specs.Char.{is_ascii_digit};
-ghost use Rattle.std.specs.Prelude.{◌≡◌, List, ℕ, false, ◌<◌, ◌∷◌, ◌==◌, ◌≤◌, ◌≢◌, ◌+◌, ◌++◌, All, take, drop, length, Some, IfSome, IfNone, option_map};
+ghost use Rattle.std.specs.Prelude.{◌≡◌, List, ℕ, false, true, ◌<◌, ◌^◌, ◌∷◌, ◌==◌, ◌≤◌, ◌≢◌, ◌+◌, ◌++◌, All, take, drop, length, Some, IfSome, IfNone, option_map};
 ghost use Rattle.std.specs.List.{list_all, slice_split};
+ghost use Rattle.std.specs.Str.Parse.{digits_value};
 ghost use Rattle.session.specs.declared.limits.TheConstants.{MAX_COORDINATE};
-ghost use Rattle.session.specs.Words.{number_of, is_numeral_prefix, AreLeadingDigits, HasLargePrefix, IsFirst, words, distance_of, below_zero, coordinate_of, is_name, is_name_byte, is_text, is_text_byte, cut_at_bars, are_texts, pieces_left, size_left};
+ghost use Rattle.session.specs.Words.{number_of, is_numeral_prefix, AreLeadingDigits, HasLargePrefix, HasNoNumber, IsFirst, IsLeadingNumber, words, distance_of, below_zero, coordinate_of, is_name, is_name_byte, is_text, is_text_byte, cut_at_bars, are_texts, pieces_left, size_left};
 
 use crate::limits::{MAX_COORDINATE, MAX_TEXT};
 use memchr::memchr;
@@ -10,27 +11,77 @@ use memchr::memchr;
 /// The largest number.
 const MAX: u64 = 4_294_967_295;
 
-/// The offset of the first separator.
+/// So many digits have a value below the largest, whichever they are.
+const FEW_DIGITS: usize = 9;
+
+/// The byte of the digit 0.
+const ZERO: u32 = 48;
+
+/// Texts of fewer bytes are short.
+const SHORT: usize = 16;
+
+/// The offset of the first separator, where it is near or the text is short: byte by byte.
+fn near_separator_at(bytes: &[u8], separator: u8) -> Option<usize>
+    ensures within { IfSome result (λ n. n < length bytes.now) }
+    ensures found { IfSome result (λ n. All (λ b. b ≢ separator) (take n bytes.now)
+        × (bytes.now ≡ take n bytes.now ++ separator ∷ drop (n + 1) bytes.now)) }
+    ensures none { IfNone result (All (λ b. b ≢ separator) bytes.now) }
+{
+    bytes.iter().position(|b| *b == separator)
+}
+
+/// The offset of the first separator, which may be far.
 fn separator_at(bytes: &[u8], separator: u8) -> Option<usize>
     ensures within { IfSome result (λ n. n < length bytes.now) }
     ensures found { IfSome result (λ n. All (λ b. b ≢ separator) (take n bytes.now)
         × (bytes.now ≡ take n bytes.now ++ separator ∷ drop (n + 1) bytes.now)) }
     ensures none { IfNone result (All (λ b. b ≢ separator) bytes.now) }
 {
+    if bytes.len() < SHORT {
+        return near_separator_at(bytes, separator);
+    }
     memchr(separator, bytes)
 }
 
-/// The first piece, and what is left behind the separator.
+// The piece in front of the first separator, which stands there, and what is left behind it.
+fn cut_at<'a>(text: &'a str, separator: u8, found: Option<usize>) -> (&'a str, Option<&'a str>)
+    requires ascii { separator < 128 }
+    requires within { IfSome found (λ n. n < length text.now) }
+    requires found { IfSome found (λ n. All (λ b. b ≢ separator) (take n text.now)
+        × (text.now ≡ take n text.now ++ separator ∷ drop (n + 1) text.now)) }
+    requires none { IfNone found (All (λ b. b ≢ separator) text.now) }
+    ensures pieces { slice_split (λ b. b == separator) text.now
+        ≡ result.0.now ∷ pieces_left separator result.1 }
+    ensures shorter { size_left result.1 ≤ length text.now }
+{
+    match found {
+        Some(n) => (&text[..n], Some(&text[n + 1..])),
+        None => (text, None),
+    }
+}
+
+/// The first piece, which is likely to be short, and what is left behind the separator.
 pub fn cut(text: &str, separator: u8) -> (&str, Option<&str>)
     requires { separator < 128 }
     ensures pieces { slice_split (λ b. b == separator) text.now
         ≡ result.0.now ∷ pieces_left separator result.1 }
     ensures shorter { size_left result.1 ≤ length text.now }
 {
-    match separator_at(text.as_bytes(), separator) {
-        Some(n) => (&text[..n], Some(&text[n + 1..])),
-        None => (text, None),
-    }
+    cut_at(
+        text,
+        separator,
+        near_separator_at(text.as_bytes(), separator),
+    )
+}
+
+/// As `cut`, where the first piece is likely to be long.
+pub fn cut_long(text: &str, separator: u8) -> (&str, Option<&str>)
+    requires { separator < 128 }
+    ensures pieces { slice_split (λ b. b == separator) text.now
+        ≡ result.0.now ∷ pieces_left separator result.1 }
+    ensures shorter { size_left result.1 ≤ length text.now }
+{
+    cut_at(text, separator, separator_at(text.as_bytes(), separator))
 }
 
 /// What stands in front of the first bars and what stands behind, or the whole text and nothing.
@@ -74,18 +125,78 @@ fn has_numeral_prefix(word: &[u8]) -> bool
     word.len() == 1 || word[0] != b'0'
 }
 
-/// The number that the first piece is, and what is left behind the separator.
-pub fn number_before(text: &str, separator: u8) -> Option<(u32, Option<&str>)>
+/// How many digits the number in front of other bytes has.
+#[inline(never)]
+fn number_len(bytes: &[u8]) -> Option<usize>
+    ensures some { IfSome result (λ len. IsLeadingNumber bytes.now len (digits_value 10 (take len bytes.now))) }
+    ensures none { IfNone result (HasNoNumber bytes.now) }
+{
+    let (len, _) = leading_digits(bytes)?;
+    if !has_numeral_prefix(&bytes[..len]) {
+        return None;
+    }
+    Some(len)
+}
+
+/// The value of digits.
+#[inline(never)]
+fn value_of(digits: &[u8]) -> u32
+    requires digits { list_all is_ascii_digit digits.now ≡ true }
+    requires small { digits_value 10 digits.now < 2 ^ 32 }
+    ensures { result ≡ digits_value 10 digits.now }
+{
+    match leading_digits(digits) {
+        Some((_, value)) => value,
+        None => unreachable!(),
+    }
+}
+
+/// The digits in front of other bytes, where they are few and do not begin with a zero: how many, and their value.
+#[inline(always)]
+fn few_digits(bytes: &[u8]) -> Option<(usize, u32)>
+    ensures { IfSome result (λ x. IsLeadingNumber bytes.now x.0 x.1) }
+{
+    if bytes.is_empty() || bytes[0] < b'1' || bytes[0] > b'9' {
+        return None;
+    }
+    let mut value = u32::from(bytes[0]) - ZERO;
+    let mut len = 1;
+    while len < bytes.len() && bytes[len].is_ascii_digit() {
+        // Of digits that are not few the value may be any.
+        let digit = u32::from(bytes[len]) - ZERO;
+        value = value.wrapping_mul(10).wrapping_add(digit);
+        len += 1;
+    }
+    if len > FEW_DIGITS {
+        return None;
+    }
+    Some((len, value))
+}
+
+/// The number in front of other bytes: how many digits it has, and its value.
+#[inline(always)]
+fn leading_number(bytes: &[u8]) -> Option<(usize, u32)>
+    ensures some { IfSome result (λ x. IsLeadingNumber bytes.now x.0 x.1) }
+    ensures none { IfNone result (HasNoNumber bytes.now) }
+{
+    // Nearly all numbers have few digits.
+    if let Some(found) = few_digits(bytes) {
+        return Some(found);
+    }
+    let len = number_len(bytes)?;
+    Some((len, value_of(&bytes[..len])))
+}
+
+// The number that the first piece is, whose first bytes are such digits, and what is left behind the separator.
+#[inline(always)]
+fn behind_digits(text: &str, separator: u8, len: usize, number: u32) -> Option<(u32, Option<&str>)>
     requires ascii { separator < 128 }
     requires other { is_ascii_digit separator ≡ false }
+    requires digits { IsLeadingNumber text.now len number }
     ensures number { IsFirst number_of (slice_split (λ b. b == separator) text.now) separator result }
     ensures shorter { IfSome result (λ x. size_left x.1 ≤ length text.now) }
 {
     let bytes = text.as_bytes();
-    let (len, number) = leading_digits(bytes)?;
-    if !has_numeral_prefix(&bytes[..len]) {
-        return None;
-    }
     if len == bytes.len() {
         return Some((number, None));
     }
@@ -95,6 +206,18 @@ pub fn number_before(text: &str, separator: u8) -> Option<(u32, Option<&str>)>
     Some((number, Some(&text[len + 1..])))
 }
 
+/// The number that the first piece is, and what is left behind the separator.
+#[inline(always)]
+pub fn number_before(text: &str, separator: u8) -> Option<(u32, Option<&str>)>
+    requires ascii { separator < 128 }
+    requires other { is_ascii_digit separator ≡ false }
+    ensures number { IsFirst number_of (slice_split (λ b. b == separator) text.now) separator result }
+    ensures shorter { IfSome result (λ x. size_left x.1 ≤ length text.now) }
+{
+    let (len, number) = leading_number(text.as_bytes())?;
+    behind_digits(text, separator, len, number)
+}
+
 /// The first word's distance from 0, where it is a number up to `MAX_COORDINATE`, and what is left of the line.
 #[tactic(auto, unfolding(crate::specs::Words::distance_of))]
 fn distance_before(text: &str) -> Option<(u32, Option<&str>)>
@@ -102,6 +225,21 @@ fn distance_before(text: &str) -> Option<(u32, Option<&str>)>
     ensures within { IfSome result (λ x. x.0 ≤ MAX_COORDINATE) }
 {
     let (distance, rest) = number_before(text, b' ')?;
+    if distance > MAX_COORDINATE {
+        return None;
+    }
+    Some((distance, rest))
+}
+
+// As `distance_before`, where the number has few digits.
+#[inline(always)]
+#[tactic(auto, unfolding(crate::specs::Words::distance_of))]
+fn short_distance_before(text: &str) -> Option<(u32, Option<&str>)>
+    ensures distance { IfSome result (λ x. IsFirst distance_of (words text.now) 32 (Some x)) }
+    ensures within { IfSome result (λ x. x.0 ≤ MAX_COORDINATE) }
+{
+    let (len, number) = few_digits(text.as_bytes())?;
+    let (distance, rest) = behind_digits(text, b' ', len, number)?;
     if distance > MAX_COORDINATE {
         return None;
     }
@@ -135,8 +273,6 @@ fn behind_minus(text: &str) -> Option<&str>
 }
 
 /// The coordinate that the first word is, at most `MAX_COORDINATE` from 0, and what is left of the line.
-// (inlined into the two readers of coordinates, with a trail and without)
-#[inline(always)]
 pub fn coordinate_before(text: &str) -> Option<(i32, Option<&str>)>
     ensures { IsFirst coordinate_of (words text.now) 32 result }
 {
@@ -147,6 +283,20 @@ pub fn coordinate_before(text: &str) -> Option<(i32, Option<&str>)>
         }
         None => {
             let (distance, rest) = distance_before(text)?;
+            Some((distance as i32, rest))
+        }
+    }
+}
+
+/// As `coordinate_before`, where the word is likely to be one: it has few digits and no sign.
+#[inline(always)]
+pub fn short_coordinate_before(text: &str) -> Option<(i32, Option<&str>)>
+    ensures { IfSome result (λ x. IsFirst coordinate_of (words text.now) 32 (Some x)) }
+{
+    match behind_minus(text) {
+        Some(_) => None,
+        None => {
+            let (distance, rest) = short_distance_before(text)?;
             Some((distance as i32, rest))
         }
     }
