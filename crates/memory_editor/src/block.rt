@@ -2,7 +2,7 @@
 //
 // All that they did lies in the steps that stand above the lowest index that they reached, but for what is gone: steps that were
 // undone may be cut by an edit, and what a step below that index took in can't be told from what it was. So the first are looked at
-// when they are undone, the second when it is merged, and the rest when it is asked for.
+// before a line that may cut them, the second when it is merged, and the rest when it is asked for.
 
 use crate::edited::Edited;
 use crate::seen::{Seen, count_of, open_seen, steps_seen};
@@ -30,8 +30,10 @@ pub struct Block {
     first: Standing,
     /// The lowest index of the active document since then.
     low: usize,
-    /// What differs between the document before the lines and the one at the lowest index.
+    /// What differs between the document before the lines and the one at this index. The steps from the lowest index up to it stand
+    /// there, and are not looked at yet.
     below: Seen,
+    looked: usize,
     /// How many macros were open all the time, and how many entries of the innermost of these are not of the lines: those behind them,
     /// and those of the macros in it, are.
     depth: usize,
@@ -52,6 +54,7 @@ impl Block {
             first: Standing::empty(),
             low: 0,
             below: Seen::nothing(),
+            looked: 0,
             depth: 0,
             entries: 0,
             is_turn: true,
@@ -70,6 +73,7 @@ impl Block {
         Block {
             first: line.before,
             low: line.before.index,
+            looked: line.before.index,
             depth: line.before.depth,
             entries,
             ..Block::new()
@@ -132,6 +136,30 @@ impl Block {
             self.is_lost = true;
         }
         self.low = self.low.saturating_sub(1);
+        self.looked = self.low;
+    }
+
+    /// The active document stands at this index behind an `undo` or a `redo`.
+    #[inline(always)]
+    pub fn turned_to(&mut self, index: usize) {
+        if index < self.low {
+            self.low = index;
+        }
+    }
+
+    /// Whether steps that were undone are not looked at yet.
+    #[inline(always)]
+    pub fn has_more_undone(&self) -> bool {
+        self.low < self.looked
+    }
+
+    /// Looks at the steps that were undone. The stack is the active one's.
+    #[cold]
+    pub fn look_at_undone(&mut self, stack: Option<&Stack<Edit>>) {
+        if let Some(stack) = stack {
+            self.below = steps_seen(self.below, stack, self.low, self.looked);
+        }
+        self.looked = self.low;
     }
 
     // A line pushed an edit.
@@ -203,7 +231,7 @@ impl Block {
         }
     }
 
-    /// A line more. The stack is the active one's behind it.
+    /// A line more, where what was undone before it is looked at. The stack is the active one's behind it.
     pub fn add(&mut self, line: &LineDone<'_>, stack: Option<&Stack<Edit>>) {
         if !line.before.has_documents_of(line.now) {
             self.documents = true;
@@ -220,6 +248,7 @@ impl Block {
         if self.depth > 0 {
             self.look_at_macros(line.now, stack);
         }
+        self.looked = self.low;
     }
 
     // What the lines did to the document of a stack, which stands so.

@@ -105,6 +105,8 @@ pub struct Listening {
     is_many: bool,
     /// Then, what the lines before the last one did.
     block: Block,
+    /// Whether the last line is an `undo` or a `redo` of such a call. It leaves all as it was but the index.
+    is_turn: bool,
     /// Which word of the last line that has a bad word this is, from 1.
     word: Option<u32>,
 }
@@ -118,6 +120,7 @@ impl Listening {
             edited: Edited::nothing(),
             is_many: false,
             block: Block::new(),
+            is_turn: false,
             word: None,
         }
     }
@@ -144,6 +147,7 @@ impl Listening {
         self.last = before;
         self.pushed = None;
         self.is_many = false;
+        self.is_turn = false;
     }
 
     /// Whether no further line of the call changes what is told of its lines: they were about the documents.
@@ -156,6 +160,32 @@ impl Listening {
     #[inline(always)]
     pub fn is_many(&self) -> bool {
         self.is_many
+    }
+
+    /// Whether the last line is an `undo` or a `redo`, and a further one of a call.
+    #[inline(always)]
+    pub fn is_turn(&self) -> bool {
+        self.is_turn
+    }
+
+    /// A further line of a call is to be done. The one before it turned a step, and the active document stands at this index.
+    #[inline(always)]
+    pub fn turned_to(&mut self, index: usize) {
+        self.last.index = index;
+        self.block.turned_to(index);
+    }
+
+    /// A further line of a call is to be done, which is an `undo` or a `redo` or not. Says whether it may cut steps that were undone
+    /// and are not looked at yet.
+    #[inline(always)]
+    pub fn expects(&mut self, is_turn: bool) -> bool {
+        self.is_turn = is_turn;
+        !is_turn && self.block.has_more_undone()
+    }
+
+    /// Looks at the steps that were undone. This is the stack of the active document.
+    pub fn look_at_undone(&mut self, stack: Option<&Stack<Edit>>) {
+        self.block.look_at_undone(stack);
     }
 
     /// A further line of a call is to be done, and the one before it changed nothing.
@@ -262,6 +292,7 @@ impl Listening {
     // What the lines of a call did, where they are several.
     fn block_done(&self, now: Standing, stack: Option<&Stack<Edit>>) -> Done {
         let mut block = self.block;
+        block.look_at_undone(stack);
         let line = LineDone {
             before: self.last,
             now,

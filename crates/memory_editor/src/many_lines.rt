@@ -130,7 +130,7 @@ impl MemoryEditor {
         if is_first {
             self.listen_anew();
         } else {
-            self.listen_on();
+            self.listen_on(line);
         }
         self.hear(line);
         self.look_at_word(line);

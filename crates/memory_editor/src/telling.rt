@@ -58,6 +58,12 @@ fn cells_within(map: &Map, cells: Cells) -> Cells {
     }
 }
 
+// Whether a line turns one step.
+#[inline(always)]
+fn is_turn(line: &[u8]) -> bool {
+    matches!(line, b"undo" | b"redo")
+}
+
 // Which word of a line is bad, counted from 1.
 #[cold]
 fn bad_word(dialect: Dialect, line: &[u8]) -> Option<u32> {
@@ -144,9 +150,34 @@ impl MemoryEditor {
         }
     }
 
-    // A further line of a call is to be done.
+    // A further line of a call, this one, is to be done.
     #[inline(always)]
-    pub(crate) fn listen_on(&mut self)
+    pub(crate) fn listen_on(&mut self, line: &[u8])
+        ensures { self.new ≡ self.old }
+    {
+        if self.listening.is_turn() {
+            self.look_back_at_turn();
+        } else {
+            self.look_back();
+        }
+        if self.listening.expects(is_turn(line)) {
+            self.listening.look_at_undone(self.editor.group().active());
+        }
+    }
+
+    // The line before, an `undo` or a `redo`, turned a step, unless it was refused.
+    #[inline(always)]
+    fn look_back_at_turn(&mut self)
+        ensures { self.new ≡ self.old }
+    {
+        if let Some(Reply::State { index, .. }) = self.reply {
+            self.listening.turned_to(index as usize);
+        }
+    }
+
+    // What the line before did is noted.
+    #[inline(always)]
+    fn look_back(&mut self)
         ensures { self.new ≡ self.old }
     {
         if self.listening.goes_on_behind_edit() {
