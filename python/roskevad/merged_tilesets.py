@@ -80,13 +80,14 @@ class _Used:
         return 0 if tileset is None else max(self._counts.get(first_id(tileset), 0), 1)
 
 
-def added_firsts(shared: list[Shared], ours: MapNow, theirs: MapNow) -> dict[int, int]:
-    """Of the tilesets that only theirs has added the first ids there, with those that they get: above those of ours."""
+def added_firsts(shared: list[Shared], ours: MapNow, theirs: MapNow, back: set[int]) -> dict[int, int]:
+    """Of the tilesets that only theirs has added the first ids there, with those that they get: above those of ours. So do those of theirs
+    that ours has removed, and that are to be there again: `back` has their first ids."""
     there = [each for each in shared if each.ours is not None]
     end = max((first_id(each.ours or {}) + _room(each, ours, theirs) for each in there), default=1)
     found, by = dict[int, int](), 0
     for each in shared:
-        if each.base is None and each.ours is None and each.theirs is not None:
+        if each.ours is None and each.theirs is not None and (each.base is None or first_id(each.theirs) in back):
             by = max(by, end - first_id(each.theirs)) if not found else by
             found[first_id(each.theirs)] = first_id(each.theirs) + by
     return found

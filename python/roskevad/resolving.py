@@ -1,0 +1,104 @@
+# SPDX-License-Identifier: MIT OR Apache-2.0
+"""A map that is in conflict in git: what is left of its conflicts is found from the versions that git keeps and from the file as it is, so that
+what somebody has settled by hand stays."""
+from pathlib import Path
+from typing import Optional, Sequence
+
+from .choices import Choices, Side
+from .conflict_marks import mark, marked_keys, marks_of
+from .difference import Change
+from .difference_command import opened
+from .document import Document
+from .editor import Editor
+from .faults import Refused
+from .git_stages import NotInConflict, stages_of
+from .merging import Conflict, Merge, Offsets, do_merge, merge, merged
+
+# Conflicts that are not about one member of a thing.
+_WHOLE = {'removed', 'added', 'moved', 'order', 'shape', 'size', 'unsaid'}
+
+
+def is_of(change: Change, conflicts: Sequence[Conflict]) -> bool:
+    """Whether a change may be how somebody has settled a conflict: of the same thing, or, where it is about whole things, with another one
+    that was added or moved."""
+    of_the_same = {each.what.partition('.')[0] for each in conflicts if each.subject == change.subject}
+    if of_the_same & {change.what, *_WHOLE}:
+        return True
+    return change.what in ('added', 'moved') and any(each.what in _WHOLE for each in conflicts)
+
+
+class Resolving:
+    """The versions of a map, and the file. A first merge, without a choice, is what git's driver has written there."""
+
+    def __init__(self, editor: Editor, path: Path):
+        """Raises NotInConflict, Refused, OSError."""
+        self._editor, self._path = editor, path
+        stages = stages_of(path)
+        if stages.ours is None or stages.theirs is None:
+            raise NotInConflict(f'one side has removed {path}: git add keeps it, git rm removes it')
+        self._data = stages.ours
+        self.base = None if stages.base is None else self._opened(stages.base, 'base')
+        self._ours, self._theirs = self._opened(stages.ours, 'ours'), self._opened(stages.theirs, 'theirs')
+        self._now, self._marked = self._file()
+        self._first: Optional[Document] = None
+        self._by_hand: list[Change] = []
+
+    def _opened(self, data: bytes, name: str) -> Document:
+        try:
+            return self._editor.open(data, name)
+        except Refused as refusal:
+            raise refusal._of(f'{name} of {self._path}') from None
+
+    def _file(self) -> tuple[Optional[Document], Optional[set[str]]]:
+        """The map of the file without its marks, None where it is none; and the keys of the marks."""
+        try:
+            now = opened(self._editor, self._path, 'now')
+        except Refused:
+            return None, None
+        layer = marks_of(now)
+        if layer is None:
+            return now, None
+        keys = marked_keys(layer)
+        layer.remove()
+        return now, keys
+
+    def attempt(self, take: dict[str, Side], offset: Offsets, project: Optional[Path]) -> Merge:
+        """What a merge with these sides would do, with those conflicts that are left: but for what was settled by hand."""
+        assert self.base is not None
+        if self._first is None:
+            self._first = self._done(merged(self.base, self._ours, self._theirs, Choices(), {}, project), 'first')
+            self._by_hand = [*self._first.difference(self._now)] if self._now is not None else []
+        found = merged(self.base, self._ours, self._theirs, Choices(take), offset, project)
+        return found._replace(conflicts=tuple(each for each in found.conflicts if self._is_left(each)))
+
+    def _is_left(self, conflict: Conflict) -> bool:
+        """Whether nobody has settled it by hand: its mark is there, or, where the map has no marks, all that it is about is as the first
+        merge has it."""
+        if self._marked is not None:
+            return conflict.key in self._marked
+        return not any(is_of(change, [conflict]) for change in self._by_hand)
+
+    def _done(self, found: Merge, name: str) -> Document:
+        """A map in which a merge is done."""
+        document = self._opened(self._data, name)
+        do_merge(document, found)
+        return document
+
+    def settle(self, found: Merge, is_marked: bool) -> None:
+        """Writes what comes of a merge, and of what was done by hand, to the file, if that has not got it. What is left has marks, if it is to
+        have them, or had them."""
+        assert self._first is not None
+        result = self._done(found, 'second')
+        left = found.conflicts if is_marked or self._marked is not None else ()
+        is_new = self._now is None or {each.key for each in left} != (self._marked or set())
+        corner = self._ours.origin
+        if self._now is not None and self._by_hand:
+            corner = self._now.origin
+            is_new |= bool(merge(self._first, self._now, result, take='theirs').lines)
+            result = self._now
+        elif self._now is not None:
+            is_new |= bool(self._now.difference(result))
+        if is_new and left:
+            mark(result, left, corner)
+        if is_new:
+            result.save(self._path.absolute())
