@@ -371,13 +371,26 @@ def pair(seed, most=MOST):
     """A file, two files that come of random edits of it, and by how much all was moved with them."""
     chosen = random.Random(seed)
     name = chosen.choice(FILES)
-    data, sides, offsets = (MAPS / f'{name}.tmj').read_bytes(), [], []
+    data, sides, offsets = with_classes(MAPS / f'{name}.tmj'), [], []
     for _ in range(2):
         with Editor() as editor:
             document = editor.open(data, 'side')
-            offsets.append(history(chosen, document, most, ('extend', 'cut', 'layer remove') if name == 'infinite' else ()))
+            offset = history(chosen, document, most, ('cut',) if name == 'infinite' else ())
+            # All in an infinite map stays where it is on its plane.
+            offsets.append((0, 0) if name == 'infinite' else offset)
             sides.append(document.save_bytes())
     return data, sides, offsets
+
+
+def with_classes(path):
+    """A map that has properties of a class."""
+    with Editor() as editor:
+        document = editor.open(path, 'base')
+        for owner in [document, *[*document.objects][:2]]:
+            owner.properties.set('link', {'to': 1, 'by': 2}, type='class', property_type='Link')
+        data = document.save_bytes()
+        document.mark_clean()
+        return data
 
 
 def merged_files(base, ours, theirs):

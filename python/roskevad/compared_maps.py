@@ -57,6 +57,11 @@ def are_saved_alike(one: 'Document', other: 'Document') -> bool:
     return texts[0] == texts[1] or said(json.loads(texts[0])) == said(json.loads(texts[1]))
 
 
+def is_infinite(document: 'Document') -> bool:
+    """Whether a map was opened as an infinite one."""
+    return bool(document._do(document._note_now))
+
+
 class Stand(NamedTuple):
     """Where a layer or an object stands, and what the map says of it."""
 

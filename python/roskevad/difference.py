@@ -13,10 +13,20 @@ from .told import Subject
 if TYPE_CHECKING:
     from .document import Document
 
-# What Tiled calls members, where it calls them otherwise than the file.
-CALLED = {
-    'type': 'class', 'tintcolor': 'tint', 'backgroundcolor': 'background', 'offsetx': 'horizontal offset', 'offsety': 'vertical offset',
-    'parallaxx': 'horizontal parallax', 'parallaxy': 'vertical parallax', 'gid': 'tile', 'tilewidth': 'tile width', 'tileheight': 'tile height',
+# What Tiled's panels call members, where the file calls them otherwise, and those of a text.
+_CALLED = {
+    'type': 'class', 'tintcolor': 'tint color', 'backgroundcolor': 'background color', 'transparentcolor': 'transparent color',
+    'offsetx': 'horizontal offset', 'offsety': 'vertical offset', 'parallaxx': 'horizontal parallax factor', 'parallaxy': 'vertical parallax factor',
+    'parallaxoriginx': 'horizontal parallax origin', 'parallaxoriginy': 'vertical parallax origin', 'repeatx': 'repeat X', 'repeaty': 'repeat Y',
+    'draworder': 'drawing order', 'mode': 'blend mode', 'gid': 'tile', 'tilewidth': 'tile width', 'tileheight': 'tile height',
+    'renderorder': 'tile render order', 'hexsidelength': 'tile side length', 'staggeraxis': 'stagger axis', 'staggerindex': 'stagger index',
+    'compressionlevel': 'compression level', 'imagewidth': 'image width', 'imageheight': 'image height', 'source': 'file', 'firstgid': 'first id',
+    'tilecount': 'count of tiles', 'objectalignment': 'object alignment', 'tileoffset': 'drawing offset', 'tilerendersize': 'tile render size',
+    'fillmode': 'fill mode', 'transformations': 'allowed transformations', 'nextlayerid': 'next layer id', 'nextobjectid': 'next object id',
+}
+_OF_TEXT = {
+    'fontfamily': 'font', 'pixelsize': 'size of the font', 'wrap': 'word wrap', 'halign': 'horizontal alignment', 'valign': 'vertical alignment',
+    'color': 'color of the text',
 }
 # What a map counts by itself, which is told where nothing else differs.
 COUNTED = 'nextlayerid', 'nextobjectid'
@@ -99,6 +109,13 @@ class Difference(Sequence[Change]):
         self._find_lines()
         return self._left or ()
 
+    def picture(self) -> bytes:
+        """A picture as PNG: cells of the other map as squares, those that differ in colours, and objects that do by their boxes."""
+        from .difference_pictures import picture
+
+        with copied(*self._texts) as (old, new):
+            return picture(old, new, self._shift, self)
+
     def _find_lines(self) -> None:
         if self._left is None:
             with copied(*self._texts) as (copy, new):
@@ -128,10 +145,20 @@ def told_changes(now: MapNow, goal: MapNow) -> list[Change]:
 
 def _resized(old: 'Document', goal: MapNow, shift: Shift) -> list[Change]:
     before, after = ([map_[side] for side in ('width', 'height')] for map_ in (old.outline(), goal.tree))
+    was = old.origin
     old._edit(shift.line(old, goal))
-    moved = f', all moved by {shift.x}, {shift.y}' if any(shift) else ''
+    # Of an infinite map whose corner lies elsewhere on the plane nothing has moved there.
+    is_on_a_plane = was != goal.document.origin
+    moved = _more(shift) if is_on_a_plane else f', all moved by {shift.x}, {shift.y}' if any(shift) else ''
     words = f'{before[0]} by {before[1]} cells -> {after[0]} by {after[1]}{moved}'
     return [Change(MAP, '', 'size', before, [*after, *shift], words)]
+
+
+def _more(shift: Shift) -> str:
+    """What an infinite map has more at its left and above, or less, in words."""
+    sides = [(shift.x, 'column', 'at the left'), (shift.y, 'row', 'above')]
+    told = [f'{abs(by)} {what}{"s" if abs(by) > 1 else ""} {"more" if by > 0 else "fewer"} {where}' for by, what, where in sides if by]
+    return f', {" and ".join(told)}'
 
 
 MAP = Subject('map', 0)
@@ -160,19 +187,48 @@ def plainly(name: str) -> str:
     return name if name.isprintable() else quoted(name)
 
 
+def called(name: str) -> str:
+    """What Tiled calls a member, and a member of it behind a point."""
+    outer, point, inner = name.partition('.')
+    if outer == 'text' and inner:
+        return _OF_TEXT.get(inner, plainly(inner))
+    return f'{_CALLED.get(outer, plainly(outer))}{point}{plainly(inner)}'
+
+
 def _of_values(subject: Subject, name: str, old: Members, new: Members, spelled: Any = None) -> Iterator[Change]:
     """Each member that differs."""
     for key in [*old, *(key for key in new if key not in old)]:
         before, after = old.get(key), new.get(key)
         if said(before) != said(after) or (key in old) != (key in new):
-            shown = spelled.get(key) if spelled and key in spelled else (shown_value(before, key in old), shown_value(after, key in new))
-            yield Change(subject, name, key, before, after, f'{CALLED.get(key, plainly(key))} {shown[0]} -> {shown[1]}')
+            words = f'{called(key)} {" -> ".join(spelled[key])}' if spelled and key in spelled else _told_value(key, before, after, key in old, key in new)
+            yield Change(subject, name, key, before, after, words)
 
 
-def shown_value(value: Any, is_there: bool = True) -> str:
-    text = json.dumps(value, ensure_ascii=False) if is_there else 'none'
-    shown = text if text.isprintable() else json.dumps(value)
+def _told_value(key: str, before: Any, after: Any, was: bool, is_there: bool) -> str:
+    """How a member was and is, in words: of an object of JSON those of its members that differ."""
+    if isinstance(before, dict) and isinstance(after, dict):
+        inner = [each for each in [*before, *(each for each in after if each not in before)] if said(before.get(each)) != said(after.get(each))]
+        return ', '.join(_told_value(f'{key}.{each}', before.get(each), after.get(each), each in before, each in after) for each in inner) or called(key)
+    return f'{called(key)} {shown_value(before, was)} -> {shown_value(after, is_there, before)}'
+
+
+def shown_value(value: Any, is_there: bool = True, before: Any = None) -> str:
+    """A value in words; the corners of a shape by their count."""
+    if is_there and _are_corners(value):
+        other = ' other' if _are_corners(before) and len(before) == len(value) else ''
+        return f'{len(value)}{other} corners'
+    shown = shown_whole(value) if is_there else 'none'
     return shown if len(shown) <= _SHOWN else f'{shown[:_SHOWN]}..'
+
+
+def shown_whole(value: Any) -> str:
+    """A value in words, as long as it is."""
+    text = json.dumps(value, ensure_ascii=False)
+    return text if text.isprintable() else json.dumps(value)
+
+
+def _are_corners(value: Any) -> bool:
+    return isinstance(value, list) and len(value) > 1 and all(isinstance(each, dict) and {*each} == {'x', 'y'} for each in value)
 
 
 def _of_properties(subject: Subject, name: str, before: Members, after: Members) -> Iterator[Change]:
@@ -218,10 +274,15 @@ def tileset_name(tileset: Members) -> str:
     return str(tileset.get('source') or tileset.get('name', ''))
 
 
+def tileset_key(tileset: Members) -> tuple[str, str]:
+    """What tells a tileset from others: its file, or its name and its picture."""
+    return tileset_name(tileset), str(tileset.get('image', ''))
+
+
 def paired_tilesets(before: list[Members], behind: list[Members]) -> Iterator[Pair]:
-    """Tilesets that are the same in two maps: by their file or name, and those that are left by their first ids."""
+    """Tilesets that are the same in two maps: by their file, or by name and picture, or by name, and those that are left by their first ids."""
     old, new = [*before], [*behind]
-    for key in (lambda each: (tileset_name(each), first_id(each)), tileset_name, first_id):
+    for key in (lambda each: (tileset_key(each), first_id(each)), tileset_key, tileset_name, first_id):
         for one in [*old]:
             after = next((each for each in new if key(each) == key(one)), None)
             if after is not None:
@@ -237,11 +298,10 @@ def _of_tilesets(tilesets: list[Pair]) -> Iterator[Change]:
         one = after or before or {}
         name, subject = tileset_name(one), Subject('tileset', first_id(before or one))
         if before is None or after is None:
-            what = 'added' if before is None else 'removed'
-            yield Change(subject, name, what, before, after, f'{what}, first id {subject.id}')
+            what, image = 'added' if before is None else 'removed', plainly(str(one.get('image', '')))
+            yield Change(subject, name, what, before, after, f'{what}, first id {subject.id}' + (f', with the picture {image}' if image else ''))
         else:
-            called = {'firstgid': (str(before['firstgid']), f'{after["firstgid"]} (first id)')}
-            yield from _of_values(subject, name, before, after, called)
+            yield from _of_values(subject, name, before, after)
 
 
 def _names_apart(tilesets: list[Pair]) -> Iterator[str]:

@@ -4,7 +4,7 @@ from array import array
 from typing import TYPE_CHECKING, Any, Iterator, Mapping, NamedTuple, Optional
 
 from .choices import Choices, Side
-from .compared_maps import MapNow, Shift, said, shift_of
+from .compared_maps import MapNow, Shift, is_infinite, said, shift_of
 from .difference import MAP
 from .merged_maps import Conflict, Found, regions, removed_by_ours
 from .told import Subject
@@ -78,7 +78,7 @@ def frame(documents: 'tuple[Document, Document, Document]', choices: Choices, sh
     maps = base, ours, theirs = MapNow(documents[0]), MapNow(documents[1]), MapNow(documents[2])
     frames = [Frame(0, 0, *_size(base)), _frame(base, ours, shifts.get('ours')), _frame(base, theirs, shifts.get('theirs'))]
     found = Found(choices)
-    infinite = tuple(map(_is_infinite, documents))
+    infinite = tuple(map(is_infinite, documents))
     goal = _room(maps, frames) if all(infinite) else _goal(maps, frames, found)
     # Where infinite maps lie is known.
     notices = [] if all(infinite) else [*_moves(frames, shifts)]
@@ -96,11 +96,11 @@ def _moves(frames: list[Frame], shifts: Shifts) -> Iterator[str]:
     """By how much all was moved on the sides, in words."""
     sides: tuple[Side, Side] = 'ours', 'theirs'
     for side, each in zip(sides, frames[1:]):
-        by = f'all in the map was moved by {-each.x}, {-each.y}'
+        by = f'all in the map was moved by {-each.x}, {-each.y} with it' if each.x or each.y else 'nothing in the map was moved with it'
         if side in shifts:
-            yield f'in {side}, {by}, as was said'
+            yield f'all in the map of {side} was moved by {-each.x}, {-each.y}, as was said'
         elif each != frames[0]:
-            yield f'{side} has another size, and {by} with it, as far as the maps tell'
+            yield f'{side} has another size, and {by}, as far as the maps tell'
 
 
 def _resized(document: 'Document', line: Optional[str]) -> Iterator[str]:
@@ -128,10 +128,6 @@ def _frame(base: MapNow, side: MapNow, said_shift: Optional[Shift]) -> Frame:
     is_resized = _size(base) != _size(side) or base.document.origin != side.document.origin
     shift = said_shift if said_shift is not None else shift_of(base, side) if is_resized else Shift(0, 0)
     return Frame(-shift[0], -shift[1], *_size(side))
-
-
-def _is_infinite(document: 'Document') -> bool:
-    return bool(document._do(document._note_now))
 
 
 def _room(maps: tuple[MapNow, MapNow, MapNow], frames: list[Frame]) -> Frame:

@@ -166,11 +166,18 @@ def _see_keys(take: dict[str, Side], found: Merge) -> None:
 
 def _of_both_added(chosen: argparse.Namespace, ours: Document, theirs: Document, take: dict[str, Side]) -> _Told:
     """Of a map that both sides have added the one or the other, whole."""
+    return _told_of_both(chosen, take, not ours.difference(theirs), lambda side: _keep(chosen.maps[2 if side == 'theirs' else 1], chosen.out))
+
+
+def _told_of_both(chosen: argparse.Namespace, take: dict[str, Side], are_alike: bool, keep: Callable[[Optional[Side]], object]) -> _Told:
+    """The same, by a function that keeps the map of a side, that of ours where none is taken."""
+    missing = next((key for key in take if key not in ('', _KEY_OF_BOTH)), None)
+    if missing is not None:
+        raise _Trouble(f'no conflict has this key: {missing}')
     side = take.get(_KEY_OF_BOTH, take.get(''))
-    if side is None and chosen.ask and ours.difference(theirs):
-        side = _asked_of_both()
-    _keep(chosen.maps[2 if side == 'theirs' else 1], chosen.out)
-    if not ours.difference(theirs):
+    side = _asked_of_both() if side is None and chosen.ask and not are_alike else side
+    keep(side)
+    if are_alike:
         return _Told(_MERGED, [])
     words = f'map: {_BOTH_ADDED.format(side or "ours")}'
     key = '' if chosen.name is not None else f' [{_KEY_OF_BOTH}]'
@@ -225,7 +232,7 @@ def _resolved(editor: Editor, chosen: argparse.Namespace) -> _Told:
     job = Resolving(editor, chosen.resolve)
     take = dict(chosen.take)
     if job.base is None:
-        raise _Trouble(f'{_BOTH_ADDED.format("ours")}; git checkout --theirs takes the other one')
+        return _told_of_both(chosen, take, job.are_alike(), job.write)
     notes, project = _project(chosen, chosen.resolve)
 
     def attempt(take: dict[str, Side]) -> Merge:

@@ -5,7 +5,7 @@ from typing import Any, Callable, Iterable, Iterator, NamedTuple, Optional
 
 from .choices import Choices, Side
 from .compared_maps import MapNow, Stand, said
-from .difference import CALLED, COUNTED, MAP, head_of, layer_named, own_of, plainly, shown_value
+from .difference import COUNTED, MAP, called, head_of, layer_named, own_of, plainly, shown_value
 from .merged_tilesets import Shared
 from .own_members import OTHERS
 from .renamed_maps import itself, things_of, values_of
@@ -122,8 +122,8 @@ class Joined:
         """The side that is taken in a conflict. The values are those of the base, of ours and of theirs."""
         base, ours, theirs = (None if value is ABSENT else value for value in values)
         stand = self._ours.get(subject) or self._theirs.get(subject)
-        called = stand.members.get('name', '') if stand else ''
-        return self.found.side_of(Conflict(subject, called if name is None else name, what, base, ours, theirs, words))
+        title = stand.members.get('name', '') if stand else ''
+        return self.found.side_of(Conflict(subject, title if name is None else name, what, base, ours, theirs, words))
 
     def is_theirs(self, subject: Subject, what: str, values: Iterable[Any], words: str) -> bool:
         return self.side_of(subject, what, values, words) == 'theirs'
@@ -300,7 +300,7 @@ class Joined:
             told = ['none' if value is ABSENT else self._tile_named(value) for value in clash[1:]]
         else:
             told = [shown_value(None if value is ABSENT else value, value is not ABSENT) for value in clash[1:]]
-        words = f'{CALLED.get(clash.name, plainly(clash.name))} {told[0]} -> {told[1]} (ours), {told[2]} (theirs)'
+        words = f'{called(clash.name)} {told[0]} -> {told[1]} (ours), {told[2]} (theirs)'
         return clash.theirs if self.side_of(subject, clash.name, clash[1:], words, name) == 'theirs' else clash.ours
 
     def _properties(self, subject: Subject, sides: list[list[Members]]) -> list[Members]:

@@ -3,7 +3,7 @@
 from typing import Iterator, NamedTuple, Optional
 
 from .compared_maps import MapNow
-from .difference import first_id, paired_tilesets, tileset_name
+from .difference import first_id, paired_tilesets, tileset_key, tileset_name
 from .renamed_maps import Counting, values_of
 from .rows import BASE
 from .tiled_maps import Members
@@ -32,7 +32,7 @@ def shared_tilesets(base: MapNow, ours: MapNow, theirs: MapNow) -> list[Shared]:
     found = [Shared(each, mine.get(first_id(each)), other.get(first_id(each))) for each in listed[0]]
     new = [[each for each in side if all(each is not known for known in known_of.values())] for side, known_of in zip(listed[1:], (mine, other))]
     for each in new[0]:
-        twin = next((one for one in new[1] if tileset_name(one) == tileset_name(each)), None)
+        twin = next((one for one in new[1] if tileset_key(one) == tileset_key(each)), None)
         new[1] = [one for one in new[1] if one is not twin]
         found.append(Shared(None, each, twin))
     return sorted([*found, *(Shared(None, None, each) for each in new[1])], key=_order)

@@ -36,7 +36,7 @@ class Resolving:
         stages = stages_of(path)
         if stages.ours is None or stages.theirs is None:
             raise NotInConflict(f'one side has removed {path}: git add keeps it, git rm removes it')
-        self._data = stages.ours
+        self._data, self._other = stages.ours, stages.theirs
         self.base = None if stages.base is None else self._opened(stages.base, 'base')
         self._ours, self._theirs = self._opened(stages.ours, 'ours'), self._opened(stages.theirs, 'theirs')
         self._now, self._marked = self._file()
@@ -61,6 +61,15 @@ class Resolving:
         keys = marked_keys(layer)
         layer.remove()
         return now, keys
+
+    def are_alike(self) -> bool:
+        """Whether both sides have the same map."""
+        return not self._ours.difference(self._theirs)
+
+    def write(self, side: Optional[Side]) -> None:
+        """Writes the map of one side, as it was, if one is taken."""
+        if side is not None:
+            self._path.write_bytes(self._other if side == 'theirs' else self._data)
 
     def attempt(self, take: dict[str, Side], offset: Offsets, project: Optional[Path]) -> Merge:
         """What a merge with these sides would do, with those conflicts that are left: but for what was settled by hand."""

@@ -110,7 +110,15 @@ class Table:
         return name, (value & ~FLAGS) - first, value & FLAGS
 
     def properties(self, owner):
-        return {f'property {each["name"]}': said({**each, 'value': self.meant(each)}) for each in owner.get('properties', [])}
+        """Properties; the members of a class each for itself."""
+        found = {}
+        for each in owner.get('properties', []):
+            name, value = f'property {each["name"]}', self.meant(each)
+            found[name] = said({**each, 'value': 'of a class' if isinstance(value, dict) else value})
+            if isinstance(value, dict):
+                for inner in value:
+                    self.note(found, f'{name}.{inner}', value[inner])
+        return found
 
     def meant(self, each):
         """The value of a property; of one that means a new object what that is."""
@@ -209,7 +217,12 @@ class Checked:
         if key[0] == 'object' and len({*map(frozenset, kinds[:3])}) == 3:
             self.want_told(key, 'shape', 'both have changed it')
             names = {name for name in names if name.split('.')[0] not in SHAPES or self.see_is_ours(key, name, rows)}
-        for name in names:
+        # A property that is in conflict as a whole is as ours has it.
+        whole = {each[1] for each in self.told if each[0] == key and each[1] in names and each[1].startswith('property ')}
+        for name in sorted(names):
+            if any(name.startswith(f'{each}.') for each in whole):
+                self.see_is_ours(key, name, rows)
+                continue
             base, ours, theirs, merged = (row.get(name) for row in rows)
             if name == 'parent' and ours == base != theirs and merged == ours:
                 self.see_not_moved(key)
