@@ -42,7 +42,7 @@ WORDS = [
     ('empty cells', 'town.erase("Walls", 6, 3, 2, 1)', ['layer 4 "Walls": 2 cells in 6,3 to 7,3: tiles.tsx:9 -> empty']),
     ('a name', 'town.layers["Ground"].name = "Earth"', ['layer 1 "Earth": name "Ground" -> "Earth"']),
     ('members', 'town.layers["Ground"].members.update(opacity=0.5, tintcolor="#ff8800")',
-     ['layer 1 "Ground": opacity 1 -> 0.5', 'layer 1 "Ground": tint none -> "#ff8800"']),
+     ['layer 1 "Ground": opacity 1 -> 0.5', 'layer 1 "Ground": tint color none -> "#ff8800"']),
     ('an object', 'town.objects["Inn"].members.update(x=100.5, rotation=45, type="House")',
      ['object 2 "Inn": rotation 0 -> 45', 'object 2 "Inn": class "Door" -> "House"', 'object 2 "Inn": x 128 -> 100.5']),
     ('its tile', 'town.objects["key"].tile = 5', ['object 4 "key": tile tiles.tsx:20 -> tiles.tsx:4']),
@@ -80,14 +80,14 @@ WORDS = [
     ('a tileset', 'town.tilesets.add(1000, "walls.tsj")', ['tileset walls.tsj: added, first id 1000']),
     ('a tileset twice', 'town.tilesets.add(1000, "tiles.tsx")\ntown.stamp("Ground", 0, 0, [[1001]])',
      ['tileset tiles.tsx: added, first id 1000', 'layer 1 "Ground": 1 cell in 0,0 to 0,0: tiles.tsx:0 -> tiles.tsx (2):1']),
-    ('its file', 'town.tilesets[1].source = "art/tiles.tsx"', ['tileset art/tiles.tsx: source "tiles.tsx" -> "art/tiles.tsx"']),
+    ('its file', 'town.tilesets[1].source = "art/tiles.tsx"', ['tileset art/tiles.tsx: file "tiles.tsx" -> "art/tiles.tsx"']),
     ('what a map has of it', 'town.tilesets[1].members["origin"] = "the old town"', ['tileset tiles.tsx: origin none -> "the old town"']),
-    ('the map', 'town.background = "#112233"', ['map: background none -> "#112233"']),
+    ('the map', 'town.background = "#112233"', ['map: background color none -> "#112233"']),
     ('its size', 'town.extend(left=2, bottom=1)', ['map: 40 by 30 cells -> 42 by 31, all moved by 2, 0']),
     ('its size alone', 'town.extend(right=1)', ['map: 40 by 30 cells -> 41 by 30']),
     ('its size, and more', 'town.extend(top=3)\ntown.objects["Inn"].x = 0\ntown.stamp("Ground", 0, 3, [[7]])',
      ['map: 40 by 30 cells -> 40 by 33, all moved by 0, 3', 'layer 1 "Ground": 1 cell in 0,3 to 0,3: tiles.tsx:0 -> tiles.tsx:6', 'object 2 "Inn": x 128 -> 0']),
-    ('what it counts', 'town.layers["Things"].objects.add("a", 0, 0).remove()', ['map: nextobjectid 7 -> 8']),
+    ('what it counts', 'town.layers["Things"].objects.add("a", 0, 0).remove()', ['map: next object id 7 -> 8']),
 ]
 
 
@@ -119,7 +119,7 @@ def test_first_ids_that_are_counted_anew():
     assert other != tree
     with Editor() as editor:
         found = editor.open(json.dumps(tree).encode()).difference(editor.open(json.dumps(other).encode()))
-        see(['tileset tiles: firstgid 33 -> 40 (first id)'], [str(each) for each in found])
+        see(['tileset tiles: first id 33 -> 40'], [str(each) for each in found])
         see(['tileset', 'stamp', 'tileset'], [line.split(' ')[0] for line in found.lines or ()])
 
 

@@ -46,8 +46,9 @@ def _answer() -> str:
     while True:
         write(_QUESTION)
         line = sys.stdin.readline() if sys.stdin is not None else ''
-        if not line:
+        if not line or not sys.stdin.isatty():
             write('\n')
+        if not line:
             return 'q'
         letter = line.strip()[:1]
         if letter and letter in 'otOTsq':

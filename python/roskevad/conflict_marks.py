@@ -3,6 +3,7 @@
 from itertools import islice
 from typing import TYPE_CHECKING, Any, Iterable, Optional
 
+from .compared_maps import cell_steps, first_cell
 from .merged_maps import Conflict
 from .tiled_maps import Members
 
@@ -18,12 +19,12 @@ _LONGEST, _MOST = 200, 4096
 Box = tuple[float, float, float, float]
 
 
-def mark(document: 'Document', conflicts: Iterable[Conflict], corner: tuple[int, int]) -> None:
-    """Puts a layer of marks on a map, above all others. `corner` is where the map's corner lay on an infinite plane when it was opened. What has
-    no place, as a layer, has its mark at the corner, one below the other."""
+def mark(document: 'Document', conflicts: Iterable[Conflict], opened: tuple[int, int]) -> None:
+    """Puts a layer of marks on a map, above all others. `opened` is where the corner of an infinite map lay when it was opened. What has no
+    place, as a layer, has its mark at the corner, one below the other."""
     layer = document.layers.add('object', _NAME)
     layer.members.update({'class': _CLASS, 'color': _COLOUR})
-    grid = _Grid(document.outline(), corner)
+    grid = _Grid(document, opened)
     rows = 0
     for conflict in islice(conflicts, _MOST):
         box = _box_of(conflict, document, grid)
@@ -46,25 +47,18 @@ def marked_keys(layer: 'Layer') -> set[str]:
 class _Grid:
     """Where the cells of a map lie, as objects count."""
 
-    def __init__(self, tree: Members, corner: tuple[int, int]):
-        self._corner = corner
+    def __init__(self, document: 'Document', opened: tuple[int, int]):
+        tree = document.outline()
         self.is_isometric = tree.get('orientation') == 'isometric'
-        wide, high = tree['tilewidth'], tree['tileheight']
-        self._cell = (high, high) if self.is_isometric else (wide, high)
-        # By how much a column is from the one before it, and a row; and how far the moved ones reach out.
-        self._step, self._more = self._cell, (0, 0)
-        if tree.get('orientation') in ('staggered', 'hexagonal'):
-            side = tree.get('hexsidelength', 0) if tree['orientation'] == 'hexagonal' else 0
-            if tree.get('staggeraxis') == 'x':
-                half = (wide - side) // 2
-                self._step, self._more = (half + side, high), (0, high // 2)
-            else:
-                half = (high - side) // 2
-                self._step, self._more = (wide, half + side), (wide // 2, 0)
+        self._first, self._step = first_cell(document, tree, opened), cell_steps(tree)
+        self._cell = (tree['tileheight'] if self.is_isometric else tree['tilewidth'], tree['tileheight'])
+        # How far those of every other row or column reach out.
+        is_plain = tree.get('orientation') not in ('staggered', 'hexagonal')
+        self._more = (0, 0) if is_plain else (0, self._cell[1] // 2) if tree.get('staggeraxis') == 'x' else (self._cell[0] // 2, 0)
 
     def box(self, x: int, y: int, width: int, height: int) -> Box:
         """The box of cells, as an object has it."""
-        left, top = ((at + by) * step for at, by, step in zip((x, y), self._corner, self._step))
+        left, top = (first + at * step for at, first, step in zip((x, y), self._first, self._step))
         wide, high = ((count - 1) * step + cell + more for count, step, cell, more in zip((width, height), self._step, self._cell, self._more))
         return left, top, wide, high
 

@@ -1,7 +1,7 @@
 # SPDX-License-Identifier: MIT OR Apache-2.0
 """Three maps that are merged, brought to one size: that which one side has given them."""
 from array import array
-from typing import TYPE_CHECKING, Any, Iterator, Mapping, NamedTuple, Optional
+from typing import TYPE_CHECKING, Any, Collection, Iterator, Mapping, NamedTuple, Optional
 
 from .choices import Choices, Side
 from .compared_maps import MapNow, Shift, is_infinite, said, shift_of
@@ -79,7 +79,7 @@ def frame(documents: 'tuple[Document, Document, Document]', choices: Choices, sh
     frames = [Frame(0, 0, *_size(base)), _frame(base, ours, shifts.get('ours')), _frame(base, theirs, shifts.get('theirs'))]
     found = Found(choices)
     infinite = tuple(map(is_infinite, documents))
-    goal = _room(maps, frames) if all(infinite) else _goal(maps, frames, found)
+    goal = _room(maps, frames, choices) if all(infinite) else _goal(maps, frames, found)
     # Where infinite maps lie is known.
     notices = [] if all(infinite) else [*_moves(frames, shifts)]
     if infinite[2] not in infinite[:2]:
@@ -130,16 +130,26 @@ def _frame(base: MapNow, side: MapNow, said_shift: Optional[Shift]) -> Frame:
     return Frame(-shift[0], -shift[1], *_size(side))
 
 
-def _room(maps: tuple[MapNow, MapNow, MapNow], frames: list[Frame]) -> Frame:
-    """The frame of ours, with room for what theirs has changed outside it; in a staggered map by an even number of columns and rows at the left
-    and above, so that none stands otherwise."""
-    goal = frames[1]
-    for _, cells in _outside(maps[0], maps[2], [frames[0], frames[2]], frames[1]):
+def _room(maps: tuple[MapNow, MapNow, MapNow], frames: list[Frame], choices: Choices) -> Frame:
+    """The frame of ours, with room for what theirs has changed outside it, and for layers that ours has removed and that come back; in a
+    staggered map by an even number of columns and rows at the left and above, so that none stands otherwise."""
+    goal, back = frames[1], {id for id in maps[2].layers if _comes_back(id, maps, choices)}
+    for _, cells in _outside(maps[0], maps[2], [frames[0], frames[2]], frames[1], back):
         columns, rows = zip(*cells)
         goal = goal.around(Frame(min(columns), min(rows), max(columns) - min(columns) + 1, max(rows) - min(rows) + 1))
     if maps[1].tree.get('staggeraxis') is None:
         return goal
     return goal.around(Frame(goal.x - (frames[1].x - goal.x) % 2, goal.y - (frames[1].y - goal.y) % 2, 1, 1))
+
+
+def _comes_back(layer: int, maps: tuple[MapNow, MapNow, MapNow], choices: Choices) -> bool:
+    """Whether theirs is taken of a layer that ours has removed, or of a group around it."""
+    base, ours, theirs = maps
+    if layer not in base.layers or layer in ours.layers:
+        return False
+    is_changed = theirs.layers[layer] != base.layers[layer] or theirs.layers[layer].members['type'] == 'tilelayer'
+    holder = theirs.layers[layer].parent
+    return is_changed and choices.side(f'layer:{layer}/removed') == 'theirs' or bool(holder) and _comes_back(holder, maps, choices)
 
 
 class UncutMap(MapNow):
@@ -183,13 +193,15 @@ def _told(frame: Frame) -> str:
     return f'{frame.width} by {frame.height} cells{moved}'
 
 
-def _outside(base: MapNow, side: MapNow, frames: list[Frame], goal: Frame) -> Iterator[tuple[int, list[tuple[int, int]]]]:
-    """What a side has changed of each tile layer outside a frame, by places in the base."""
+def _outside(
+    base: MapNow, side: MapNow, frames: list[Frame], goal: Frame, whole: Collection[int] = (),
+) -> Iterator[tuple[int, list[tuple[int, int]]]]:
+    """What a side has changed of each tile layer outside a frame, by places in the base; of some layers all that they have."""
     if all(goal.has(*corner) for corner in _corners(frames[1])):
         return
     for id, stand in side.layers.items():
         if stand.members['type'] == 'tilelayer':
-            old = _values(base, id, frames[0]) if base.has(id, stand) else {}
+            old = _values(base, id, frames[0]) if base.has(id, stand) and id not in whole else {}
             new = _values(side, id, frames[1])
             changed = [at for at in sorted({**old, **new}, key=lambda at: at[::-1]) if frames[1].has(*at) and not goal.has(*at) and old.get(at) != new.get(at)]
             if changed:

@@ -41,7 +41,15 @@ def _object(id: int, map: MapNow, tiles: Tiles) -> Iterator[str]:
     yield head_of(Subject('object', id), members.get('name', ''))
     if 'gid' in members:
         yield f'  {called("gid")} {tiles.name(members["gid"])}'
-    yield from _facts('object', {name: value for name, value in members.items() if name != 'gid'})
+    yield from _facts('object', {**{name: value for name, value in members.items() if name != 'gid'}, **_on_the_plane(members, map)})
+
+
+def _on_the_plane(members: Members, map: MapNow) -> Members:
+    """The place of an object; of one of an orthogonal infinite map, which counts from its corner, on its plane."""
+    if map.tree.get('orientation', 'orthogonal') != 'orthogonal':
+        return {}
+    sides = zip(('x', 'y'), map.document.origin, (map.tree['tilewidth'], map.tree['tileheight']))
+    return {name: members[name] + at * side for name, at, side in sides if name in members and at}
 
 
 def _facts(kind: str, members: Members) -> Iterator[str]:

@@ -42,6 +42,7 @@ class Resolving:
         self._now, self._marked = self._file()
         self._first: Optional[Document] = None
         self._by_hand: list[Change] = []
+        self._kept: dict[str, Side] = {}
 
     def _opened(self, data: bytes, name: str) -> Document:
         try:
@@ -72,13 +73,17 @@ class Resolving:
             self._path.write_bytes(self._other if side == 'theirs' else self._data)
 
     def attempt(self, take: dict[str, Side], offset: Offsets, project: Optional[Path]) -> Merge:
-        """What a merge with these sides would do, with those conflicts that are left: but for what was settled by hand."""
+        """What a merge with these sides would do, with those conflicts that are left: but for what was settled by hand, which stays unless a
+        side is taken of it alone."""
         assert self.base is not None
         if self._first is None:
-            self._first = self._done(merged(self.base, self._ours, self._theirs, Choices(), {}, project), 'first')
+            first = merged(self.base, self._ours, self._theirs, Choices(), {}, project)
+            self._first = self._done(first, 'first')
             self._by_hand = [*self._first.difference(self._now)] if self._now is not None else []
-        found = merged(self.base, self._ours, self._theirs, Choices(take), offset, project)
-        return found._replace(conflicts=tuple(each for each in found.conflicts if self._is_left(each)))
+            self._kept = {each.key: 'ours' for each in first.conflicts if not self._is_left(each)}
+        found = merged(self.base, self._ours, self._theirs, Choices({**self._kept, **take}), offset, project)
+        return found._replace(conflicts=tuple(each for each in found.conflicts if self._is_left(each)),
+                              settled=tuple(each for each in found.settled if each[0].key in take or each[0].key not in self._kept))
 
     def _is_left(self, conflict: Conflict) -> bool:
         """Whether nobody has settled it by hand: its mark is there, or, where the map has no marks, all that it is about is as the first

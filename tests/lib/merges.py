@@ -217,12 +217,8 @@ class Checked:
         if key[0] == 'object' and len({*map(frozenset, kinds[:3])}) == 3:
             self.want_told(key, 'shape', 'both have changed it')
             names = {name for name in names if name.split('.')[0] not in SHAPES or self.see_is_ours(key, name, rows)}
-        # A property that is in conflict as a whole is as ours has it.
-        whole = {each[1] for each in self.told if each[0] == key and each[1] in names and each[1].startswith('property ')}
+        names -= self.see_whole_properties(key, rows, names)
         for name in sorted(names):
-            if any(name.startswith(f'{each}.') for each in whole):
-                self.see_is_ours(key, name, rows)
-                continue
             base, ours, theirs, merged = (row.get(name) for row in rows)
             if name == 'parent' and ours == base != theirs and merged == ours:
                 self.see_not_moved(key)
@@ -233,6 +229,20 @@ class Checked:
                 wanted = ours
             if merged != wanted:
                 self.fault(key, name, 'base', base, 'ours', ours, 'theirs', theirs, 'is', merged)
+
+    def see_whole_properties(self, key, rows, names):
+        """Properties that are told to be in conflict as a whole: both sides have changed them, and they are as ours has them."""
+        seen = set()
+        for name in [each[1] for each in self.told if each[0] == key and each[1] in names and each[1].startswith('property ')]:
+            of_it = {each for each in names if each == name or each.startswith(f'{name}.')}
+            base, ours, theirs, merged = ([row.get(each) for each in sorted(of_it)] for row in rows)
+            is_one = len({row.get(name) for row in rows[:3]}) == 1 and len(of_it) > 1
+            if ours != base != theirs != ours and not is_one:
+                self.met.add((key, name))
+            if merged != ours:
+                self.fault(key, name, 'in conflict, and not as ours has it')
+            seen |= of_it
+        return seen
 
     def see_is_ours(self, key, name, rows):
         if rows[1].get(name) != rows[3].get(name):
