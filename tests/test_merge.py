@@ -211,6 +211,17 @@ def test_references_to_what_is_gone():
     see(['object 2 "Inn": property opened by means object 4, which one side removed'], notices)
 
 
+def test_references_to_what_is_not_there():
+    """What means an object that its own side removed means none that the other side has added under that id."""
+    add, later = ADD.format('chest'), ADD.format('door') + 'map.objects["Inn"].properties.set("to", box.id, type="object")\nbox.remove()'
+    conflicts, notices, _, tree = merged(add, later)
+    inn = next(each for layer in tree['layers'] for each in layer.get('objects', []) if each['name'] == 'Inn')
+    see(([], ['object 2 "Inn" of theirs: property to meant an object that is not there, and means none now'], 0),
+        (conflicts, notices, next(each['value'] for each in inn['properties'] if each['name'] == 'to')))
+    conflicts, notices, _, tree = merged(later, add)
+    see(([], ['object 7 "chest" of theirs has the id 8 now'], 8), (conflicts, notices, things(tree)['chest']['id']))
+
+
 def test_a_merge_behind_a_merge():
     """A branch that goes on after its merge: what has another id since is found by what it is, on either side."""
     with Editor() as editor:
@@ -413,11 +424,11 @@ def with_classes(path):
         return data
 
 
-def merged_files(base, ours, theirs):
+def merged_files(base, ours, theirs, offset=None):
     """What a merge tells, the file that comes of it, where the corner of an infinite map lies, and what one undo leaves."""
     with Editor() as editor:
         documents = [editor.open(data, name) for name, data in (('base', base), ('ours', ours), ('theirs', theirs))]
-        found = merge(*documents)
+        found = merge(*documents, offset=offset)
         after = ours
         if found.lines:
             documents[1].undo()
@@ -430,9 +441,14 @@ def merged_files(base, ours, theirs):
 
 
 def fault_of_pair(case):
-    """How a merge of two histories is not as it must be, or None."""
-    data, sides, offsets = pair(case.given)
-    found, result, origin, after = merged_files(data, *sides)
+    return fault_of(case.given, MOST)
+
+
+def fault_of(seed, most, is_said=False):
+    """How a merge of two histories is not as it must be, or None. By how much all was moved may be said, and is guessed else."""
+    data, sides, offsets = pair(seed, most)
+    said_offset = {side: by for side, by in zip(('ours', 'theirs'), offsets) if any(by)} if is_said else None
+    found, result, origin, after = merged_files(data, *sides, said_offset)
     if after != sides[0]:
         return 'one undo does not give ours back'
     trees = [json.loads(each) for each in (data, *sides, result)]

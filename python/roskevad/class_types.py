@@ -48,6 +48,17 @@ class ClassTypes:
             return item
         return {**item, 'value': self._value(str(item.get('type', '')), str(item.get('propertytype', '')), item['value'], renumber)}
 
+    def meant(self, each: Members) -> list[int]:
+        """The ids of objects that a property is known to mean."""
+        found = list[int]()
+
+        def note(id: int) -> int:
+            found.append(id)
+            return id
+
+        self.renumbered(each, note)
+        return found
+
     def unknown(self, each: Members) -> Iterator[int]:
         """The numbers in a property of a class, or in a list, of which it isn't known whether they mean objects."""
         return self._unknown(str(each.get('type', '')), str(each.get('propertytype', '')), each.get('value'))

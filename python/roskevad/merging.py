@@ -6,7 +6,7 @@ from typing import TYPE_CHECKING, Any, Iterator, Mapping, NamedTuple, Optional, 
 from .choices import Choices, Side, Take
 from .class_types import ClassTypes, types_of
 from .compared_maps import MapNow, Shift, Stand, copied, text_of
-from .difference import Change, Tiles, first_id, head_of, told_changes
+from .difference import MAP, Change, Tiles, first_id, head_of, told_changes
 from .difference_lines import Way, lead
 from .framed_maps import Framed, frame
 from .merged_maps import Conflict as Conflict, Joined, MergedMap
@@ -187,7 +187,17 @@ class _Merging:
         back = {Subject(subject.kind, id): subject.id for subject, id in found.items()}
         theirs = self._renamed_theirs({**back, **freed(theirs, back, self._first)}, theirs, back)
         base, theirs = self._apart(base, ours, theirs)
-        return base, ours, self._renamed_theirs(self._clashing(base, ours, theirs), theirs, {})
+        clashing = self._clashing(base, ours, theirs)
+        return base, ours, self._renamed_theirs(clashing, self._without_strangers(base, ours, theirs), {})
+
+    def _without_strangers(self, base: MapNow, ours: MapNow, theirs: MapNow) -> MapNow:
+        """Theirs, in which what means an object that is not there means none, where ours has added another one under that id."""
+        gone: Names = {}
+        for subject, name, id in self._dangling(theirs):
+            if id in ours.objects and id not in base.objects:
+                gone[Subject('object', id)] = 0
+                self._notices.append(f'{_told(subject, theirs)} of theirs: property {name} meant an object that is not there, and means none now')
+        return renamed(theirs, gone, self._types)
 
     def _renamed_theirs(self, names: Names, theirs: MapNow, known: Names) -> MapNow:
         """Theirs with new ids. They are noted, and told but for those that are known."""
@@ -226,33 +236,32 @@ class _Merging:
         return self._first[kind] - 1
 
     def _clashing(self, base: MapNow, ours: MapNow, theirs: MapNow) -> Names:
-        """New ids for what theirs has added under one that ours has for another thing; and for layers below one of ours, since none can be
-        added there."""
+        """New ids for what theirs has added under one that ours has for another thing, or that something of ours means though it is not there;
+        and for layers below one of ours, since none can be added there."""
         old, mine, other = (things_of(map) for map in (base, ours, theirs))
-        last = max(ours.layers, default=0)
+        last, meant = max(ours.layers, default=0), {id for _, _, id in self._dangling(ours)}
         names: Names = {}
         for subject, stand in other.items():
             if subject in old or subject in mine and Subject('layer', stand.parent) not in names and is_twin(subject, ours, theirs):
                 continue
-            if subject in mine or subject.kind == 'layer' and subject.id < last:
+            if subject in mine or subject.kind == 'layer' and subject.id < last or subject.kind == 'object' and subject.id in meant:
                 names[subject] = self._next(subject.kind)
         return names
 
     # ---- references
     def _tell_dangling(self, goal: MergedMap, ours: MapNow, theirs: MapNow) -> None:
         """Tells of properties that mean an object which is there no more, where on neither side one means what is not there."""
-        known = {*_dangling(ours), *_dangling(theirs)}
-        for subject, name, id in _dangling(goal):
+        known = {*self._dangling(ours), *self._dangling(theirs)}
+        for subject, name, id in self._dangling(goal):
             if (subject, name, id) not in known:
                 self._notices.append(f'{_told(subject, goal)}: property {name} means object {id}, which one side removed')
 
-
-def _dangling(map: MapNow) -> Iterator[tuple[Subject, str, int]]:
-    """What has a property that means an object which is not there, with its name and the id."""
-    for subject, stand in things_of(map).items():
-        for each in stand.members.get('properties', []):
-            if each.get('type') == 'object' and each.get('value') and each['value'] not in map.objects:
-                yield subject, each['name'], each['value']
+    def _dangling(self, map: MapNow) -> Iterator[tuple[Subject, str, int]]:
+        """What has a property that means an object which is not there, with its name and the id."""
+        owners = {MAP: map.tree, **{subject: stand.members for subject, stand in things_of(map).items()}}
+        for subject, members in owners.items():
+            for each in members.get('properties', []):
+                yield from ((subject, each['name'], id) for id in self._types.meant(each) if id and id not in map.objects)
 
 
 def _of(names: Names, map: MapNow) -> Names:
@@ -261,6 +270,8 @@ def _of(names: Names, map: MapNow) -> Names:
 
 
 def _told(subject: Subject, map: MapNow) -> str:
+    if subject == MAP:
+        return head_of(MAP, '')
     return head_of(subject, stand_of(map, subject).members.get('name', ''))
 
 

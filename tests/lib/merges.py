@@ -121,10 +121,12 @@ class Table:
         return found
 
     def meant(self, each):
-        """The value of a property; of one that means a new object what that is."""
+        """The value of a property; of one that means a new object what that is, and 0 of one that means none that is there or was."""
         value = each['value']
-        if each.get('type') != 'object' or ('object', value) in self.known or value not in self.objects:
+        if each.get('type') != 'object' or ('object', value) in self.known:
             return value
+        if value not in self.objects:
+            return 0
         looks = self.object(self.objects[value])
         return ['new', *(looks.get(name) for name in ('name', 'x', 'y'))]
 

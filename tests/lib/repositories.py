@@ -41,7 +41,8 @@ class Repository:
         self.env = {**os.environ, 'HOME': str(folder), 'GIT_CONFIG_NOSYSTEM': '1', 'PYTHONPATH': str(TOP / 'python'),
                     **{f'GIT_{who}_{what}': value for who in ('AUTHOR', 'COMMITTER') for what, value in (('NAME', 'a'), ('EMAIL', 'a@b'))}}
         self.git('init', '-q', '-b', 'main')
-        shutil.copy(MAPS / 'town.tmj', self.folder)
+        for name in ('town.tmj', 'tiles.tsx', 'tiles.png'):
+            shutil.copy(MAPS / name, self.folder)
         self.commit('The map')
 
     def git(self, *words, given=None):
