@@ -362,7 +362,7 @@ def test_marks_by_the_command():
         key = next(each for each in json.loads(theirs.read_bytes())['layers'][-2]['objects'] if each['name'] == 'key')
         see({'map/property people': [0, 0, 16, 16, 'conflict'], 'layer:1/cells/2,3': [32, 48, 32, 16, 'conflict'],
              'object:4/removed': [64, key['y'] - key['height'], key['width'], key['height'], 'conflict']}, boxes)
-        see(sorted(line.partition(': ')[2].rpartition(' ')[0].rpartition(' [')[0] or line for line in told.splitlines())[:0], [])
+        see(sorted(line.partition(': ')[2].rpartition(' [')[0] for line in told.splitlines()), sorted(each['name'] for each in layer['objects']))
         see((0, False), (command('merge', base, ours, theirs, '-o', out, '--take', 'ours', '--marks')[0], b'Conflicts' in out.read_bytes()))
 
 

@@ -269,7 +269,7 @@ def branches(folder, count, seed, opened=None):
             document = editor.open(path)
             history(chosen, document, 5)
             document.save(path)
-        found.commit(f'Branch {number}')
+        found.git('commit', '-q', '-a', '--allow-empty', '-m', f'Branch {number}')
         way = ('merge', 'rebase', 'pick', 'revert')[number % 4]
         if way == 'rebase':
             status, told = found.git('rebase', 'main')

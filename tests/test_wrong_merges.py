@@ -17,7 +17,7 @@ WRONG = [
     ('ids that both have added are not seen', 'merging', 'if subject in mine or subject.kind', "if subject.kind == 'layer' and subject in mine or subject.kind"),
     ('one conflict of cells too few', 'merged_maps', 'for region in regions(both):', 'for region in [*regions(both)][1:]:'),
     ('the size: ours always', 'framed_maps', "    return theirs if words is None or", "    return theirs if words is not None and"),
-    ('a property of theirs is lost', 'merged_maps', 'else theirs if is_same(base, ours) else self._property(', 'else theirs if is_same(base, ours) and base is not ABSENT else self._property('),
+    ('a property of theirs is lost', 'merged_maps', 'theirs if is_same(base, ours) else self._property(', 'ours if is_same(base, ours) else self._property('),
 ]
 SCRIPT = '''
 import sys, types
