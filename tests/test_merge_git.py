@@ -78,12 +78,14 @@ def test_what_git_is_told():
         see((0, 'off for this repository\n', ''), found.roskevad('git'))
         line = 'not yet of any map: .gitattributes needs the line: *.tmj merge=roskevad diff=roskevad\n'
         see((0, f'on for this repository\n{line}', ''), found.roskevad('git', '--enable'))
-        see(True, sys.executable in found.git('config', 'merge.roskevad.driver')[1])
+        for name in ('merge.roskevad.driver', 'diff.roskevad.command', 'diff.roskevad.textconv', 'mergetool.roskevad.cmd'):
+            see((name, True), (name, sys.executable in found.git('config', name)[1]))
         Path(found.folder, '.gitattributes').write_text('*.tmj merge=roskevad diff=roskevad\n')
         see((0, 'on for this repository\nits .gitattributes says so of maps\n', ''), found.roskevad('git'))
         found.git('config', 'merge.roskevad.driver', 'false')
         see(True, 'set otherwise: merge.roskevad.driver = false' in found.roskevad('git')[1])
         see((0, 'off for this repository\n', ''), found.roskevad('git', '--disable'))
+        see((1, ''), found.git('config', '--local', '--get-regexp', 'roskevad'))
         see((0, 'off for this user\n', ''), found.roskevad('git', '--global'))
         see(0, found.roskevad('git', '--enable', '--global')[0])
         see(True, 'roskevad' in Path(folder, '.gitconfig').read_text())

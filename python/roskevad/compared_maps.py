@@ -94,7 +94,10 @@ class Stand(NamedTuple):
 class MapNow:
     """A map as it is now: its outline, and its layers and objects by their ids, in drawing order."""
 
-    __slots__ = 'document', 'tree', 'layers', 'objects'
+    __slots__ = 'document', 'tree', 'layers', 'objects', 'values'
+
+    #: The values of its cells and objects, once they were asked for.
+    values: set[int]
 
     def __init__(self, document: 'Document'):
         self.document = document

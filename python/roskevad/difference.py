@@ -1,6 +1,7 @@
 # SPDX-License-Identifier: MIT OR Apache-2.0
 """What differs between two maps, by meaning: in words for people, as values for programs, and as lines that lead from one to the other."""
 import json
+from collections import Counter
 from typing import TYPE_CHECKING, Any, Iterable, Iterator, NamedTuple, Optional, Sequence, Union, overload
 
 from .compared_maps import MapNow, Shift, Stand, are_saved_alike, copied, said, shift_of, staying, text_of
@@ -388,29 +389,34 @@ def _moves(
 def _of_cells(id: int, stand: Stand, now: MapNow, goal: MapNow, tiles: tuple[Tiles, Tiles]) -> Iterator[Change]:
     """The cells of a layer that differ, by the rectangle around them and by the pairs of tiles that are the most."""
     old, new, wide = now.cells(id), goal.cells(id), goal.tree['width']
-    pairs, places = dict[tuple[str, str], int](), list[tuple[int, int]]()
+    pairs, corners = dict[tuple[str, str], int](), list[tuple[int, int]]()
     are_counted_alike = now.tree['tilesets'] == goal.tree['tilesets']
     for y in range(goal.tree['height']):
         row, other = old[y * wide:(y + 1) * wide], new[y * wide:(y + 1) * wide]
         if are_counted_alike and row.tobytes() == other.tobytes():
             continue
-        for x, (value, behind) in enumerate(zip(row.tolist(), other.tolist())):
-            pair = tiles[0].name(value), tiles[1].name(behind)
-            if pair[0] != pair[1]:
-                pairs[pair] = pairs.get(pair, 0) + 1
-                places.append((x, y))
-    if places:
-        yield _cells_changed(id, stand, pairs, places)
+        values = [*zip(row.tolist(), other.tolist())]
+        names = {pair: (tiles[0].name(pair[0]), tiles[1].name(pair[1])) for pair in dict.fromkeys(values)}
+        changed = {pair for pair, (was, is_now) in names.items() if was != is_now}
+        if changed:
+            for pair, count in Counter(values).items():
+                if pair in changed:
+                    pairs[names[pair]] = pairs.get(names[pair], 0) + count
+            corners.append((next(x for x in range(wide) if values[x] in changed), y))
+            corners.append((next(x for x in range(wide - 1, -1, -1) if values[x] in changed), y))
+    if pairs:
+        yield _cells_changed(id, stand, pairs, corners)
 
 
-def _cells_changed(id: int, stand: Stand, pairs: dict[tuple[str, str], int], places: list[tuple[int, int]]) -> Change:
-    (left, right), (top, bottom) = ((min(line), max(line)) for line in zip(*places))
-    most = sorted(pairs, key=lambda pair: -pairs[pair])
+def _cells_changed(id: int, stand: Stand, pairs: dict[tuple[str, str], int], corners: list[tuple[int, int]]) -> Change:
+    """The change of cells. The corners are the first and the last cell of each row."""
+    (left, right), (top, bottom) = ((min(line), max(line)) for line in zip(*corners))
+    most, all_ = sorted(pairs, key=lambda pair: -pairs[pair]), sum(pairs.values())
     shown = [f'{before} -> {behind}' for before, behind in most[:_PAIRS]]
     more = f' and {len(most) - _PAIRS} more' if len(most) > _PAIRS else ''
-    count = f'{len(places)} cells' if len(places) > 1 else '1 cell'
+    count = f'{all_} cells' if all_ > 1 else '1 cell'
     words = f'{count} in {left},{top} to {right},{bottom}: {", ".join(shown)}{more}'
-    area = {'x': left, 'y': top, 'width': right - left + 1, 'height': bottom - top + 1, 'count': len(places)}
+    area = {'x': left, 'y': top, 'width': right - left + 1, 'height': bottom - top + 1, 'count': all_}
     before, after = ({**area, 'tiles': [pair[at] for pair in most]} for at in (0, 1))
     return Change(Subject('layer', id), stand.members.get('name', ''), 'cells', before, after, words)
 

@@ -351,7 +351,11 @@ class Joined:
         for start in range(0, len(theirs), wide):
             if is_same_cells(base[start:start + wide], theirs[start:start + wide]):
                 continue
-            rows = (side[start:start + wide].tolist() for side in (base, ours, theirs))
+            parts = [side[start:start + wide] for side in (base, ours, theirs)]
+            if theirs.format == 'I' and is_same_cells(parts[0], parts[1]):
+                found[start:start + wide] = array('I', parts[2])
+                continue
+            rows = (part.tolist() for part in parts)
             for x, (old, mine, other) in enumerate(zip(*rows)):
                 if other in (old, mine):
                     continue

@@ -83,8 +83,8 @@ class _Used:
 def added_firsts(shared: list[Shared], ours: MapNow, theirs: MapNow, back: set[int]) -> dict[int, int]:
     """Of the tilesets that only theirs has added the first ids there, with those that they get: above those of ours. So do those of theirs
     that ours has removed, and that are to be there again: `back` has their first ids."""
-    there = [each for each in shared if each.ours is not None]
-    end = max((first_id(each.ours or {}) + _room(each, ours, theirs) for each in there), default=1)
+    there, used = [each for each in shared if each.ours is not None], (_Used(ours), _Used(theirs))
+    end = max((first_id(each.ours or {}) + _room(each, used) for each in there), default=1)
     found, by = dict[int, int](), 0
     for each in shared:
         if each.ours is None and each.theirs is not None and (each.base is None or first_id(each.theirs) in back):
@@ -93,10 +93,10 @@ def added_firsts(shared: list[Shared], ours: MapNow, theirs: MapNow, back: set[i
     return found
 
 
-def _room(shared: Shared, ours: MapNow, theirs: MapNow) -> int:
+def _room(shared: Shared, counts: tuple[_Used, _Used]) -> int:
     """How many tiles a tileset of ours may have: as many as its map says, or as theirs has in use of one that theirs knows."""
     members: Members = shared.ours or {}
-    used = max(_Used(ours).count(shared.ours), _Used(theirs).count(shared.theirs))
+    used = max(counts[0].count(shared.ours), counts[1].count(shared.theirs))
     count = members.get('tilecount')
     if isinstance(count, int):
         return max(used, count)

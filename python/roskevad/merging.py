@@ -128,12 +128,16 @@ class _Merging:
     def _goal(self, framed: Framed) -> MergedMap:
         base, ours, theirs = self._named_alike(*framed.maps)
         self._conflicts = [self._with_new_id(each) for each in self._conflicts]
-        for old, new in _in_turn([*numbers(shared_tilesets(base, ours, theirs), ours, theirs)]):
+        renumbered = [*_in_turn([*numbers(shared_tilesets(base, ours, theirs), ours, theirs)])]
+        for old, new in renumbered:
             if self._way.say(f'tileset number {old} {new}'):
                 self._notices.append(f'the tileset of the first id {old} has the first id {new} now, and its tiles go along')
-        ours = framed.uncut(1, MapNow(self._ours))
+        ours = framed.uncut(1, MapNow(self._ours)) if renumbered else ours
         joined, goal = self._joined(base, ours, theirs)
         known = {(each.subject, each.what) for each in self._conflicts if each.what == 'removed'}
+        # What lies outside the map of ours is not told of a layer that is not there.
+        gone = {each.subject for each in joined.found.conflicts if each.what == 'added'}
+        self._conflicts = [each for each in self._conflicts if each.what != 'cells' or each.subject not in gone]
         self._conflicts += [each for each in joined.found.conflicts if (each.subject, each.what) not in known]
         self._tell_dangling(goal, ours, theirs)
         return goal

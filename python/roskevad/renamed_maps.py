@@ -158,10 +158,17 @@ def counted(map: MapNow, counting: Counting) -> MapNow:
 
 
 def values_of(map: MapNow) -> set[int]:
-    """The values of all cells and objects."""
+    """The values of all cells and objects, which are kept with the map."""
+    known: Optional[set[int]] = getattr(map, 'values', None)
+    if known is None:
+        known = map.values = _values_of(map)
+    return known
+
+
+def _values_of(map: MapNow) -> set[int]:
     found: set[int] = {stand.members['gid'] for stand in map.objects.values() if 'gid' in stand.members}
     for id, stand in map.layers.items():
-        found.update(map.cells(id) if stand.members['type'] == 'tilelayer' else ())
+        found.update(map.cells(id).tolist() if stand.members['type'] == 'tilelayer' else ())
     return found
 
 

@@ -57,9 +57,9 @@ class Table:
     """A map as a table: of each layer, object and tileset what it says, as texts, by names. All that was moved with the size of the map
     stands where it stood before."""
 
-    def __init__(self, tree, offset=(0, 0), known=()):
-        """`known` are the ids of the objects and layers of the map that both began with."""
-        self.tree, self.offset, self.known = tree, offset, known
+    def __init__(self, tree, offset=(0, 0), known=(), lost=()):
+        """`known` are the ids of the objects and layers of the map that both began with, `lost` those of objects that are not to be there."""
+        self.tree, self.offset, self.known, self.lost = tree, offset, known, lost
         self.tilesets = sorted(((each['firstgid'], each.get('source', each.get('name'))) for each in tree['tilesets']), reverse=True)
         self.objects = {each['id']: each for layer, _ in layers_of(tree) for each in layer.get('objects', [])}
         self.rows, self.cells, self.children = {}, {}, collections.defaultdict(list)
@@ -125,7 +125,7 @@ class Table:
         value = each['value']
         if each.get('type') != 'object' or ('object', value) in self.known:
             return value
-        if value not in self.objects:
+        if value not in self.objects or value in self.lost:
             return 0
         looks = self.object(self.objects[value])
         return ['new', *(looks.get(name) for name in ('name', 'x', 'y'))]
@@ -169,6 +169,8 @@ class Checked:
 
     def found(self):
         """All that is wrong, as texts."""
+        lost = {key[1] for key in self.lacking() if key[0] == 'object'}
+        self.theirs = Table(self.theirs.tree, self.theirs.offset, self.theirs.known, lost) if lost else self.theirs
         for key in ['map', *(each for each in self.ours.rows if each != 'map')]:
             self.see_ours(key)
         self.see_removed_by_ours()
@@ -295,15 +297,21 @@ class Checked:
             if key in self.theirs.rows and self.is_changed(key, self.theirs):
                 self.want_told(key, 'removed', 'theirs has changed it, ours removed it')
 
-    def see_added_by_theirs(self):
-        wanted, lacking, got = collections.Counter(), [], collections.Counter(self.merged.whole(key) for key in self.merged.rows if key not in self.ours.rows)
+    def lacking(self):
+        """What theirs has added in what ours has removed, or with a tile of a tileset that is."""
+        found = []
         for key in [each for each in self.theirs.rows if each not in self.base.rows]:
-            is_twin = self.is_twin(key)
             lacks = [each for each in self.theirs.above(key) if each in self.base.rows and each not in self.ours.rows]
             tile = self.theirs.rows[key].get('gid')
             if lacks or tile and self.has_no_tileset(json.loads(tile)[0]):
-                lacking.append(key)
-            elif not is_twin:
+                found.append(key)
+        return found
+
+    def see_added_by_theirs(self):
+        wanted, lacking = collections.Counter(), self.lacking()
+        got = collections.Counter(self.merged.whole(key) for key in self.merged.rows if key not in self.ours.rows)
+        for key in [each for each in self.theirs.rows if each not in self.base.rows and each not in lacking]:
+            if not self.is_twin(key):
                 self.take_out_cells(key)
                 wanted[self.theirs.whole(key)] += 1
         # They may have other ids by now.
