@@ -390,7 +390,8 @@ def test_command():
             ('no such file', (one, f'{folder}/no.tmj'), f'50 no such file: {folder}/no.tmj\n'),
             ('no map', (broken, one), '60 not JSON'), ('one map', (one,), 'usage: '),
             ('two ways', ('--json', '--lines', one, one), 'not allowed'), ('a text of two', ('--text', one, one), 'wanted are two maps'),
-            ('a picture that has no place', ('--png', f'{folder}/no/a.png', one, one), 'No such file'), ('no lines', ('--lines', less, one), 'no lines can say all of this:'),
+            ('a picture that has no place', ('--png', f'{folder}/no/a.png', one, one), 'No such file'),
+            ('no lines', ('--lines', less, one), 'no lines can say all of this:'),
         ]
         check_each([Case(*row) for row in trouble], lambda case: fault_of_trouble(case.wanted, *command(*case.given)))
 

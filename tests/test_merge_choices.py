@@ -4,13 +4,14 @@ random pairs theirs in a merge into ours is what ours is in one into theirs. Tri
 members of classes mean objects, marks for who settles conflicts in Tiled; and the command with its statuses and files."""
 import collections
 import json
+import subprocess
 import sys
 import tempfile
 from pathlib import Path
 
 import test_merge
 from lib.cases import Case, check_each, check_in_processes, see, unlike
-from lib.merges import Table, said
+from lib.merges import Checked, Table, said, told_by
 from lib.places import TOP
 from lib.repositories import MAPS, command, saved
 
@@ -318,6 +319,72 @@ def test_check():
         told = ['not as merged: map: property people: 13 -> 12', 'not as merged: object 2 "Inn": y 160 -> 0']
         wrong = saved(folder, 'wrong.tmj', f'{INN}.x = 50\n{INN}.y = 0\nmap.stamp("Ground", 0, 0, [[7]])')
         see((1, told, ''), (lambda status, text, fault: (status, text.splitlines(), fault))(*command('merge', '--check', base, ours, theirs, wrong)))
+
+
+def checked(folder, ours, theirs, result):
+    """What a check tells of a result: of a script's map, or of what git makes of the texts."""
+    files = [saved(folder, name, script) for name, script in (('base.tmj', 'pass'), ('ours.tmj', ours), ('theirs.tmj', theirs))]
+    path = Path(folder, 'result.tmj')
+    if result is None:
+        done = subprocess.run(['git', 'merge-file', '-p', files[1], files[0], files[2]], capture_output=True)
+        see(0, done.returncode)
+        path.write_bytes(done.stdout)
+    else:
+        saved(folder, 'result.tmj', result)
+    return command('merge', '--check', *files, path)
+
+
+BOXES = 'map.layers["{}"].objects.add("{}", 0, 0)'
+ORDER = 'map.layers.add("tile", "{}").move(0)'
+CHECKED = [
+    ('cells beside those in conflict', 'map.stamp("Ground", 0, 0, [[7]])', 'map.stamp("Ground", 0, 0, [[9]])\nmap.stamp("Ground", 5, 5, [[9]])',
+     'map.stamp("Ground", 0, 0, [[13]])', (1, 'not as merged: layer 1 "Ground": 1 cell in 5,5 to 5,5: tiles.tsx:8 -> tiles.tsx:0\n')),
+    ('what a shape in conflict is not', f'{INN}.members["ellipse"] = True', f'{INN}.members["point"] = True\n{INN}.y = 96',
+     f'{INN}.members["point"] = True', (1, 'not as merged: object 2 "Inn": y 96 -> 160\n')),
+    ('the order of what both added', ORDER.format('A'), ORDER.format('B'), 'map.layers.add("tile", "A")\n' + ORDER.format('B') + '\n'
+     'map.layers["A"].move(1)', (0, '')),
+    ('a removal that git loses', 'map.objects["key"].remove()', 'map.objects["key"].move_into("Places")', None,
+     (1, 'in conflict, and merged as text, untold: object 4 "key": removed by ours, changed by theirs; it stays removed\n')),
+    ('an id twice, by git', BOXES.format('Things', 'a'), BOXES.format('Places', 'b'), None, (2, '')),
+]
+
+
+def fault_of_check(case):
+    with tempfile.TemporaryDirectory() as folder:
+        status, told, _ = checked(folder, *case.given)
+        return unlike(case.wanted, (status, told))
+
+
+def test_what_a_check_tells():
+    check_each([Case(name, given, wanted) for name, *given, wanted in CHECKED], fault_of_check)
+
+
+def fault_of_text(case):
+    """How a check tells a merge by git of the texts to be right that is not, or None."""
+    data, sides, offsets = test_merge.pair(case.given, 8)
+    with tempfile.TemporaryDirectory() as folder:
+        paths = [Path(folder, name) for name in ('base', 'ours', 'theirs', 'result')]
+        for path, text in zip(paths, (data, *sides)):
+            path.write_bytes(text)
+        done = subprocess.run(['git', 'merge-file', '-p', paths[1], paths[0], paths[2]], capture_output=True)
+        if done.returncode != 0 or any(map(any, offsets)):
+            return None
+        paths[3].write_bytes(done.stdout)
+        found, _, origin, _ = test_merge.merged_files(data, *sides)
+        trees = [json.loads(each) for each in (data, *sides, done.stdout)]
+        known = Table(trees[0]).rows
+        try:
+            told = told_by(found.conflicts, tuple(-each for each in origin) if trees[0].get('infinite') else (0, 0)) - {('map', 'size')}
+            is_wrong = bool(Checked(*(Table(tree, known=known) for tree in trees), told).found())
+        except AssertionError:
+            is_wrong = True
+        status, words, _ = command('merge', '--check', *paths)
+        return unlike(is_wrong or bool(found.conflicts), status != 0) and f'{status} {words}'
+
+
+def test_checks_of_texts_that_git_merges():
+    """A check tells each that git has merged wrongly, or without a word where there is a conflict; and none that is right."""
+    check_in_processes([Case(f'pair {seed}', seed, None) for seed in range(SEED, SEED + 40)], fault_of_text)
 
 
 def test_choices_by_the_command():

@@ -22,7 +22,8 @@ from .editor import Editor
 from .faults import Error
 from .git_stages import NotInConflict
 from .merging import Conflict, Merge, do_merge, merge, merged
-from .resolving import Resolving, is_of
+from .resolving import Resolving
+from .settling import is_merged_as_text, not_as_merged
 
 _MERGED, _IN_CONFLICT, _TROUBLE = 0, 1, 2
 _USAGE = '''roskevad merge BASE OURS THEIRS -o OUT [--take SIDE[:KEY]].. [--ask] [--marks] [--offset SIDE:X,Y].. [--project FILE] [--name NAME]
@@ -257,8 +258,10 @@ def _checked(editor: Editor, chosen: argparse.Namespace) -> _Told:
         return _Told(_MERGED, [])
     _, project = _project(chosen, Path(chosen.name or chosen.maps[3]))
     conflicts = merge(base, ours, theirs, offset=dict(chosen.offset), project=project).conflicts
-    left = [each for each in ours.difference(result) if not is_of(each, conflicts)]
-    return _Told(_IN_CONFLICT if left else _MERGED, [f'not as merged: {each}' for each in left])
+    unseen = conflicts if conflicts and is_merged_as_text(*chosen.maps) else ()
+    told = [*(f'not as merged: {each}' for each in not_as_merged(base, ours, result, conflicts)),
+            *(f'in conflict, and merged as text, untold: {each}' for each in unseen)]
+    return _Told(_IN_CONFLICT if told else _MERGED, told)
 
 
 def _trouble(text: str) -> int:

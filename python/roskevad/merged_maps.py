@@ -14,8 +14,8 @@ from .three_ways import ABSENT, Clash, is_same, merged_members, merged_order
 from .tiled_maps import Members
 from .told import Subject
 
-# The members of an object that say its shape together: it has one of them, or none.
-_SHAPES = 'ellipse', 'point', 'polygon', 'polyline', 'text', 'gid', 'template', 'capsule'
+#: The members of an object that say its shape together: it has one of them, or none.
+SHAPES = 'ellipse', 'point', 'polygon', 'polyline', 'text', 'gid', 'template', 'capsule'
 # How many tiles of a conflict are told in words.
 _FEW = 3
 
@@ -284,14 +284,14 @@ class Joined:
 
     def _of_one_shape(self, subject: Subject, base: Members, ours: Members, theirs: Members) -> tuple[Members, Members, Members]:
         """Members in which both have the shape that is taken, where both have given it another one."""
-        shapes = [{name: each[name] for name in _SHAPES if name in each} for each in (base, ours, theirs)]
+        shapes = [{name: each[name] for name in SHAPES if name in each} for each in (base, ours, theirs)]
         kinds = [{*shape} for shape in shapes]
         if kinds[1] == kinds[2] or kinds[0] in kinds[1:]:
             return base, ours, theirs
         names = [' and '.join(kind) or 'a rectangle' for kind in kinds]
         is_theirs = self.is_theirs(subject, 'shape', shapes, f'shape: {names[0]} -> {names[1]} (ours), {names[2]} (theirs)')
         taken = shapes[2 if is_theirs else 1]
-        mine, other = ({**{name: value for name, value in each.items() if name not in _SHAPES}, **taken} for each in (ours, theirs))
+        mine, other = ({**{name: value for name, value in each.items() if name not in SHAPES}, **taken} for each in (ours, theirs))
         return base, mine, other
 
     def _member(self, subject: Subject, clash: Clash, name: Optional[str] = None) -> Any:

@@ -2,30 +2,18 @@
 """A map that is in conflict in git: what is left of its conflicts is found from the versions that git keeps and from the file as it is, so that
 what somebody has settled by hand stays."""
 from pathlib import Path
-from typing import Optional, Sequence
+from typing import Optional
 
 from .choices import Choices, Side
 from .conflict_marks import mark, marked_keys, marks_of
-from .difference import Change
+from .difference import MAP, Change
 from .difference_command import opened
 from .document import Document
 from .editor import Editor
 from .faults import Refused
 from .git_stages import NotInConflict, stages_of
 from .merging import Conflict, Merge, Offsets, do_merge, merge, merged
-
-# Conflicts that are not about one member of a thing.
-_WHOLE = {'removed', 'added', 'moved', 'order', 'shape', 'size', 'unsaid'}
-
-
-def is_of(change: Change, conflicts: Sequence[Conflict]) -> bool:
-    """Whether a change may be how somebody has settled a conflict: of the same thing, or, where it is about whole things, with another one
-    that was added or moved."""
-    of_the_same = {each.what.partition('.')[0] for each in conflicts if each.subject == change.subject}
-    if of_the_same & {change.what, *_WHOLE}:
-        return True
-    return change.what in ('added', 'moved') and any(each.what in _WHOLE for each in conflicts)
-
+from .settling import cells_are_settled, is_of
 
 class Resolving:
     """The versions of a map, and the file. A first merge, without a choice, is what git's driver has written there."""
@@ -90,7 +78,10 @@ class Resolving:
         merge has it."""
         if self._marked is not None:
             return conflict.key in self._marked
-        return not any(is_of(change, [conflict]) for change in self._by_hand)
+        if conflict.what == 'cells' and conflict.ours['cells']:
+            return self._now is None or not cells_are_settled(conflict, self._now)
+        about = conflict._replace(subject=MAP, what='size') if conflict.key == 'map/size' else conflict
+        return not any(is_of(change, about) for change in self._by_hand)
 
     def _done(self, found: Merge, name: str) -> Document:
         """A map in which a merge is done."""
