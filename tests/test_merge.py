@@ -95,6 +95,8 @@ WORDS = [
     ('two properties', 'map.properties["people"] = 13', 'map.properties["sun"] = True', [], ['map: property sun: none -> true']),
     ('two shapes', f'{INN}.members["ellipse"] = True', f'{INN}.members["point"] = True',
      ['object 2 "Inn": shape: a rectangle -> ellipse (ours), point (theirs)'], []),
+    ('two versions of Tiled', 'map.members["tiledversion"] = "1.9.2"', 'map.members["tiledversion"] = "1.11.0"', [],
+     ['map: version of Tiled "1.9.2" -> "1.11.0"']),
     ('two sizes', 'map.extend(right=1)', 'map.extend(right=2)',
      ['map: 40 by 30 cells -> 41 by 30 cells (ours), 42 by 30 cells (theirs)'], []),
     ('a size that cuts off', 'map.stamp("Ground", 39, 0, [[7]])', 'map.resize(39, 30)',

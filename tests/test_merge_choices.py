@@ -424,7 +424,8 @@ def test_marks_by_the_command():
         status, told, _ = command('merge', base, ours, theirs, '-o', out, '--marks')
         tree = json.loads(out.read_bytes())
         layer = tree['layers'][-1]
-        see((1, 'Conflicts', 'conflicts', '#ff0000'), (status, *(layer[name] for name in ('name', 'class', 'color'))))
+        see((1, 'Conflicts', '#ff0000'), (status, layer['name'], layer['color']))
+        see([{'name': 'conflicts', 'type': 'bool', 'value': True}], layer['properties'])
         boxes = {each['properties'][0]['value']: [each[name] for name in ('x', 'y', 'width', 'height', 'type')] for each in layer['objects']}
         key = next(each for each in json.loads(theirs.read_bytes())['layers'][-2]['objects'] if each['name'] == 'key')
         see({'map/property people': [0, 0, 16, 16, 'conflict'], 'layer:1/cells/2,3': [32, 48, 32, 16, 'conflict'],

@@ -72,18 +72,23 @@ def test_git_tells_what_differs():
         see((0, True), (status, told.startswith('map new.tmj\n  added\nmap town.tmj\n  what differs is not told: 60 not JSON')))
 
 
+ON = 'on for this repository: merges, differences, texts in logs, and mergetool --tool=roskevad'
+
+
 def test_what_git_is_told():
     with tempfile.TemporaryDirectory() as folder:
         found = Repository(folder)
         see((0, 'off for this repository\n', ''), found.roskevad('git'))
         line = 'not yet of any map: .gitattributes needs the line: *.tmj merge=roskevad diff=roskevad\n'
-        see((0, f'on for this repository\n{line}', ''), found.roskevad('git', '--enable'))
+        see((0, f'{ON}\n{line}', ''), found.roskevad('git', '--enable'))
         for name in ('merge.roskevad.driver', 'diff.roskevad.command', 'diff.roskevad.textconv', 'mergetool.roskevad.cmd'):
             see((name, True), (name, sys.executable in found.git('config', name)[1]))
         Path(found.folder, '.gitattributes').write_text('*.tmj merge=roskevad diff=roskevad\n')
-        see((0, 'on for this repository\nits .gitattributes says so of maps\n', ''), found.roskevad('git'))
+        see((0, f'{ON}\nits .gitattributes says so of maps\n', ''), found.roskevad('git'))
         found.git('config', 'merge.roskevad.driver', 'false')
-        see(True, 'set otherwise: merge.roskevad.driver = false' in found.roskevad('git')[1])
+        found.git('config', '--unset', 'mergetool.roskevad.cmd')
+        told = found.roskevad('git')[1].splitlines()
+        see([True, True], ['set otherwise: merge.roskevad.driver = false' in told, 'not set: mergetool.roskevad.cmd' in told])
         see((0, 'off for this repository\n', ''), found.roskevad('git', '--disable'))
         see((1, ''), found.git('config', '--local', '--get-regexp', 'roskevad'))
         see((0, 'off for this user\n', ''), found.roskevad('git', '--global'))

@@ -11,8 +11,9 @@ if TYPE_CHECKING:
     from .document import Document
     from .views import Layer
 
-# The layer of the marks, the classes of it and of a mark, the property of a mark that has the conflict's key, and its colour.
-_NAME, _CLASS, _OF_ONE, _KEY, _COLOUR = 'Conflicts', 'conflicts', 'conflict', 'key', '#ff0000'
+# The layer of the marks and its property, by which it is known, the class of a mark and its property, which has the conflict's key, and the
+# colour.
+_NAME, _KNOWN, _OF_ONE, _KEY, _COLOUR = 'Conflicts', 'conflicts', 'conflict', 'key', '#ff0000'
 # The longest name of a mark, and the most marks, as many as a layer takes.
 _LONGEST, _MOST = 200, 4096
 
@@ -23,7 +24,8 @@ def mark(document: 'Document', conflicts: Iterable[Conflict], opened: tuple[int,
     """Puts a layer of marks on a map, above all others. `opened` is where the corner of an infinite map lay when it was opened. What has no
     place, as a layer, has its mark at the corner, one below the other."""
     layer = document.layers.add('object', _NAME)
-    layer.members.update({'class': _CLASS, 'color': _COLOUR})
+    layer.members['color'] = _COLOUR
+    layer.properties[_KNOWN] = True
     grid = _Grid(document, opened)
     rows = 0
     for conflict in islice(conflicts, _MOST):
@@ -36,7 +38,7 @@ def mark(document: 'Document', conflicts: Iterable[Conflict], opened: tuple[int,
 
 def marks_of(document: 'Document') -> 'Optional[Layer]':
     """The layer of marks that a map has, if it has one."""
-    return next((each for each in document.layers.walk() if each.kind == 'object' and each.members.get('class') == _CLASS), None)
+    return next((each for each in document.layers.walk() if each.kind == 'object' and _KNOWN in each.properties), None)
 
 
 def marked_keys(layer: 'Layer') -> set[str]:

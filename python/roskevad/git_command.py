@@ -105,8 +105,8 @@ def _told(git: _Git, scope: str) -> list[str]:
     set_now = {name: git.tells('config', scope, '--get', name) for name in wanted}
     if not any(set_now.values()):
         return [f'off for {where}']
-    told = [f'on for {where}']
-    told += [f'set otherwise: {name} = {value}' for name, value in set_now.items() if value != wanted[name]]
+    told = [f'on for {where}: merges, differences, texts in logs, and mergetool --tool=roskevad']
+    told += [f'set otherwise: {name} = {value}' if value else f'not set: {name}' for name, value in set_now.items() if value != wanted[name]]
     if not git.is_repository():
         return [*told, f'each repository needs a file .gitattributes with the line: {ATTRIBUTES}']
     attributes = git.tells('check-attr', 'merge', 'diff', '--', 'a.tmj')

@@ -16,6 +16,8 @@ from .told import Subject
 
 #: The members of an object that say its shape together: it has one of them, or none.
 SHAPES = 'ellipse', 'point', 'polygon', 'polyline', 'text', 'gid', 'template', 'capsule'
+# The member of the map that is the version of Tiled.
+_VERSION = 'tiledversion'
 # How many tiles of a conflict are told in words.
 _FEW = 3
 
@@ -295,7 +297,9 @@ class Joined:
         return base, mine, other
 
     def _member(self, subject: Subject, clash: Clash, name: Optional[str] = None) -> Any:
-        """The value of a member that is taken."""
+        """The value of a member that is taken. Each save of Tiled writes its version: the newer one is."""
+        if clash.name == _VERSION and subject == MAP and clash.ours is not ABSENT and clash.theirs is not ABSENT:
+            return max(clash.ours, clash.theirs, key=_numbers)
         if clash.name == 'gid':
             told = ['none' if value is ABSENT else self._tile_named(value) for value in clash[1:]]
         else:
@@ -433,6 +437,11 @@ class Joined:
     def _tileset_is_theirs(self, shared: Shared, words: str, can_be_theirs: bool = True) -> bool:
         first = (shared.ours or shared.theirs or {})['firstgid']
         return self.found.side_of(Conflict(Subject('tileset', first), shared.name, 'removed', *shared, words), can_be_theirs) == 'theirs'
+
+
+def _numbers(version: Any) -> list[int]:
+    """The numbers of a version, which are compared."""
+    return [int(each) for each in str(version).split('.') if each.isdigit()]
 
 
 def _kept(tileset: Members) -> str:
