@@ -4,9 +4,11 @@ diff(1). For 150 pairs of maps with random edits the lines that lead from the on
 the other one has. Two maps are told to be the same if their files have the same, and only then. What no line can say is told so."""
 import json
 import random
+import struct
 import subprocess
 import sys
 import tempfile
+import zlib
 from pathlib import Path
 
 from lib.cases import CORES, Case, check_each, see, unlike
@@ -42,7 +44,7 @@ WORDS = [
     ('empty cells', 'town.erase("Walls", 6, 3, 2, 1)', ['layer 4 "Walls": 2 cells in 6,3 to 7,3: tiles.tsx:9 -> empty']),
     ('a name', 'town.layers["Ground"].name = "Earth"', ['layer 1 "Earth": name "Ground" -> "Earth"']),
     ('members', 'town.layers["Ground"].members.update(opacity=0.5, tintcolor="#ff8800")',
-     ['layer 1 "Ground": opacity 1 -> 0.5', 'layer 1 "Ground": tint none -> "#ff8800"']),
+     ['layer 1 "Ground": opacity 1 -> 0.5', 'layer 1 "Ground": tint color none -> "#ff8800"']),
     ('an object', 'town.objects["Inn"].members.update(x=100.5, rotation=45, type="House")',
      ['object 2 "Inn": rotation 0 -> 45', 'object 2 "Inn": class "Door" -> "House"', 'object 2 "Inn": x 128 -> 100.5']),
     ('its tile', 'town.objects["key"].tile = 5', ['object 4 "key": tile tiles.tsx:20 -> tiles.tsx:4']),
@@ -80,14 +82,26 @@ WORDS = [
     ('a tileset', 'town.tilesets.add(1000, "walls.tsj")', ['tileset walls.tsj: added, first id 1000']),
     ('a tileset twice', 'town.tilesets.add(1000, "tiles.tsx")\ntown.stamp("Ground", 0, 0, [[1001]])',
      ['tileset tiles.tsx: added, first id 1000', 'layer 1 "Ground": 1 cell in 0,0 to 0,0: tiles.tsx:0 -> tiles.tsx (2):1']),
-    ('its file', 'town.tilesets[1].source = "art/tiles.tsx"', ['tileset art/tiles.tsx: source "tiles.tsx" -> "art/tiles.tsx"']),
+    ('its corners', 'town.objects["Lake"].members["polygon"] = [{"x": 0, "y": 0}, {"x": 9, "y": 0}, {"x": 9, "y": 8}]\n'
+     'other.objects["Lake"].members["polygon"] = [{"x": 0, "y": 0}, {"x": 8, "y": 0}, {"x": 9, "y": 8}, {"x": 0, "y": 4}]',
+     ['object 5 "Lake": polygon 4 corners -> 3 corners']),
+    ('a text', 'town.objects["Inn"].members["text"] = {"text": "B", "bold": True, "halign": "center"}\n'
+     'other.objects["Inn"].members["text"] = {"text": "A", "halign": "left"}',
+     ['object 2 "Inn": horizontal alignment "left" -> "center", text "A" -> "B", bold none -> true']),
+    ('words of panels', 'town.layers["Ground"].members.update(offsetx=4, parallaxy=0.5)\ntown.layers["Things"].members["draworder"] = "index"',
+     ['layer 1 "Ground": horizontal offset none -> 4', 'layer 1 "Ground": vertical parallax factor none -> 0.5',
+      'layer 15 "Things": drawing order "topdown" -> "index"']),
+    ('a tileset in the map', "town._edit('tileset put {\"firstgid\":1000,\"name\":\"walls\",\"image\":\"walls.png\",\"imagewidth\":16,\"imageheight\":16,"
+     '\"tilecount\":1,\"columns\":1,\"margin\":0,\"spacing\":0,\"tilewidth\":16,\"tileheight\":16}\')',
+     ['tileset walls: added, first id 1000, with the picture walls.png']),
+    ('its file', 'town.tilesets[1].source = "art/tiles.tsx"', ['tileset art/tiles.tsx: file "tiles.tsx" -> "art/tiles.tsx"']),
     ('what a map has of it', 'town.tilesets[1].members["origin"] = "the old town"', ['tileset tiles.tsx: origin none -> "the old town"']),
-    ('the map', 'town.background = "#112233"', ['map: background none -> "#112233"']),
+    ('the map', 'town.background = "#112233"', ['map: background color none -> "#112233"']),
     ('its size', 'town.extend(left=2, bottom=1)', ['map: 40 by 30 cells -> 42 by 31, all moved by 2, 0']),
     ('its size alone', 'town.extend(right=1)', ['map: 40 by 30 cells -> 41 by 30']),
     ('its size, and more', 'town.extend(top=3)\ntown.objects["Inn"].x = 0\ntown.stamp("Ground", 0, 3, [[7]])',
      ['map: 40 by 30 cells -> 40 by 33, all moved by 0, 3', 'layer 1 "Ground": 1 cell in 0,3 to 0,3: tiles.tsx:0 -> tiles.tsx:6', 'object 2 "Inn": x 128 -> 0']),
-    ('what it counts', 'town.layers["Things"].objects.add("a", 0, 0).remove()', ['map: nextobjectid 7 -> 8']),
+    ('what it counts', 'town.layers["Things"].objects.add("a", 0, 0).remove()', ['map: next object id 7 -> 8']),
 ]
 
 
@@ -119,7 +133,7 @@ def test_first_ids_that_are_counted_anew():
     assert other != tree
     with Editor() as editor:
         found = editor.open(json.dumps(tree).encode()).difference(editor.open(json.dumps(other).encode()))
-        see(['tileset tiles: firstgid 33 -> 40 (first id)'], [str(each) for each in found])
+        see(['tileset tiles: first id 33 -> 40'], [str(each) for each in found])
         see(['tileset', 'stamp', 'tileset'], [line.split(' ')[0] for line in found.lines or ()])
 
 
@@ -243,6 +257,8 @@ def test_infinite_maps_that_grew():
         one, other = (editor.open(TOP / 'sessions/all_edits/maps' / f'{name}.tmj') for name in ('corner', 'corner_extended'))
         found = one.difference(other)
         assert found.lines == ('extend 2 2 0 0', 'stamp 1 0 0 1 1'), found.lines
+        assert found[0].words == '2 by 2 cells -> 4 by 4, 2 columns more at the left and 2 rows more above', found[0].words
+        assert other.difference(one)[0].words == '4 by 4 cells -> 2 by 2, 2 columns fewer at the left and 2 rows fewer above'
         assert found[0].what == 'size', str(found)
 
 
@@ -252,6 +268,93 @@ def test_lines_by_the_program():
     some = [pair(seed) for seed in range(SEED, SEED + 20)]
     have = sum(lines is not None for _, _, _, lines, _ in some)
     assert have >= 14, f'{have} of {len(some)} pairs have lines'
+
+
+# ---- pictures and texts
+
+
+def pixels(data):
+    """The pixels of a PNG of a palette, by rows, each as its colour."""
+    assert data[:8] == b'\x89PNG\r\n\x1a\n'
+    parts, at = {}, 8
+    while at < len(data):
+        size, = struct.unpack('>I', data[at:at + 4])
+        name, body, check = data[at + 4:at + 8], data[at + 8:at + 8 + size], data[at + 8 + size:at + 12 + size]
+        see(check, struct.pack('>I', zlib.crc32(name + body)))
+        parts[name], at = body, at + 12 + size
+    wide, high, *kind = struct.unpack('>2I5B', parts[b'IHDR'])
+    see([8, 3, 0, 0, 0], kind)
+    rows, palette = zlib.decompress(parts[b'IDAT']), parts[b'PLTE']
+    see((1 + wide) * high, len(rows))
+    return [[tuple(palette[3 * value:3 * value + 3]) for value in rows[y * (wide + 1) + 1:(y + 1) * (wide + 1)]] for y in range(high)]
+
+
+def test_pictures():
+    """Cells as squares: one that is gone is red, a new one green, another one yellow, others grey; objects by their boxes."""
+    with Editor() as editor:
+        one, other = two(editor)
+        other.erase('Walls', 3, 3, 1, 1)
+        other.stamp('Trees', 10, 10, [[5]])
+        other.stamp('Ground', 20, 20, [[9]])
+        other.objects['Inn'].x = 320
+        was = one.objects['Inn']
+        rows = pixels(one.difference(other).picture())
+        see((40 * 8, 30 * 8), (len(rows[0]), len(rows)))
+        see([(220, 40, 40), (40, 170, 60), (230, 180, 0)], [rows[8 * y + 3][8 * x + 3] for x, y in ((3, 3), (10, 10), (20, 20))])
+        red, green, blue = rows[8 * 25 + 3][8 * 5 + 3]
+        see(True, red == green == blue < 255)
+        see([(40, 90, 230), (255, 150, 150)], [rows[was.y // 2][x // 2] for x in (320, was.x)])
+        other.mark_clean()
+
+
+def test_pictures_of_large_maps():
+    """They have smaller squares, of one pixel at least."""
+    with Editor() as editor:
+        documents = [editor.new(name, 2000, 3, 16, 16, 'a.tsj') for name in ('a', 'b')]
+        documents[1].layers.add('tile', 'Ground')
+        documents[1].stamp('Ground', 1999, 0, [[1]])
+        rows = pixels(documents[0].difference(documents[1]).picture())
+        see((4000, 6, (40, 170, 60)), (len(rows[0]), len(rows), rows[0][3999]))
+        for document in documents:
+            document.mark_clean()
+
+
+def text_of(data):
+    with tempfile.TemporaryDirectory() as folder:
+        path = Path(folder, 'map.tmj')
+        path.write_bytes(data)
+        status, told, fault = command('--text', str(path))
+        see((0, ''), (status, fault))
+        return told.splitlines()
+
+
+def test_texts():
+    """A line for each fact; tiles are named by their tilesets, so that counting them anew changes nothing, and neither does room on a plane."""
+    tree = json.loads((MAPS / 'two_tilesets.tmj').read_text())
+    other = json.loads(json.dumps(tree).replace('"firstgid": 33', '"firstgid": 40'))
+    for layer in other['layers']:
+        layer['data'] = [value + 7 if 33 <= value < 1 << 28 else value for value in layer.get('data', [])]
+    see(text_of(json.dumps(tree).encode()), text_of(json.dumps(other).encode()))
+    with Editor() as editor:
+        infinite, town = editor.open(MAPS / 'infinite.tmj'), editor.open(MAPS / 'town.tmj')
+        before = text_of(infinite.save_bytes())
+        infinite.extend(2, 2, 2, 2)
+        see(before, text_of(infinite.save_bytes()))
+        infinite.mark_clean()
+        before = text_of(town.save_bytes())
+        town.objects['Inn'].x = 96
+        town.stamp('Ground', 0, 29, [[7, 7]])
+        after = text_of(town.save_bytes())
+        town.mark_clean()
+        see('map, 40 by 30 cells', before[0])
+        new = [line for line in after if line not in before]
+        see(['  row 29: 0 to 1 tiles.tsx:6', '  x 96'], [new[0].partition(',')[0], new[1]])
+        see(2, len(new))
+        see(True, 'layer 4 "Walls", a tile layer, in layer 3 "Inn"' in before and '  property beds: 3 (int)' in before)
+
+
+def test_texts_of_what_is_no_map():
+    see(['{"a": ', 'b'], text_of(b'{"a": \nb\n'))
 
 
 # ---- the command
@@ -279,12 +382,16 @@ def test_command():
             ('as lines', ('--lines', same, one), (1, lines, '')),
         ]
         check_each([Case(*row) for row in rows], lambda case: unlike(case.wanted, command(*case.given)))
+        see((1, told, ''), command('--png', f'{folder}/a.png', same, one))
+        see(40 * 8, len(pixels(Path(folder, 'a.png').read_bytes())[0]))
         status, text, _ = command('--json', same, one)
         see((1, ['map', 0, '', 'property author']), (status, [json.loads(text)['changes'][0][name] for name in ('kind', 'id', 'name', 'what')]))
         trouble = [
             ('no such file', (one, f'{folder}/no.tmj'), f'50 no such file: {folder}/no.tmj\n'),
             ('no map', (broken, one), '60 not JSON'), ('one map', (one,), 'usage: '),
-            ('two ways', ('--json', '--lines', one, one), 'not allowed'), ('no lines', ('--lines', less, one), 'no lines can say all of this:'),
+            ('two ways', ('--json', '--lines', one, one), 'not allowed'), ('a text of two', ('--text', one, one), 'wanted are two maps'),
+            ('a picture that has no place', ('--png', f'{folder}/no/a.png', one, one), 'No such file'),
+            ('no lines', ('--lines', less, one), 'no lines can say all of this:'),
         ]
         check_each([Case(*row) for row in trouble], lambda case: fault_of_trouble(case.wanted, *command(*case.given)))
 

@@ -1,15 +1,9 @@
 # SPDX-License-Identifier: MIT OR Apache-2.0
 """Brings two sides of a map together by the Python package: the words of each conflict, 200 random pairs of histories with a checker that
-shares nothing with the merge, merges behind merges, the command with its statuses and files, and a repository in which git merges, rebases and
-reverts maps by it. A merge with what both began with gives the other side; one undo gives ours back."""
+shares nothing with the merge, and merges behind merges. A merge with what both began with gives the other side; one undo gives ours back."""
 import json
-import os
 import random
-import shutil
-import subprocess
 import sys
-import tempfile
-from pathlib import Path
 
 from lib.cases import Case, check_each, check_in_processes, see, unlike
 from lib.histories import edit, history
@@ -75,9 +69,9 @@ WORDS = [
     ('an object that theirs removed', f'{INN}.x = 96', f'{INN}.remove()', ['object 2 "Inn": removed by theirs, changed by ours; it stays'], []),
     ('one that both removed', f'{INN}.remove()', f'{INN}.remove()', [], []),
     ('an object in a layer that is gone', 'map.layers["Things"].remove()', 'map.layers["Things"].objects.add("box", 1, 2)',
-     ['object 7 "box": added by theirs in layer 15 "Things", which ours removed; it is not there'], ['map: nextobjectid 7 -> 8']),
+     ['object 7 "box": added by theirs in layer 15 "Things", which ours removed; it is not there'], ['map: next object id 7 -> 8']),
     ('a layer in a group that is gone', 'map.layers["Green"].remove()', 'map.layers["Green"].layers.add("tile", "Moss")',
-     ['layer 17 "Moss": added by theirs in layer 11 "Green", which ours removed; it is not there'], ['map: nextlayerid 17 -> 18']),
+     ['layer 17 "Moss": added by theirs in layer 11 "Green", which ours removed; it is not there'], ['map: next layer id 17 -> 18']),
     ('a group that theirs removed', 'map.layers["Trees"].opacity = 0.5', 'map.layers["Green"].remove()',
      ['layer 12 "Trees": removed by theirs, changed by ours; it stays',
       'layer 11 "Green": removed by theirs; it stays, since ours has changed what stands in it'],
@@ -96,9 +90,13 @@ WORDS = [
     ('its type alone', 'map.properties.set("people", "a", type="string")', 'map.properties.set("people", "a", type="file")',
      ['map: property people: 12 (int) -> "a" (string) (ours), "a" (file) (theirs)'], []),
     ('one that is gone', 'del map.properties["people"]', 'map.properties["people"] = 14', ['map: property people: 12 -> none (ours), 14 (theirs)'], []),
+    ('two members of a class', f'{INN}.properties.set("to", {{"a": 5, "b": 2}}, property_type="Way")', f'{INN}.properties.set("to", '
+     '{"a": 1, "b": 7}, property_type="Way")', ['object 2 "Inn": property to: none -> {"a": 5, "b": 2} (ours), {"a": 1, "b": 7} (theirs)'], []),
     ('two properties', 'map.properties["people"] = 13', 'map.properties["sun"] = True', [], ['map: property sun: none -> true']),
     ('two shapes', f'{INN}.members["ellipse"] = True', f'{INN}.members["point"] = True',
      ['object 2 "Inn": shape: a rectangle -> ellipse (ours), point (theirs)'], []),
+    ('two versions of Tiled', 'map.members["tiledversion"] = "1.9.2"', 'map.members["tiledversion"] = "1.11.0"', [],
+     ['map: version of Tiled "1.9.2" -> "1.11.0"']),
     ('two sizes', 'map.extend(right=1)', 'map.extend(right=2)',
      ['map: 40 by 30 cells -> 41 by 30 cells (ours), 42 by 30 cells (theirs)'], []),
     ('a size that cuts off', 'map.stamp("Ground", 39, 0, [[7]])', 'map.resize(39, 30)',
@@ -215,6 +213,17 @@ def test_references_to_what_is_gone():
     see(['object 2 "Inn": property opened by means object 4, which one side removed'], notices)
 
 
+def test_references_to_what_is_not_there():
+    """What means an object that its own side removed means none that the other side has added under that id."""
+    add, later = ADD.format('chest'), ADD.format('door') + 'map.objects["Inn"].properties.set("to", box.id, type="object")\nbox.remove()'
+    conflicts, notices, _, tree = merged(add, later)
+    inn = next(each for layer in tree['layers'] for each in layer.get('objects', []) if each['name'] == 'Inn')
+    see(([], ['object 2 "Inn" of theirs: property to meant an object that is not there, and means none now'], 0),
+        (conflicts, notices, next(each['value'] for each in inn['properties'] if each['name'] == 'to')))
+    conflicts, notices, _, tree = merged(later, add)
+    see(([], ['object 7 "chest" of theirs has the id 8 now'], 8), (conflicts, notices, things(tree)['chest']['id']))
+
+
 def test_a_merge_behind_a_merge():
     """A branch that goes on after its merge: what has another id since is found by what it is, on either side."""
     with Editor() as editor:
@@ -307,18 +316,42 @@ def test_two_infinite_maps_that_grow():
         done(editor)
 
 
-def test_an_infinite_map_that_grows_at_the_left():
-    """No line makes room there, so what theirs has drawn is told; all else is merged."""
-    data = (MAPS / 'infinite.tmj').read_bytes()
+def grown_at_the_left(data):
+    """A map with two tiles in a chunk at the left of all others, as Tiled has it where somebody draws there."""
     tree = json.loads(data)
     layer = next(each for each in tree['layers'] if each.get('chunks'))
-    corner = min(each['x'] for each in layer['chunks']), min(each['y'] for each in layer['chunks'])
-    layer['chunks'].append({'x': corner[0] - 16, 'y': corner[1], 'width': 16, 'height': 16, 'data': [2, 3, *[0] * 254]})
-    tree['properties'] = [*tree.get('properties', []), {'name': 'theirs', 'type': 'bool', 'value': True}]
-    found, result, origin, _ = merged_files(data, data, json.dumps(tree).encode())
-    see([f'layer {layer["id"]} "{layer["name"]}": 2 cells in -16,0 to -15,0: what theirs has there lies outside the map of ours'],
-        [str(each) for each in found.conflicts])
-    see((corner, True), (origin, {'name': 'theirs', 'type': 'bool', 'value': True} in json.loads(result)['properties']))
+    left, top = (min(each[name] for each in layer['chunks']) for name in 'xy')
+    layer['chunks'].append({'x': left - 16, 'y': top, 'width': 16, 'height': 16, 'data': [2, 3, *[0] * 254]})
+    return json.dumps(tree).encode(), (left - 16, top)
+
+
+def test_an_infinite_map_that_grows_at_the_left():
+    """It gets room there, and nothing moves on the plane: what ours has drawn is where it was."""
+    data = (MAPS / 'infinite.tmj').read_bytes()
+    theirs, corner = grown_at_the_left(data)
+    with Editor() as editor:
+        document = editor.open(data, 'ours')
+        document.stamp(1, 3, 4, [[5]])
+        place = document.origin[0] + 3, document.origin[1] + 4
+        ours = document.save_bytes()
+        document.mark_clean()
+    found, result, origin, _ = merged_files(data, ours, theirs)
+    cells = Table(json.loads(result)).cells['layer', 1]
+    see(((), corner), (found.conflicts, origin))
+    see([1, 2, 4], [cells[at][1] for at in (corner, (corner[0] + 1, corner[1]), place)])
+
+
+def test_a_staggered_map_that_grows_above():
+    """It gets an even number of rows there, so that no row stands otherwise."""
+    tree = json.loads((MAPS / 'infinite.tmj').read_text())
+    tree.update(orientation='staggered', staggeraxis='y', staggerindex='odd')
+    with Editor() as editor:
+        base, ours, theirs = (editor.open(json.dumps(tree).encode(), name) for name in ('base', 'ours', 'theirs'))
+        theirs.extend(top=1)
+        theirs.stamp(1, 2, 0, [[5]])
+        see((), merge(base, ours, theirs).conflicts)
+        see((base.origin[1] - 2, 0, 5), (ours.origin[1], ours.layers[1].cells(2, 0, 1, 1)[0], ours.layers[1].cells(2, 1, 1, 1)[0]))
+        done(editor)
 
 
 def test_all_that_is_moved():
@@ -371,20 +404,33 @@ def pair(seed, most=MOST):
     """A file, two files that come of random edits of it, and by how much all was moved with them."""
     chosen = random.Random(seed)
     name = chosen.choice(FILES)
-    data, sides, offsets = (MAPS / f'{name}.tmj').read_bytes(), [], []
+    data, sides, offsets = with_classes(MAPS / f'{name}.tmj'), [], []
     for _ in range(2):
         with Editor() as editor:
             document = editor.open(data, 'side')
-            offsets.append(history(chosen, document, most, ('extend', 'cut', 'layer remove') if name == 'infinite' else ()))
+            offset = history(chosen, document, most, ('cut',) if name == 'infinite' else ())
+            # All in an infinite map stays where it is on its plane.
+            offsets.append((0, 0) if name == 'infinite' else offset)
             sides.append(document.save_bytes())
     return data, sides, offsets
 
 
-def merged_files(base, ours, theirs):
+def with_classes(path):
+    """A map that has properties of a class."""
+    with Editor() as editor:
+        document = editor.open(path, 'base')
+        for owner in [document, *[*document.objects][:2]]:
+            owner.properties.set('link', {'to': 1, 'by': 2}, type='class', property_type='Link')
+        data = document.save_bytes()
+        document.mark_clean()
+        return data
+
+
+def merged_files(base, ours, theirs, offset=None):
     """What a merge tells, the file that comes of it, where the corner of an infinite map lies, and what one undo leaves."""
     with Editor() as editor:
         documents = [editor.open(data, name) for name, data in (('base', base), ('ours', ours), ('theirs', theirs))]
-        found = merge(*documents)
+        found = merge(*documents, offset=offset)
         after = ours
         if found.lines:
             documents[1].undo()
@@ -397,9 +443,14 @@ def merged_files(base, ours, theirs):
 
 
 def fault_of_pair(case):
-    """How a merge of two histories is not as it must be, or None."""
-    data, sides, offsets = pair(case.given)
-    found, result, origin, after = merged_files(data, *sides)
+    return fault_of(case.given, MOST)
+
+
+def fault_of(seed, most, is_said=False):
+    """How a merge of two histories is not as it must be, or None. By how much all was moved may be said, and is guessed else."""
+    data, sides, offsets = pair(seed, most)
+    said_offset = {side: by for side, by in zip(('ours', 'theirs'), offsets) if any(by)} if is_said else None
+    found, result, origin, after = merged_files(data, *sides, said_offset)
     if after != sides[0]:
         return 'one undo does not give ours back'
     trees = [json.loads(each) for each in (data, *sides, result)]
@@ -477,206 +528,3 @@ def fault_of_second(case):
 
 def test_second_merges():
     check_in_processes([Case(f'seed {seed}', seed, None) for seed in range(SEED, SEED + 40)], fault_of_second)
-
-
-# ---- the command
-
-
-def command(*words, cwd=TOP / 'python'):
-    done = subprocess.run([sys.executable, '-m', 'roskevad', *map(str, words)], cwd=cwd, capture_output=True, text=True)
-    return done.returncode, done.stdout, done.stderr
-
-
-def saved(folder, name, script, file='town.tmj'):
-    """A file of a map, with edits."""
-    path = Path(folder, name)
-    with Editor() as editor:
-        document = editor.open(MAPS / file)
-        exec(script, {'map': document})
-        document.save(path)
-    return path
-
-
-def test_command():
-    with tempfile.TemporaryDirectory() as folder:
-        base = saved(folder, 'base.tmj', 'pass')
-        ours, theirs = saved(folder, 'ours.tmj', f'{INN}.x = 96'), saved(folder, 'theirs.tmj', f'{INN}.y = 96')
-        other, out = saved(folder, 'other.tmj', f'{INN}.x = 32\nmap.stamp("Ground", 0, 0, [[7]])'), Path(folder, 'out.tmj')
-        see((0, '', ''), command('merge', base, ours, theirs, '-o', out))
-        lines = [set(path.read_text().split('\n')) for path in (ours, out)]
-        see((1, 1), (len(lines[0] - lines[1]), len(lines[1] - lines[0])))
-        told = 'conflict: object 2 "Inn": x 128 -> 96 (ours), 32 (theirs)\n'
-        see((1, told, ''), command('merge', base, ours, other, '-o', out))
-        see((1, f'a map: {told}', ''), command('merge', base, ours, other, '-o', out, '--name', 'a map'))
-        with Editor() as editor:
-            result = editor.open(out)
-            see((96, 7), (result.objects['Inn'].x, result.layers['Ground'].cells(0, 0, 1, 1)[0]))
-        see((0, '', ''), command('merge', base, ours, base, '-o', out))
-        see(ours.read_bytes(), out.read_bytes())
-
-
-def test_command_in_trouble():
-    """Then nothing is written."""
-    with tempfile.TemporaryDirectory() as folder:
-        base = saved(folder, 'base.tmj', 'pass')
-        Path(folder, 'broken.tmj').write_text('{')
-        broken, none, out = Path(folder, 'broken.tmj'), Path(folder, 'no.tmj'), Path(folder, 'out.tmj')
-        rows = [('a broken one', (base, base, broken, '-o', out), '60 not JSON'), ('a broken one of ours', (base, broken, base, '-o', out), '60 not JSON'),
-                ('a broken one of both', (broken, base, base, '-o', out), '60 not JSON'), ('none', (base, base, none, '-o', out), 'no such file'),
-                ('no base', (none, base, base, '-o', out), 'No such file'), ('no file to write', (base, base, base), 'usage: '),
-                ('two maps', (base, base, '-o', out), 'usage: '), ('both', ('--check', base, base, base, base, '-o', out), 'usage: '),
-                ('a folder that is not there', (base, base, saved(folder, 'theirs.tmj', f'{INN}.x = 0'), '-o', Path(folder, 'no', 'a')), 'No such file')]
-
-        def fault_of(case):
-            status, told, words = command('merge', *case.given)
-            return unlike((2, '', True, False), (status, told, case.wanted in words and 'Traceback' not in words, out.exists()))
-
-        check_each([Case(*row) for row in rows], fault_of)
-
-
-def test_a_map_that_both_added():
-    """Git gives an empty file as the base."""
-    with tempfile.TemporaryDirectory() as folder:
-        ours, theirs, base, out = saved(folder, 'ours.tmj', 'pass'), saved(folder, 'theirs.tmj', f'{INN}.x = 0'), Path(folder, 'base'), Path(folder, 'out')
-        base.write_bytes(b'')
-        see((0, '', ''), command('merge', base, ours, ours, '-o', out))
-        status, told, _ = command('merge', base, ours, theirs, '-o', out)
-        see((1, True, ours.read_bytes()), (status, told.startswith('conflict: map: both sides have added this map'), out.read_bytes()))
-
-
-def test_check():
-    """What a result has not of both sides is told, but for what is in conflict."""
-    with tempfile.TemporaryDirectory() as folder:
-        base, ours = saved(folder, 'base.tmj', 'pass'), saved(folder, 'ours.tmj', f'{INN}.x = 96\nmap.properties["people"] = 13')
-        theirs = saved(folder, 'theirs.tmj', f'{INN}.x = 32\nmap.stamp("Ground", 0, 0, [[7]])')
-        right = saved(folder, 'right.tmj', f'{INN}.x = 50\nmap.properties["people"] = 13\nmap.stamp("Ground", 0, 0, [[7]])')
-        see((0, '', ''), command('merge', '--check', base, ours, theirs, right))
-        told = ['not as merged: map: property people: 13 -> 12', 'not as merged: object 2 "Inn": y 160 -> 0']
-        wrong = saved(folder, 'wrong.tmj', f'{INN}.x = 50\n{INN}.y = 0\nmap.stamp("Ground", 0, 0, [[7]])')
-        see((1, told, ''), (lambda status, text, fault: (status, text.splitlines(), fault))(*command('merge', '--check', base, ours, theirs, wrong)))
-
-
-# ---- git
-
-
-class Repository:
-    """A repository with a map, in which git merges by the package."""
-
-    def __init__(self, folder):
-        self.folder = Path(folder, 'repository')
-        self.folder.mkdir()
-        self.env = {**os.environ, 'HOME': str(folder), 'GIT_CONFIG_NOSYSTEM': '1', 'PYTHONPATH': str(TOP / 'python'),
-                    **{f'GIT_{who}_{what}': value for who in ('AUTHOR', 'COMMITTER') for what, value in (('NAME', 'a'), ('EMAIL', 'a@b'))}}
-        self.git('init', '-q', '-b', 'main')
-        shutil.copy(MAPS / 'town.tmj', self.folder)
-        self.commit('The map')
-
-    def git(self, *words):
-        """The status, and what git tells."""
-        done = subprocess.run(['git', *words], cwd=self.folder, env=self.env, capture_output=True, text=True)
-        return done.returncode, done.stdout + done.stderr
-
-    def roskevad(self, *words):
-        done = subprocess.run([sys.executable, '-m', 'roskevad', *words], cwd=self.folder, env=self.env, capture_output=True, text=True)
-        return done.returncode, done.stdout, done.stderr
-
-    def commit(self, text):
-        self.git('add', '.')
-        return self.git('commit', '-q', '-m', text)
-
-    def edit(self, branch, script):
-        """A commit on a branch, which begins at main where it is not there."""
-        if self.git('checkout', '-q', branch)[0] != 0:
-            self.git('checkout', '-q', '-b', branch, 'main')
-        with Editor(folder=self.folder) as editor:
-            document = editor.open('town.tmj')
-            exec(script, {'map': document})
-            document.save()
-        self.commit(script)
-
-    def told(self, script):
-        with Editor(folder=self.folder) as editor:
-            return eval(script, {'map': editor.open('town.tmj')})
-
-
-def enabled(folder):
-    found = Repository(folder)
-    see(0, found.roskevad('git', '--enable')[0])
-    Path(found.folder, '.gitattributes').write_text('*.tmj merge=roskevad diff=roskevad\n')
-    found.commit('Attributes')
-    return found
-
-
-WHERE = 'map.objects["Inn"].x, map.objects["Inn"].y, map.layers["Ground"].cells(0, 0, 1, 1)[0]'
-
-
-def test_git():
-    """It merges, rebases, picks and reverts maps by the package, and stops where both have changed one thing."""
-    with tempfile.TemporaryDirectory() as folder:
-        found = enabled(folder)
-        found.edit('left', f'{INN}.x = 96')
-        found.edit('right', f'{INN}.y = 96\nmap.stamp("Ground", 0, 0, [[7]])')
-        found.edit('other', f'{INN}.x = 32')
-        found.git('checkout', '-q', 'left')
-        see(0, found.git('merge', '-q', '--no-edit', 'right')[0])
-        see((96, 96, 7), found.told(WHERE))
-        status, told = found.git('merge', '--no-edit', 'other')
-        see((1, True), (status, 'town.tmj: conflict: object 2 "Inn": x 128 -> 96 (ours), 32 (theirs)' in told))
-        see(True, 'UU town.tmj' in found.git('status', '--short')[1])
-        see((0, 'map town.tmj\n  in conflict\n'), found.git('diff', '--cached'))
-        see((0, 'map town.tmj\n  in conflict\nmap town.tmj\n  layer 1 "Ground": 1 cell in 0,0 to 0,0: tiles.tsx:0 -> tiles.tsx:6\n'
-             '  object 2 "Inn": x 32 -> 96\n  object 2 "Inn": y 160 -> 96\n'), found.git('diff', '--theirs'))
-        see((96, 96, 7), found.told(WHERE))
-        found.git('merge', '--abort')
-        found.git('checkout', '-q', '-B', 'moved', 'right')
-        see(0, found.git('rebase', '-q', 'other')[0])
-        see((32, 96, 7), found.told(WHERE))
-        see(0, found.git('revert', '--no-edit', 'other')[0])
-        see((128, 96, 7), found.told(WHERE))
-        see(0, found.git('cherry-pick', 'left~1' if found.git('rev-parse', 'left^2')[0] != 0 else 'left^1')[0])
-        see((96, 96, 7), found.told(WHERE))
-
-
-def test_git_with_a_broken_map():
-    """Ours stays, and git tells a conflict."""
-    with tempfile.TemporaryDirectory() as folder:
-        found = enabled(folder)
-        found.edit('left', f'{INN}.x = 96')
-        found.git('checkout', '-q', '-b', 'broken', 'main')
-        Path(found.folder, 'town.tmj').write_text('{"layers":')
-        found.commit('Broken')
-        found.git('checkout', '-q', 'left')
-        status, told = found.git('merge', '--no-edit', 'broken')
-        see((1, True, 96), (status, '60 not JSON' in told, found.told(f'{INN}.x')))
-
-
-def test_git_tells_what_differs():
-    with tempfile.TemporaryDirectory() as folder:
-        found = enabled(folder)
-        found.edit('left', f'{INN}.x = 96')
-        see((0, 'map town.tmj\n  object 2 "Inn": x 128 -> 96\n'), found.git('diff', 'main', 'left'))
-        Path(found.folder, 'town.tmj').write_text('{')
-        Path(found.folder, 'new.tmj').write_bytes((MAPS / 'house.tmj').read_bytes())
-        found.git('add', '-N', 'new.tmj')
-        status, told = found.git('diff')
-        see((0, True), (status, told.startswith('map new.tmj\n  added\nmap town.tmj\n  what differs is not told: 60 not JSON')))
-
-
-def test_what_git_is_told():
-    with tempfile.TemporaryDirectory() as folder:
-        found = Repository(folder)
-        see((0, 'off for this repository\n', ''), found.roskevad('git'))
-        line = 'not yet of any map: .gitattributes needs the line: *.tmj merge=roskevad diff=roskevad\n'
-        see((0, f'on for this repository\n{line}', ''), found.roskevad('git', '--enable'))
-        see(True, sys.executable in found.git('config', 'merge.roskevad.driver')[1])
-        Path(found.folder, '.gitattributes').write_text('*.tmj merge=roskevad diff=roskevad\n')
-        see((0, 'on for this repository\nits .gitattributes says so of maps\n', ''), found.roskevad('git'))
-        found.git('config', 'merge.roskevad.driver', 'false')
-        see(True, 'set otherwise: merge.roskevad.driver = false' in found.roskevad('git')[1])
-        see((0, 'off for this repository\n', ''), found.roskevad('git', '--disable'))
-        see((0, 'off for this user\n', ''), found.roskevad('git', '--global'))
-        see(0, found.roskevad('git', '--enable', '--global')[0])
-        see(True, 'roskevad' in Path(folder, '.gitconfig').read_text())
-        see((0, 'off for this user\n', ''), found.roskevad('git', '--disable', '--global'))
-        shutil.rmtree(found.folder / '.git')
-        see((2, '', True), (lambda status, told, words: (status, told, 'no repository of git is here' in words))(*found.roskevad('git', '--enable')))

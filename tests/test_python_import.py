@@ -16,8 +16,9 @@ NEEDED = (
     'threading', 'typing', 'warnings',
 )
 # The modules of the package that come later.
-LATER = ('__main__', 'compared_maps', 'compressed_layers', 'difference', 'difference_command', 'difference_lines', 'framed_maps', 'git_command', 'json_scanner',
-         'merge_command', 'merged_maps', 'merged_tilesets', 'merging', 'page', 'renamed_maps', 'saving', 'three_ways')
+LATER = ('__main__', 'asking', 'choices', 'class_types', 'compared_maps', 'compressed_layers', 'conflict_marks', 'difference', 'difference_command',
+         'difference_lines', 'difference_pictures', 'framed_maps', 'git_command', 'git_stages', 'json_scanner', 'map_texts',
+         'merge_command', 'merged_maps', 'merged_tilesets', 'merging', 'page', 'renamed_maps', 'resolving', 'saving', 'settling', 'three_ways')
 # What is told of the modules behind a script: those of the package, and the others that were not there before.
 SCRIPT = """
 import json, sys

@@ -69,7 +69,7 @@ COSTS = {
     'Tilesets': {'map': 'add put add_from_image renumber', 'answer': 'to_json'},
     'Tileset': {'map': 'remove', 'answer': 'members tiles'},
     'Selection': {'answer': 'runs size'},
-    'Difference': {'map': 'lines left'},
+    'Difference': {'map': 'lines left picture'},
 }
 
 
@@ -558,6 +558,7 @@ DIFFERENCE = Kind('Difference', 'What differs between two maps, as they were whe
     value('size', 'int', 'How many changes there are.', written=('len(difference)', ''), only='python'),
     value('lines', 'lines', 'Lines that lead from the one map to the other, tried on a copy; None where no lines can say all.', only='python'),
     value('left', 'changes', 'The changes that no line can say.', only='python'),
+    Call('picture', '', 'A picture as PNG: cells of the other map as squares, what differs in colours.', gives='bytes', only='python'),
 ], only='python')
 
 #: The classes of documents and of what they have, in the order of the pages.
@@ -568,8 +569,10 @@ FUNCTIONS = [
     Call('document_name', 'path', 'The name of a document that is made from that of a file.', gives='str', types={'path': 'string'}),
     Call('flipped_horizontally', 'rows', 'Rows of values flipped to the side, the tiles in them too.', gives='rows'),
     Call('flipped_vertically', 'rows', 'The same upside down.', gives='rows'),
-    Call('merge', 'base, ours, theirs', 'Does to the document `ours` what `theirs` has changed since `base`, [by meaning](merge.md), as one step.',
-         gives='Merge', raises={'type': 'merge(document, document, 5)', 'refused': ''}, only='python'),
+    Call('merge', 'base, ours, theirs; take=None, offset=None, project=None', 'Does to the document `ours` what `theirs` has changed since `base`, '
+         '[by meaning](merge.md), as one step. `take` says a side for all conflicts, or a dict of sides by their keys; `offset` by how much a side has '
+         'moved all; `project` is a file that says which members of classes mean objects.', gives='Merge',
+         raises={'type': 'merge(document, document, 5)', 'value': 'merge(document, document, document, take="both")', 'refused': ''}, only='python'),
     Call('report', 'source', 'What is in a map, or why it is not opened: the bytes of a file{file_of_report}; an object as '
          'that of [the report for scripts](map-files.md#the-report-for-scripts).', gives='members!',
          written=('report(source)', 'await report(source, { module })')),

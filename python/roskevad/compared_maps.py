@@ -57,6 +57,32 @@ def are_saved_alike(one: 'Document', other: 'Document') -> bool:
     return texts[0] == texts[1] or said(json.loads(texts[0])) == said(json.loads(texts[1]))
 
 
+def is_infinite(document: 'Document') -> bool:
+    """Whether a map was opened as an infinite one."""
+    return bool(document._do(document._note_now))
+
+
+def first_cell(document: 'Document', tree: Members, opened: tuple[int, int]) -> tuple[float, float]:
+    """Where the corner of the first cell is, as objects count, without what moves every other row of a staggered map. `opened` is where the
+    corner of an infinite map lay when it was opened: objects of an orthogonal one count from it, and of others from cell 0, 0 of the plane."""
+    if tree.get('orientation', 'orthogonal') == 'orthogonal':
+        return 0, 0
+    steps = cell_steps(tree)
+    left, top = (now * step + (was - now) * tree[side] for now, was, step, (_, side) in zip(document.origin, opened, steps, _SIDES))
+    return left, top
+
+
+def cell_steps(tree: Members) -> tuple[int, int]:
+    """How far a column is from the one before it, and a row, as objects count."""
+    wide, high, kind = tree['tilewidth'], tree['tileheight'], tree.get('orientation')
+    if kind == 'isometric':
+        return high, high
+    if kind not in ('staggered', 'hexagonal'):
+        return wide, high
+    side = tree.get('hexsidelength', 0) if kind == 'hexagonal' else 0
+    return ((wide - side) // 2 + side, high) if tree.get('staggeraxis') == 'x' else (wide, (high - side) // 2 + side)
+
+
 class Stand(NamedTuple):
     """Where a layer or an object stands, and what the map says of it."""
 
@@ -68,7 +94,10 @@ class Stand(NamedTuple):
 class MapNow:
     """A map as it is now: its outline, and its layers and objects by their ids, in drawing order."""
 
-    __slots__ = 'document', 'tree', 'layers', 'objects'
+    __slots__ = 'document', 'tree', 'layers', 'objects', 'values'
+
+    #: The values of its cells and objects, once they were asked for.
+    values: set[int]
 
     def __init__(self, document: 'Document'):
         self.document = document

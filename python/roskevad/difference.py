@@ -1,6 +1,7 @@
 # SPDX-License-Identifier: MIT OR Apache-2.0
 """What differs between two maps, by meaning: in words for people, as values for programs, and as lines that lead from one to the other."""
 import json
+from collections import Counter
 from typing import TYPE_CHECKING, Any, Iterable, Iterator, NamedTuple, Optional, Sequence, Union, overload
 
 from .compared_maps import MapNow, Shift, Stand, are_saved_alike, copied, said, shift_of, staying, text_of
@@ -13,10 +14,20 @@ from .told import Subject
 if TYPE_CHECKING:
     from .document import Document
 
-# What Tiled calls members, where it calls them otherwise than the file.
-CALLED = {
-    'type': 'class', 'tintcolor': 'tint', 'backgroundcolor': 'background', 'offsetx': 'horizontal offset', 'offsety': 'vertical offset',
-    'parallaxx': 'horizontal parallax', 'parallaxy': 'vertical parallax', 'gid': 'tile', 'tilewidth': 'tile width', 'tileheight': 'tile height',
+# What Tiled's panels call members, where the file calls them otherwise, and those of a text.
+_CALLED = {
+    'type': 'class', 'tintcolor': 'tint color', 'backgroundcolor': 'background color', 'transparentcolor': 'transparent color',
+    'offsetx': 'horizontal offset', 'offsety': 'vertical offset', 'parallaxx': 'horizontal parallax factor', 'parallaxy': 'vertical parallax factor',
+    'parallaxoriginx': 'horizontal parallax origin', 'parallaxoriginy': 'vertical parallax origin', 'repeatx': 'repeat X', 'repeaty': 'repeat Y',
+    'draworder': 'drawing order', 'mode': 'blend mode', 'gid': 'tile', 'tilewidth': 'tile width', 'tileheight': 'tile height',
+    'renderorder': 'tile render order', 'hexsidelength': 'tile side length', 'staggeraxis': 'stagger axis', 'staggerindex': 'stagger index',
+    'compressionlevel': 'compression level', 'imagewidth': 'image width', 'imageheight': 'image height', 'source': 'file', 'firstgid': 'first id',
+    'tilecount': 'count of tiles', 'objectalignment': 'object alignment', 'tileoffset': 'drawing offset', 'tilerendersize': 'tile render size',
+    'fillmode': 'fill mode', 'transformations': 'allowed transformations', 'tiledversion': 'version of Tiled', 'nextlayerid': 'next layer id', 'nextobjectid': 'next object id',
+}
+_OF_TEXT = {
+    'fontfamily': 'font', 'pixelsize': 'size of the font', 'wrap': 'word wrap', 'halign': 'horizontal alignment', 'valign': 'vertical alignment',
+    'color': 'color of the text',
 }
 # What a map counts by itself, which is told where nothing else differs.
 COUNTED = 'nextlayerid', 'nextobjectid'
@@ -99,6 +110,13 @@ class Difference(Sequence[Change]):
         self._find_lines()
         return self._left or ()
 
+    def picture(self) -> bytes:
+        """A picture as PNG: cells of the other map as squares, those that differ in colours, and objects that do by their boxes."""
+        from .difference_pictures import picture
+
+        with copied(*self._texts) as (old, new):
+            return picture(old, new, self._shift, self)
+
     def _find_lines(self) -> None:
         if self._left is None:
             with copied(*self._texts) as (copy, new):
@@ -128,10 +146,20 @@ def told_changes(now: MapNow, goal: MapNow) -> list[Change]:
 
 def _resized(old: 'Document', goal: MapNow, shift: Shift) -> list[Change]:
     before, after = ([map_[side] for side in ('width', 'height')] for map_ in (old.outline(), goal.tree))
+    was = old.origin
     old._edit(shift.line(old, goal))
-    moved = f', all moved by {shift.x}, {shift.y}' if any(shift) else ''
+    # Of an infinite map whose corner lies elsewhere on the plane nothing has moved there.
+    is_on_a_plane = was != goal.document.origin
+    moved = _more(shift) if is_on_a_plane else f', all moved by {shift.x}, {shift.y}' if any(shift) else ''
     words = f'{before[0]} by {before[1]} cells -> {after[0]} by {after[1]}{moved}'
     return [Change(MAP, '', 'size', before, [*after, *shift], words)]
+
+
+def _more(shift: Shift) -> str:
+    """What an infinite map has more at its left and above, or less, in words."""
+    sides = [(shift.x, 'column', 'at the left'), (shift.y, 'row', 'above')]
+    told = [f'{abs(by)} {what}{"s" if abs(by) > 1 else ""} {"more" if by > 0 else "fewer"} {where}' for by, what, where in sides if by]
+    return f', {" and ".join(told)}'
 
 
 MAP = Subject('map', 0)
@@ -160,19 +188,48 @@ def plainly(name: str) -> str:
     return name if name.isprintable() else quoted(name)
 
 
+def called(name: str) -> str:
+    """What Tiled calls a member, and a member of it behind a point."""
+    outer, point, inner = name.partition('.')
+    if outer == 'text' and inner:
+        return _OF_TEXT.get(inner, plainly(inner))
+    return f'{_CALLED.get(outer, plainly(outer))}{point}{plainly(inner)}'
+
+
 def _of_values(subject: Subject, name: str, old: Members, new: Members, spelled: Any = None) -> Iterator[Change]:
     """Each member that differs."""
     for key in [*old, *(key for key in new if key not in old)]:
         before, after = old.get(key), new.get(key)
         if said(before) != said(after) or (key in old) != (key in new):
-            shown = spelled.get(key) if spelled and key in spelled else (shown_value(before, key in old), shown_value(after, key in new))
-            yield Change(subject, name, key, before, after, f'{CALLED.get(key, plainly(key))} {shown[0]} -> {shown[1]}')
+            words = f'{called(key)} {" -> ".join(spelled[key])}' if spelled and key in spelled else _told_value(key, before, after, key in old, key in new)
+            yield Change(subject, name, key, before, after, words)
 
 
-def shown_value(value: Any, is_there: bool = True) -> str:
-    text = json.dumps(value, ensure_ascii=False) if is_there else 'none'
-    shown = text if text.isprintable() else json.dumps(value)
+def _told_value(key: str, before: Any, after: Any, was: bool, is_there: bool) -> str:
+    """How a member was and is, in words: of an object of JSON those of its members that differ."""
+    if isinstance(before, dict) and isinstance(after, dict):
+        inner = [each for each in [*before, *(each for each in after if each not in before)] if said(before.get(each)) != said(after.get(each))]
+        return ', '.join(_told_value(f'{key}.{each}', before.get(each), after.get(each), each in before, each in after) for each in inner) or called(key)
+    return f'{called(key)} {shown_value(before, was)} -> {shown_value(after, is_there, before)}'
+
+
+def shown_value(value: Any, is_there: bool = True, before: Any = None) -> str:
+    """A value in words; the corners of a shape by their count."""
+    if is_there and _are_corners(value):
+        other = ' other' if _are_corners(before) and len(before) == len(value) else ''
+        return f'{len(value)}{other} corners'
+    shown = shown_whole(value) if is_there else 'none'
     return shown if len(shown) <= _SHOWN else f'{shown[:_SHOWN]}..'
+
+
+def shown_whole(value: Any) -> str:
+    """A value in words, as long as it is."""
+    text = json.dumps(value, ensure_ascii=False)
+    return text if text.isprintable() else json.dumps(value)
+
+
+def _are_corners(value: Any) -> bool:
+    return isinstance(value, list) and len(value) > 1 and all(isinstance(each, dict) and {*each} == {'x', 'y'} for each in value)
 
 
 def _of_properties(subject: Subject, name: str, before: Members, after: Members) -> Iterator[Change]:
@@ -218,10 +275,15 @@ def tileset_name(tileset: Members) -> str:
     return str(tileset.get('source') or tileset.get('name', ''))
 
 
+def tileset_key(tileset: Members) -> tuple[str, str]:
+    """What tells a tileset from others: its file, or its name and its picture."""
+    return tileset_name(tileset), str(tileset.get('image', ''))
+
+
 def paired_tilesets(before: list[Members], behind: list[Members]) -> Iterator[Pair]:
-    """Tilesets that are the same in two maps: by their file or name, and those that are left by their first ids."""
+    """Tilesets that are the same in two maps: by their file, or by name and picture, or by name, and those that are left by their first ids."""
     old, new = [*before], [*behind]
-    for key in (lambda each: (tileset_name(each), first_id(each)), tileset_name, first_id):
+    for key in (lambda each: (tileset_key(each), first_id(each)), tileset_key, tileset_name, first_id):
         for one in [*old]:
             after = next((each for each in new if key(each) == key(one)), None)
             if after is not None:
@@ -237,11 +299,10 @@ def _of_tilesets(tilesets: list[Pair]) -> Iterator[Change]:
         one = after or before or {}
         name, subject = tileset_name(one), Subject('tileset', first_id(before or one))
         if before is None or after is None:
-            what = 'added' if before is None else 'removed'
-            yield Change(subject, name, what, before, after, f'{what}, first id {subject.id}')
+            what, image = 'added' if before is None else 'removed', plainly(str(one.get('image', '')))
+            yield Change(subject, name, what, before, after, f'{what}, first id {subject.id}' + (f', with the picture {image}' if image else ''))
         else:
-            called = {'firstgid': (str(before['firstgid']), f'{after["firstgid"]} (first id)')}
-            yield from _of_values(subject, name, before, after, called)
+            yield from _of_values(subject, name, before, after)
 
 
 def _names_apart(tilesets: list[Pair]) -> Iterator[str]:
@@ -328,29 +389,34 @@ def _moves(
 def _of_cells(id: int, stand: Stand, now: MapNow, goal: MapNow, tiles: tuple[Tiles, Tiles]) -> Iterator[Change]:
     """The cells of a layer that differ, by the rectangle around them and by the pairs of tiles that are the most."""
     old, new, wide = now.cells(id), goal.cells(id), goal.tree['width']
-    pairs, places = dict[tuple[str, str], int](), list[tuple[int, int]]()
+    pairs, corners = dict[tuple[str, str], int](), list[tuple[int, int]]()
     are_counted_alike = now.tree['tilesets'] == goal.tree['tilesets']
     for y in range(goal.tree['height']):
         row, other = old[y * wide:(y + 1) * wide], new[y * wide:(y + 1) * wide]
         if are_counted_alike and row.tobytes() == other.tobytes():
             continue
-        for x, (value, behind) in enumerate(zip(row.tolist(), other.tolist())):
-            pair = tiles[0].name(value), tiles[1].name(behind)
-            if pair[0] != pair[1]:
-                pairs[pair] = pairs.get(pair, 0) + 1
-                places.append((x, y))
-    if places:
-        yield _cells_changed(id, stand, pairs, places)
+        values = [*zip(row.tolist(), other.tolist())]
+        names = {pair: (tiles[0].name(pair[0]), tiles[1].name(pair[1])) for pair in dict.fromkeys(values)}
+        changed = {pair for pair, (was, is_now) in names.items() if was != is_now}
+        if changed:
+            for pair, count in Counter(values).items():
+                if pair in changed:
+                    pairs[names[pair]] = pairs.get(names[pair], 0) + count
+            corners.append((next(x for x in range(wide) if values[x] in changed), y))
+            corners.append((next(x for x in range(wide - 1, -1, -1) if values[x] in changed), y))
+    if pairs:
+        yield _cells_changed(id, stand, pairs, corners)
 
 
-def _cells_changed(id: int, stand: Stand, pairs: dict[tuple[str, str], int], places: list[tuple[int, int]]) -> Change:
-    (left, right), (top, bottom) = ((min(line), max(line)) for line in zip(*places))
-    most = sorted(pairs, key=lambda pair: -pairs[pair])
+def _cells_changed(id: int, stand: Stand, pairs: dict[tuple[str, str], int], corners: list[tuple[int, int]]) -> Change:
+    """The change of cells. The corners are the first and the last cell of each row."""
+    (left, right), (top, bottom) = ((min(line), max(line)) for line in zip(*corners))
+    most, all_ = sorted(pairs, key=lambda pair: -pairs[pair]), sum(pairs.values())
     shown = [f'{before} -> {behind}' for before, behind in most[:_PAIRS]]
     more = f' and {len(most) - _PAIRS} more' if len(most) > _PAIRS else ''
-    count = f'{len(places)} cells' if len(places) > 1 else '1 cell'
+    count = f'{all_} cells' if all_ > 1 else '1 cell'
     words = f'{count} in {left},{top} to {right},{bottom}: {", ".join(shown)}{more}'
-    area = {'x': left, 'y': top, 'width': right - left + 1, 'height': bottom - top + 1, 'count': len(places)}
+    area = {'x': left, 'y': top, 'width': right - left + 1, 'height': bottom - top + 1, 'count': all_}
     before, after = ({**area, 'tiles': [pair[at] for pair in most]} for at in (0, 1))
     return Change(Subject('layer', id), stand.members.get('name', ''), 'cells', before, after, words)
 

@@ -154,7 +154,8 @@ def _paint_layer(way: Way, layer: int, old: memoryview, new: memoryview, wide: i
         before, behind = old[y * wide:(y + 1) * wide].tolist(), new[y * wide:(y + 1) * wide].tolist()
         if before != behind:
             row = [value if value != other else 0 for other, value in zip(before, behind)]
-            empties += [(y, x, count) for x, count in _runs([not value and other != 0 for other, value in zip(before, behind)])]
+            if 0 in behind:
+                empties += [(y, x, count) for x, count in _runs([not value and other != 0 for other, value in zip(before, behind)])]
             if any(row) and bands and bands[-1][0] + len(bands[-1][1]) == y:
                 bands[-1][1].append(row)
             elif any(row):
@@ -166,8 +167,8 @@ def _paint_layer(way: Way, layer: int, old: memoryview, new: memoryview, wide: i
 
 
 def _stamp(way: Way, layer: int, top: int, rows: list[list[int]]) -> None:
-    columns = [x for row in rows for x, value in enumerate(row) if value]
-    left, right = min(columns), max(columns) + 1
+    left = min(next(x for x, value in enumerate(row) if value) for row in rows)
+    right = max(len(row) - next(x for x, value in enumerate(reversed(row)) if value) for row in rows)
     cut = [row[left:right] for row in rows]
     for part in parts_of(cut):
         way.say(f'stamp {layer} {left} {top + part.first} {right - left} {part.values}')

@@ -1,11 +1,12 @@
 # SPDX-License-Identifier: MIT OR Apache-2.0
 """Three maps that are merged, brought to one size: that which one side has given them."""
 from array import array
-from typing import TYPE_CHECKING, Any, Iterator, NamedTuple, Optional
+from typing import TYPE_CHECKING, Any, Collection, Iterator, Mapping, NamedTuple, Optional
 
-from .compared_maps import MapNow, said, shift_of
+from .choices import Choices, Side
+from .compared_maps import MapNow, Shift, is_infinite, said, shift_of
 from .difference import MAP
-from .merged_maps import Conflict, regions, removed_by_ours
+from .merged_maps import Conflict, Found, regions, removed_by_ours
 from .told import Subject
 
 if TYPE_CHECKING:
@@ -22,45 +23,84 @@ class Frame(NamedTuple):
     width: int
     height: int
 
-    def line(self, goal: 'Frame') -> Optional[str]:
-        """The line that brings a map from here to there; None where it is there."""
-        return None if goal == self else f'resize {goal.width} {goal.height} {self.x - goal.x} {self.y - goal.y}'
+    def line(self, goal: 'Frame', is_infinite: bool) -> Optional[str]:
+        """The line that brings a map from here to there; None where it is there. All in an infinite map stays where it is on its plane."""
+        if goal == self:
+            return None
+        sides = self.x - goal.x, self.y - goal.y, goal.right - self.right, goal.bottom - self.bottom
+        if is_infinite and min(sides) >= 0:
+            return f'extend {" ".join(map(str, sides))}'
+        return f'resize {goal.width} {goal.height} {sides[0]} {sides[1]}'
+
+    @property
+    def right(self) -> int:
+        return self.x + self.width
+
+    @property
+    def bottom(self) -> int:
+        return self.y + self.height
+
+    def around(self, other: 'Frame') -> 'Frame':
+        """The smallest that has both."""
+        x, y = min(self.x, other.x), min(self.y, other.y)
+        return Frame(x, y, max(self.right, other.right) - x, max(self.bottom, other.bottom) - y)
 
     def has(self, x: int, y: int) -> bool:
         """Whether it has a cell, by its place in the base."""
-        return self.x <= x < self.x + self.width and self.y <= y < self.y + self.height
+        return self.x <= x < self.right and self.y <= y < self.bottom
 
 
 class Framed(NamedTuple):
-    """What comes of it: the lines that give ours its size, the three maps as they are then, how all was moved on either side, and conflicts."""
+    """What comes of it: the lines that give ours its size, the three maps as they are then, how all was moved on either side, conflicts, and
+    where the maps lay, and lie."""
 
     lines: list[str]
     maps: tuple[MapNow, MapNow, MapNow]
     notices: list[str]
-    conflicts: list[Conflict]
+    found: Found
+    frames: list[Frame]
+    goal: Frame
+    is_infinite: bool
+
+    def uncut(self, side: int, map: MapNow) -> MapNow:
+        """A side by its number, with what lies outside its map, and not outside that of all, as the base has it. Outside of an infinite map
+        nothing lies."""
+        return map if self.is_infinite else UncutMap(self.maps[0], map, self.frames[side], self.goal)
 
 
-def frame(base: 'Document', ours: 'Document', theirs: 'Document') -> Framed:
+Shifts = Mapping[Side, Shift]
+
+
+def frame(documents: 'tuple[Document, Document, Document]', choices: Choices, shifts: Shifts) -> Framed:
     """Gives copies of three maps one size. Where both sides have changed it otherwise, or theirs cuts off what ours has changed, it is that of
-    ours; an infinite map gets room for both, to the right and below. Raises Refused where a map can't have it."""
-    documents = base, ours, theirs
-    maps = [MapNow(each) for each in documents]
-    frames = [Frame(0, 0, *_size(maps[0])), *(_frame(maps[0], side) for side in maps[1:])]
-    conflicts: list[Conflict] = []
-    infinite = tuple(map(_is_infinite, documents))
-    goal = _room(maps, frames) if all(infinite) else _goal(maps, frames, conflicts)
+    ours, or the one that is chosen; an infinite map gets room for both. `shifts` says by how much all was moved on a side, where that is not
+    to be guessed. Raises Refused where a map can't have its size."""
+    maps = base, ours, theirs = MapNow(documents[0]), MapNow(documents[1]), MapNow(documents[2])
+    frames = [Frame(0, 0, *_size(base)), _frame(base, ours, shifts.get('ours')), _frame(base, theirs, shifts.get('theirs'))]
+    found = Found(choices)
+    infinite = tuple(map(is_infinite, documents))
+    goal = _room(maps, frames, choices) if all(infinite) else _goal(maps, frames, found)
     # Where infinite maps lie is known.
-    notices = [] if all(infinite) else [
-        f'{name} has another size, and all in the map was moved by {-each.x}, {-each.y} with it, as far as the maps tell'
-        for name, each in zip(('ours', 'theirs'), frames[1:]) if each != frames[0]]
+    notices = [] if all(infinite) else [*_moves(frames, shifts)]
     if infinite[2] not in infinite[:2]:
-        conflicts.append(_of_map('infinite', infinite, f'infinite is {str(infinite[2]).lower()} in theirs, which no edit here can do'))
-    conflicts += _cut_off(maps, frames, goal)
-    lines = [[*_resized(document, each.line(goal))] for document, each in zip(documents, frames)]
-    now = [MapNow(each) for each in documents]
-    # What lies outside the map of theirs, and not outside that of both, is as it was; but outside of an infinite map nothing lies.
-    theirs_now = now[2] if all(infinite) else UncutMap(now[0], now[2], frames[2], goal)
-    return Framed(lines[1], (now[0], now[1], theirs_now), notices, conflicts)
+        words = f'infinite is {str(infinite[2]).lower()} in theirs, which no edit here can do'
+        found.side_of(_of_map('infinite', infinite, words), can_be_theirs=False)
+    goal = _cut_off(maps, frames, goal, found)
+    lines = [[*_resized(document, each.line(goal, all(infinite)))] for document, each in zip(documents, frames)]
+    base, ours, theirs = (MapNow(each) for each in documents)
+    framed = Framed(lines[1], (base, ours, theirs), notices, found, frames, goal, all(infinite))
+    return framed._replace(maps=(base, framed.uncut(1, ours), framed.uncut(2, theirs)))
+
+
+def _moves(frames: list[Frame], shifts: Shifts) -> Iterator[str]:
+    """By how much all was moved on the sides, in words."""
+    sides: tuple[Side, Side] = 'ours', 'theirs'
+    for side, each in zip(sides, frames[1:]):
+        by = f'all in the map was moved by {-each.x}, {-each.y} with it' if each.x or each.y else 'nothing in the map was moved with it'
+        if side in shifts:
+            yield f'all in the map of {side} was moved by {-each.x}, {-each.y}, as was said'
+        elif each != frames[0]:
+            yield f'{side} has another size, and {by}, as far as the maps tell'
 
 
 def _resized(document: 'Document', line: Optional[str]) -> Iterator[str]:
@@ -84,22 +124,32 @@ def _size(map: MapNow) -> tuple[int, int]:
     return map.tree['width'], map.tree['height']
 
 
-def _frame(base: MapNow, side: MapNow) -> Frame:
+def _frame(base: MapNow, side: MapNow, said_shift: Optional[Shift]) -> Frame:
     is_resized = _size(base) != _size(side) or base.document.origin != side.document.origin
-    shift = shift_of(base, side) if is_resized else (0, 0)
+    shift = said_shift if said_shift is not None else shift_of(base, side) if is_resized else Shift(0, 0)
     return Frame(-shift[0], -shift[1], *_size(side))
 
 
-def _is_infinite(document: 'Document') -> bool:
-    return bool(document._do(document._note_now))
+def _room(maps: tuple[MapNow, MapNow, MapNow], frames: list[Frame], choices: Choices) -> Frame:
+    """The frame of ours, with room for what theirs has changed outside it, and for layers that ours has removed and that come back; in a
+    staggered map by an even number of columns and rows at the left and above, so that none stands otherwise."""
+    goal, back = frames[1], {id for id in maps[2].layers if _comes_back(id, maps, choices)}
+    for _, cells in _outside(maps[0], maps[2], [frames[0], frames[2]], frames[1], back):
+        columns, rows = zip(*cells)
+        goal = goal.around(Frame(min(columns), min(rows), max(columns) - min(columns) + 1, max(rows) - min(rows) + 1))
+    if maps[1].tree.get('staggeraxis') is None:
+        return goal
+    return goal.around(Frame(goal.x - (frames[1].x - goal.x) % 2, goal.y - (frames[1].y - goal.y) % 2, 1, 1))
 
 
-def _room(maps: list[MapNow], frames: list[Frame]) -> Frame:
-    """The frame of ours, with as much at the right and below as what theirs has changed needs."""
-    x, y, wide, high = frames[1]
-    for _, cells in _outside(maps[0], maps[2], [frames[0], frames[2]], frames[1]):
-        wide, high = max([wide, *(column - x + 1 for column, _ in cells)]), max([high, *(row - y + 1 for _, row in cells)])
-    return Frame(x, y, wide, high)
+def _comes_back(layer: int, maps: tuple[MapNow, MapNow, MapNow], choices: Choices) -> bool:
+    """Whether theirs is taken of a layer that ours has removed, or of a group around it."""
+    base, ours, theirs = maps
+    if layer not in base.layers or layer in ours.layers:
+        return False
+    is_changed = theirs.layers[layer] != base.layers[layer] or theirs.layers[layer].members['type'] == 'tilelayer'
+    holder = theirs.layers[layer].parent
+    return is_changed and choices.side(f'layer:{layer}/removed') == 'theirs' or bool(holder) and _comes_back(holder, maps, choices)
 
 
 class UncutMap(MapNow):
@@ -117,7 +167,7 @@ class UncutMap(MapNow):
         if is_whole or not self._base.has(layer, self.layers[layer]):
             return found
         uncut = array('I', self._base.cells(layer))
-        left, right = (min(max(x - goal.x, 0), goal.width) for x in (self._frame.x, self._frame.x + self._frame.width))
+        left, right = (min(max(x - goal.x, 0), goal.width) for x in (self._frame.x, self._frame.right))
         for y in range(goal.height):
             if self._frame.has(self._frame.x, y + goal.y):
                 row = slice(y * goal.width + left, y * goal.width + right)
@@ -125,19 +175,17 @@ class UncutMap(MapNow):
         return memoryview(uncut)
 
 
-def _goal(maps: list[MapNow], frames: list[Frame], conflicts: list[Conflict]) -> Frame:
+def _goal(maps: tuple[MapNow, MapNow, MapNow], frames: list[Frame], found: Found) -> Frame:
     base, ours, theirs = frames
     if theirs in (base, ours):
         return ours
     told = tuple({'width': each.width, 'height': each.height, 'x': -each.x, 'y': -each.y} for each in frames)
+    words = None
     if base != ours:
         words = f'{_told(base)} -> {_told(ours)} (ours), {_told(theirs)} (theirs)'
-        conflicts.append(_of_map('size', told, words))
-        return ours
-    if any(_outside(maps[0], maps[1], frames[:2], theirs)):
-        conflicts.append(_of_map('size', told, f'{_told(base)} -> {_told(theirs)} (theirs), which cuts off what ours has changed; it stays'))
-        return ours
-    return theirs
+    elif any(_outside(maps[0], maps[1], frames[:2], theirs)):
+        words = f'{_told(base)} -> {_told(theirs)} (theirs), which cuts off what ours has changed; it stays'
+    return theirs if words is None or found.side_of(_of_map('size', told, words)) == 'theirs' else ours
 
 
 def _told(frame: Frame) -> str:
@@ -145,13 +193,15 @@ def _told(frame: Frame) -> str:
     return f'{frame.width} by {frame.height} cells{moved}'
 
 
-def _outside(base: MapNow, side: MapNow, frames: list[Frame], goal: Frame) -> 'Iterator[tuple[int, list[tuple[int, int]]]]':
-    """What a side has changed of each tile layer outside a frame, by places in the base."""
+def _outside(
+    base: MapNow, side: MapNow, frames: list[Frame], goal: Frame, whole: Collection[int] = (),
+) -> Iterator[tuple[int, list[tuple[int, int]]]]:
+    """What a side has changed of each tile layer outside a frame, by places in the base; of some layers all that they have."""
     if all(goal.has(*corner) for corner in _corners(frames[1])):
         return
     for id, stand in side.layers.items():
         if stand.members['type'] == 'tilelayer':
-            old = _values(base, id, frames[0]) if base.has(id, stand) else {}
+            old = _values(base, id, frames[0]) if base.has(id, stand) and id not in whole else {}
             new = _values(side, id, frames[1])
             changed = [at for at in sorted({**old, **new}, key=lambda at: at[::-1]) if frames[1].has(*at) and not goal.has(*at) and old.get(at) != new.get(at)]
             if changed:
@@ -159,7 +209,7 @@ def _outside(base: MapNow, side: MapNow, frames: list[Frame], goal: Frame) -> 'I
 
 
 def _corners(frame: Frame) -> list[tuple[int, int]]:
-    return [(frame.x, frame.y), (frame.x + frame.width - 1, frame.y + frame.height - 1)]
+    return [(frame.x, frame.y), (frame.right - 1, frame.bottom - 1)]
 
 
 def _values(map: MapNow, layer: int, frame: Frame) -> dict[tuple[int, int], int]:
@@ -168,20 +218,29 @@ def _values(map: MapNow, layer: int, frame: Frame) -> dict[tuple[int, int], int]
     return {(at % wide + frame.x, at // wide + frame.y): value for at, value in enumerate(map.cells(layer)) if value}
 
 
-def _cut_off(maps: list[MapNow], frames: list[Frame], goal: Frame) -> Iterator[Conflict]:
-    """What theirs has drawn where the merged map has no cells."""
+def _cut_off(maps: tuple[MapNow, MapNow, MapNow], frames: list[Frame], goal: Frame, found: Found) -> Frame:
+    """Tells what theirs has drawn where the merged map has no cells. Gives its frame, which has room for that where theirs is taken of it."""
     base, ours, theirs = maps
+    room = goal
     for id, cells in _outside(base, theirs, [frames[0], frames[2]], goal):
         if id in base.layers and id not in ours.layers:
-            yield removed_by_ours(Subject('layer', id), base.layers[id].members, theirs.layers[id].members)
-            continue
+            gone = removed_by_ours(Subject('layer', id), base.layers[id].members, theirs.layers[id].members)
+            if found.side_of(gone) == 'ours':
+                continue
         for region in regions(cells):
-            places = [(x - goal.x, y - goal.y) for x, y in region]
-            (left, right), (top, bottom) = ((min(line), max(line)) for line in zip(*places))
-            count = f'{len(region)} cells' if len(region) > 1 else '1 cell'
-            words = f'{count} in {left},{top} to {right},{bottom}: what theirs has there {_CUT}'
-            area = {'x': left, 'y': top, 'width': right - left + 1, 'height': bottom - top + 1, 'count': len(region), 'cells': []}
-            yield Conflict(Subject('layer', id), theirs.layers[id].members.get('name', ''), 'cells', area, area, area, words)
+            if found.side_of(_of_cut(id, region, theirs, goal)) == 'theirs':
+                room = goal.around(frames[2])
+    return room
+
+
+def _of_cut(layer: int, region: list[tuple[int, int]], theirs: MapNow, goal: Frame) -> Conflict:
+    """The conflict of cells that touch, and lie outside."""
+    places = [(x - goal.x, y - goal.y) for x, y in region]
+    (left, right), (top, bottom) = ((min(line), max(line)) for line in zip(*places))
+    count = f'{len(region)} cells' if len(region) > 1 else '1 cell'
+    words = f'{count} in {left},{top} to {right},{bottom}: what theirs has there {_CUT}'
+    area = {'x': left, 'y': top, 'width': right - left + 1, 'height': bottom - top + 1, 'count': len(region), 'cells': []}
+    return Conflict(Subject('layer', layer), theirs.layers[layer].members.get('name', ''), 'cells', area, area, area, words)
 
 
 def _of_map(what: str, values: tuple[Any, ...], words: str) -> Conflict:

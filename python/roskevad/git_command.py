@@ -1,5 +1,5 @@
 # SPDX-License-Identifier: MIT OR Apache-2.0
-"""Has git merge maps, and tell what differs between them, by meaning.
+"""Has git merge maps, tell what differs between them, and ask for conflicts, by meaning.
 
     roskevad git [--enable | --disable] [--global | --folder DIR]
 """
@@ -12,8 +12,8 @@ from pathlib import Path
 _TROUBLE = 2
 #: What says in a repository which files are maps.
 ATTRIBUTES = '*.tmj merge=roskevad diff=roskevad'
-# The sections that git has of a driver for merges, and of one for differences.
-_SECTIONS = 'merge.roskevad', 'diff.roskevad'
+# The sections that git has of a driver for merges, of one for differences, and of a tool for conflicts.
+_SECTIONS = 'merge.roskevad', 'diff.roskevad', 'mergetool.roskevad'
 
 
 class _Trouble(Exception):
@@ -22,7 +22,8 @@ class _Trouble(Exception):
 
 def main(given: list[str]) -> int:
     """Sets what git is to do with maps, or takes it away, and tells how it is set. Gives the exit status: 0, or 2 for trouble."""
-    parser = argparse.ArgumentParser(prog='roskevad git', description='Has git merge maps and tell what differs between them, by meaning.')
+    parser = argparse.ArgumentParser(prog='roskevad git', description='Has git merge maps, tell what differs between them, and '
+                                     'ask for conflicts by git mergetool --tool=roskevad; all by meaning.')
     ways = parser.add_mutually_exclusive_group()
     ways.add_argument('--enable', action='store_true', help='sets the programs that git is to run for maps')
     ways.add_argument('--disable', action='store_true', help='takes them away')
@@ -57,6 +58,9 @@ def settings() -> dict[str, str]:
         'merge.roskevad.name': 'Tiled maps, by meaning',
         'merge.roskevad.driver': f'{program()} merge %O %A %B -o %A --name %P',
         'diff.roskevad.command': f'{program()} diff --git',
+        'diff.roskevad.textconv': f'{program()} diff --text',
+        'mergetool.roskevad.cmd': f'{program()} merge --ask --resolve "$MERGED"',
+        'mergetool.roskevad.trustExitCode': 'true',
     }
 
 
@@ -101,8 +105,8 @@ def _told(git: _Git, scope: str) -> list[str]:
     set_now = {name: git.tells('config', scope, '--get', name) for name in wanted}
     if not any(set_now.values()):
         return [f'off for {where}']
-    told = [f'on for {where}']
-    told += [f'set otherwise: {name} = {value}' for name, value in set_now.items() if value != wanted[name]]
+    told = [f'on for {where}: merges, differences, texts in logs, and mergetool --tool=roskevad']
+    told += [f'set otherwise: {name} = {value}' if value else f'not set: {name}' for name, value in set_now.items() if value != wanted[name]]
     if not git.is_repository():
         return [*told, f'each repository needs a file .gitattributes with the line: {ATTRIBUTES}']
     attributes = git.tells('check-attr', 'merge', 'diff', '--', 'a.tmj')

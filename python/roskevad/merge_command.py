@@ -1,7 +1,8 @@
 # SPDX-License-Identifier: MIT OR Apache-2.0
-"""Brings two sides of one map together, also as the merge driver of git.
+"""Brings two sides of one map together, also as the merge driver and the mergetool of git.
 
     roskevad merge BASE OURS THEIRS -o OUT
+    roskevad merge --resolve FILE
     roskevad merge --check BASE OURS THEIRS RESULT
 """
 import argparse
@@ -10,92 +11,257 @@ import os
 import shutil
 import sys
 from pathlib import Path
-from typing import Optional, Sequence
+from typing import Callable, NamedTuple, Optional, Sequence
 
-from .difference import Change
+from .choices import Choices, Side, said_side
+from .class_types import project_of, types_of
+from .conflict_marks import mark
 from .difference_command import opened, write
 from .document import Document
 from .editor import Editor
 from .faults import Error
-from .merging import Conflict, merge
+from .git_stages import NotInConflict
+from .merging import Conflict, Merge, do_merge, merge, merged
+from .resolving import Resolving
+from .settling import is_merged_as_text, not_as_merged
 
 _MERGED, _IN_CONFLICT, _TROUBLE = 0, 1, 2
-# Conflicts that are not about one member of a thing.
-_WHOLE = {'removed', 'added', 'moved', 'order', 'shape', 'size', 'unsaid'}
-_BOTH_ADDED = 'both sides have added this map, and there is none that both began with; it is as ours has it'
+_USAGE = '''roskevad merge BASE OURS THEIRS -o OUT [--take SIDE[:KEY]].. [--ask] [--marks] [--offset SIDE:X,Y].. [--project FILE] [--name NAME]
+       roskevad merge --resolve FILE [--take SIDE[:KEY]].. [--ask] [--marks] [--offset SIDE:X,Y].. [--project FILE]
+       roskevad merge --check BASE OURS THEIRS RESULT'''
+_WAYS = 'wanted are BASE OURS THEIRS -o OUT, or --resolve FILE, or --check BASE OURS THEIRS RESULT'
+_BOTH_ADDED = 'both sides have added this map, and there is none that both began with; it is as {} has it'
+_KEY_OF_BOTH = 'map/added'
+
+
+class _Trouble(Exception):
+    """Why nothing is done."""
 
 
 def main(given: list[str]) -> int:
     """Merges, and tells on standard output what is in conflict, and what else is to be known. Gives the exit status: 0 where all is merged, 1 where
     there are conflicts, 2 for trouble; then nothing is written."""
-    parser = argparse.ArgumentParser(prog='roskevad merge', description='Brings two sides of one map together.')
-    parser.add_argument('base', metavar='BASE', type=Path, help='the map that both began with')
-    parser.add_argument('ours', metavar='OURS', type=Path, help='the map of one side, which the other one is brought into')
-    parser.add_argument('theirs', metavar='THEIRS', type=Path, help='the map of the other side')
-    parser.add_argument('result', metavar='RESULT', type=Path, nargs='?', help='with --check: a map that was made of them')
-    parser.add_argument('-o', metavar='OUT', dest='out', type=Path, help='the file to write')
-    parser.add_argument('--name', metavar='NAME', help='how the map is called in what is told')
-    parser.add_argument('--check', action='store_true', help='writes nothing, and tells where RESULT is not what a merge gives')
+    parser = _parser()
     chosen = parser.parse_args(given)
-    if chosen.check != (chosen.result is not None) or chosen.check == (chosen.out is not None):
-        parser.error('wanted are BASE OURS THEIRS -o OUT, or --check BASE OURS THEIRS RESULT')
     if sys.stdout is None:
         return _trouble('write failed')
     try:
         with contextlib.closing(Editor()) as editor:
-            status, told = _checked(editor, chosen) if chosen.check else _merged(editor, chosen)
+            status, told = _way(parser, chosen)(editor, chosen)
         front = '' if chosen.name is None else f'{chosen.name}: '
         write(''.join(f'{front}{each}\n' for each in told))
         return status
-    except (Error, OSError, MemoryError) as fault:
+    except (Error, OSError, MemoryError, ValueError, NotInConflict, _Trouble) as fault:
         return _trouble(str(fault) or 'no memory is left')
 
 
-def _sides(editor: Editor, chosen: argparse.Namespace) -> tuple[Optional[Document], Document, Document]:
+def _parser() -> argparse.ArgumentParser:
+    parser = argparse.ArgumentParser(prog='roskevad merge', usage=_USAGE, description='Brings two sides of one map together.')
+    parser.add_argument('maps', metavar='MAP', type=Path, nargs='*', help='the map that both began with, that of ours, which theirs is brought into, '
+                        'and that of theirs; with --check also one that was made of them')
+    parser.add_argument('-o', metavar='OUT', dest='out', type=Path, help='the file to write')
+    parser.add_argument('--resolve', metavar='FILE', type=Path, help='a map that is in conflict in git: tells what is left, and settles what is said')
+    parser.add_argument('--check', action='store_true', help='writes nothing, and tells where RESULT is not what a merge gives')
+    parser.add_argument('--take', metavar='SIDE[:KEY]', type=said_side, action='append', default=[],
+                        help='takes ours or theirs in all conflicts, or in one by its key, which is told in brackets')
+    parser.add_argument('--ask', action='store_true', help='asks at the terminal which side to take in each conflict')
+    parser.add_argument('--marks', action='store_true', help='puts a layer of rectangles on the map, one for each conflict that is left')
+    parser.add_argument('--offset', metavar='SIDE:X,Y', type=_offset, action='append', default=[],
+                        help='by how many columns and rows ours or theirs has moved all in the map, where that is guessed otherwise')
+    parser.add_argument('--project', metavar='FILE', type=Path, help='the .tiled-project that says what classes have; else the nearest one above the map')
+    parser.add_argument('--name', metavar='NAME', help='how the map is called in what is told')
+    return parser
+
+
+def _offset(word: str) -> tuple[Side, tuple[int, int]]:
+    """A side with columns and rows. Raises ValueError."""
+    by, side = said_side(word)
+    x, y = by.split(',')
+    return side, (int(x), int(y))
+
+
+class _Told(NamedTuple):
+    """The status, and what is told."""
+
+    status: int
+    lines: list[str]
+
+
+_Way = Callable[[Editor, argparse.Namespace], _Told]
+_Attempt = Callable[[dict[str, Side]], Merge]
+
+
+def _way(parser: argparse.ArgumentParser, chosen: argparse.Namespace) -> _Way:
+    """What is to be done."""
+    count = len(chosen.maps)
+    settles = chosen.take or chosen.ask or chosen.marks
+    if chosen.check and count == 4 and not (chosen.out or chosen.resolve or settles):
+        return _checked
+    if chosen.resolve and count == 0 and not (chosen.out or chosen.check):
+        return _resolved
+    if count == 3 and chosen.out and not (chosen.check or chosen.resolve):
+        return _merged
+    parser.error(_WAYS)
+
+
+# ---- a merge of three maps
+
+
+def _sides(editor: Editor, maps: Sequence[Path]) -> tuple[Optional[Document], Document, Document]:
     """The maps. One of no bytes, which git gives where both sides have added a map, is none."""
-    base = opened(editor, chosen.base, 'base') if os.path.getsize(chosen.base) else None
-    return base, opened(editor, chosen.ours, 'ours'), opened(editor, chosen.theirs, 'theirs')
+    base = opened(editor, maps[0], 'base') if os.path.getsize(maps[0]) else None
+    return base, opened(editor, maps[1], 'ours'), opened(editor, maps[2], 'theirs')
 
 
-def _merged(editor: Editor, chosen: argparse.Namespace) -> tuple[int, list[str]]:
-    """Merges into the file to write: the status, and what is told."""
-    base, ours, theirs = _sides(editor, chosen)
+def _merged(editor: Editor, chosen: argparse.Namespace) -> _Told:
+    """Merges into the file to write."""
+    base, ours, theirs = _sides(editor, chosen.maps)
+    take = dict(chosen.take)
     if base is None:
-        _keep(chosen.ours, chosen.out)
-        return (_IN_CONFLICT, [f'conflict: map: {_BOTH_ADDED}']) if ours.difference(theirs) else (_MERGED, [])
-    found = merge(base, ours, theirs)
-    if found.lines:
+        return _of_both_added(chosen, ours, theirs, take)
+    notes, project = _project(chosen, Path(chosen.name or chosen.out))
+    corner = ours.origin
+
+    def attempt(take: dict[str, Side]) -> Merge:
+        return merged(base, ours, theirs, Choices(take), dict(chosen.offset), project)
+
+    found = attempt(take)
+    _see_keys(take, found)
+    found = _asked(found, take, attempt) if chosen.ask else found
+    do_merge(ours, found)
+    is_marked = chosen.marks and bool(found.conflicts)
+    if is_marked:
+        mark(ours, found.conflicts, corner)
+    if found.lines or is_marked:
         ours.save(chosen.out.absolute())
     else:
-        _keep(chosen.ours, chosen.out)
-    told = [*(f'note: {each}' for each in found.notices), *(f'conflict: {each}' for each in found.conflicts)]
-    return _IN_CONFLICT if found.conflicts else _MERGED, told
+        _keep(chosen.maps[1], chosen.out)
+    return _Told(_IN_CONFLICT if found.conflicts else _MERGED, [*notes, *told_of(found, chosen.name is None)])
+
+
+def _asked(found: Merge, take: dict[str, Side], attempt: _Attempt) -> Merge:
+    """What comes of it once each conflict was asked for. What is answered is not asked again where other conflicts come of an answer."""
+    from .asking import Stopped, asked
+
+    known = {*take}
+    while True:
+        left = [each for each in found.conflicts if each.key not in known]
+        if not left:
+            return found
+        known |= {each.key for each in left}
+        try:
+            take.update(asked(left))
+        except Stopped as stopped:
+            take.update(stopped.sides)
+            return attempt(take)
+        found = attempt(take)
+
+
+def _see_keys(take: dict[str, Side], found: Merge) -> None:
+    """Raises _Trouble where a key is of no conflict."""
+    there = {each.key for each in found.conflicts} | {each.key for each, _ in found.settled}
+    missing = next((key for key in take if key and key not in there), None)
+    if missing is not None:
+        raise _Trouble(f'no conflict has this key: {missing}')
+
+
+def _of_both_added(chosen: argparse.Namespace, ours: Document, theirs: Document, take: dict[str, Side]) -> _Told:
+    """Of a map that both sides have added the one or the other, whole."""
+    return _told_of_both(chosen, take, not ours.difference(theirs), lambda side: _keep(chosen.maps[2 if side == 'theirs' else 1], chosen.out))
+
+
+def _told_of_both(chosen: argparse.Namespace, take: dict[str, Side], are_alike: bool, keep: Callable[[Optional[Side]], object]) -> _Told:
+    """The same, by a function that keeps the map of a side, that of ours where none is taken."""
+    missing = next((key for key in take if key not in ('', _KEY_OF_BOTH)), None)
+    if missing is not None:
+        raise _Trouble(f'no conflict has this key: {missing}')
+    side = take.get(_KEY_OF_BOTH, take.get(''))
+    side = _asked_of_both() if side is None and chosen.ask and not are_alike else side
+    keep(side)
+    if are_alike:
+        return _Told(_MERGED, [])
+    words = f'map: {_BOTH_ADDED.format(side or "ours")}'
+    key = '' if chosen.name is not None else f' [{_KEY_OF_BOTH}]'
+    return _Told(_IN_CONFLICT, [f'conflict: {words}{key}']) if side is None else _Told(_MERGED, [f'{side}: {words}'])
+
+
+def _asked_of_both() -> Optional[Side]:
+    from .asking import Stopped, asked
+    from .difference import MAP
+
+    try:
+        return asked([Conflict(MAP, '', 'added', None, None, None, _BOTH_ADDED.format('ours'))]).get(_KEY_OF_BOTH)
+    except Stopped:
+        return None
+
+
+def _project(chosen: argparse.Namespace, path: Path) -> tuple[list[str], Optional[Path]]:
+    """The project's file, which is looked for where none is said; with a note where one is found that can't be read."""
+    if chosen.project is not None:
+        return [], chosen.project
+    folder = path.absolute().parent
+    found = project_of(folder, _top(folder))
+    try:
+        types_of(found)
+    except (ValueError, OSError) as fault:
+        return [f'note: what {found} says of classes is not known: {fault}'], None
+    return [], found
+
+
+def _top(folder: Path) -> Path:
+    """The folder above which no project is looked for: that of the repository."""
+    return next((each for each in (folder, *folder.parents) if (each / '.git').exists()), folder)
+
+
+def told_of(found: Merge, has_keys: bool) -> list[str]:
+    """What is told of a merge, each in a line."""
+    return [*(f'note: {each}' for each in found.notices), *(f'{side}: {each}' for each, side in found.settled),
+            *(f'conflict: {each}' + (f' [{each.key}]' if has_keys else '') for each in found.conflicts)]
 
 
 def _keep(ours: Path, out: Path) -> None:
-    """Has the file to write have the bytes of ours."""
+    """Has the file to write have the bytes of another one."""
     if not (out.exists() and os.path.samefile(ours, out)):
         shutil.copyfile(ours, out)
 
 
-def _checked(editor: Editor, chosen: argparse.Namespace) -> tuple[int, list[str]]:
-    """Where a result is not as a merge gives it, but for what is in conflict: the status, and what is told."""
-    base, ours, theirs = _sides(editor, chosen)
-    result = opened(editor, chosen.result, 'result')
+# ---- a map that is in conflict in git
+
+
+def _resolved(editor: Editor, chosen: argparse.Namespace) -> _Told:
+    """Settles in the file what is said, and tells what is left."""
+    job = Resolving(editor, chosen.resolve)
+    take = dict(chosen.take)
+    if job.base is None:
+        return _told_of_both(chosen, take, job.are_alike(), job.write)
+    notes, project = _project(chosen, chosen.resolve)
+
+    def attempt(take: dict[str, Side]) -> Merge:
+        return job.attempt(take, dict(chosen.offset), project)
+
+    found = attempt(take)
+    _see_keys(take, found)
+    found = _asked(found, take, attempt) if chosen.ask else found
+    job.settle(found, chosen.marks)
+    done = [] if found.conflicts else [f'note: all is settled; git add {chosen.resolve} tells git so']
+    return _Told(_IN_CONFLICT if found.conflicts else _MERGED, [*notes, *told_of(found, True), *done])
+
+
+# ---- a look at what was merged elsewhere
+
+
+def _checked(editor: Editor, chosen: argparse.Namespace) -> _Told:
+    """Where a result is not as a merge gives it, but for what is in conflict."""
+    base, ours, theirs = _sides(editor, chosen.maps)
+    result = opened(editor, chosen.maps[3], 'result')
     if base is None:
-        return _MERGED, []
-    conflicts = merge(base, ours, theirs).conflicts
-    left = [each for each in ours.difference(result) if not _is_of(each, conflicts)]
-    return _IN_CONFLICT if left else _MERGED, [f'not as merged: {each}' for each in left]
-
-
-def _is_of(change: Change, conflicts: Sequence[Conflict]) -> bool:
-    """Whether a change may be how somebody has settled a conflict: of the same thing, or, where it is about whole things, with another one
-    that was added or moved."""
-    of_the_same = {each.what.partition('.')[0] for each in conflicts if each.subject == change.subject}
-    if of_the_same & {change.what, *_WHOLE}:
-        return True
-    return change.what in ('added', 'moved') and any(each.what in _WHOLE for each in conflicts)
+        return _Told(_MERGED, [])
+    _, project = _project(chosen, Path(chosen.name or chosen.maps[3]))
+    conflicts = merge(base, ours, theirs, offset=dict(chosen.offset), project=project).conflicts
+    unseen = conflicts if conflicts and is_merged_as_text(*chosen.maps) else ()
+    told = [*(f'not as merged: {each}' for each in not_as_merged(base, ours, result, conflicts)),
+            *(f'in conflict, and merged as text, untold: {each}' for each in unseen)]
+    return _Told(_IN_CONFLICT if told else _MERGED, told)
 
 
 def _trouble(text: str) -> int:

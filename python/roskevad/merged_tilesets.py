@@ -3,7 +3,7 @@
 from typing import Iterator, NamedTuple, Optional
 
 from .compared_maps import MapNow
-from .difference import first_id, paired_tilesets, tileset_name
+from .difference import first_id, paired_tilesets, tileset_key, tileset_name
 from .renamed_maps import Counting, values_of
 from .rows import BASE
 from .tiled_maps import Members
@@ -32,7 +32,7 @@ def shared_tilesets(base: MapNow, ours: MapNow, theirs: MapNow) -> list[Shared]:
     found = [Shared(each, mine.get(first_id(each)), other.get(first_id(each))) for each in listed[0]]
     new = [[each for each in side if all(each is not known for known in known_of.values())] for side, known_of in zip(listed[1:], (mine, other))]
     for each in new[0]:
-        twin = next((one for one in new[1] if tileset_name(one) == tileset_name(each)), None)
+        twin = next((one for one in new[1] if tileset_key(one) == tileset_key(each)), None)
         new[1] = [one for one in new[1] if one is not twin]
         found.append(Shared(None, each, twin))
     return sorted([*found, *(Shared(None, None, each) for each in new[1])], key=_order)
@@ -80,22 +80,23 @@ class _Used:
         return 0 if tileset is None else max(self._counts.get(first_id(tileset), 0), 1)
 
 
-def added_firsts(shared: list[Shared], ours: MapNow, theirs: MapNow) -> dict[int, int]:
-    """Of the tilesets that only theirs has added the first ids there, with those that they get: above those of ours."""
-    there = [each for each in shared if each.ours is not None]
-    end = max((first_id(each.ours or {}) + _room(each, ours, theirs) for each in there), default=1)
+def added_firsts(shared: list[Shared], ours: MapNow, theirs: MapNow, back: set[int]) -> dict[int, int]:
+    """Of the tilesets that only theirs has added the first ids there, with those that they get: above those of ours. So do those of theirs
+    that ours has removed, and that are to be there again: `back` has their first ids."""
+    there, used = [each for each in shared if each.ours is not None], (_Used(ours), _Used(theirs))
+    end = max((first_id(each.ours or {}) + _room(each, used) for each in there), default=1)
     found, by = dict[int, int](), 0
     for each in shared:
-        if each.base is None and each.ours is None and each.theirs is not None:
+        if each.ours is None and each.theirs is not None and (each.base is None or first_id(each.theirs) in back):
             by = max(by, end - first_id(each.theirs)) if not found else by
             found[first_id(each.theirs)] = first_id(each.theirs) + by
     return found
 
 
-def _room(shared: Shared, ours: MapNow, theirs: MapNow) -> int:
+def _room(shared: Shared, counts: tuple[_Used, _Used]) -> int:
     """How many tiles a tileset of ours may have: as many as its map says, or as theirs has in use of one that theirs knows."""
     members: Members = shared.ours or {}
-    used = max(_Used(ours).count(shared.ours), _Used(theirs).count(shared.theirs))
+    used = max(counts[0].count(shared.ours), counts[1].count(shared.theirs))
     count = members.get('tilecount')
     if isinstance(count, int):
         return max(used, count)

@@ -1,14 +1,18 @@
 # SPDX-License-Identifier: MIT OR Apache-2.0
 """Two sides of one map brought together: what theirs has changed since both began is done to ours, as one step."""
-from typing import TYPE_CHECKING, Any, Iterator, NamedTuple, Optional
+import os
+from typing import TYPE_CHECKING, Any, Iterator, Mapping, NamedTuple, Optional, Union
 
-from .compared_maps import MapNow, copied, text_of
-from .difference import Change, Tiles, head_of, told_changes
+from .choices import Choices, Side, Take
+from .class_types import ClassTypes, types_of
+from .compared_maps import MapNow, Shift, Stand, copied, text_of
+from .difference import MAP, Change, Tiles, first_id, head_of, told_changes
 from .difference_lines import Way, lead
 from .framed_maps import Framed, frame
 from .merged_maps import Conflict as Conflict, Joined, MergedMap
 from .merged_tilesets import Shared, added_firsts, counting, numbers, shared_tilesets
-from .renamed_maps import Names, another_names, counted, freed, is_twin, numbers_in_classes, renamed, stand_of, things_of
+from .renamed_maps import MapWithout, Names, another_names, counted, freed, is_twin, numbers_in_classes, renamed, stand_of, things_of
+from .rows import BASE
 from .told import Subject
 
 if TYPE_CHECKING:
@@ -31,42 +35,70 @@ class Merge(NamedTuple):
     notices: tuple[str, ...]
     #: The lines for all edits that were done.
     lines: tuple[str, ...]
+    #: What both sides have changed otherwise, and a side was taken of: which one.
+    settled: tuple[tuple[Conflict, Side], ...]
 
 
-def merge(base: 'Document', ours: 'Document', theirs: 'Document') -> Merge:
+#: By how many columns and rows all in a map was moved, by its side.
+Offsets = Mapping[Side, tuple[int, int]]
+
+
+def merge(
+    base: 'Document', ours: 'Document', theirs: 'Document', take: Optional[Take] = None, offset: Optional[Offsets] = None,
+    project: Union[str, 'os.PathLike[str]', None] = None,
+) -> Merge:
     """Does to `ours` what `theirs` has changed since `base`, as one step, a macro of the text Merge; where nothing is to be done there is none.
-    What both have changed to different values is told, and stays as ours has it. Raises TypeError where one of them is no document;
-    Refused where a map can't have the size of another one."""
+    What both have changed to different values is told, and stays as ours has it, unless `take` says a side: one for all, or a dict of
+    sides by the keys of conflicts. `offset` says by how many columns and rows a side has moved all in the map, where that is guessed
+    otherwise. `project` is a file of Tiled's that says which members of classes mean objects. Raises TypeError where one of them is no
+    document; ValueError where a key is of no conflict, or the file is no project; OSError; Refused where a map can't have the size of
+    another one."""
     from .document import Document
 
     for each in (base, ours, theirs):
         if not isinstance(each, Document):
             raise TypeError(f'a merge is of documents: {type(each).__name__}')
-    with copied(*map(text_of, (base, ours, theirs))) as copies:
-        found = _Merging(*copies).found()
-    _do(ours, found.lines)
+    choices = Choices(take)
+    found = merged(base, ours, theirs, choices, offset, project)
+    if choices.unmet():
+        raise ValueError(f'no conflict has this key: {choices.unmet()[0]}')
+    do_merge(ours, found)
     return found._replace(document=ours)
 
 
-def _do(ours: 'Document', lines: tuple[str, ...]) -> None:
-    """Does the lines, on all cells."""
+def merged(
+    base: 'Document', ours: 'Document', theirs: 'Document', choices: Choices, offset: Optional[Offsets] = None,
+    project: Union[str, 'os.PathLike[str]', None] = None,
+) -> Merge:
+    """What a merge would do, tried on copies."""
+    types = types_of(project)
+    with copied(*map(text_of, (base, ours, theirs))) as copies:
+        return _Merging(*copies, choices, dict(offset or {}), types).found()
+
+
+def do_merge(ours: 'Document', found: Merge) -> None:
+    """Does the lines of a merge, on all cells."""
     with ours.macro(STEP):
-        if lines and ours.selection.runs:
+        if found.lines and ours.selection.runs:
             ours.select_none()
-        for line in lines:
+        for line in found.lines:
             ours._edit(line)
 
 
 class _Merging:
     """A merge on copies of three maps."""
 
-    __slots__ = '_base', '_ours', '_theirs', '_way', '_notices', '_conflicts', '_first', '_renamed'
+    __slots__ = '_base', '_ours', '_theirs', '_choices', '_offset', '_types', '_way', '_notices', '_conflicts', '_settled', '_first', '_renamed'
 
-    def __init__(self, base: 'Document', ours: 'Document', theirs: 'Document'):
+    def __init__(
+        self, base: 'Document', ours: 'Document', theirs: 'Document', choices: Choices, offset: Offsets, types: ClassTypes,
+    ):
         self._base, self._ours, self._theirs = base, ours, theirs
+        self._choices, self._offset, self._types = choices, offset, types
         self._way = Way(ours)
         self._notices: list[str] = []
         self._conflicts: list[Conflict] = []
+        self._settled: dict[str, tuple[Conflict, Side]] = {}
         # The first free ids.
         self._first: dict[str, int] = {}
         # The new ids of theirs, one round behind the other.
@@ -75,37 +107,75 @@ class _Merging:
     def found(self) -> Merge:
         before = self._ours.outline()
         framed = self._framed()
-        goal = self._goal(*framed.maps)
+        goal = self._goal(framed)
         changes = [*_resized(before, self._ours, framed), *told_changes(MapNow(self._ours), goal)]
         lead(self._way, goal)
         left = told_changes(MapNow(self._ours), goal)
         self._conflicts += [Conflict(each.subject, each.name, 'unsaid', each.after, each.before, each.after, f'no edit here can do this: {each.words}')
                             for each in left]
-        return Merge(self._ours, tuple(changes), tuple(self._conflicts), tuple(self._notices), tuple(self._way.lines))
+        return Merge(self._ours, tuple(changes), tuple(self._conflicts), tuple(self._notices), tuple(self._way.lines), tuple(self._settled.values()))
 
     def _framed(self) -> Framed:
         """Gives all three the size of the merged map."""
-        framed = frame(self._base, self._ours, self._theirs)
-        self._conflicts += framed.conflicts
+        shifts = {side: Shift(*by) for side, by in self._offset.items()}
+        framed = frame((self._base, self._ours, self._theirs), self._choices, shifts)
+        self._conflicts += framed.found.conflicts
+        self._settled.update((each.key, (each, side)) for each, side in framed.found.settled)
         self._notices += framed.notices
         self._way.lines += framed.lines
         return framed
 
-    def _goal(self, *maps: MapNow) -> MergedMap:
-        base, ours, theirs = self._named_alike(*maps)
+    def _goal(self, framed: Framed) -> MergedMap:
+        base, ours, theirs = self._named_alike(*framed.maps)
         self._conflicts = [self._with_new_id(each) for each in self._conflicts]
-        for old, new in _in_turn([*numbers(shared_tilesets(base, ours, theirs), ours, theirs)]):
+        renumbered = [*_in_turn([*numbers(shared_tilesets(base, ours, theirs), ours, theirs)])]
+        for old, new in renumbered:
             if self._way.say(f'tileset number {old} {new}'):
                 self._notices.append(f'the tileset of the first id {old} has the first id {new} now, and its tiles go along')
-        ours = MapNow(self._ours)
-        shared = shared_tilesets(base, ours, theirs)
-        firsts = added_firsts(shared, ours, theirs)
-        joined = Joined(*_counted_alike(base, ours, theirs, shared, firsts), _Named(shared, firsts).tile)
-        goal = joined.merged(shared, firsts)
+        ours = framed.uncut(1, MapNow(self._ours)) if renumbered else ours
+        joined, goal = self._joined(base, ours, theirs)
         known = {(each.subject, each.what) for each in self._conflicts if each.what == 'removed'}
-        self._conflicts += [each for each in joined.conflicts if (each.subject, each.what) not in known]
+        # What lies outside the map of ours is not told of a layer that is not there.
+        gone = {each.subject for each in joined.found.conflicts if each.what == 'added'}
+        self._conflicts = [each for each in self._conflicts if each.what != 'cells' or each.subject not in gone]
+        self._conflicts += [each for each in joined.found.conflicts if (each.subject, each.what) not in known]
         self._tell_dangling(goal, ours, theirs)
         return goal
+
+    def _joined(self, base: MapNow, ours: MapNow, theirs: MapNow) -> tuple[Joined, MergedMap]:
+        """What comes of the three. Where theirs is taken of what ours has removed, that is there again as if theirs had added it."""
+        tilesets, known = set[int](), set[Subject]()
+        while True:
+            shared = shared_tilesets(base, ours, theirs)
+            firsts = added_firsts(shared, ours, theirs, tilesets)
+            joined = Joined(*_counted_alike(base, ours, theirs, shared, firsts), _Named(shared, firsts).tile, self._choices)
+            goal = joined.merged(shared, firsts)
+            self._settled.update((each.key, (each, side)) for each, side in joined.found.settled)
+            missing = {first_id(each.theirs) for each in shared if each.theirs and not each.ours} - firsts.keys()
+            back = missing & {_tileset_of(value, theirs) for value in joined.tiles_back}
+            if not back and joined.back <= known:
+                return joined, goal
+            tilesets |= back
+            if not joined.back <= known:
+                known |= joined.back
+                base, theirs = self._with_back(joined.back, base, ours, theirs)
+
+    def _with_back(self, back: set[Subject], base: MapNow, ours: MapNow, theirs: MapNow) -> tuple[MapNow, MapNow]:
+        """The base without what is to be there again, and theirs; with what that stands in, and what stands in it and ours has not. Layers
+        that were there get new ids, since none can be added below one of ours."""
+        mine, other = things_of(ours), things_of(theirs)
+        holders = {subject: [*_holders(subject, other)] for subject in other}
+        above = {holder for subject in back if subject in other for holder in holders[subject]}
+        inside = {subject for subject in other if self._is_back(subject, holders[subject], back)}
+        found = {subject for subject in above | inside if subject not in mine}
+        names = {subject: self._next('layer') for subject in sorted(found) if subject.kind == 'layer' and subject.id in base.layers}
+        theirs = self._renamed_theirs(names, theirs, {})
+        gone = {Subject(subject.kind, names.get(subject, subject.id)) for subject in found}
+        return MapWithout(renamed(base, _of(names, base), self._types), gone), theirs
+
+    def _is_back(self, subject: Subject, holders: list[Subject], back: set[Subject]) -> bool:
+        """Whether it is to be there again, alone or with what it stands in, and ours is not taken there."""
+        return subject in back or not back.isdisjoint(holders) and not self._choices.is_said(f'{subject.kind}:{subject.id}/removed', 'ours')
 
     # ---- ids
     def _named_alike(self, *maps: MapNow) -> tuple[MapNow, MapNow, MapNow]:
@@ -114,25 +184,35 @@ class _Merging:
         self._first = {kind: max(map.tree[f'next{kind}id'] for map in maps) for kind in ('layer', 'object')}
         names = another_names(base, ours)
         self._notices += [f'{_told(subject, base)} has the id {id} in ours, since an earlier merge' for subject, id in names.items()]
-        theirs = renamed(theirs, self._told_new({**_of(names, theirs), **freed(theirs, names, self._first)}, theirs, names))
-        base = renamed(base, names)
+        theirs = self._renamed_theirs({**_of(names, theirs), **freed(theirs, names, self._first)}, theirs, names)
+        base = renamed(base, names, self._types)
         found = another_names(base, theirs)
         self._notices += [f'{_told(subject, base)} has the id {id} in theirs, since an earlier merge' for subject, id in found.items()]
         back = {Subject(subject.kind, id): subject.id for subject, id in found.items()}
-        theirs = renamed(theirs, self._told_new({**back, **freed(theirs, back, self._first)}, theirs, back))
+        theirs = self._renamed_theirs({**back, **freed(theirs, back, self._first)}, theirs, back)
         base, theirs = self._apart(base, ours, theirs)
-        return base, ours, renamed(theirs, self._clashing(base, ours, theirs))
+        clashing = self._clashing(base, ours, theirs)
+        return base, ours, self._renamed_theirs(clashing, self._without_strangers(base, ours, theirs), {})
 
-    def _told_new(self, names: Names, theirs: MapNow, known: Names) -> Names:
-        """Notes new ids, and tells of them, but for those that are known."""
+    def _without_strangers(self, base: MapNow, ours: MapNow, theirs: MapNow) -> MapNow:
+        """Theirs, in which what means an object that is not there means none, where ours has added another one under that id."""
+        gone: Names = {}
+        for subject, name, id in self._dangling(theirs):
+            if id in ours.objects and id not in base.objects:
+                gone[Subject('object', id)] = 0
+                self._notices.append(f'{_told(subject, theirs)} of theirs: property {name} meant an object that is not there, and means none now')
+        return renamed(theirs, gone, self._types)
+
+    def _renamed_theirs(self, names: Names, theirs: MapNow, known: Names) -> MapNow:
+        """Theirs with new ids. They are noted, and told but for those that are known."""
         self._renamed.append(names)
         for subject, id in names.items():
             if subject not in known:
                 self._notices.append(f'{_told(subject, theirs)} of theirs has the id {id} now')
         ids = {subject.id for subject in names if subject.kind == 'object'}
-        for name, number in numbers_in_classes(theirs, ids) if ids else ():
+        for name, number in numbers_in_classes(theirs, ids, self._types) if ids else ():
             self._notices.append(f'the property {name} of theirs has the number {number} in it: look whether it means that object')
-        return names
+        return renamed(theirs, names, self._types)
 
     def _with_new_id(self, conflict: Conflict) -> Conflict:
         """A conflict about something of theirs, by its new id."""
@@ -153,40 +233,39 @@ class _Merging:
                     new[subject] = old[subject]
             elif id in theirs.layers and not theirs.has(id, stand):
                 new[subject] = self._next('layer')
-        return renamed(base, old), renamed(theirs, self._told_new(new, theirs, old))
+        return renamed(base, old, self._types), self._renamed_theirs(new, theirs, old)
 
     def _next(self, kind: str) -> int:
         self._first[kind] += 1
         return self._first[kind] - 1
 
     def _clashing(self, base: MapNow, ours: MapNow, theirs: MapNow) -> Names:
-        """New ids for what theirs has added under one that ours has for another thing; and for layers below one of ours, since none can be
-        added there."""
+        """New ids for what theirs has added under one that ours has for another thing, or that something of ours means though it is not there;
+        and for layers below one of ours, since none can be added there."""
         old, mine, other = (things_of(map) for map in (base, ours, theirs))
-        last = max(ours.layers, default=0)
+        last, meant = max(ours.layers, default=0), {id for _, _, id in self._dangling(ours)}
         names: Names = {}
         for subject, stand in other.items():
             if subject in old or subject in mine and Subject('layer', stand.parent) not in names and is_twin(subject, ours, theirs):
                 continue
-            if subject in mine or subject.kind == 'layer' and subject.id < last:
+            if subject in mine or subject.kind == 'layer' and subject.id < last or subject.kind == 'object' and subject.id in meant:
                 names[subject] = self._next(subject.kind)
-        return self._told_new(names, theirs, {})
+        return names
 
     # ---- references
     def _tell_dangling(self, goal: MergedMap, ours: MapNow, theirs: MapNow) -> None:
         """Tells of properties that mean an object which is there no more, where on neither side one means what is not there."""
-        known = {*_dangling(ours), *_dangling(theirs)}
-        for subject, name, id in _dangling(goal):
+        known = {*self._dangling(ours), *self._dangling(theirs)}
+        for subject, name, id in self._dangling(goal):
             if (subject, name, id) not in known:
                 self._notices.append(f'{_told(subject, goal)}: property {name} means object {id}, which one side removed')
 
-
-def _dangling(map: MapNow) -> Iterator[tuple[Subject, str, int]]:
-    """What has a property that means an object which is not there, with its name and the id."""
-    for subject, stand in things_of(map).items():
-        for each in stand.members.get('properties', []):
-            if each.get('type') == 'object' and each.get('value') and each['value'] not in map.objects:
-                yield subject, each['name'], each['value']
+    def _dangling(self, map: MapNow) -> Iterator[tuple[Subject, str, int]]:
+        """What has a property that means an object which is not there, with its name and the id."""
+        owners = {MAP: map.tree, **{subject: stand.members for subject, stand in things_of(map).items()}}
+        for subject, members in owners.items():
+            for each in members.get('properties', []):
+                yield from ((subject, each['name'], id) for id in self._types.meant(each) if id and id not in map.objects)
 
 
 def _of(names: Names, map: MapNow) -> Names:
@@ -195,7 +274,22 @@ def _of(names: Names, map: MapNow) -> Names:
 
 
 def _told(subject: Subject, map: MapNow) -> str:
+    if subject == MAP:
+        return head_of(MAP, '')
     return head_of(subject, stand_of(map, subject).members.get('name', ''))
+
+
+def _holders(subject: Subject, things: Mapping[Subject, Stand]) -> Iterator[Subject]:
+    """All that hold a layer or an object."""
+    while things[subject].parent:
+        subject = Subject('layer', things[subject].parent)
+        yield subject
+
+
+def _tileset_of(value: int, map: MapNow) -> int:
+    """The first id of the tileset of a tile, in a map; the tile is one that another map has no room for."""
+    base = -value - 1 & BASE
+    return max((first for each in map.tree['tilesets'] if (first := int(each['firstgid'])) <= base), default=0)
 
 
 def _resized(before: dict[str, Any], ours: 'Document', framed: Framed) -> Iterator[Change]:
@@ -228,7 +322,7 @@ def _goal_of(shared: Shared, firsts: dict[int, int]) -> Optional[int]:
     if shared.ours is not None:
         first: int = shared.ours['firstgid']
         return first
-    return firsts.get(shared.theirs['firstgid']) if shared.theirs is not None and shared.base is None else None
+    return None if shared.theirs is None else firsts.get(shared.theirs['firstgid'])
 
 
 class _Named:

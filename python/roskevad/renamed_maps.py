@@ -3,6 +3,7 @@
 from array import array
 from typing import Any, Iterable, Iterator, NamedTuple, Optional
 
+from .class_types import ClassTypes
 from .compared_maps import MapNow, Stand, said
 from .own_members import OTHERS
 from .rows import BASE
@@ -37,11 +38,12 @@ class RenamedMap(MapNow):
 
     __slots__ = '_inner', '_were'
 
-    def __init__(self, inner: MapNow, names: Names):
+    def __init__(self, inner: MapNow, names: Names, types: ClassTypes):
         self._inner = inner
         self._were = {id: subject.id for subject, id in names.items() if subject.kind == 'layer'}
         self.document = inner.document
-        self.tree = {**_referring(inner.tree, names), 'layers': [_layer(each, names) for each in inner.tree['layers']]}
+        naming = _Naming(names, types)
+        self.tree = {**naming.referring(inner.tree), 'layers': [naming.layer(each) for each in inner.tree['layers']]}
         self.layers: dict[int, Stand] = {}
         self.objects: dict[int, Stand] = {}
         self._note(self.tree['layers'], 0)
@@ -50,31 +52,48 @@ class RenamedMap(MapNow):
         return self._inner.cells(self._were.get(layer, layer))
 
 
-def renamed(map: MapNow, names: Names) -> MapNow:
+class MapWithout(MapNow):
+    """A map without some of its layers and objects."""
+
+    __slots__ = '_inner',
+
+    def __init__(self, inner: MapNow, gone: set[Subject]):
+        self._inner = inner
+        self.document, self.tree = inner.document, inner.tree
+        self.layers = {id: stand for id, stand in inner.layers.items() if Subject('layer', id) not in gone}
+        self.objects = {id: stand for id, stand in inner.objects.items() if Subject('object', id) not in gone}
+
+    def cells(self, layer: int) -> memoryview:
+        return self._inner.cells(layer)
+
+
+def renamed(map: MapNow, names: Names, types: ClassTypes) -> MapNow:
     """A map with other ids; the same where there are none."""
-    return RenamedMap(map, names) if names else map
+    return RenamedMap(map, names, types) if names else map
 
 
-def _layer(layer: Members, names: Names) -> Members:
-    found: Members = {**_referring(layer, names), 'id': names.get(Subject('layer', layer['id']), layer['id'])}
-    if layer['type'] == 'group':
-        found['layers'] = [_layer(each, names) for each in layer['layers']]
-    elif layer['type'] == 'objectgroup':
-        found['objects'] = [{**_referring(each, names), 'id': names.get(Subject('object', each['id']), each['id'])} for each in layer['objects']]
-    return found
+class _Naming(NamedTuple):
+    """New ids, and what is known of classes that have ids in them."""
 
+    names: Names
+    types: ClassTypes
 
-def _referring(members: Members, names: Names) -> Members:
-    """Members in whose properties objects have their new ids."""
-    if not members.get('properties'):
-        return dict(members)
-    return {**members, 'properties': [_property(each, names) for each in members['properties']]}
+    def layer(self, layer: Members) -> Members:
+        found: Members = {**self.referring(layer), 'id': self.names.get(Subject('layer', layer['id']), layer['id'])}
+        if layer['type'] == 'group':
+            found['layers'] = [self.layer(each) for each in layer['layers']]
+        elif layer['type'] == 'objectgroup':
+            found['objects'] = [{**self.referring(each), 'id': self._object(each['id'])} for each in layer['objects']]
+        return found
 
+    def referring(self, members: Members) -> Members:
+        """Members in whose properties objects have their new ids."""
+        if not members.get('properties'):
+            return dict(members)
+        return {**members, 'properties': [self.types.renumbered(each, self._object) for each in members['properties']]}
 
-def _property(each: Members, names: Names) -> Members:
-    value: Any = each.get('value')
-    is_reference = each.get('type') == 'object' and type(value) is int
-    return {**each, 'value': names.get(Subject('object', value), value)} if is_reference else each
+    def _object(self, id: int) -> int:
+        return self.names.get(Subject('object', id), id)
 
 
 # ---- tiles
@@ -139,10 +158,17 @@ def counted(map: MapNow, counting: Counting) -> MapNow:
 
 
 def values_of(map: MapNow) -> set[int]:
-    """The values of all cells and objects."""
+    """The values of all cells and objects, which are kept with the map."""
+    known: Optional[set[int]] = getattr(map, 'values', None)
+    if known is None:
+        known = map.values = _values_of(map)
+    return known
+
+
+def _values_of(map: MapNow) -> set[int]:
     found: set[int] = {stand.members['gid'] for stand in map.objects.values() if 'gid' in stand.members}
     for id, stand in map.layers.items():
-        found.update(map.cells(id) if stand.members['type'] == 'tilelayer' else ())
+        found.update(map.cells(id).tolist() if stand.members['type'] == 'tilelayer' else ())
     return found
 
 
@@ -246,18 +272,10 @@ def freed(map: MapNow, wanted: Names, first: dict[str, int]) -> Names:
     return found
 
 
-def numbers_in_classes(map: MapNow, ids: set[int]) -> Iterator[tuple[str, int]]:
-    """Numbers in properties of a class that are such ids: the name of each property, and the number."""
+def numbers_in_classes(map: MapNow, ids: set[int], types: ClassTypes) -> Iterator[tuple[str, int]]:
+    """Numbers in properties of classes that are such ids, where it isn't known whether they mean objects: the name of each property, and the
+    number."""
     owners = [map.tree, *drawn(map.tree['layers']), *(stand.members for stand in map.objects.values())]
     for owner in owners:
         for each in owner.get('properties', []):
-            if each.get('type') == 'class':
-                yield from ((each['name'], number) for number in _numbers(each.get('value')) if number in ids)
-
-
-def _numbers(value: Any) -> Iterator[int]:
-    if isinstance(value, dict):
-        for each in value.values():
-            yield from _numbers(each)
-    elif type(value) is int:
-        yield value
+            yield from ((each['name'], number) for number in types.unknown(each) if number in ids)

@@ -1,5 +1,6 @@
 # SPDX-License-Identifier: MIT OR Apache-2.0
-"""What two sides have made of one thing: what only one has changed is as that side has it, and what both have changed otherwise is told."""
+"""What two sides have made of one thing: what only one has changed is as that side has it, and of what both have changed otherwise a side is
+chosen."""
 from typing import Any, Callable, Iterable, NamedTuple, Optional, TypeVar
 
 from .compared_maps import said, staying
@@ -28,21 +29,20 @@ def is_same(one: Any, other: Any) -> bool:
     return one is not ABSENT and other is not ABSENT and said(one) == said(other)
 
 
-def merged_value(name: str, base: Any, ours: Any, theirs: Any, tell: Callable[[Clash], object]) -> Any:
+def merged_value(name: str, base: Any, ours: Any, theirs: Any, choose: Callable[[Clash], Any]) -> Any:
     """A value as one side has changed it. An object of JSON is merged member by member. Where both sides have changed it to different
-    values it is told, and is ours."""
+    values it is the one that is chosen."""
     if is_same(ours, theirs) or is_same(base, theirs):
         return ours
     if is_same(base, ours):
         return theirs
     if all(isinstance(each, dict) for each in (base, ours, theirs)):
-        return merged_members(base, ours, theirs, lambda clash: tell(clash._replace(name=f'{name}.{clash.name}')))
+        return merged_members(base, ours, theirs, lambda clash: choose(clash._replace(name=f'{name}.{clash.name}')))
     key = _KEYED.get(name.rpartition('.')[2])
     old, mine, other = (_table(each, key) for each in (base, ours, theirs))
     if old is None or mine is None or other is None:
-        tell(Clash(name, base, ours, theirs))
-        return ours
-    found = merged_members(old, mine, other, lambda clash: tell(clash._replace(name=f'{name} {clash.name}')))
+        return choose(Clash(name, base, ours, theirs))
+    found = merged_members(old, mine, other, lambda clash: choose(clash._replace(name=f'{name} {clash.name}')))
     return [found[each] for each in sorted(found, key=int)]
 
 
@@ -54,21 +54,22 @@ def _table(things: Any, key: Optional[str]) -> Optional[Members]:
     return table if len(table) == len(things) else None
 
 
-def merged_members(base: Members, ours: Members, theirs: Members, tell: Callable[[Clash], object]) -> Members:
+def merged_members(base: Members, ours: Members, theirs: Members, choose: Callable[[Clash], Any]) -> Members:
     """Members, each merged on its own: those of ours in their order, and behind them what theirs has added."""
     if is_same(base, theirs):
         return ours
     found = {}
     for name in [*ours, *(name for name in theirs if name not in ours)]:
-        value = merged_value(name, base.get(name, ABSENT), ours.get(name, ABSENT), theirs.get(name, ABSENT), tell)
+        value = merged_value(name, base.get(name, ABSENT), ours.get(name, ABSENT), theirs.get(name, ABSENT), choose)
         if value is not ABSENT:
             found[name] = value
     return found
 
 
-def merged_order(base: list[_Key], ours: list[_Key], theirs: list[_Key], tell: Callable[[set[_Key]], object]) -> list[_Key]:
+def merged_order(base: list[_Key], ours: list[_Key], theirs: list[_Key], choose: Callable[[set[_Key]], set[_Key]]) -> list[_Key]:
     """Things in an order: what only one side has moved stands where that side has it, and what one has added behind what it stands behind
-    there; of what both have added at one place ours comes first. What both have moved otherwise is told, and stands where ours has it."""
+    there; of what both have added at one place ours comes first. Of what both have moved otherwise those stand where theirs has them that
+    are chosen, and the others where ours has them."""
     both = {*ours} & {*theirs}
     common = [each for each in base if each in both]
     known = {*common}
@@ -78,20 +79,19 @@ def merged_order(base: list[_Key], ours: list[_Key], theirs: list[_Key], tell: C
     elif mine == common:
         line = other
     else:
-        line = _moved_by_both(common, mine, other, tell)
+        line = _moved_by_both(common, mine, other, choose)
     for side, before in ((ours, known), (theirs, {*ours})):
         _add_to(line, side, before, known)
     return line
 
 
-def _moved_by_both(common: list[_Key], ours: list[_Key], theirs: list[_Key], tell: Callable[[set[_Key]], object]) -> list[_Key]:
-    """Ours, with what only theirs has moved put behind what it stands behind there."""
+def _moved_by_both(common: list[_Key], ours: list[_Key], theirs: list[_Key], choose: Callable[[set[_Key]], set[_Key]]) -> list[_Key]:
+    """Ours, with what only theirs has moved, or is chosen, put behind what it stands behind there."""
     stay, other = staying_of(common, ours), staying_of(common, theirs)
     both = {each for each in common if each not in stay and each not in other}
-    if both:
-        tell(both)
+    kept = both - choose(both) if both else both
     line = [*ours]
-    for each in [each for each in theirs if each not in other and each not in both]:
+    for each in [each for each in theirs if each not in other and each not in kept]:
         line.remove(each)
         line.insert(_place_behind(line, theirs[:theirs.index(each)]), each)
     return line

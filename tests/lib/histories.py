@@ -40,6 +40,7 @@ def edits(chosen, document, offset):
         'layer member': lambda: chosen.choice(layers).members.update(chosen.choice(
             ({'opacity': 0.25}, {'name': chosen.choice(('', 'L', 'M'))}, {'visible': False}, {'tintcolor': '#ff0000'}, {'offsetx': number}))),
         'prop set': lambda: owner.properties.set(chosen.choice(('a', 'b c', 'd')), chosen.choice((1, True, 1.5, '', 'x\ny', {'k': 1}))),
+        'class member': lambda: of_class(chosen, [each for each in (document, *layers, *objects) if 'link' in each.properties]),
         'prop remove': lambda: owner.properties.pop(chosen.choice(list(owner.properties))),
         'map member': lambda: document.members.update(chosen.choice(({'backgroundcolor': '#112233'}, {'backgroundcolor': '#445566'}, {'class': 'Town'}))),
         'tileset add': lambda: document.tilesets.add(chosen.choice((900, 1000)), chosen.choice(('a.tsj', 'b.tsj'))),
@@ -52,7 +53,7 @@ def edits(chosen, document, offset):
 
 # How often each kind is chosen, where not once.
 WEIGHTS = {'stamp': 8, 'erase': 2, 'object add': 4, 'object move': 6, 'object member': 4, 'shape': 4, 'prop set': 4, 'layer member': 2, 'layer move': 4,
-           'layer into': 3, 'object into': 3, 'layer add': 2, 'tileset add': 3, 'extend': 3}
+           'layer into': 3, 'object into': 3, 'layer add': 2, 'tileset add': 3, 'extend': 3, 'class member': 4}
 
 
 def added(chosen, document, layer, number):
@@ -71,6 +72,14 @@ def painted(document, layer, value):
 def text(chosen, each):
     """One member of the text of an object."""
     each.members['text'] = {**each.members['text'], **chosen.choice(({'bold': True}, {'text': 'A'}, {'text': 'B'}, {'color': '#00ff00'}))}
+
+
+def of_class(chosen, owners):
+    """A member of a property of a class, or the property itself."""
+    owner = chosen.choice(owners)
+    known = owner.properties['link']
+    new = {**known, chosen.choice(('to', 'by', 'kept')): chosen.randrange(4)} if isinstance(known, dict) and chosen.random() < 0.9 else 1
+    owner.properties.set('link', new, **({'type': 'class', 'property_type': 'Link'} if isinstance(new, dict) else {'type': 'int'}))
 
 
 def extended(chosen, document, offset):

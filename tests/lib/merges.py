@@ -57,9 +57,9 @@ class Table:
     """A map as a table: of each layer, object and tileset what it says, as texts, by names. All that was moved with the size of the map
     stands where it stood before."""
 
-    def __init__(self, tree, offset=(0, 0), known=()):
-        """`known` are the ids of the objects and layers of the map that both began with."""
-        self.tree, self.offset, self.known = tree, offset, known
+    def __init__(self, tree, offset=(0, 0), known=(), lost=()):
+        """`known` are the ids of the objects and layers of the map that both began with, `lost` those of objects that are not to be there."""
+        self.tree, self.offset, self.known, self.lost = tree, offset, known, lost
         self.tilesets = sorted(((each['firstgid'], each.get('source', each.get('name'))) for each in tree['tilesets']), reverse=True)
         self.objects = {each['id']: each for layer, _ in layers_of(tree) for each in layer.get('objects', [])}
         self.rows, self.cells, self.children = {}, {}, collections.defaultdict(list)
@@ -110,13 +110,23 @@ class Table:
         return name, (value & ~FLAGS) - first, value & FLAGS
 
     def properties(self, owner):
-        return {f'property {each["name"]}': said({**each, 'value': self.meant(each)}) for each in owner.get('properties', [])}
+        """Properties; the members of a class each for itself."""
+        found = {}
+        for each in owner.get('properties', []):
+            name, value = f'property {each["name"]}', self.meant(each)
+            found[name] = said({**each, 'value': 'of a class' if isinstance(value, dict) else value})
+            if isinstance(value, dict):
+                for inner in value:
+                    self.note(found, f'{name}.{inner}', value[inner])
+        return found
 
     def meant(self, each):
-        """The value of a property; of one that means a new object what that is."""
+        """The value of a property; of one that means a new object what that is, and 0 of one that means none that is there or was."""
         value = each['value']
-        if each.get('type') != 'object' or ('object', value) in self.known or value not in self.objects:
+        if each.get('type') != 'object' or ('object', value) in self.known:
             return value
+        if value not in self.objects or value in self.lost:
+            return 0
         looks = self.object(self.objects[value])
         return ['new', *(looks.get(name) for name in ('name', 'x', 'y'))]
 
@@ -159,6 +169,8 @@ class Checked:
 
     def found(self):
         """All that is wrong, as texts."""
+        lost = {key[1] for key in self.lacking() if key[0] == 'object'}
+        self.theirs = Table(self.theirs.tree, self.theirs.offset, self.theirs.known, lost) if lost else self.theirs
         for key in ['map', *(each for each in self.ours.rows if each != 'map')]:
             self.see_ours(key)
         self.see_removed_by_ours()
@@ -209,7 +221,8 @@ class Checked:
         if key[0] == 'object' and len({*map(frozenset, kinds[:3])}) == 3:
             self.want_told(key, 'shape', 'both have changed it')
             names = {name for name in names if name.split('.')[0] not in SHAPES or self.see_is_ours(key, name, rows)}
-        for name in names:
+        names -= self.see_whole_properties(key, rows, names)
+        for name in sorted(names):
             base, ours, theirs, merged = (row.get(name) for row in rows)
             if name == 'parent' and ours == base != theirs and merged == ours:
                 self.see_not_moved(key)
@@ -220,6 +233,20 @@ class Checked:
                 wanted = ours
             if merged != wanted:
                 self.fault(key, name, 'base', base, 'ours', ours, 'theirs', theirs, 'is', merged)
+
+    def see_whole_properties(self, key, rows, names):
+        """Properties that are told to be in conflict as a whole: both sides have changed them, and they are as ours has them."""
+        seen = set()
+        for name in [each[1] for each in self.told if each[0] == key and each[1] in names and each[1].startswith('property ')]:
+            of_it = {each for each in names if each == name or each.startswith(f'{name}.')}
+            base, ours, theirs, merged = ([row.get(each) for each in sorted(of_it)] for row in rows)
+            is_one = len({row.get(name) for row in rows[:3]}) == 1 and len(of_it) > 1
+            if ours != base != theirs != ours and not is_one:
+                self.met.add((key, name))
+            if merged != ours:
+                self.fault(key, name, 'in conflict, and not as ours has it')
+            seen |= of_it
+        return seen
 
     def see_is_ours(self, key, name, rows):
         if rows[1].get(name) != rows[3].get(name):
@@ -270,15 +297,21 @@ class Checked:
             if key in self.theirs.rows and self.is_changed(key, self.theirs):
                 self.want_told(key, 'removed', 'theirs has changed it, ours removed it')
 
-    def see_added_by_theirs(self):
-        wanted, lacking, got = collections.Counter(), [], collections.Counter(self.merged.whole(key) for key in self.merged.rows if key not in self.ours.rows)
+    def lacking(self):
+        """What theirs has added in what ours has removed, or with a tile of a tileset that is."""
+        found = []
         for key in [each for each in self.theirs.rows if each not in self.base.rows]:
-            is_twin = self.is_twin(key)
             lacks = [each for each in self.theirs.above(key) if each in self.base.rows and each not in self.ours.rows]
             tile = self.theirs.rows[key].get('gid')
             if lacks or tile and self.has_no_tileset(json.loads(tile)[0]):
-                lacking.append(key)
-            elif not is_twin:
+                found.append(key)
+        return found
+
+    def see_added_by_theirs(self):
+        wanted, lacking = collections.Counter(), self.lacking()
+        got = collections.Counter(self.merged.whole(key) for key in self.merged.rows if key not in self.ours.rows)
+        for key in [each for each in self.theirs.rows if each not in self.base.rows and each not in lacking]:
+            if not self.is_twin(key):
                 self.take_out_cells(key)
                 wanted[self.theirs.whole(key)] += 1
         # They may have other ids by now.
