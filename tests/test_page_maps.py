@@ -173,7 +173,7 @@ def work_in_town(page):
     left, top = page.js('const box = document.getElementById("palette-size").getBoundingClientRect(); return [box.left, box.top]')
     page.drag_points([[int(left + 60), int(top + 60)], [int(left + 110), int(top + 60)]])
     page.keys('e')
-    page.keys('4')
+    page.keys('4', Keys.SHIFT)
     page.click('#layers li[data-layer="2"] .fold')
     x, y = edge(page, '#left-edge')
     page.drag_points([[x, y], [x + 40, y], [x + 70, y]])

@@ -42,7 +42,7 @@ function tileBox({ palette }, value) {
 // ---- what a part needs
 const tool = (name, words) => ({ words, at: () => byId(`tool-${name}`), isMet: ({ tools }) => tools.name === name });
 const layer = name => ({ words: `Click the layer ${name}.`, at: page => rowOf(page, name), isMet: ({ bench }) => bench.layer?.data.name === name });
-const small = { words: "Set the brush to 1 × 1: the key 1.", at: () => byId("brush-size"), isMet: ({ bench }) => bench.brushSize === 1 };
+const small = { words: "Set the brush to 1 × 1: Shift+1.", at: () => byId("brush-size"), isMet: ({ bench }) => bench.brushSize === 1 };
 const free = { words: "Drop the selection: Ctrl+Shift+A.", at: () => null, isMet: ({ bench }) => !bench.map.selected };
 
 function tile(value, words) {
