@@ -147,7 +147,7 @@ Promise.all([load(one), load(other)]).then(([first, second]) => {
 });'''
 FOCUSED = (
     '#save', '#tool-brush', '#tool-eraser', '#brush-size', '#macro-name', '.tab.on', '.tab .close', '#layers li.now', '#steps li.now',
-    '#panel-layers h2', '#palette', '#view', '#left-edge', '#line', '#turn-log', '#of-map', '#properties input', '#show-tiles',
+    '#panel-layers h2', '#palette', '#view', '#left-edge', '#line', '#turn-log', '#of-map', '#properties input', '#object-search',
 )
 
 

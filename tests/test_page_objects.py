@@ -88,7 +88,6 @@ def test_list():
     """The list has the objects by their layers; the search finds some by name, class or id; a click
     chooses one and shows it."""
     with Bench() as page:
-        page.click('#show-objects')
         assert page.texts('#objects .head .name') == ['Places', 'Things']
         listed = [layer_of(page, name)['objects'] for name in ('Places', 'Things')]
         names = [each['name'] for objects in listed for each in objects]

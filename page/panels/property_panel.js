@@ -73,6 +73,8 @@ export class PropertyPanel {
     for (const kind of OWNERS) byId(`of-${kind}`).classList.toggle("on", kind === this.kind);
     const none = this.kind === "object" ? "No object is chosen: click at one with the tool Objects." : "Nothing is open.";
     putText(byId("owner"), owner?.title ?? none);
+    byId("owner").classList.toggle("none", !owner);
+    byId("owner").title = owner?.title ?? "";
     const shape = this.kind === "object" && owner?.all.length === 1 ? ` · ${wordsOfShape(owner.data)}` : "";
     if (byId("owner").dataset.shape !== shape) byId("owner").dataset.shape = shape;
     this.last.hidden = !owner;
