@@ -58,11 +58,11 @@ export class PropertyPanel {
   owner() {
     const { map, layer } = this.bench;
     if (!map) return null;
-    if (this.kind === "map") return owned("map", map.data, "The map");
-    if (this.kind === "layer") return layer && owned(`layer:${layer.id}`, layer.data, `Layer ${layer.data.name}`);
+    if (this.kind === "map") return owned("map", map.data, "");
+    if (this.kind === "layer") return layer && owned(`layer:${layer.id}`, layer.data, layer.data.name || "(no name)");
     const objects = this.bench.chosenObjects.map(({ object }) => object);
     if (objects.length > 1) return sharedOwner(objects);
-    return objects.length ? owned(`object:${objects[0].id}`, objects[0], `Object ${objects[0].name || objects[0].id}`) : null;
+    return objects.length ? owned(`object:${objects[0].id}`, objects[0], objects[0].name || `Object ${objects[0].id}`) : null;
   }
 
   show() {

@@ -92,7 +92,7 @@ export function showKeys(groups, { isOwn, change, reset }) {
   const tables = element("div", { className: "rows", tabIndex: 0, role: "region", ariaLabel: "All keys" }, columns);
   const close = button("Close", "Esc", () => dialog.close(""), { autofocus: true });
   const back = button("The keys as they were", "Forgets the keys of your own", () => put(reset()));
-  const hint = element("p", { className: "hint", textContent: "A click at a key, and another key behind it, changes that. The browser keeps it." });
+  const hint = element("p", { className: "hint", textContent: "Click at a key, and press another one, to change it. The browser keeps your keys." });
   const form = element("form", { method: "dialog" }, element("h2", { textContent: "Keys" }), hint, tables, element("div", { className: "answers" }, back, close));
   const dialog = element("dialog", { id: "keys" }, form);
   return shown(dialog);
