@@ -1,6 +1,9 @@
 # SPDX-License-Identifier: MIT OR Apache-2.0
 """Looks at what draws the eye on the page in Chromium: one accent for the tool in hand and the current layer, panels
 that share their column by what stands in them, and messages that never cover what was just drawn."""
+import itertools
+import json
+
 from lib.cases import passed
 from page.bench import Bench, choose, draw, take_tile
 from page.browser import Keys
@@ -18,22 +21,48 @@ const accent = getComputedStyle(probe).backgroundColor;
 probe.remove();
 return [...document.querySelectorAll("body *")].filter(each => each.checkVisibility() && getComputedStyle(each).backgroundColor === accent)
   .map(each => `${each.id || each.parentElement.id} ${each.className}`);'''
-# Of each panel of the right column whether it scrolls, and which share of it is empty.
-PANELS = '''
-return [...document.querySelectorAll("#right .panel:not(.folded)")].map(panel => {
-  const list = panel.querySelector("#layers, #property-box, #steps");
-  const inside = list.firstElementChild ? [...list.children].at(-1).getBoundingClientRect().bottom : 0;
-  const empty = Math.max(0, list.getBoundingClientRect().bottom - inside);
-  return [panel.id, list.scrollHeight > list.clientHeight + 1, empty / panel.getBoundingClientRect().height];
+# Of each column which share of it is below its last panel; and of each of its panels whether it scrolls, and which share of it is empty.
+COLUMNS = '''
+return [...document.querySelectorAll("aside")].map(column => {
+  const boxOf = each => each.getBoundingClientRect(), panels = [...column.querySelectorAll(".panel:not(.folded)")];
+  const told = panels.map(panel => {
+    const list = panel.querySelector("#palette-box, #property-box, #layers, #objects, #steps");
+    const inside = list.lastElementChild ? boxOf(list.lastElementChild).bottom : boxOf(list).top;
+    return [panel.id, list.scrollHeight > list.clientHeight + 1, Math.max(0, boxOf(list).bottom - inside) / boxOf(panel).height];
+  });
+  return [column.id, (boxOf(column).bottom - boxOf(panels.at(-1)).bottom) / boxOf(column).height, told];
 });'''
 
 
 def see_panels(page, where):
-    panels = page.js(PANELS)
+    columns = page.js(COLUMNS)
+    panels = [panel for _, _, told in columns for panel in told]
+    assert len(panels) == 5, panels
     is_scrolled = any(scrolls for _, scrolls, _ in panels)
-    empty = [(name, share) for name, scrolls, share in panels if share > MOST_EMPTY and not scrolls]
-    assert not (is_scrolled and empty), (where, panels)
+    empty = [name for name, _, share in panels if share > MOST_EMPTY] + [name for name, share, _ in columns if share > MOST_EMPTY]
+    assert not (is_scrolled and empty), (where, empty, columns)
     passed()
+
+
+# ---- maps with more of something, or without it
+def without_objects(town):
+    town['layers'] = [layer for layer in town['layers'] if layer['type'] != 'objectgroup']
+
+
+def with_objects(town):
+    layer = next(layer for layer in town['layers'] if layer['type'] == 'objectgroup')
+    layer['objects'] = [{**layer['objects'][0], 'id': 1000 + at, 'name': f'Spawn {at}', 'x': 10 * at} for at in range(40)]
+    town['nextobjectid'] = 2000
+
+
+def with_layers(town):
+    tiles = next(layer for layer in town['layers'] if layer['type'] == 'tilelayer')
+    town['layers'] = [{**tiles, 'id': 100 + at, 'name': f'Floor {at}'} for at in range(12)]
+    town['nextlayerid'] = 200
+
+
+def with_properties(town):
+    town['properties'] = [{'name': f'rule{at}', 'type': 'int', 'value': at} for at in range(15)]
 
 
 def test_accent():
@@ -44,7 +73,6 @@ def test_accent():
             with Bench('house.tmj', 'town.tmj') as page:
                 choose(page, 'Ground')
                 draw(page)
-                page.click('#show-objects')
                 page.click('#objects li:nth-child(3)')
                 page.click('#macro')
                 accented = page.js(ACCENTED)
@@ -55,22 +83,53 @@ def test_accent():
 
 
 def test_panels():
-    """No panel scrolls while another one is more than a third empty, with few steps and many, whatever the table is about."""
+    """No panel scrolls while another one, or a column, is more than a third empty: with few steps and many, whatever the table
+    of properties is about, and a stamp of one tile and of several."""
     try:
         for size in SIZES:
             look(size)
             with Bench(has_log=False) as page:
                 see_panels(page, (size, 'at first'))
                 choose(page, 'Ground')
+                page.click('#of-layer')
                 see_panels(page, (size, 'a layer'))
                 for row in range(20, 28):
                     draw(page, row)
                     see_panels(page, (size, row))
-                page.js('roskevad.objects.choose(4)')
-                page.settle()
-                see_panels(page, (size, 'an object'))
+                page.js('roskevad.palette.takeTiles([1, 1], [4, 3])')
+                see_panels(page, (size, 'twelve tiles'))
+                for number in (4, 2, 5):
+                    page.js('roskevad.objects.choose(arguments[0])', number)
+                    page.settle()
+                    see_panels(page, (size, 'the object', number))
             with Bench('layers.tmj', has_log=False) as page:
                 see_panels(page, (size, 'few layers'))
+    finally:
+        look_as_before()
+
+
+def test_panels_of_other_maps():
+    """Nor do they on maps without objects, with 40 of them, with 12 layers, and with 15 properties: of the map, a layer and an
+    object, at first and behind 40 steps."""
+    try:
+        for size, change in itertools.product(SIZES, (without_objects, with_objects, with_layers, with_properties)):
+            look(size)
+            bench = Bench(empty=True, has_log=False)
+            with bench as page:
+                town = json.loads((bench.folder / 'town.tmj').read_text())
+                change(town)
+                (bench.folder / 'other.tmj').write_text(json.dumps(town))
+                page.choose_files(bench.folder / 'other.tmj', *bench.folder.glob('*.ts?'), *bench.folder.glob('*.png'))
+                for steps in (0, 40):
+                    ground = page.js('return roskevad.editor.map.layers.find(layer => layer.isTiles).id')
+                    page.editor.lines(*(f'stamp {ground} {at % 30} 20 1 {1 + at % 23}' for at in range(steps)))
+                    first = page.js('return [...roskevad.editor.map.places.keys()][0] ?? null')
+                    for owner in ('map', 'layer', 'object')[: 2 if first is None else 3]:
+                        if owner == 'object':
+                            page.js('roskevad.objects.choose(arguments[0])', first)
+                            page.settle()
+                        page.click(f'#of-{owner}')
+                        see_panels(page, (size, change.__name__, steps, owner))
     finally:
         look_as_before()
 

@@ -424,17 +424,17 @@ def test_digits():
         page.js('roskevad.bench.takeStamp({width: 2, height: 1, values: arguments[0]})', TILES[:2])
         page.ctrl('2')
         go(page, 'two')
-        page.keys('2', Keys.SHIFT)
+        page.keys('2')
         assert hand(page) == moved(TILES[:2], 36)
         go(page, 'few')
         say_nothing(page)
-        page.keys('2', Keys.SHIFT)
+        page.keys('2')
         assert 'tiles.tsx' in page.bubble() and 'Nothing was taken' in page.bubble(), page.bubble()
         page.answer('Add it')
         assert spelled(page) == ['tileset add 10 tiles.tsx'] and hand(page) == moved(TILES[:2], 9)
         go(page, 'one')
         page.ctrl('c')
-        page.keys('2', Keys.SHIFT)
+        page.keys('2')
         assert hand(page) == TILES[:2]
 
 

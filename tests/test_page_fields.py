@@ -191,7 +191,7 @@ def test_name_class_and_rotation():
         lines = [r'member set object:2 name "The \"Inn\" \\ ü"', 'member set object:2 type "House"', 'member set object:2 rotation 45']
         assert spelled(page) == lines and standing(page) == (3, 3)
         assert object_of(page, 2) == {**inn, 'name': 'The "Inn" \\ ü', 'type': 'House', 'rotation': 45}
-        assert page.texts('#owner') == ['Object The "Inn" \\ ü'] and page.texts('#objects .now .name') == ['The "Inn" \\ ü']
+        assert page.texts('#owner') == ['The "Inn" \\ ü'] and page.texts('#objects .now .name') == ['The "Inn" \\ ü']
         assert page.texts('#steps li .name')[-3:] == [f'Set {what.strip().capitalize()} · The "Inn" \\ ü' for what in names]
         page.reload()
         assert page.editor.state()['count'] == 3 and object_of(page, 2)['rotation'] == 45
@@ -225,7 +225,7 @@ def test_classes():
     with Bench() as page:
         choose(page, 'Ground')
         ground = layer_of(page, 'Ground')
-        assert page.texts('#owner') == ['Layer Ground'] and value_of(page, ' class') == ground.get('class', '')
+        assert page.texts('#owner') == ['Ground'] and value_of(page, ' class') == ground.get('class', '')
         page.type_into('#properties [data-key=" class"]', 'floor')
         page.click('#of-map')
         assert value_of(page, ' class') == ''

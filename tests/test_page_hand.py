@@ -201,26 +201,35 @@ def test_stamp_of_all():
 
 
 def test_kept_stamps():
-    """Ctrl and a digit keep the stamp, Shift and the digit take it again; a digit alone is the side
-    of the brush."""
+    """As in Tiled Ctrl and a digit keep the stamp, and the digit takes it again, whatever letter the keyboard has there;
+    with Shift it is the side of the brush. The list of keys, and what is said, name these keys."""
     with Bench() as page:
         take_tile(page, (3, 1))
         page.ctrl('2')
-        assert '2' in page.bubble()
+        assert 'the key 2 takes it' in page.bubble()
         take_tile(page, (4, 0))
         page.ctrl('9')
         page.keys('e')
-        page.keys('2', Keys.SHIFT)
-        assert page.js('return [roskevad.tools.name, roskevad.bench.stamp.values]') == [
+        page.keys('2')
+        assert page.js('return [roskevad.tools.name, roskevad.bench.stamp.values, roskevad.bench.brushSize]') == [
             'brush',
             [12],
+            1,
         ]
-        page.keys('9', Keys.SHIFT)
+        page.keys('9')
         assert page.js('return roskevad.bench.stamp.values') == [5]
-        page.keys('3', Keys.SHIFT)
-        assert 'Ctrl+3' in page.bubble()
+        page.js('document.body.dispatchEvent(new KeyboardEvent("keydown", {key: "é", code: "Digit2", bubbles: true}))')
+        assert page.js('return roskevad.bench.stamp.values') == [12]
         page.keys('3')
-        assert page.js('return roskevad.bench.brushSize') == 3
+        assert 'Ctrl+3 keeps the one in hand' in page.bubble() and 'Shift+3' in page.bubble()
+        page.keys('3', Keys.SHIFT)
+        assert page.js('return [roskevad.bench.stamp.values, roskevad.bench.brushSize]') == [[12], 3]
+        assert 'Shift+1 to Shift+9' in page.js('return document.getElementById("brush-size").parentElement.title')
+        page.keys(Keys.F1)
+        told = dict(zip(page.texts('#keys th'), page.texts('#keys td')))
+        assert 'Takes the stamp' in told['1 to 9'] and 'Keeps the stamp' in told['Ctrl+1 to Ctrl+9']
+        assert 'side of brush' in told['Shift+1 to Shift+9']
+        page.keys(Keys.ESCAPE)
 
 
 def test_escape():

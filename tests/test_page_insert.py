@@ -334,7 +334,6 @@ def test_keys():
         for shape in [*SHAPES[1:], SHAPES[0]]:
             page.keys('i')
             assert shape_now(page) == shape and page.find(f'#shape-{shape}').get_attribute('aria-pressed') == 'true'
-            assert page.js('return document.getElementById("left").dataset.side') == ('tiles' if shape == 'tile' else 'objects')
         page.keys('i', Keys.SHIFT)
         assert shape_now(page) == 'text'
         page.keys('i')

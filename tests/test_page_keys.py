@@ -62,7 +62,7 @@ def test_list_of_keys():
         told = page.texts('#keys th')
         rows = page.texts('#keys td')
         assert set(texts) <= set(rows), set(texts) - set(rows)
-        assert {'B', 'Ctrl+Z', 'Ctrl+Shift+Z, Ctrl+Y', '1 to 9', 'Ctrl+1 to Ctrl+9', 'F1, ?', 'Esc'} <= set(told), told
+        assert {'B', 'Ctrl+Z', 'Ctrl+Shift+Z, Ctrl+Y', '1 to 9', 'Ctrl+1 to Ctrl+9', 'Shift+1 to Shift+9', 'F1, ?', 'Esc'} <= set(told), told
         digits = {f'{held}{digit}' for held in ('', 'Ctrl+', 'Shift+') for digit in range(1, 10)}
         single = {key for key in bound if 'arrow' not in key} - digits
         names = {'escape': 'Esc', 'delete': 'Del', 'backspace': 'Backspace', 'f1': 'F1'}
@@ -147,7 +147,7 @@ Promise.all([load(one), load(other)]).then(([first, second]) => {
 });'''
 FOCUSED = (
     '#save', '#tool-brush', '#tool-eraser', '#brush-size', '#macro-name', '.tab.on', '.tab .close', '#layers li.now', '#steps li.now',
-    '#panel-layers h2', '#palette', '#view', '#left-edge', '#line', '#turn-log', '#of-map', '#properties input', '#show-tiles',
+    '#panel-layers h2', '#palette', '#view', '#left-edge', '#line', '#turn-log', '#of-map', '#properties input', '#object-search',
 )
 
 

@@ -383,7 +383,7 @@ def test_layer_above_and_below():
         page.ctrl(Keys.PAGE_UP)
         assert now(page) == ids[2]
         page.ctrl(Keys.PAGE_DOWN)
-        assert now(page) == ids[3] and page.texts('#owner') == [f'Layer {layer_named(page, ids[3])}']
+        assert now(page) == ids[3] and page.texts('#owner') == [layer_named(page, ids[3])]
         field_of(page, ' offsetx').click()
         type_keys(page, Keys.PAGE_DOWN)
         assert now(page) == ids[3]

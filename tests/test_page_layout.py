@@ -88,7 +88,6 @@ def work(page):
     page.say('layer show 2 no')
     page.ctrl('z')
     page.say('stamp 1 a')
-    page.click('#show-objects')
     page.click('#objects li:nth-child(3)')
 
 
@@ -353,7 +352,15 @@ def test_bars_over_the_map():
         passed(10)
 
 
-PANELS = ('#left', '#right', '#panel-layers', '#panel-properties', '#panel-steps', '#line-box')
+PANELS = ('#left', '#right', '#panel-tiles', '#panel-properties', '#panel-layers', '#panel-objects', '#panel-steps', '#line-box')
+OF_RIGHT = ('#right', '#panel-layers', '#panel-objects', '#panel-steps')
+OF_LEFT = ('#left', '#panel-tiles', '#panel-properties')
+# The last panel of a column has what is left below it.
+LAST = {'#panel-properties': '#left', '#panel-steps': '#right'}
+
+
+def room(page, css):
+    return [*box(page, css)[:3], box(page, LAST.get(css, css))[3]]
 
 
 def test_edges():
@@ -361,10 +368,11 @@ def test_edges():
     the panel below, which a click still folds, or the bar below the map. All other panels stay as they are."""
     # What is dragged, how far, and how much wider or higher which panel is then.
     drags = {
-        '#left-grip': ((60, 0), {'#left': (60, 0)}),
-        '#right-grip': ((-50, 0), {'#right': (50, 0), '#panel-layers': (50, 0), '#panel-properties': (50, 0), '#panel-steps': (50, 0)}),
-        '#panel-properties h2': ((0, -40), {'#panel-layers': (0, -40), '#panel-properties': (0, 40)}),
-        '#panel-steps h2': ((0, -60), {'#panel-properties': (0, -60), '#panel-steps': (0, 60)}),
+        '#left-grip': ((60, 0), {each: (60, 0) for each in OF_LEFT}),
+        '#right-grip': ((-50, 0), {each: (50, 0) for each in OF_RIGHT}),
+        '#panel-properties h2': ((0, -40), {'#panel-tiles': (0, -40), '#panel-properties': (0, 40)}),
+        '#panel-objects h2': ((0, -40), {'#panel-layers': (0, -40), '#panel-objects': (0, 40)}),
+        '#panel-steps h2': ((0, -60), {'#panel-objects': (0, -60), '#panel-steps': (0, 60)}),
         '#standing': ((0, -50), {'#line-box': (0, 50)}),
     }
     with Bench() as page:
@@ -373,9 +381,9 @@ def test_edges():
             x, y = int(edges[0] + edges[2]) // 2, int(edges[1] + edges[3]) // 2
             left, top, *corner = edges if css != '#standing' else box(page, 'footer')
             assert corner[0] - left >= LEAST_TARGET and corner[1] - top >= LEAST_TARGET, css
-            before = {each: box(page, each) for each in PANELS}
+            before = {each: room(page, each) for each in PANELS}
             page.drag_points([(x, y), (x + right // 2, y + down // 2), (x + right, y + down)])
-            for each, (one, other) in ((each, (before[each], box(page, each))) for each in PANELS):
+            for each, (one, other) in ((each, (before[each], room(page, each))) for each in PANELS):
                 more = (other[2] - other[0] - one[2] + one[0], other[3] - other[1] - one[3] + one[1])
                 most = wanted.get(each, (0, more[1]) if each == '#line-box' else (0, 0))
                 if each != '#line-box' or css == '#standing':

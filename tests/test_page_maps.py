@@ -126,7 +126,7 @@ const {view, bench, tools, palette, layers} = roskevad;
 const panels = ["left", "right", "line-box"].map(id => document.getElementById(id).style.cssText);
 return {view: [view.scale, view.originX, view.originY], layer: bench.layerId, tool: tools.name, brush: bench.brushSize,
         stamp: bench.stamp, tileset: document.getElementById("tilesets").value, side: palette.side, folded: [...layers.folded], panels,
-        left: roskevad.objects.side, heads: [...document.querySelectorAll(".panel.folded")].map(panel => panel.id)};'''
+        heads: [...document.querySelectorAll(".panel.folded")].map(panel => panel.id)};'''
 
 
 def test_files_that_are_no_maps():
@@ -173,7 +173,7 @@ def work_in_town(page):
     left, top = page.js('const box = document.getElementById("palette-size").getBoundingClientRect(); return [box.left, box.top]')
     page.drag_points([[int(left + 60), int(top + 60)], [int(left + 110), int(top + 60)]])
     page.keys('e')
-    page.keys('4')
+    page.keys('4', Keys.SHIFT)
     page.click('#layers li[data-layer="2"] .fold')
     x, y = edge(page, '#left-edge')
     page.drag_points([[x, y], [x + 40, y], [x + 70, y]])
@@ -193,7 +193,7 @@ def test_what_a_map_keeps():
         work_in_town(page)
         town = page.js(STANDS)
         unlike = {name for name in town if town[name] != fresh[name]}
-        assert unlike == set(town) - {'tileset', 'left'}, unlike
+        assert unlike == set(town) - {'tileset'}, unlike
         assert len(town['stamp']['values']) == 2 and town['tool'] == 'eraser' and town['brush'] == 4
         page.click('.tab[data-document="two_tilesets"]')
         other = page.js(STANDS)
@@ -202,9 +202,8 @@ def test_what_a_map_keeps():
         tileset = str(page.editor.map()['tilesets'][1]['firstgid'])
         Select(page.find('#tilesets')).select_by_value(tileset)
         take_tile(page, (2, 1))
-        page.click('#show-objects')
         other = page.js(STANDS)
-        assert other['tileset'] == tileset and other['left'] == 'objects'
+        assert other['tileset'] == tileset
         page.click('.tab[data-document="town"]')
         assert page.js(STANDS) == town
         page.click('.tab[data-document="two_tilesets"]')

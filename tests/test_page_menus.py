@@ -15,7 +15,7 @@ const buttons = [...document.querySelectorAll(bars.map(id => `#${id} button`).jo
 return buttons.filter(each => each.id !== "menu-button").map(each => each.ariaLabel || each.textContent);'''
 # In which of the panels the focus is, in the order of F6.
 WHERE = '''
-const panels = ["#file-actions", "#tools", "#tabs", "#left", "#view", "#panel-layers", "#panel-properties", "#panel-steps", "#line-box"];
+const panels = ["#file-actions", "#tools", "#tabs", "#panel-tiles", "#panel-properties", "#view", "#panel-layers", "#panel-objects", "#panel-steps", "#line-box"];
 return panels.findIndex(css => document.activeElement.closest(css));'''
 
 
@@ -87,7 +87,6 @@ def test_on_objects_and_tiles():
         right_click(page, f'#objects li[data-object="{INN}"]')
         pick(page, 'Hide')
         assert object_of(page, INN)['visible'] is False
-        page.click('#show-tiles')
         right_click(page, '#palette')
         pick(page, 'Insert the tile as an object')
         assert page.js('return [roskevad.tools.name, roskevad.tools.all.insert.shape]') == ['insert', 'tile']
@@ -107,12 +106,12 @@ def test_panels_by_f6():
     with Bench() as page:
         page.js('document.activeElement.blur()')
         seen = []
-        for _ in range(10):
+        for _ in range(11):
             ActionChains(page.driver).send_keys(Keys.F6).perform()
             seen.append(page.js(WHERE))
-        assert seen == [0, 1, 2, 3, 4, 5, 6, 7, 8, 0], seen
+        assert seen == [*range(10), 0], seen
         ActionChains(page.driver).key_down(Keys.SHIFT).send_keys(Keys.F6).key_up(Keys.SHIFT).perform()
-        assert page.js(WHERE) == 8
+        assert page.js(WHERE) == 9
 
 
 def test_own_keys():

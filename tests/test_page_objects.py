@@ -68,13 +68,13 @@ def test_what_a_click_chooses():
         assert layer_of(page, 'Places')['objects'][3]['id'] == LAKE
         choose(page, 'Ground')
         click_at(page, key['x'] + 8, key['y'] - 8)
-        assert chosen(page) == KEY and page.texts('#owner') == ['Object key']
+        assert chosen(page) == KEY and page.texts('#owner') == ['key']
         assert page.find('#of-object').get_attribute('class') == 'on'
         assert page.texts('#objects .now .name') == ['key']
         choose(page, 'Places')
-        assert page.texts('#owner') == ['Layer Places'], 'the panel follows a layer, too'
+        assert page.texts('#owner') == ['Places'], 'the panel follows a layer, too'
         click_at(page, key['x'] + 8, key['y'] - 8)
-        assert chosen(page) == LAKE and page.texts('#owner') == ['Object Lake']
+        assert chosen(page) == LAKE and page.texts('#owner') == ['Lake']
         click_at(page, lake['x'] + 2, lake['y'] + 2)
         assert chosen(page) is None, 'the corner of the frame of an ellipse is none of it'
         walk = object_of(page, WALK)
@@ -88,7 +88,6 @@ def test_list():
     """The list has the objects by their layers; the search finds some by name, class or id; a click
     chooses one and shows it."""
     with Bench() as page:
-        page.click('#show-objects')
         assert page.texts('#objects .head .name') == ['Places', 'Things']
         listed = [layer_of(page, name)['objects'] for name in ('Places', 'Things')]
         names = [each['name'] for objects in listed for each in objects]
@@ -97,7 +96,7 @@ def test_list():
         assert page.texts('#objects li:not(.head) .name') == ['Inn', 'Smithy']
         page.find('#object-search').send_keys(' 3', Keys.ENTER)
         page.settle()
-        assert chosen(page) == 3 and page.texts('#owner') == ['Object Smithy']
+        assert chosen(page) == 3 and page.texts('#owner') == ['Smithy']
         page.find('#object-search').send_keys(Keys.ESCAPE)
         for _ in range(4):
             page.click('#zoom-in')
@@ -152,7 +151,7 @@ def test_rename():
         page.drag_points([middle_of(page, INN)])
         page.double_click(lambda: page.find('#objects li.now'), lambda: page.texts('dialog[open]'))
         type_keys(page, 'Old inn', Keys.ENTER)
-        assert spelled(page) == [f'member set object:{INN} name "Old inn"'] and page.texts('#owner') == ['Object Old inn']
+        assert spelled(page) == [f'member set object:{INN} name "Old inn"'] and page.texts('#owner') == ['Old inn']
         assert page.texts('#objects .now .name') == ['Old inn'] and object_of(page, INN)['name'] == 'Old inn'
 
 

@@ -138,13 +138,13 @@ def test_still_hand():
         page.hold_cells([(5, 2)], is_pressed=False)
         around = [(4, 2), (6, 2), (5, 1), (5, 3)]
         before = seen_in(page, around)
-        page.keys('3')
+        page.keys('3', Keys.SHIFT)
         assert all(one != other for one, other in zip(sum(seen_in(page, around), []), sum(before, [])))
-        page.keys('1')
+        page.keys('1', Keys.SHIFT)
         assert seen_in(page, around) == before
         take(page, SAND, WALL, width=2)
         assert seen_in(page, [(4, 2)]) != seen_in(page, [(3, 2)])
-        page.keys('2')
+        page.keys('2', Keys.SHIFT)
         assert 'The stamp of 2 × 1 is drawn as it is' in page.bubble()
         page.editor.lines('select replace 0 5 12 1')
         page.ctrl('c')

@@ -193,7 +193,7 @@ def test_fields():
         page.click('#properties tr[data-property="colour"] button')
         assert not any(each['name'] == 'colour' for number in ids for each in object_of(page, number)['properties'])
         page.drag_points([middle_of(page, ids[0])])
-        assert page.texts('#owner') == ['Object crate 0'] and field(page, ' name').get_attribute('value') == 'crate 0'
+        assert page.texts('#owner') == ['crate 0'] and field(page, ' name').get_attribute('value') == 'crate 0'
 
 
 def test_chosen_last():

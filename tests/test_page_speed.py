@@ -203,7 +203,33 @@ def draw_alone(page):
     for _ in range(LONE):
         page.js(TAKE)
         page.drag([(x, 4 + x % 3) for x in range(2, 14)])
-        page.wait(lambda: page.js('const {steps} = roskevad; return !steps.isLate && performance.now() > steps.shownAt + steps.time'), 'the list is shown')
+        wait_for_list(page)
+    return LONE
+
+
+def wait_for_list(page):
+    page.wait(lambda: page.js('const {steps} = roskevad; return !steps.isLate && performance.now() > steps.shownAt + steps.time'), 'the list is shown')
+
+
+# A stroke of five cells in one task, and of another tile.
+AT_ONCE = TAKE + ''';
+const {view} = roskevad;
+view.box.setPointerCapture = () => {};
+const tell = (kind, x) => {
+  const [clientX, clientY] = view.middleOf(x, 4);
+  view.box.dispatchEvent(new PointerEvent(kind, {clientX, clientY, button: 0, pointerId: 7, bubbles: true}));
+};
+tell("pointerdown", 2);
+for (const x of [3, 4, 5]) tell("pointermove", x);
+tell("pointerup", 6);'''
+
+
+def draw_at_once(page):
+    """Strokes that are done at once, each of which begins once the list waits for none."""
+    for _ in range(LONE):
+        page.js(AT_ONCE)
+        page.settle()
+        wait_for_list(page)
     return LONE
 
 
@@ -234,8 +260,8 @@ def see_strokes(page, draw):
 
 
 def test_many_steps():
-    """With 450 steps a stroke takes little longer than where their list is folded, a lone one and quick ones: of its rows a
-    few change, and quick strokes share a change of the list. What is out of sight is not drawn."""
+    """With 450 steps a stroke takes little longer than where their list is folded, a lone one, one that is done at once and
+    quick ones: of its rows a few change, and quick strokes share a change of the list. What is out of sight is not drawn."""
     with Bench(has_log=False) as page:
         page.driver.execute_cdp_cmd('Performance.enable', {})
         page.driver.set_script_timeout(120)
@@ -244,7 +270,7 @@ def test_many_steps():
         page.editor.lines(*(f'stamp {ground} {at % 30} {20 + at % 8} 1 {1 + at % 23}' for at in range(STEPS)))
         page.settle()
         assert standing(page)[1] > STEPS - 20 and len(page.texts('#steps li')) > 100
-        for draw in (draw_quickly, draw_alone):
+        for draw in (draw_quickly, draw_alone, draw_at_once):
             see_strokes(page, draw)
         # The last stroke is listed a moment later.
         page.settle()

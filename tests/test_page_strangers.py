@@ -188,7 +188,6 @@ def test_long_texts():
     with Bench(empty=True) as page:
         words = shown(page, strangers.map_of_thing(text={'text': 'word ' * 400_000, 'wrap': True}, name='n' * 1_000_000))
         assert 'the rest of texts of more than 4,096 letters' in words, words
-        page.click('#show-objects')
         name = page.texts('#objects [data-object="1"] .name')[0]
         assert 200 <= len(name) < 300 and name.endswith('…'), len(name)
         # All texts together have a bound, too.

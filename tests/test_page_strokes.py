@@ -80,7 +80,7 @@ def test_eraser_and_sizes():
     """The eraser, and the sides 3 and 9 of brush and eraser, over the edge of the map too."""
     with Bench() as page:
         ground = choose(page, 'Ground')
-        page.keys('3')
+        page.keys('3', Keys.SHIFT)
         page.keys('e')
         page.drag([(10, 10), (12, 10)])
         assert spelled(page) == [
@@ -91,7 +91,7 @@ def test_eraser_and_sizes():
         assert all(
             cell(page, ground, x, y) == 0 for x in range(9, 14) for y in range(9, 12)
         ) and standing(page) == (1, 1)
-        page.keys('9')
+        page.keys('9', Keys.SHIFT)
         page.keys('b')
         take_tile(page, (2, 0))
         page.drag([(1, 1)])
@@ -125,7 +125,7 @@ def test_fill_and_selection():
         }
         assert selected == inside
         take_tile(page, (4, 0))
-        page.keys('9')
+        page.keys('9', Keys.SHIFT)
         page.keys('b')
         page.drag([(5, 4)])
         assert cells_with(page, 'Ground', 5) >= {each for each in inside if each[0] < 10}

@@ -95,7 +95,7 @@ def test_on_the_map():
             page.drag_points([list(each) for each in points_at(page, [place])])
             assert page.js('return roskevad.bench.objectIds') == [number], number
             passed()
-        assert page.texts('#owner') == ['Object chest'] and 'chest' in ' '.join(page.texts('#objects .name'))
+        assert page.texts('#owner') == ['chest'] and 'chest' in ' '.join(page.texts('#objects .name'))
         first = next(each['firstgid'] for each in page.editor.map()['tilesets'] if each['source'] == 'tiles.tsx')
         assert page.js('return roskevad.editor.map.object(arguments[0]).object.gid', SECOND) == first + 8
         assert standing(page) == (0, 0)

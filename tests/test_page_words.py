@@ -135,7 +135,7 @@ def test_name_of_a_macro():
         for name in ('', 'x' * 201, 'a || '):
             page.js('document.querySelector("#macro-name").value = arguments[0]', name)
             page.click('#macro')
-            assert told(page).startswith('The name of a macro is wanted') and not MACHINE.search(told(page)), told(page)
+            assert told(page).startswith('Give the macro a name') and not MACHINE.search(told(page)), told(page)
             assert page.editor.state()['depth'] == 0 and page.editor.state()['count'] == 0
             passed()
 

@@ -50,7 +50,7 @@ export class Documents {
     allow(byId("save-as"), "Save as: the map into another file (Ctrl+Shift+S)", why);
     allow(byId("resize"), "Resize: another size of the map", why);
     putText(byId("save-hint"), this.editor.place.isDownload ? "saves are downloads" : "");
-    byId("save-hint").title = "The browser does not tell whether a download is kept. So a map stays in the journal of this page until it is closed.";
+    byId("save-hint").title = "The browser does not tell whether a download is kept. So the page keeps a map, too, until it is closed.";
     putText(byId("folder"), this.editor.place.title);
     byId("folder").title = `Where the maps are: ${this.editor.place.title}`;
   }

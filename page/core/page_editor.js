@@ -115,7 +115,7 @@ export class PageEditor extends EventTarget {
   // Why no edit is taken now; "" where edits are.
   get barred() {
     if (this.isBroken) return "The editor has ended: load the page anew.";
-    if (this.isAside) return "The journal of this window begins anew: a moment.";
+    if (this.isAside) return "The page begins anew from its maps: a moment.";
     return this.journal.isFull ? "The journal is full: see the message." : "";
   }
 

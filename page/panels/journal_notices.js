@@ -76,7 +76,7 @@ export class JournalNotices {
     try {
       return await this.editor.during(work());
     } catch (fault) {
-      this.bench.say(`The journal did not begin anew: ${thrownWords(fault)}.`);
+      this.bench.say(`It did not begin anew: ${thrownWords(fault)}.`);
       return false;
     } finally {
       this.isBeginning = false;
@@ -92,7 +92,7 @@ export class JournalNotices {
   sayFull() {
     if (this.isBeginning || hasNotice("full")) return;
     const bound = Math.round(this.journal.bound / MEBIBYTE);
-    notice("full", `The journal of this window is full (${bound} MiB). Save the maps and begin it anew: their steps end there.`, [
+    notice("full", `The browser has no more room for the steps of this window (${bound} MiB). Save the maps and begin anew: their steps end there.`, [
       ["Save and begin anew", () => this.beginning(() => this.beginAnew())],
       ["Go on without it", () => this.journal.giveUp(), "What is not saved is lost with this window"],
     ]);
@@ -124,7 +124,7 @@ export class JournalNotices {
 
   // ---- the editor, and maps that cannot be shown
   sayEnded() {
-    notice("editor", "The editor was broken off by a fault in it. What was done is in the journal.", [["Load anew", () => location.reload()]]);
+    notice("editor", "The page has stopped, by a fault of its own. What was done is kept.", [["Load anew", () => location.reload()]]);
   }
 
   sayUnopened({ path, why }) {

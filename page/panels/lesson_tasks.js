@@ -29,9 +29,11 @@ function boxOf({ view }, [x, y, width, height]) {
   return { left: first[0] - across, right: last[0] + across, top: first[1] - down, bottom: last[1] + down };
 }
 
-// Where a tile is in the palette.
+// Where a tile is in the palette, or the head of that where it is folded.
 function tileBox({ palette }, value) {
   if (!palette.tileset) return null;
+  const panel = byId("panel-tiles");
+  if (panel.matches(".folded")) return panel.querySelector("h2");
   const tile = value - palette.tileset.first;
   const frame = byId("palette-size").getBoundingClientRect();
   const [x, y] = palette.spotOf(tile);
@@ -42,12 +44,12 @@ function tileBox({ palette }, value) {
 // ---- what a part needs
 const tool = (name, words) => ({ words, at: () => byId(`tool-${name}`), isMet: ({ tools }) => tools.name === name });
 const layer = name => ({ words: `Click the layer ${name}.`, at: page => rowOf(page, name), isMet: ({ bench }) => bench.layer?.data.name === name });
-const small = { words: "Set the brush to 1 × 1: the key 1.", at: () => byId("brush-size"), isMet: ({ bench }) => bench.brushSize === 1 };
+const small = { words: "Set the brush to 1 × 1: Shift+1.", at: () => byId("brush-size"), isMet: ({ bench }) => bench.brushSize === 1 };
 const free = { words: "Drop the selection: Ctrl+Shift+A.", at: () => null, isMet: ({ bench }) => !bench.map.selected };
 
 function tile(value, words) {
   const isMet = ({ bench }) => bench.stamp.values.length === 1 && bench.stamp.values[0] === value;
-  return { words, at: page => (byId("left").dataset.side === "objects" ? byId("show-tiles") : tileBox(page, value)), isMet };
+  return { words, at: page => tileBox(page, value), isMet };
 }
 
 const brush = tool("brush", "Take the brush: the key B.");

@@ -10,3 +10,14 @@ export function putRows(list, rows) {
     else list.insertBefore(row, next);
   }
 }
+
+// How many rows a panel has room for at most, where the column has: they fill the highest window.
+const MOST_IN_SIGHT = 100;
+
+// Has the box of a list, as style.css has it, as much room as so many rows take, where the column has it. All below the box takes part in what
+// is set, so it is set where it is another one.
+export function roomFor(list, count) {
+  const rows = String(Math.min(count, MOST_IN_SIGHT));
+  const { style } = list.closest(".list-box");
+  if (style.getPropertyValue("--rows") !== rows) style.setProperty("--rows", rows);
+}

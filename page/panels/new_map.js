@@ -63,7 +63,7 @@ export class NewMap {
       { label: "Size", presets: SIZES.map(([text, width, height]) => [text, { width, height }]) },
       { name: "width", label: "Columns", value: 40, kind: KINDS.cells },
       { name: "height", label: "Rows", value: 30, kind: KINDS.cells },
-      { label: "Tiles", presets: SIDES.map(side => [`${side} × ${side}`, { side, tall: side }]) },
+      { label: "Tile size", presets: SIDES.map(side => [`${side} × ${side}`, { side, tall: side }]) },
       { name: "side", label: "Width of a tile in pixels", value: 16, kind: KINDS.side },
       { name: "tall", label: "Height of a tile in pixels", value: 16, kind: KINDS.side },
       choiceField("orientation", "Orientation", ORIENTATIONS),

@@ -1,16 +1,15 @@
 // SPDX-License-Identifier: MIT OR Apache-2.0
-// The objects of the map in a list, by their layers, with a search. It stands in the place of the tiles while a tool for objects is in hand.
+// The objects of the map in a list, by their layers, with a search.
 import { KINDS } from "../core/kinds.js";
 import { ask, byId, element } from "./dom.js";
 import { ObjectDrag } from "./object_drag.js";
+import { roomFor } from "./list_rows.js";
 import { memberLine } from "../core/member_lines.js";
 import { middleOf } from "../view/object_shapes.js";
 import { whyNotNamed } from "../core/unsupported_edits.js";
 
 // How many rows the list has at most: others are found by the search.
 const MOST_ROWS = 1000;
-// Which side is shown with a tool; with any other one the side stays.
-const SIDES = { objects: "objects", insert: "objects", brush: "tiles", eraser: "tiles", fill: "tiles", rectangle: "tiles" };
 
 const countOf = number => number.toLocaleString("en-US");
 
@@ -23,11 +22,8 @@ function placeOfMiddle(object) {
 export class ObjectList {
   constructor(bench, tools) {
     Object.assign(this, { bench, tools, said: "" });
-    this.search = element("input", { type: "search", id: "object-search", placeholder: "name, class or id", autocomplete: "off" });
-    this.list = element("ul", { id: "objects" });
-    byId("left").append(element("div", { id: "object-list" }, this.search, this.list));
-    byId("show-tiles").onclick = () => this.turnTo("tiles");
-    byId("show-objects").onclick = () => this.turnTo("objects");
+    this.search = byId("object-search");
+    this.list = byId("objects");
     this.search.oninput = () => this.show();
     this.search.onkeydown = event => this.key(event);
     this.list.onclick = event => this.click(event);
@@ -35,19 +31,6 @@ export class ObjectList {
     this.list.ondblclick = event => this.rename(event.target.closest("[data-object]"));
     bench.addEventListener("chosen", () => this.show());
     bench.addEventListener("object chosen", () => this.list.querySelector(".now")?.scrollIntoView({ block: "nearest" }));
-    bench.addEventListener("tool", () => this.turnTo(this.sideFor(tools)));
-    this.turnTo("tiles");
-  }
-
-  // A tile for a new object is taken from the tiles.
-  sideFor({ name, all }) {
-    return name === "insert" && all.insert.shape === "tile" ? "tiles" : SIDES[name];
-  }
-
-  turnTo(side = this.side) {
-    this.side = side;
-    byId("left").dataset.side = side;
-    for (const each of ["tiles", "objects"]) byId(`show-${each}`).classList.toggle("on", each === side);
     this.show();
   }
 
@@ -64,14 +47,19 @@ export class ObjectList {
   }
 
   show() {
-    if (this.side !== "objects") return;
     const found = this.found();
     const left = found.reduce((sum, [, objects]) => sum + 1 + objects.length, 0) - MOST_ROWS;
     const rows = this.rowsOf(found);
-    const said = JSON.stringify([left, rows]);
-    if (said !== this.said) this.list.replaceChildren(...this.made(rows, left));
+    const said = JSON.stringify([Boolean(this.bench.map), left, rows]);
+    if (said !== this.said) this.put(this.made(rows, left));
     this.said = said;
     for (const row of this.list.children) row.classList.toggle("now", this.bench.objectIds.includes(Number(row.dataset.object)));
+  }
+
+  put(rows) {
+    this.list.replaceChildren(...rows);
+    this.search.hidden = !this.list.querySelector("[data-object]") && !this.search.value;
+    roomFor(this.list, rows.length);
   }
 
   // Shows objects that have changed. As a rule their rows say of each what they said before.
@@ -108,7 +96,7 @@ export class ObjectList {
     const shown = rows.map(row => this.row(row));
     if (left > 0) shown.push(element("li", { className: "more", textContent: `and ${countOf(left)} more: search for them` }));
     const none = this.search.value ? "No object is found." : "The map has no object layer.";
-    if (!rows.length) shown.push(element("li", { className: "more", textContent: none }));
+    if (!rows.length && this.bench.map) shown.push(element("li", { className: "more", textContent: none }));
     return shown;
   }
 

@@ -108,7 +108,7 @@ export class ObjectRows {
     const text = mixed.has("gid") ? MIXED : wordsOf(data.gid, this.bench.tilesets);
     return this.panel.kept(` ${word} tile ${text}`, [], () => {
       const words = element("span", { textContent: text });
-      const take = button("Take the tile in hand", "Give it the tile of the palette that is in hand, with its flips", () => this.takeTile(), { id: "take-tile" });
+      const take = button("From hand", "Give it the tile of the palette that is in hand, with its flips", () => this.takeTile(), { id: "take-tile" });
       return { element: rowOf("tile", "", "", element("td", { colSpan: 2 }, element("div", { className: "value" }, words, take))), fields: [] };
     });
   }

@@ -16,7 +16,7 @@ const GAP = 1;
 // The frame of a chosen tile: a light line between two dark ones, of which one is seen on any tile.
 const FRAME = { light: "#ffd34d", dark: "#10131a" };
 // The side of the picture of the stamp, in pixels of the page.
-const STAMP = 64;
+const STAMP = 56;
 
 const wordsOfUses = count => (count ? `used ${count === 1 ? "once" : `${count.toLocaleString("en-US")} times`}` : "not used");
 

@@ -1,10 +1,11 @@
 // SPDX-License-Identifier: MIT OR Apache-2.0
 // F6 goes from panel to panel, as in the programs of a desktop: to what in it Tab would reach first.
 const PLACES = [
-  ["#menu-button"], ["#tools .on", "#tools button"], ["#tabs .tab[tabindex]"], ["#palette", "#objects li[tabindex]", "#object-search"], ["#view"],
-  ["#layers li[tabindex]", "#panel-layers h2"], ["#properties input", "#properties textarea", "#panel-properties h2"], ["#steps li[tabindex]", "#panel-steps h2"], ["#line"],
+  ["#menu-button"], ["#tools .on", "#tools button"], ["#tabs .tab[tabindex]"],
+  ["#palette", "#panel-tiles h2"], ["#properties input", "#properties textarea", "#panel-properties h2"], ["#view"],
+  ["#layers li[tabindex]", "#panel-layers h2"], ["#objects li[tabindex]", "#panel-objects h2"], ["#steps li[tabindex]", "#panel-steps h2"], ["#line"],
 ];
-const PANELS = ["#file-actions", "#tools", "#tabs", "#left", "#view", "#panel-layers", "#panel-properties", "#panel-steps", "#line-box"];
+const PANELS = ["#file-actions", "#tools", "#tabs", "#panel-tiles", "#panel-properties", "#view", "#panel-layers", "#panel-objects", "#panel-steps", "#line-box"];
 
 const isSeen = at => at.checkVisibility({ visibilityProperty: true }) && at.getClientRects().length > 0 && !at.disabled;
 

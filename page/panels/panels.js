@@ -42,9 +42,9 @@ export class Panels {
   // `onChange` is called where something is another size, or folded.
   constructor(onChange) {
     this.onChange = onChange;
-    this.parts = this.wrapped(byId("right"));
-    byId("left").after(this.edge("left-edge", "Drag: the width of the tiles", event => this.widen("left", event.clientX)));
-    byId("right").before(this.edge("right-edge", "Drag: the width of the layers", event => this.widen("right", innerWidth - event.clientX)));
+    this.columns = [byId("left"), byId("right")].map(column => ({ column, parts: this.wrapped(column) }));
+    byId("left").after(this.edge("left-edge", "Drag: the width of the panels on the left", event => this.widen("left", event.clientX)));
+    byId("right").before(this.edge("right-edge", "Drag: the width of the panels on the right", event => this.widen("right", innerWidth - event.clientX)));
     const footer = document.querySelector("footer");
     footer.prepend(this.grip("left-grip", "left", byId("left-edge"), aside => this.widen("left", aside)));
     footer.append(this.grip("right-grip", "right", byId("right-edge"), aside => this.widen("right", innerWidth - aside)));
@@ -56,10 +56,12 @@ export class Panels {
       this.onChange();
     };
     this.showLog(false);
-    for (const [at, part] of this.parts.slice(1).entries()) {
-      part.before(this.edge(`edge-${at}`, "Drag: the heights", event => this.share(at, event.clientY), true));
-      this.bindHead(part.querySelector("h2"), at);
-    }
+    for (const each of this.columns) for (const part of each.parts.slice(1)) this.bindHead(each, part);
+  }
+
+  // The panels of both columns.
+  get parts() {
+    return this.columns.flatMap(({ parts }) => parts);
   }
 
   // Makes a panel of each head of a column and of what is below it.
@@ -123,13 +125,16 @@ export class Panels {
   }
 
   // The head of a panel drags the edge above it; a press that does not move is a click.
-  bindHead(head, at) {
+  bindHead(each, part) {
+    const edge = this.edge(`${part.id}-edge`, "Drag: the heights", event => this.share(each, part, event.clientY), true);
+    part.before(edge);
+    const head = part.querySelector("h2");
     this.bindDrag(head, event => {
-      const [from, down] = [event.clientY, byId(`edge-${at}`).getBoundingClientRect().top - event.clientY];
+      const [from, down] = [event.clientY, edge.getBoundingClientRect().top - event.clientY];
       this.isDragged = false;
       return ({ clientY }) => {
         this.isDragged ||= Math.abs(clientY - from) >= SHORTEST_DRAG;
-        if (this.isDragged) this.share(at, clientY + down);
+        if (this.isDragged) this.share(each, part, clientY + down);
       };
     });
     head.title = "Fold or unfold; a drag moves the edge above";
@@ -163,22 +168,25 @@ export class Panels {
     box.style.height = `${Math.round(Math.max(LEAST_HEIGHT, Math.min(innerHeight * MOST, bottom - top)))}px`;
   }
 
-  // The heights of two panels beside an edge; of all panels their shares are their heights, so that the others stay.
-  share(at, y) {
-    const [upper, lower] = [this.parts[at], this.parts[at + 1]];
+  // The heights of two panels beside an edge; of all panels of a column their shares are their heights, so that the others stay. The last one
+  // has all that is left below it from then on.
+  share({ column, parts }, lower, y) {
+    const upper = parts[parts.indexOf(lower) - 1];
     if ([upper, lower].some(part => part.classList.contains("folded"))) return;
-    const heights = this.parts.map(part => part.getBoundingClientRect().height);
-    this.parts.forEach((part, place) => (part.style.flexGrow = heights[place]));
-    byId("right").classList.add("shared");
+    const heights = parts.map(part => part.getBoundingClientRect().height);
+    parts.forEach((part, place) => (part.style.flexGrow = heights[place]));
+    const last = parts.at(-1);
+    last.style.flexGrow = column.getBoundingClientRect().bottom - last.getBoundingClientRect().top;
+    column.classList.add("shared");
     const [top, bottom] = [upper.getBoundingClientRect().top, lower.getBoundingClientRect().bottom];
     const edge = Math.max(top + LEAST_HEIGHT, Math.min(bottom - LEAST_HEIGHT, y));
     upper.style.flexGrow = Math.round(edge - top);
-    lower.style.flexGrow = Math.round(bottom - edge - byId(`edge-${at}`).offsetHeight);
+    lower.style.flexGrow = Math.round(bottom - edge - byId(`${lower.id}-edge`).offsetHeight);
   }
 
   // ---- what is kept
   state() {
-    const shares = this.parts.map(part => part.style.flexGrow || null);
+    const shares = Object.fromEntries(this.parts.map(part => [part.id, part.style.flexGrow]));
     const folded = this.parts.filter(part => part.classList.contains("folded")).map(part => part.id);
     return { left: byId("left").style.width, right: byId("right").style.width, lines: byId("line-box").style.height, shares, folded, log: !byId("line-box").hidden };
   }
@@ -188,10 +196,10 @@ export class Panels {
     byId("left").style.width = left;
     byId("right").style.width = right;
     byId("line-box").style.height = lines;
-    byId("right").classList.toggle("shared", shares.some(share => share));
-    this.parts.forEach((part, at) => {
-      part.style.flexGrow = shares[at] ?? "";
+    for (const { column, parts } of this.columns) column.classList.toggle("shared", parts.some(({ id }) => shares[id]));
+    for (const part of this.parts) {
+      part.style.flexGrow = shares[part.id] ?? "";
       part.classList.toggle("folded", folded.includes(part.id));
-    });
+    }
   }
 }

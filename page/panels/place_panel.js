@@ -92,7 +92,7 @@ export class PlacePanel {
   // The documents are of files of another source: here they have none.
   part(source) {
     this.editor.part();
-    notice(SOURCE, `These documents are of ${wordsOf(source)}. They have no files here: a save asks where.`, [["OK", () => {}]], "mild");
+    notice(SOURCE, `These maps are of ${wordsOf(source)}. They have no files here: a save asks where.`, [["OK", () => {}]], "mild");
   }
 
   // Files of the user's choice: those that are maps are opened.

@@ -58,11 +58,11 @@ export class PropertyPanel {
   owner() {
     const { map, layer } = this.bench;
     if (!map) return null;
-    if (this.kind === "map") return owned("map", map.data, "The map");
-    if (this.kind === "layer") return layer && owned(`layer:${layer.id}`, layer.data, `Layer ${layer.data.name}`);
+    if (this.kind === "map") return owned("map", map.data, "");
+    if (this.kind === "layer") return layer && owned(`layer:${layer.id}`, layer.data, layer.data.name || "(no name)");
     const objects = this.bench.chosenObjects.map(({ object }) => object);
     if (objects.length > 1) return sharedOwner(objects);
-    return objects.length ? owned(`object:${objects[0].id}`, objects[0], `Object ${objects[0].name || objects[0].id}`) : null;
+    return objects.length ? owned(`object:${objects[0].id}`, objects[0], objects[0].name || `Object ${objects[0].id}`) : null;
   }
 
   show() {
@@ -73,6 +73,8 @@ export class PropertyPanel {
     for (const kind of OWNERS) byId(`of-${kind}`).classList.toggle("on", kind === this.kind);
     const none = this.kind === "object" ? "No object is chosen: click at one with the tool Objects." : "Nothing is open.";
     putText(byId("owner"), owner?.title ?? none);
+    byId("owner").classList.toggle("none", !owner);
+    byId("owner").title = owner?.title ?? "";
     const shape = this.kind === "object" && owner?.all.length === 1 ? ` · ${wordsOfShape(owner.data)}` : "";
     if (byId("owner").dataset.shape !== shape) byId("owner").dataset.shape = shape;
     this.last.hidden = !owner;

@@ -20,14 +20,14 @@ const PARTS = [
   ["#lines", { role: "log", "aria-label": "Log", "aria-live": "off", tabindex: "0" }],
   ["#palette", { role: "application", "aria-label": "Tiles", "aria-describedby": "tile-row", tabindex: "0" }],
   ["#view", { role: "application", "aria-label": "Map", "aria-describedby": "place", tabindex: "0" }],
-  ["#left", { "aria-label": "Tiles and objects" }],
-  ["#right", { "aria-label": "Layers, properties and steps" }],
+  ["#left", { "aria-label": "Tiles and properties" }],
+  ["#right", { "aria-label": "Layers, objects and steps" }],
   ["#bubble", { "aria-hidden": "true" }],
   ["#view canvas, .scroll, #stamp", { "aria-hidden": "true" }],
 ];
 
 // Buttons that stay pressed.
-const PRESSED = "#tools button, #grid, #turn-names, #turn-mini-map, #macro, #sides button, #of-map, #of-layer, #of-object";
+const PRESSED = "#tools button, #grid, #turn-names, #turn-mini-map, #macro, #of-map, #of-layer, #of-object";
 const HAS_LETTER = /[\p{L}\p{N}]/u;
 
 const textOf = (row, part) => row.querySelector(part)?.textContent ?? "";

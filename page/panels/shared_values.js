@@ -31,8 +31,9 @@ export function sharedOwner(objects) {
 // What a field shows of a member: nothing where the values are several.
 export const shownOf = ({ mixed }, name, value) => (mixed.has(name) ? "" : String(value));
 
-// Has a field tell that the values are several.
+// Has a field tell that the values are several, in a word where two fields stand beside one another.
 export function showMixed({ input }, { mixed }, name) {
+  const words = ["x", "y", "width", "height"].includes(name) ? "several" : MIXED;
   if (input.type === "checkbox") input.indeterminate = mixed.has(name);
-  else input.placeholder = mixed.has(name) ? MIXED : "";
+  else input.placeholder = mixed.has(name) ? words : "";
 }

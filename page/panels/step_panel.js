@@ -3,7 +3,7 @@
 // were undone.
 import { button, byId, element, putText } from "./dom.js";
 import { groupSteps } from "./group_steps.js";
-import { putRows } from "./list_rows.js";
+import { putRows, roomFor } from "./list_rows.js";
 import { widthOf } from "./text_widths.js";
 import { calledStep } from "../core/step_ways.js";
 
@@ -13,12 +13,16 @@ const MOST_IN_SIGHT = 5;
 // How many rows stand in a part of the list, and how high one is, in pixels of the page.
 const IN_PART = 25;
 const ROW_HEIGHT = 24;
+// A long list has room for so many rows at once: a row that comes into room that is there has the browser lay out no layer of the page anew.
+const ROOM = 5;
+const LONG = 100;
 // How many pixels of a row neither its text nor its marks have: its edges, the number, and what is between. And how large the letters of the
 // marks are beside those of the text.
 const NOT_OF_TEXT = 58;
 const OF_MARKS = 11 / 13;
-// How long the list stands as it is where edits follow one another, in milliseconds: so many times as long as its last change took.
-const SHARE = 20;
+// How long the list stands as it is where edits follow one another, in milliseconds: so many times as long as the rows of its last change took,
+// which is some half of what the change took.
+const SHARE = 40;
 const LEAST_TIME = 400;
 const MOST_TIME = 2000;
 
@@ -83,8 +87,8 @@ export class StepPanel {
     if (!state.active) {
       this.rows.clear();
       this.parts.clear();
-      this.keepInSight(1);
       list.replaceChildren();
+      this.giveRoom(0);
       return;
     }
     const { steps, firstStep, count } = state;
@@ -95,19 +99,7 @@ export class StepPanel {
       ...(later > 0 ? [{ more: "later", text: `${later} later steps ..` }] : []),
     ];
     // Behind the lines that follow the first one of a stroke each row says what it said.
-    if (!this.putRows(list, wanted)) return;
-    this.showNow();
-    this.measure(performance.now() - this.shownAt);
-  }
-
-  // Takes how long a change of the list takes: what was done, and the frame that draws it.
-  measure(done) {
-    requestAnimationFrame(() => {
-      const begun = performance.now();
-      const { port1, port2 } = new MessageChannel();
-      port1.onmessage = () => (this.time = Math.max(LEAST_TIME, Math.min(MOST_TIME, SHARE * (done + performance.now() - begun))));
-      port2.postMessage(null);
-    });
+    if (this.putRows(list, wanted)) this.showNow();
   }
 
   // Puts rows into the list, and gives whether one is another. That of a place stays, and of it only what it shows otherwise is changed.
@@ -126,8 +118,16 @@ export class StepPanel {
     this.rows = rows;
     if (!isOther) return false;
     this.putParts(list);
-    this.keepInSight(rows.size);
+    this.giveRoom(rows.size);
     return true;
+  }
+
+  // Some rows stay in sight where the panels are short of room, as style.css has it.
+  giveRoom(count) {
+    roomFor(byId("steps"), count);
+    const inSight = Math.min(count, MOST_IN_SIGHT);
+    if (inSight !== this.inSight) byId("right").style.setProperty("--steps", inSight);
+    this.inSight = inSight;
   }
 
   // The rows stand in parts, by their places: what is out of sight is laid out and painted by no browser, and a row that comes changes one part.
@@ -149,21 +149,29 @@ export class StepPanel {
     }
     this.parts = parts;
     putRows(list, [...parts.values()]);
+    this.keepRoom([...parts.values()]);
   }
 
-  // How many rows stay in sight, as style.css has it: all rows below the panel take part in what is set, so it is set where it is another one.
-  keepInSight(count) {
-    const inSight = Math.min(count, MOST_IN_SIGHT);
-    if (inSight === this.inSight) return;
-    this.inSight = inSight;
-    byId("panel-steps").style.setProperty("--rows", inSight);
+  // The last part of a long list has room for the rows that come next.
+  keepRoom(parts) {
+    const last = this.rows.size > LONG ? parts.at(-1) : null;
+    for (const part of parts) {
+      const height = part === last ? `${Math.ceil(part.childElementCount / ROOM) * ROOM * ROW_HEIGHT}px` : "";
+      if (part.style.minHeight !== height) part.style.minHeight = height;
+    }
   }
 
   // The row of the present place comes into sight once all else is shown, and before the next frame: what scrolls in a frame takes another one.
   showNow() {
     const now = this.rows.get(this.editor.state.index)?.row ?? null;
-    if (now !== this.now) queueMicrotask(() => this.now?.scrollIntoView({ block: "nearest" }));
+    const isOther = now !== this.now;
     this.now = now;
+    const done = performance.now() - this.shownAt;
+    queueMicrotask(() => {
+      const begun = performance.now();
+      if (isOther) this.now?.scrollIntoView({ block: "nearest" });
+      this.time = Math.max(LEAST_TIME, Math.min(MOST_TIME, SHARE * (done + performance.now() - begun)));
+    });
   }
 
   keepNames() {

@@ -19,7 +19,7 @@ export const numbersIn = form => Object.fromEntries(NUMBERS.map(name => [name, M
 // The fields of how a picture is cut, with its preview.
 export function cutFields(picture, [side, tall]) {
   return [
-    { label: "Tiles", presets: SIDES.map(each => [`${each} × ${each}`, { side: each, tall: each }]) },
+    { label: "Tile size", presets: SIDES.map(each => [`${each} × ${each}`, { side: each, tall: each }]) },
     { name: "side", label: "Width of a tile in pixels", value: side, kind: KINDS.side },
     { name: "tall", label: "Height of a tile in pixels", value: tall, kind: KINDS.side },
     { name: "margin", label: "Margin around all tiles", value: 0, kind: KINDS.size },

@@ -179,7 +179,7 @@ export class Toolbar {
     const fault = isOpen ? "" : name.value.split(" || ").map(KINDS.text.fault).find(each => each) ?? "";
     if (fault) {
       name.select();
-      return this.bench.say(`The name of a macro is wanted beside its button: ${fault}.`);
+      return this.bench.say(`Give the macro a name, in the field beside its button: ${fault}.`);
     }
     name.blur();
     return this.bench.act([isOpen ? "end" : `begin ${name.value}`]);

@@ -132,13 +132,13 @@ export class KeptStamps {
     if (!bench.fillValue) return bench.say("No tile is in the hand, so no stamp is kept.");
     const { width, height } = bench.stamp;
     this.all.set(digit, bench.hand);
-    return bench.say(`The stamp of ${width} × ${height} is kept: Shift+${digit} takes it.`);
+    return bench.say(`The stamp of ${width} × ${height} is kept: the key ${digit} takes it.`);
   }
 
   take(digit) {
     const { bench } = this;
     const copy = this.all.get(digit);
-    if (!copy) return bench.say(`No stamp is kept on ${digit}: Ctrl+${digit} keeps the one in hand.`);
+    if (!copy) return bench.say(`No stamp is kept on ${digit}: Ctrl+${digit} keeps the one in hand. Shift+${digit} sets the side of the brush.`);
     if (!bench.map) return bench.say("Open a map first.");
     return bench.carried.bring(copy, "taken", stamp => {
       bench.takeStamp(stamp);

@@ -5,12 +5,16 @@ import { button, element, shown } from "../panels/dom.js";
 export const ARROWS = { arrowleft: [-1, 0], arrowright: [1, 0], arrowup: [0, -1], arrowdown: [0, 1] };
 export const ARROW_KEYS = Object.keys(ARROWS);
 
-// The word of a key that was pressed: a digit or a sign is named without the Shift that it may need, and the space bar without any.
+const SIGNS = ["+", "-", "=", "?", "/"];
+
+// The word of a key that was pressed: a sign is named without the Shift that it may need, and the space bar without any. A digit is named by
+// its place on the keyboard, which may have another letter there.
 export function wordOf(event) {
   if (event.code === "Space" || event.key === " ") return "space";
   const digit = /^(?:Digit|Numpad)([1-9])$/.exec(event.code)?.[1];
-  const key = event.shiftKey && digit ? digit : event.key.toLowerCase();
-  const isSign = ["+", "-", "=", "?", "/"].includes(key);
+  const isDigit = digit && (event.shiftKey || (event.code.startsWith("Digit") && !SIGNS.includes(event.key)));
+  const key = isDigit ? digit : event.key.toLowerCase();
+  const isSign = SIGNS.includes(key);
   return `${event.ctrlKey || event.metaKey ? "Ctrl+" : ""}${event.shiftKey && !isSign ? "Shift+" : ""}${key}`;
 }
 
@@ -88,7 +92,7 @@ export function showKeys(groups, { isOwn, change, reset }) {
   const tables = element("div", { className: "rows", tabIndex: 0, role: "region", ariaLabel: "All keys" }, columns);
   const close = button("Close", "Esc", () => dialog.close(""), { autofocus: true });
   const back = button("The keys as they were", "Forgets the keys of your own", () => put(reset()));
-  const hint = element("p", { className: "hint", textContent: "A click at a key, and another key behind it, changes that. The browser keeps it." });
+  const hint = element("p", { className: "hint", textContent: "Click at a key, and press another one, to change it. The browser keeps your keys." });
   const form = element("form", { method: "dialog" }, element("h2", { textContent: "Keys" }), hint, tables, element("div", { className: "answers" }, back, close));
   const dialog = element("dialog", { id: "keys" }, form);
   return shown(dialog);

@@ -49,9 +49,9 @@ function stampRows({ toolbar, stamps }) {
     [["y"], "Flips the stamp upside down", () => toolbar.flip(flippedUpDown)],
     [["z"], "Turns the stamp right", () => toolbar.flip(turnedRight)],
     [["Shift+z"], "Turns the stamp left", () => toolbar.flip(turnedLeft)],
-    [all(""), "Sets the side of brush and eraser", digit => toolbar.setBrush(digit)],
-    [all("Ctrl+"), "Keeps the stamp on a digit", digit => stamps.keep(digit)],
-    [all("Shift+"), "Takes the stamp that is kept on a digit", digit => stamps.take(digit)],
+    [all(""), "Takes the stamp that is kept on the digit", digit => stamps.take(digit)],
+    [all("Ctrl+"), "Keeps the stamp on the digit", digit => stamps.keep(digit)],
+    [all("Shift+"), "Sets the side of brush and eraser", digit => toolbar.setBrush(digit)],
   ];
 }
 

@@ -31,7 +31,7 @@ function storedStamp(stamp) {
 }
 
 export class Layouts {
-  // `page` has the parts: bench, editor, view, tools, toolbar, palette, layers, properties, objects, panels.
+  // `page` has the parts: bench, editor, view, tools, toolbar, palette, layers, properties, panels.
   constructor(page) {
     // `pending` is what is kept of a map whose tilesets are still being read.
     Object.assign(this, { page, editor: page.editor, document: null, timer: null, pending: null });
@@ -65,10 +65,10 @@ export class Layouts {
   }
 
   now() {
-    const { bench, view, tools, palette, layers, properties, objects, panels } = this.page;
+    const { bench, view, tools, palette, layers, properties, panels } = this.page;
     return {
       view: [view.scale, view.originX, view.originY], layer: bench.layerId, tool: tools.name, brush: bench.brushSize, stamp: bench.hand,
-      shape: tools.all.insert.shape, snapping: bench.snapping, tileset: palette.first, side: palette.side, folded: [...layers.folded], owner: properties.kind, left: objects.side,
+      shape: tools.all.insert.shape, snapping: bench.snapping, tileset: palette.first, side: palette.side, folded: [...layers.folded], owner: properties.kind,
       panels: panels.state(), ...(this.pending && tilesOf(this.pending)),
     };
   }
@@ -108,7 +108,7 @@ export class Layouts {
 
   // Shows a map so. What another version of the page has kept may be unlike.
   isTaken(kept) {
-    const { bench, view, tools, toolbar, layers, properties, objects, panels } = this.page;
+    const { bench, view, tools, toolbar, layers, properties, panels } = this.page;
     try {
       panels.take(kept.panels);
       layers.folded = new Set(kept.folded);
@@ -118,7 +118,6 @@ export class Layouts {
       if (Object.hasOwn(tools.all, kept.tool)) tools.choose(kept.tool);
       toolbar.setBrush(kept.brush);
       properties.choose(kept.owner);
-      objects.turnTo(kept.left);
       if (!kept.view.every(isNumber)) return false;
       [view.scale, view.originX, view.originY] = kept.view;
       return true;
