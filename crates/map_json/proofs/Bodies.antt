@@ -33,7 +33,8 @@ get_member-without_all q (k ∷ ks) ms e =
     get_member-without_all q ks (without k ms) (rest_at (bytes_eq q k) (list_any (bytes_eq q) ks) e)
     ∙ stays_at (bytes_eq q k) q k (list_any (bytes_eq q) ks) ms refl e
 
-tiles_of_common : (no_data : NoData) (width height : ℕ) (ms : Members) → tiles_of no_data width height (without_all common_names ms) ≡ tiles_of no_data width height ms
+tiles_of_common : (no_data : NoData) (width height : ℕ) (ms : Members)
+    → tiles_of no_data width height (without_all common_names ms) ≡ tiles_of no_data width height ms
 unfolding tiles_of
 tiles_of_common Refused width height ms =
     let stays : (q : List ℕ) → list_any (bytes_eq q) common_names ≡ false

@@ -170,7 +170,8 @@ one_again groups tier next next_object width height count few few_objects inner 
 -- ---- layers one after another
 module _ (groups tier width height : ℕ) (P : ℕ × Layer → Type 0)
     (one : (count : ℕ) (l : Layer) → Each P (tree groups tier l) → count + length (below groups tier l) ≤ MAX_LAYERS
-    → layer_by Refused (layers_at Refused groups width height) width height count (layer_tree groups width height l) ≡ Ok (count + length (below groups tier l), l)) where
+    → layer_by Refused (layers_at Refused groups width height) width height count (layer_tree groups width height l)
+    ≡ Ok (count + length (below groups tier l), l)) where
   -- how many stand in layers
   inside_all : List Layer → ℕ
   inside_all [] = 0

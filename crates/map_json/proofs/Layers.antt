@@ -1,5 +1,6 @@
 -- What was read is well formed: layers and what they hold, but for what must differ over the whole map.
-use Rattle.std.proofs.Common.{◌≡◌, IsUtf8, ℕ, zero, suc, ◌+◌, ◌-◌, ◌*◌, ◌<◌, ◌≤◌, List, [], ◌∷◌, length, true, Option, Some, None, Ok, refl, sym, ap, ◌∙◌, subst, arith}
+use Rattle.std.proofs.Common.{◌≡◌, IsUtf8, ℕ, zero, suc, ◌+◌, ◌-◌, ◌*◌, ◌<◌, ◌≤◌, List, [], ◌∷◌, length, true, Option, Some, None, Ok, refl, sym, ap, ◌∙◌, subst}
+use Rattle.std.proofs.Common.{arith}
 use Rattle.std.specs.Prelude.{nat_le, replicate}
 use Rattle.std.specs.Option.{ok_or}
 use Rattle.std.proofs.lemmas.Bool.{leb-true}
@@ -34,8 +35,8 @@ use Rattle.refusals.specs.declared.map_refusal.MapRefusal.TheVariants.{MemberOfA
 use Rattle.map_values.specs.Presence.{required, absent_means}
 use Rattle.map_values.specs.Scalars.{text_at, truth_at, id_at}
 use Rattle.map_json.specs.Elements.{Counting, each_counted, elements_at}
-use Rattle.map_json.specs.Reading.{properties_of, object_at, type_at, encoding_at, compression_at, same_at, cells_at, cells_or_empty, tile_values, tiles_of, objects_of}
-use Rattle.map_json.specs.Reading.{body_by, layer_by, layers_at, map_layers_at, head_of}
+use Rattle.map_json.specs.Reading.{properties_of, object_at, type_at, encoding_at, compression_at, same_at, cells_at, cells_or_empty, tile_values}
+use Rattle.map_json.specs.Reading.{tiles_of, objects_of, body_by, layer_by, layers_at, map_layers_at, head_of}
 use Rattle.map_values.proofs.Lists.{Each-both}
 use Rattle.map_json.proofs.DrawnLayers.{Each-tree, length-drawn, drawn_in, below-drawn_in, drawn_in-none, drawn_in-Group}
 use Rattle.map_json.proofs.Fine.{IsFine, AreFineItems, AreFineMembers}
@@ -249,7 +250,8 @@ inner_sound : (no_data : NoData) (groups tier n width height : ℕ) → tier + 2
     → IsInner (suc groups) tier (suc n) (width * height) (layers_at no_data (suc groups) width height)
 unfolding layers_at
 inner_sound no_data groups tier n width height balance one d count ls fine e =
-    let all = array_sound groups (inner_tier tier) n (width * height) (layer_by no_data (layers_at no_data groups width height) width height) one d count ls fine e in
+    let all = array_sound groups (inner_tier tier) n (width * height)
+    (layer_by no_data (layers_at no_data groups width height) width height) one d count ls fine e in
     (omega (arith, balance), subst (WereCounted (width * height) count ls.0) (sym (drawn_in-Group groups tier ls.1)) all)
 
 no_groups_sound : (no_data : NoData) (tier n width height : ℕ) → IsInner 0 tier n (width * height) (layers_at no_data 0 width height)
@@ -267,7 +269,8 @@ layer_sound no_data zero tier n width height balance deep count d r fine e =
 layer_sound no_data (suc groups) tier n width height balance deep count d r fine e =
     let m = n - 2 in
     let long : suc (suc (suc n)) ≡ suc (suc (suc (suc (suc m)))) = omega (arith, balance, deep) in
-    let one = λ (k : ℕ) (x : Data) (y : ℕ × Layer) (f : IsFine (suc (suc (suc n))) x) (g : layer_by no_data (layers_at no_data groups width height) width height k x ≡ Ok y).
+    let one = λ (k : ℕ) (x : Data) (y : ℕ × Layer) (f : IsFine (suc (suc (suc n))) x)
+    (g : layer_by no_data (layers_at no_data groups width height) width height k x ≡ Ok y).
     layer_sound no_data groups (inner_tier tier) m width height (omega (arith, balance)) (omega (arith, balance, deep)) k x y (subst (λ i. IsFine i x) long f) g in
     one_sound (suc groups) tier n (omega (arith, deep)) no_data (layers_at no_data (suc groups) width height) width height count d r
     (inner_sound no_data groups tier (suc (suc (suc n))) width height balance one) fine e

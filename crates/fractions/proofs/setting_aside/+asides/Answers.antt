@@ -22,7 +22,8 @@ members_moved-loop-key-preserved t c =
     let all : c.args.members.now.entries ≡ done ++ e ∷ left = l.invariant.1 ∙ ap (λ es. done ++ es) c.in-Some.ensures.steps in
     let last = put_last done e left (subst (λ es. IsStrictlySortedBy string_cmp (keys_of es)) all c.iter-key-items.ensures.ordered) in
     let same : view c.in_ok-value.value ≡ moved_aside c.args.moved (below c.args.place (string_bytes c.in-Some.key.now)) (view c.in-Some.member.now)
-    = c.in_ok-value.ensures ∙ ap (λ p. moved_aside c.args.moved p (view c.in-Some.member.now)) (c.below.ensures ∙ ap (below c.args.place) c.as_str.ensures.value) in (
+    = c.in_ok-value.ensures
+    ∙ ap (λ p. moved_aside c.args.moved p (view c.in-Some.member.now)) (c.below.ensures ∙ ap (below c.args.place) c.as_str.ensures.value) in (
       done ++ e ∷ [],
       all ∙ sym (append_assoc done (e ∷ []) left),
       c.in_ok-put.ensures.ok
