@@ -342,6 +342,14 @@ export class Layers {
    * Throws TypeError, RangeError, Refused (30, 31, 39, 40).
    */
   add(kind: AddedLayerKind, name: string): Layer;
+  /**
+   * Adds a layer as a file has it, with all in it, and gives it: in a group, or, if that is null,
+   * among these, at that place there, from 0, which is drawn first. Each layer and each object in
+   * it says its id; a tile layer without `data` is empty; nothing else is added. What is too long
+   * for a line takes several, as one step. Throws TypeError, RangeError, NotFound, Refused (30,
+   * 31, 62, 63, 67, 39, 40).
+   */
+  put(members: Record<string, unknown>, group?: LayerLike | null, at?: number): Layer;
   /** What JSON has of them: the list. */
   toJSON(): Layer[];
   [Symbol.iterator](): IterableIterator<Layer>;

@@ -20,7 +20,7 @@ export const FORMS = new Map([
   ["layer", [
     "layer add tile|object NAME", "layer remove LAYER", "layer rename LAYER NAME",
     "layer show LAYER yes|no", "layer move LAYER PLACE", "layer add group|image NAME",
-    "layer into LAYER GROUP PLACE",
+    "layer into LAYER GROUP PLACE", "layer put GROUP PLACE JSON",
   ]],
   ["resize", ["resize WIDTH HEIGHT X Y"]],
   ["object", [

@@ -5,6 +5,7 @@ import { refusedCall } from "./faults.js";
 import * as json from "./json_values.js";
 import { MAX_GROUPS, MAX_LAYERS } from "./limits.js";
 import { KINDS } from "./module.js";
+import { linesOf, plain, selecting } from "./new_layers.js";
 import { given, hasFraction, length, lineOf, looksOf, pixels, placeOf, putLine, textOf } from "./new_objects.js";
 import { Owner, WithOwnMembers, putMembers, refuseSettings, setMember, setOrRemove } from "./own_members.js";
 import { Properties } from "./properties.js";
@@ -494,18 +495,9 @@ export class Layer extends View {
 
   moveInto(group, place = null) {
     const at = place === null ? null : words.number(place, "a place");
-    const goal = group === null ? 0 : this._groupOf(group);
+    const goal = group === null ? 0 : groupOf(this.document, group);
     const others = () => this.document._layerRows.filter(({ id, parent }) => parent === goal && id !== this.id);
     this.document._edit(`layer into ${this.id} ${goal} ${at ?? others().length}`);
-  }
-
-  // The id of a group. Throws as `moveInto` does.
-  _groupOf(group) {
-    const id = this.document._idOf(group);
-    if (id === 0) {
-      throw new RangeError("0 is the id of no layer: null stands for no group");
-    }
-    return id;
   }
 
   remove() {
@@ -516,6 +508,15 @@ export class Layer extends View {
     const members = this.document._peek(() => this._now);
     return members ? `Layer ${this.id} ${TYPES[members.type]} ${members.name}` : `Layer ${this.id}`;
   }
+}
+
+// The id of a group. Throws NotFound; RangeError for 0.
+function groupOf(document, group) {
+  const id = document._idOf(group);
+  if (id === 0) {
+    throw new RangeError("0 is the id of no layer: null stands for no group");
+  }
+  return id;
 }
 
 /** The layers of a document that are in no group, or those in a group: in drawing order. */
@@ -643,6 +644,28 @@ export class Layers {
     };
     const isAlone = this.#document.status.depth === 0;
     return isAlone ? this.#document.macro("Add Layer", addedIn, { action: "add layer" }) : addedIn();
+  }
+
+  put(members, group = null, at = 0) {
+    const [layer, place] = [plain(members), words.number(at, "a place")];
+    const goal = group === null ? this.#group ?? 0 : groupOf(this.#document, group);
+    const lines = linesOf(goal, place, layer, this.#document);
+    if (lines.length === 1) {
+      this.#document._edit(lines[0]);
+    } else {
+      this._sayTogether(lines);
+    }
+    return new Layer(this.#document, layer.id);
+  }
+
+  // Says the lines that add a layer as one step, also where no macro is open.
+  _sayTogether(lines) {
+    const { runs } = this.#document.selection;
+    // A stamp writes into selected cells alone.
+    const all = runs.length === 0 ? lines : ["select none", ...lines, ...selecting(runs)];
+    const say = () => all.forEach((line) => this.#document._edit(line));
+    const isAlone = this.#document.status.depth === 0;
+    isAlone ? this.#document.macro("Add Layer", say, { action: "add layer" }) : say();
   }
 
   // Throws Refused where the group takes no more layer of a kind: then no macro has begun.

@@ -553,6 +553,33 @@ editor.active = document;""", []),
              ['object remove 1', 'object put 2 {"id":1,"name":"door","type":"","x":16,"y":0,"width":16,"height":16,"rotation":0,"visible":true,'
               '"properties":[{"name":"locked","type":"bool","value":true}]}', 'object put 2 {"id":9}', 'object put 2 {"x":5}'],
              [('[each.members for each in document.objects][1:]', '[...document.objects].map((each) => each.members).slice(1)', [{'id': 9}, {'id': 10, 'x': 5}])]),
+    Scenario('layers as a file has them', 'at = document.layers\nassert at.put({"type": "tilelayer", "id": 9, "name": "Roof"}, at=1).id == 9\n'
+             'houses = at.put({"type": "group", "id": 10, "layers": [{"type": "objectgroup", "id": 11, "objects": [{"id": 5, "x": 1.5}]}]})\n'
+             'houses.layers.put({"type": "imagelayer", "id": 12}, at=1)\nat.put({"type": "imagelayer", "id": 13}, houses)\n'
+             'at[10].remove()\nat.put({"type": "group", "id": 10, "layers": []}, None, 2)',
+             'const at = document.layers; at.put({ type: "tilelayer", id: 9, name: "Roof" }, null, 1);'
+             'const houses = at.put({ type: "group", id: 10, layers: [{ type: "objectgroup", id: 11, objects: [{ id: 5, x: 1.5 }] }] });'
+             'houses.layers.put({ type: "imagelayer", id: 12 }, null, 1); at.put({ type: "imagelayer", id: 13 }, houses);'
+             'at.get(10).remove(); at.put({ type: "group", id: 10, layers: [] }, null, 2)',
+             ['layer put 0 1 {"type":"tilelayer","id":9,"name":"Roof"}',
+              'layer put 0 0 {"type":"group","id":10,"layers":[{"type":"objectgroup","id":11,"objects":[{"id":5,"x":1.5}]}]}',
+              'layer put 10 1 {"type":"imagelayer","id":12}', 'layer put 10 0 {"type":"imagelayer","id":13}', 'layer remove 10',
+              'layer put 0 2 {"type":"group","id":10,"layers":[]}'],
+             [('[each.id for each in document.layers]', '[...document.layers].map(Number)', [1, 9, 10, 2, 3])]),
+    Scenario('a layer that is longer than a line, with cells selected', 'document.select(1, 2, 3, 1)\n'
+             'whole = {"type": "tilelayer", "id": 5, "data": [1000000000] * 40000}\n'
+             'things = {"type": "objectgroup", "id": 6, "objects": [{"id": at, "name": "a" * 99} for at in range(1, 800)]}\n'
+             'document.layers.put({"type": "group", "id": 4, "layers": [whole, things]}, at=1)\n'
+             'assert document.layers[5].cells().count(1000000000) == 40000 and len(document.selection) == 3\ndocument.undo()\ndocument.redo()',
+             'document.select(1, 2, 3, 1); const whole = { type: "tilelayer", id: 5, data: Array(40000).fill(1000000000) };'
+             'const objects = Array.from({ length: 799 }, (_, at) => ({ id: at + 1, name: "a".repeat(99) }));'
+             'document.layers.put({ type: "group", id: 4, layers: [whole, { type: "objectgroup", id: 6, objects }] }, null, 1);'
+             'if (document.layers.get(5).cells().some((value) => value !== 1000000000)) throw new Error("other cells"); document.undo(); document.redo()',
+             ['select replace 1 2 3 1', 'begin Add Layer || add layer', 'select none', 'layer put 0 1 {"type":"group","id":4,"layers":[]}',
+              'layer put 4 0 {"type":"tilelayer","id":5}', *(f'stamp 5 0 {y} 200 {",".join(["1000000000"] * 200)}' for y in range(200)),
+              'layer put 4 1 {"type":"objectgroup","id":6,"objects":[]}',
+              *(f'object put 6 {{"id":{at},"name":"{"a" * 99}"}}' for at in range(1, 800)), 'select replace 1 2 3 1', 'end', 'undo', 'redo'],
+             [('document.status.count', 'document.status.count', 3)], LARGE),
     Scenario('objects in macros', 'things = document.layers["Things"].objects\nwith document.macro("A"):\n  len(things)\nwith document.macro("B"):\n'
              '  things.put({}).name = "a"\ntry:\n  with document.macro("C"):\n    things.put({"x": [0.5]})\nexcept roskevad.Refused as refusal:\n'
              '  assert refusal.code == 63',

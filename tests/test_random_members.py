@@ -1,6 +1,6 @@
 # SPDX-License-Identifier: MIT OR Apache-2.0
 """Makes 20,000 sessions by chance of the lines for all edits: they set, put and remove own members of objects, layers and
-the map, put objects, properties and tilesets, take properties out, add groups and image layers, move layers and objects into
+the map, put objects, layers with all in them, properties and tilesets, take properties out, add groups and image layers, move layers and objects into
 other ones, give tilesets other first ids, and give the map more room. Other edits, clean marks, undos, limits and macros stand between them. Some begin with
 groups in groups, up to as many as there may be, with a full owner of properties, or with a map that has a full layer or things
 that nest too deep for others. It compares the replies of the program with those of the plain model of tests/lib/model.py. 10,000
@@ -14,7 +14,7 @@ from lib.asides import TiledPlay, fault_of_tiled_run
 from lib.cases import CORES, check_each, in_processes
 from lib.edits import MOST_ENTRIES, MOST_OBJECTS
 from lib.json_words import set_fractions_aside
-from lib.maps import MOST_INSIDE, group, layers_in, map_of, objects_in, text_of, thing, things, tiles
+from lib.maps import MOST_INSIDE, group, layers_in, map_of, objects_in, packed, text_of, thing, things, tiles
 from lib.members import read_members
 from lib.model import Play
 from lib.places import SESSIONS
@@ -103,6 +103,15 @@ GIVEN = {
         '[{"name":"","type":"class","propertytype":"T","value":{"k":[1]}}]', '[{"name":"a","type":1,"value":1}]',
     ),
 }
+# What a layer is put with, by the name of each member: the first two are right.
+LAYER_MEMBERS = {
+    'name': ('"Roof"', '"Tür"', '7', 'null'),
+    'visible': ('false', 'true', '0'),
+    'opacity': ('1', '0.5', '"x"'),
+    'kept': ('{"b":1,"a":[null,false]}', '0', '[' * 87 + ']' * 87, '[' * 88 + ']' * 88),
+    'properties': (*GIVEN['properties'][:2], *GIVEN['properties'][4:]),
+    'x': ('0', '1.5', '{"roskevad":1}'),
+}
 NAMES = ('"a"', '"b"', '"b c"', '""', '"A"', ' "a" ', '"\\u0061"', '7', '["a"]', '"a', '0.5', '{"roskevad":"a"}', '"\\ud800"')
 TILESETS = (
     '{"firstgid":50}', '{"firstgid":100,"source":"b.tsj"}', '{"source":"c.tsj","firstgid":101,"name":"c"}', '{"firstgid":1}', '{}',
@@ -180,6 +189,49 @@ def object_text(chosen):
     return '{' + ','.join(f'"{name}":{chosen.choice(GIVEN[name][:first])}' for name in names) + '}'
 
 
+def cells_by_chance(chosen, tree):
+    """What a tile layer has of its cells, by the names of members; mostly right."""
+    cells = [chosen.choice((0, 0, 1, 2, 7, 4294967295)) for _ in range(tree['width'] * tree['height'])]
+    right = ({}, {'data': str(cells)}, {'encoding': '"base64"', 'data': f'"{packed(cells)}"'}, {'encoding': '"base64"'}, {'encoding': '"csv"'})
+    wrong = (
+        {'data': '[1]'}, {'data': '""'}, {'chunks': '[]'}, {'data': str(cells), 'chunks': '[]'}, {'encoding': '"zip"'}, {'encoding': '1'},
+        {'compression': '"zlib"'}, {'compression': '""'}, {'compression': '7'}, {'encoding': '"base64"', 'data': '"AAA="'},
+        {'width': '9999'}, {'height': '"1"'}, {'width': str(tree['width'])}, {'height': '0.5'}, {'data': str(cells[1:] + [-1])},
+    )
+    return chosen.choice(right if chosen.random() < 0.85 else wrong)
+
+
+def layer_text(chosen, tree, around=0):
+    """The text of a layer with all in it, mostly a right one."""
+    if chosen.random() < 0.04:
+        return chosen.choice(('{', '[]', '1.5', '7', '{}', '{"roskevad":1}', '{"type":"layer"}', '{"type":5}', '{"type":"group"}', 'null'))
+    kind = chosen.choice(KINDS if around < 3 else KINDS[1:])
+    members = {'type': f'"{kind}"', 'id': str(chosen.randint(20, 400))}
+    if chosen.random() < 0.12:
+        members['id'] = chosen.choice(GIVEN['id'])
+    for name in chosen.sample(('name', 'visible', 'opacity', 'kept', 'properties', 'x'), chosen.choice((0, 0, 1, 2))):
+        members[name] = chosen.choice(LAYER_MEMBERS[name][: 2 if chosen.random() < 0.85 else None])
+    if kind == 'tilelayer':
+        members.update(cells_by_chance(chosen, tree))
+    elif kind != 'imagelayer' and chosen.random() < 0.97:
+        text_of_one = (lambda: placed_object_text(chosen)) if kind == 'objectgroup' else (lambda: layer_text(chosen, tree, around + 1))
+        members['objects' if kind == 'objectgroup' else 'layers'] = f'[{",".join(text_of_one() for _ in range(chosen.choice((0, 1, 1, 2, 3))))}]'
+    return '{' + ','.join(f'"{name}":{value}' for name, value in members.items()) + '}'
+
+
+def placed_object_text(chosen):
+    """The text of an object that mostly says an id of its own."""
+    text = object_text(chosen)
+    is_right = text[:1] == '{' and text[-1:] == '}' and '"id"' not in text and chosen.random() < 0.95
+    return f'{{"id":{chosen.randint(20, 900)}{"," if len(text) > 2 else ""}{text[1:]}' if is_right else text
+
+
+def layer_line(chosen, tree):
+    """A line that puts a layer with all in it, mostly where it may stand."""
+    layers, groups, _, _ = parts_of(tree)
+    return f'layer put {chosen.choice((0, 0, 0, *groups, *groups, *layers[:1], 9))} {chosen.choice((0, 0, 0, 1, 1, 2, 5))} {layer_text(chosen, tree)}'
+
+
 def whole_line(chosen):
     """A line that adds a whole thing, or takes a property out."""
     form = chosen.random()
@@ -241,9 +293,11 @@ def line_by_chance(chosen, document):
     kind = chosen.random()
     if kind < 0.27:
         return whole_line(chosen)
-    if kind < 0.45:
+    if kind < 0.43:
         return member_line(chosen)
-    return place_line(chosen, document) if kind < 0.72 else other_line(chosen, document)
+    if kind < 0.53:
+        return layer_line(chosen, document.tree)
+    return place_line(chosen, document) if kind < 0.76 else other_line(chosen, document)
 
 
 def hear_by_chance(run, chosen):

@@ -61,7 +61,7 @@ COSTS = {
         'answer': 'members stamp erase fill selection select select_none steps steps_since undo redo goto clear stroke',
         'map': 'resize extend map outline difference save save_bytes close discard to_json',
     },
-    'Layers': {'answer': 'find size walk to_json', '1; in a group answer': 'add'},
+    'Layers': {'answer': 'find size walk to_json', '1; in a group answer': 'add', 'map': 'put'},
     'Layer': {'answer; once map': 'members to_json', 'answer': 'parent cells rows write move_into remove', 'map': 'replace'},
     'Objects': {'1; by a name map': 'get has', 'answer': 'size put to_json', '1; with a shape answer': 'add'},
     'OwnMembers': {'1; of a layer answer': 'set put update delete'},
@@ -312,6 +312,16 @@ LAYERS = Kind('Layers', 'The layers in no group, or those in a group, as they ar
                          'many("layer add group G", 16) && after(...Array.from({ length: 15 }, (_, at) => `layer into ${at + 5} ${at + 4} 0`)) && '
                          'document.layers.get(19).layers.add("group", "a")'),
           'refused 40': 'many("layer add tile a", 253) and document.layers.add("group", "a")'}, types={'kind': 'AddedLayerKind'}),
+    Call('put', 'members, group=None, at=0', 'Adds a layer as a file has it, with all in it, and gives it: in a group, or, if that is {None}, among '
+         'these, at that place there, from 0, which is drawn first. Each layer and each object in it says its id; a tile layer without `data` is '
+         'empty; nothing else is added. What is too long for a line takes several, as one step.', 'layer put GROUP PLACE JSON', 'Layer',
+         {'type': 'document.layers.put(5)',
+          'value': ('document.layers.put({}, None, -1)', 'document.layers.put({}, null, -1)'), 'key': 'document.layers.put({}, "Roof")',
+          'refused 30': 'document.layers.put({}, 9)', 'refused 31': 'document.layers.put({}, 2)', 'refused 62': 'document.layers.put({})',
+          'refused 63': 'document.layers.put({"type": 5})', 'refused 67': 'document.layers.put({"type": "imagelayer", "id": 1})',
+          'refused 39': ('document.layers.put({"type": "imagelayer", "id": 9}, None, 9)', 'document.layers.put({ type: "imagelayer", id: 9 }, null, 9)'),
+          'refused 40': 'many("layer add tile a", 253) and document.layers.put({"type": "imagelayer", "id": 999})'},
+         types={'group': 'LayerLike | null', 'at': 'number'}),
     to_json('layers', 'Layers[]', 'What JSON has of them: the list.'),
 ])
 

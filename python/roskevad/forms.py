@@ -19,7 +19,7 @@ FORMS: dict[str, tuple[str, ...]] = {
     'select': ('select replace|add|subtract|intersect X Y WIDTH HEIGHT', 'select none'),
     'layer': (
         'layer add tile|object NAME', 'layer remove LAYER', 'layer rename LAYER NAME', 'layer show LAYER yes|no', 'layer move LAYER PLACE',
-        'layer add group|image NAME', 'layer into LAYER GROUP PLACE',
+        'layer add group|image NAME', 'layer into LAYER GROUP PLACE', 'layer put GROUP PLACE JSON',
     ),
     'resize': ('resize WIDTH HEIGHT X Y',),
     'object': (

@@ -4,7 +4,7 @@ import contextlib
 import json
 from typing import TYPE_CHECKING, Any, Callable, ContextManager, Iterator, Mapping, Optional, TypeVar, Union, cast
 
-from . import json_values, new_objects, words
+from . import json_values, new_layers, new_objects, words
 from .faults import Refused, refused_call
 from .kinds import AddedLayerKind, Corners, LayerKind, Rows
 from .library import KINDS, LayerRow
@@ -520,18 +520,11 @@ class Layer(_View):
         at = None if place is None else words.number(place, 'a place')
 
         def work() -> None:
-            goal = 0 if group is None else self._group_of(group)
+            goal = 0 if group is None else _group_of(self._document, group)
             last = sum(row.parent == goal and row.id != self.id for row in self._document._layer_rows()) if at is None else at
             self._document._say_edit(f'layer into {self.id} {goal} {last}')
 
         self._document._do(work)
-
-    def _group_of(self, group: 'LayerLike') -> int:
-        """The id of a group, in a turn. Raises as `move_into` does."""
-        id = self._document._id_of(group)
-        if id == 0:
-            raise ValueError('0 is the id of no layer: None stands for no group')
-        return id
 
     def remove(self) -> None:
         """Removes it, and a group with all in it. Raises Refused."""
@@ -540,6 +533,14 @@ class Layer(_View):
     def __repr__(self) -> str:
         described = self._document._peek(lambda: '{1} {0[name]!r}'.format(self._now(), TYPES[self._now()['type']]))
         return f'<Layer {self.id} {described or "of " + repr(self._document.name)}>'
+
+
+def _group_of(document: 'Document', group: 'LayerLike') -> int:
+    """The id of a group, in a turn. Raises NotFound; ValueError for 0."""
+    id = document._id_of(group)
+    if id == 0:
+        raise ValueError('0 is the id of no layer: None stands for no group')
+    return id
 
 
 class Layers:
@@ -656,6 +657,38 @@ class Layers:
             return Layer(self._document, self._document._add('layer', line))
         with self._document.editor.lock:
             return self._added_in(self._group, said, line)
+
+    def put(self, members: Mapping[str, Any], group: 'Optional[LayerLike]' = None, at: int = 0) -> Layer:
+        """Adds a layer as a file has it, with all in it, and gives it: nothing is added to its members. It goes into a group, or among these
+        where that is None, to a place there from 0, which is drawn first. Each layer and each object in it says its id; a tile layer without
+        `data` is empty. Raises TypeError, ValueError, NotFound; Refused: 30 where there is no such group, 31 where it is none, 62, 63, 65, 66
+        or 68 for what no file has, 67 where an id is in the map, 39 for a place past the last one and for too many groups around it, and 40
+        where the map would have more than 256 layers. What is too long for a line takes several, in one step; then a value without a tileset
+        is refused, too: 33."""
+        layer, place = new_layers.plain(members), words.number(at, 'a place')
+        with self._document.editor.lock:
+            self._put(layer, group, place)
+        return Layer(self._document, layer['id'])
+
+    def _put(self, layer: Members, group: 'Optional[LayerLike]', place: int) -> None:
+        document = self._document
+        goal = document._do(lambda: self._goal(group))
+        lines = list(new_layers.lines_of(goal, place, layer, (document.width, document.height)))
+        if len(lines) == 1:
+            document._edit(lines[0])
+            return
+        macro: ContextManager[object] = contextlib.nullcontext()
+        if document.status.depth == 0:
+            macro = document.macro('Add Layer', action='add layer')
+        selected = document.selection.runs
+        with macro:
+            # A stamp writes into selected cells alone.
+            for line in [*(['select none'] if selected else []), *lines, *new_layers.selecting(selected)]:
+                document._edit(line)
+
+    def _goal(self, group: 'Optional[LayerLike]') -> int:
+        """The id of the group that a layer goes into, in a turn; 0 for none."""
+        return self._group or 0 if group is None else _group_of(self._document, group)
 
     def _added_in(self, group: int, kind: str, line: str) -> Layer:
         """What a line adds, in this group: one step, also where no macro is open."""

@@ -25,7 +25,7 @@ use Rattle.map_model.specs.Lookups.{cell_of, with_layer}
 use Rattle.map_model.specs.Objects.{layer_with_objects, object_place}
 use Rattle.map_model.specs.Properties.{layer_with_properties, object_with_properties}
 use Rattle.map_model.specs.PropertyLenses.{properties, setting, setting_at, setting_named, setting_place}
-use Rattle.map_model.specs.Slot.{Slot, layer_slot, next_layer_slot, next_slot_in, object_slot, slot_in}
+use Rattle.map_model.specs.Slot.{Slot, layer_slot, new_layer_slot, next_slot_in, object_slot, slot_in}
 use Rattle.map_model.proofs.ObjectKeeps.{group_in-objects}
 use Rattle.command_api.specs.Exchange.{Exchange, change_of}
 use Rattle.command_api.specs.Link.{linked}
@@ -296,25 +296,25 @@ layers-cover x stays = exchange-covers layers_differ x (λ d h. record {
   cells = λ id x y told. absurd (told tt);
 })
 
+siblings-selection : (parent : Option ℕ) (f : List Layer → List Layer) (d : DocumentParts) → ((siblings parent).update f d).selection ≡ d.selection
+siblings-selection None f d = refl
+siblings-selection (Some id) f d = refl
+
 add_layer-covers : (c : AddLayer) → Covers layers_differ (add_change c)
 add_layer-covers c = layers-cover (add_exchange c) (by_held c.layer)
   where
-    by_held : (held : Option (Option Layer)) (d : DocumentParts) → (linked (next_layer_slot c.id) held d).selection ≡ d.selection
-    by_held None d = refl
+    by_held : (held : Option (Option Layer)) (d : DocumentParts) → (linked (new_layer_slot c.place c.next c.raised) held d).selection ≡ d.selection
+    by_held None d = siblings-selection c.place.parent (λ ls. remove ls c.place.at) d
     by_held (Some None) d = refl
-    by_held (Some (Some l)) d = refl
+    by_held (Some (Some l)) d = siblings-selection c.place.parent (λ ls. insert ls c.place.at l) d
 
 remove_layer-covers : (c : RemoveLayer) → Covers layers_differ (remove_change c)
 remove_layer-covers c = layers-cover (remove_exchange c) (by_held c.layer)
   where
-    among : (parent : Option ℕ) (f : List Layer → List Layer) (d : DocumentParts) → ((siblings parent).update f d).selection ≡ d.selection
-    among None f d = refl
-    among (Some id) f d = refl
-
     by_held : (held : Option (Option Layer)) (d : DocumentParts) → (linked (layer_slot c.place) held d).selection ≡ d.selection
-    by_held None d = among c.place.parent (λ ls. remove ls c.place.at) d
+    by_held None d = siblings-selection c.place.parent (λ ls. remove ls c.place.at) d
     by_held (Some None) d = refl
-    by_held (Some (Some l)) d = among c.place.parent (λ ls. insert ls c.place.at l) d
+    by_held (Some (Some l)) d = siblings-selection c.place.parent (λ ls. insert ls c.place.at l) d
 
 move_layer-covers : (c : MoveLayer) → Covers layers_differ (move_change c)
 move_layer-covers c = layers-cover (move_exchange c) (λ d. refl)

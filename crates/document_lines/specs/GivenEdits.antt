@@ -1,6 +1,6 @@
 -- The document after an edit that puts in what a JSON text says, as a file would say it, or that takes out what one names; or why
 -- the line is refused.
-use Rattle.std.specs.Prelude.{ℕ, List, Bool, ◌&&◌, not, is_some, Result, Ok, Err}
+use Rattle.std.specs.Prelude.{ℕ, List, Bool, ◌&&◌, not, is_some, Option, Result, Ok, Err}
 use Rattle.map_model.specs.declared.owner.Owner.{Owner}
 use Rattle.map_model.specs.declared.parts.MapParts.{MapParts}
 use Rattle.map_model.specs.Document.{DocumentParts}
@@ -8,7 +8,8 @@ use Rattle.map_model.specs.Lookups.{layer_of}
 use Rattle.map_model.specs.Objects.{object_place}
 use Rattle.fractions.specs.declared.lines.Fractions.{Fractions}
 use Rattle.map_json.specs.declared.given.GivenObject.{GivenObject}
-use Rattle.map_json.specs.Given.{given_object_at, given_property_at, given_text_at, given_tileset_at}
+use Rattle.map_json.specs.Given.{given_layer_at, given_object_at, given_property_at, given_text_at, given_tileset_at}
+use Rattle.edits.specs.LayerEdits.{after_put_layer, siblings_or_fault}
 use Rattle.edits.specs.ObjectEdits.{after_put_object, objects_or_fault}
 use Rattle.edits.specs.PropertyEdits.{after_remove_property, owner_or_fault}
 use Rattle.edits.specs.TilesetEdits.{after_put_tileset}
@@ -35,6 +36,13 @@ after_object_text fractions d layer json =
     said (given_object_at fractions d.map json) >>= λ given.
     check (not (is_id_used d.map given)) (faults.Map IdUsedTwice) >>= λ _.
     made (after_put_object d layer given.has_id given.object)
+
+-- a layer, with all that stand in it, goes to a place among the layers of a parent
+abbrev pub after_layer_text : Fractions → DocumentParts → Option ℕ → ℕ → List ℕ → Result DocumentParts MoreFault
+after_layer_text fractions d parent at json =
+    made (siblings_or_fault d.map parent) >>= λ layers.
+    said (given_layer_at fractions d.map json) >>= λ layer.
+    made (after_put_layer d parent at layer)
 
 -- a tileset goes last
 abbrev pub after_tileset_text : Fractions → DocumentParts → List ℕ → Result DocumentParts MoreFault

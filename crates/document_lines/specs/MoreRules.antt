@@ -25,12 +25,12 @@ use Rattle.refusals.specs.declared.refusal.Refusal.TheVariants as refusals
 use Rattle.refusals.specs.Layers.{refusal_of_more}
 use Rattle.session.specs.declared.line.Line.{Line}
 use Rattle.session.specs.declared.more_line.MoreLine.{MoreLine}
-use Rattle.session.specs.declared.more_line.MoreLine.TheVariants.{SetMember, PutMembers, RemoveMember, AddLayer, PutObject, TakeProperty, PutTileset}
+use Rattle.session.specs.declared.more_line.MoreLine.TheVariants.{SetMember, PutMembers, RemoveMember, AddLayer, PutLayer, PutObject, TakeProperty, PutTileset}
 use Rattle.session.specs.declared.more_line.MoreLine.TheVariants.{ReparentObject, ReparentLayer, PutProperty, NumberTileset, Extend}
 use Rattle.session.specs.Grammar.{line_of}
 use Rattle.session.specs.MoreGrammar.{more_line_of}
 use Rattle.document_lines.specs.Acts.{Act, Alone, OrNoMemory, Pushes, Refuses, WithActive}
-use Rattle.document_lines.specs.GivenEdits.{after_object_text, after_property_text, after_take_property, after_tileset_text, made}
+use Rattle.document_lines.specs.GivenEdits.{after_layer_text, after_object_text, after_property_text, after_take_property, after_tileset_text, made}
 use Rattle.document_lines.specs.Machine.{Workspace, active_of}
 use Rattle.document_lines.specs.PlaceEdits.{after_extend, parent_of}
 use Rattle.document_lines.specs.Rules.{MachineStep, MachineStepIn}
@@ -46,6 +46,7 @@ more_names_of (AddLayer kind name) = add_names
 more_names_of (PutObject layer json) = add_object_names
 more_names_of (ReparentObject object layer place) = reparent_object_names
 more_names_of (ReparentLayer layer group place) = move_names
+more_names_of (PutLayer group place json) = add_names
 more_names_of (PutProperty owner json) = put_property_names
 more_names_of (TakeProperty owner json) = remove_property_names
 more_names_of (PutTileset json) = add_tileset_names
@@ -70,6 +71,7 @@ after_more fractions (AddLayer kind name) d = made (after_add_more d kind name)
 after_more fractions (PutObject layer json) d = after_object_text fractions d layer json
 after_more fractions (ReparentObject object layer place) d = made (after_object_into d object layer place)
 after_more fractions (ReparentLayer layer group place) d = made (after_layer_into d layer (parent_of group) place)
+after_more fractions (PutLayer group place json) d = after_layer_text fractions d (parent_of group) place json
 after_more fractions (PutProperty owner json) d = after_property_text fractions d owner json
 after_more fractions (TakeProperty owner json) d = after_take_property fractions d owner json
 after_more fractions (PutTileset json) d = after_tileset_text fractions d json

@@ -23,7 +23,8 @@ use crate::planning::edit_plans::{
     plan_set_property, plan_show_layer, plan_stamp,
 };
 use crate::planning::given_plans::{
-    plan_add_more_layer, plan_put_object, plan_put_property, plan_put_tileset, plan_take_property,
+    plan_add_more_layer, plan_put_layer, plan_put_object, plan_put_property, plan_put_tileset,
+    plan_take_property,
 };
 use crate::planning::member_plans::on_members;
 use crate::planning::place_plans::{
@@ -410,6 +411,9 @@ pub fn on_more_line<C: Command>(
             group,
             place,
         } => plan_reparent_layer(stack.document(), *layer, *group, *place),
+        MoreLine::PutLayer { group, place, json } => {
+            plan_put_layer(alloc, stack.document(), *group, *place, json, fractions)
+        }
         MoreLine::PutProperty { owner, json } => {
             seek_owner(stack, *owner);
             plan_put_property(alloc, stack.document(), *owner, json, fractions)

@@ -1,5 +1,5 @@
 -- The document after an edit of its layers, or the edit's refusal.
-use Rattle.std.specs.Prelude.{ℕ, ◌+◌, ◌*◌, List, Bool, ◌&&◌, not, nat_le, nat_lt, Option, Some, None, is_some, Result, Ok, length}
+use Rattle.std.specs.Prelude.{ℕ, ◌+◌, ◌*◌, List, [], ◌∷◌, Bool, ◌&&◌, not, nat_le, nat_lt, Option, Some, None, is_some, Result, Ok, length}
 use Rattle.std.specs.Option.{ok_or}
 use Rattle.map_model.specs.declared.limits.TheConstants.{MAX_LAYERS, MAX_NEXT_ID}
 use Rattle.map_model.specs.declared.parts.Layer.{Layer}
@@ -12,9 +12,11 @@ use Rattle.map_model.specs.Groups.{all_drawn, group_of}
 use Rattle.map_model.specs.Layers.{layer_place, layer_at, last_place, place_under, sibling_count, sibling_place, with_layer_at, without_layer_at, layer_with_name}
 use Rattle.map_model.specs.Layers.{layer_with_visible, with_next_ids}
 use Rattle.map_model.specs.Moving.{is_parent_in, layer_fits, other_layers, tier_in}
+use Rattle.map_model.specs.NewLayers.{own_count, own_layer_ids, own_object_ids}
 use Rattle.map_model.specs.NewMap.{new_layer, new_more_layer}
 use Rattle.map_model.specs.Lookups.{layer_of, with_layer}
 use Rattle.map_model.specs.Refusing.{◌>>=◌, ◌>>◌, check}
+use Rattle.edits.specs.ObjectEdits.{next_above}
 use Rattle.refusals.specs.declared.edit_fault.EditFault.{EditFault}
 use Rattle.refusals.specs.declared.edit_fault.EditFault.TheVariants.{LayerOfAnotherKind, NoSuchLayer, OutOfRange, TooMany}
 
@@ -83,6 +85,31 @@ after_layer_into d id parent at = do
   check (nat_le at (other_layers from parent layers)) OutOfRange
   check (layer_fits (tier_in d.map parent) l) OutOfRange
   Ok (with_map (with_layer_moved from (place_under parent at)) d)
+
+-- ---- a layer more, as it is given
+-- the next id, above these ids too
+abbrev pub next_above_all : List ℕ → ℕ → ℕ
+next_above_all [] next = next
+next_above_all (id ∷ ids) next = next_above_all ids (next_above id next)
+
+-- the layer stands at the place, and the next ids are above all ids in it
+abbrev pub with_given_layer : LayerPlace → Layer → MapParts → MapParts
+with_given_layer place l m =
+    with_next_ids (next_above_all (own_layer_ids l) m.next_layer_id) (next_above_all (own_object_ids l) m.next_object_id) (with_layer_at place l m)
+
+-- there may be one more layer, with those that stand in it
+abbrev pub has_room_for : MapParts → Layer → Bool
+has_room_for m l = nat_le (length (all_drawn m.layers) + own_count l) MAX_LAYERS
+
+-- The layer goes, with all in it, to a place among the layers of the parent. It may stand in too many groups there, or a layer in
+-- it.
+abbrev pub after_put_layer : DocumentParts → Option ℕ → ℕ → Layer → Result DocumentParts EditFault
+after_put_layer d parent at l = do
+  layers ← siblings_or_fault d.map parent
+  check (nat_le at (length layers)) OutOfRange
+  check (layer_fits (tier_in d.map parent) l) OutOfRange
+  check (has_room_for d.map l) TooMany
+  Ok (with_map (with_given_layer (place_under parent at) l) d)
 
 -- ---- a layer changed where it stands
 abbrev pub after_rename : DocumentParts → ℕ → List ℕ → Result DocumentParts EditFault

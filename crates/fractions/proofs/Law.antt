@@ -26,19 +26,6 @@ use Rattle.json_members.proofs.MembersLemmas.{without-absent, skips, same_name}
 use Rattle.fractions.proofs.ReadTrees.{IsReadNum, Above, IsReadTree, AreReadItems, AreReadMembers}
 
 -- ---- a member that is put in, and the walks
-aside_put_at : (o : Ordering) (p : Place) (k l : List ℕ) (d e : Data) (ms : Members) → slice_cmp nat_cmp k l ≡ o
-    → members_aside p (put k d ms) ≡ put k (aside (below p k) d) (members_aside p ms)
-    → members_aside p (match_ordering o (member k d (member l e ms)) (member l d ms) (member l e (put k d ms)))
-    ≡ match_ordering o (member k (aside (below p k) d) (member l (aside (below p l) e) (members_aside p ms)))
-    (member l (aside (below p k) d) (members_aside p ms)) (member l (aside (below p l) e) (put k (aside (below p k) d) (members_aside p ms)))
-aside_put_at Less p k l d e ms is later = refl
-aside_put_at Equal p k l d e ms is later = ap (λ n. member l (aside (below p n) d) (members_aside p ms)) (sym (same_name k l is))
-aside_put_at Greater p k l d e ms is later = ap (member l (aside (below p l) e)) later
-
-pub members_aside-put : (p : Place) (k : List ℕ) (d : Data) (ms : Members) → members_aside p (put k d ms) ≡ put k (aside (below p k) d) (members_aside p ms)
-members_aside-put p k d no_members = refl
-members_aside-put p k d (member l e ms) = aside_put_at (slice_cmp nat_cmp k l) p k l d e ms refl (members_aside-put p k d ms)
-
 back_put_at : (o : Ordering) (k l : List ℕ) (d e : Data) (ms : Members) → members_back (put k d ms) ≡ put k (back d) (members_back ms)
     → members_back (match_ordering o (member k d (member l e ms)) (member l d ms) (member l e (put k d ms)))
     ≡ match_ordering o (member k (back d) (member l (back e) (members_back ms))) (member l (back d) (members_back ms))

@@ -7,8 +7,7 @@ use Rattle.serde_json.specs.Data.{Data, object, item, Members, put}
 use Rattle.serde_json.specs.View.{view, items_of, members_view}
 use Rattle.serde_json.specs.declared.value.Value.{Value}
 use Rattle.serde_json.proofs.Views.{Entry}
-use Rattle.fractions.specs.declared.place.Place.{Place}
-use Rattle.fractions.specs.Aside.{reserved_name, aside, items_aside, with_notes}
+use Rattle.fractions.specs.Aside.{reserved_name, with_notes}
 use Rattle.fractions.specs.Back.{back, items_back}
 
 too_deep : (t : Bool) (a b n : ℕ) → nat_le (max a b) n ≡ t → nat_le a n ≡ false → t ≡ false
@@ -36,10 +35,6 @@ the_rest false true a b n e f h =
 
 pub rest_as_deep : (a b n : ℕ) → nat_le a n ≡ true → nat_le (max a b) n ≡ nat_le b n
 rest_as_deep a b n h = the_rest (nat_le (max a b) n) (nat_le b n) a b n refl refl h
-
-pub items_aside-items_of : (p : Place) (ds : List Data) → items_of (map (aside p) ds) ≡ items_aside p (items_of ds)
-items_aside-items_of p [] = refl
-items_aside-items_of p (d ∷ ds) = ap (item (aside p d)) (items_aside-items_of p ds)
 
 pub items_back-items_of : (ds : List Data) → items_of (map back ds) ≡ items_back (items_of ds)
 items_back-items_of [] = refl

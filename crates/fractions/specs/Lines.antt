@@ -3,7 +3,7 @@ use Rattle.std.specs.Prelude.{ℕ, ℤ, pos, List, codes, Bool, true, false, ◌
 use Rattle.std.specs.Float.{binary64}
 use Rattle.std.specs.Float.Ieee.{add, of_int}
 use Rattle.std.specs.Ordering.{int_eq}
-use Rattle.serde_json.specs.Data.{Data, Members, no_members, member}
+use Rattle.serde_json.specs.Data.{Data, null, boolean, number, string, array, object, Items, no_items, item, Members, no_members, member}
 use Rattle.serde_json.specs.Find.{get_member, to_float}
 use Rattle.fractions.specs.declared.lines.Fractions.{Fractions}
 use Rattle.fractions.specs.declared.lines.Fractions.TheVariants.{Refused, SetAside}
@@ -11,8 +11,8 @@ use Rattle.fractions.specs.declared.lines.Moved.{Moved}
 use Rattle.fractions.specs.declared.place.Place.{Place}
 use Rattle.fractions.specs.declared.place.Place.TheVariants.{Map, Layer, Object, Coordinate, Version, Elsewhere}
 use Rattle.json_members.specs.Members.{put_all, put_some, without}
-use Rattle.fractions.specs.Places.{below}
-use Rattle.fractions.specs.Aside.{reserved_name, stand_in, fraction_at, note_of, aside, members_aside, with_notes}
+use Rattle.fractions.specs.Places.{below, inside}
+use Rattle.fractions.specs.Aside.{reserved_name, stand_in, fraction_at, note_of, number_aside, aside, members_aside, with_notes}
 use Rattle.fractions.specs.Back.{notes_in}
 
 -- ---- notes of what a line says
@@ -38,6 +38,24 @@ moved_notes m Object ms =
 moved_notes m Coordinate ms = no_members
 moved_notes m Version ms = no_members
 moved_notes m Elsewhere ms = no_members
+
+-- a value at a place, with its fractions set aside, and with the notes of the objects in it where they are saved
+abbrev mutual
+  pub moved_aside : Moved → Place → Data → Data
+  moved_aside m p null = null
+  moved_aside m p (boolean b) = boolean b
+  moved_aside m p (number n) = number_aside p n
+  moved_aside m p (string s) = string s
+  moved_aside m p (array ds) = array (items_moved m (inside p) ds)
+  moved_aside m p (object ms) = object (with_notes (moved_notes m p ms) (members_moved m p ms))
+
+  pub items_moved : Moved → Place → Items → Items
+  items_moved m p no_items = no_items
+  items_moved m p (item d ds) = item (moved_aside m p d) (items_moved m p ds)
+
+  pub members_moved : Moved → Place → Members → Members
+  members_moved m p no_members = no_members
+  members_moved m p (member k d ms) = member k (moved_aside m (below p k) d) (members_moved m p ms)
 
 -- ---- what a line says
 -- a value at a place, as the map has it

@@ -13,4 +13,4 @@ pub use counting::{has_few_fractions, has_fraction};
 pub use lines::{Fractions, Moved, UNMOVED, members_said, put_word, put_words, remove_word};
 pub use place::Place;
 pub use putting_back::{back, number_in};
-pub use setting_aside::aside;
+pub use setting_aside::{aside, moved_aside};

@@ -2,8 +2,8 @@
 ghost use Rattle.std.specs.Prelude.{◌≡◌, IfOk, OnOk};
 ghost use Rattle.serde_json.specs.View.{view as data_of, number_view, items_view, members_view};
 ghost use Rattle.json_members.specs.Members.{put_some};
-ghost use Rattle.fractions.specs.Aside.{aside, items_aside, members_aside, fraction_aside, number_aside, notes_of, with_notes};
-ghost use Rattle.fractions.specs.Lines.{further_note, moved_notes};
+ghost use Rattle.fractions.specs.Aside.{aside, members_aside, fraction_aside, number_aside, with_notes};
+ghost use Rattle.fractions.specs.Lines.{further_note, items_moved, members_moved, moved_aside, moved_notes};
 
 use crate::fraction::{fraction_at, further, stand_in, to_float, whole_part};
 use crate::lines::{Moved, UNMOVED};
@@ -79,19 +79,6 @@ pub fn moved_notes(
     Ok(notes)
 }
 
-// The notes of an object's coordinates.
-#[tactic(auto, using(crate::proofs::Unmoved::notes_unmoved))]
-fn notes_of(
-    alloc: Global,
-    place: Place,
-    members: &Map<String, Value>,
-) -> Result<Map<String, Value>, AllocError>
-    ensures { IfOk result (λ notes. members_view notes.entries
-        ≡ notes_of place (members_view members.now.entries)) }
-{
-    moved_notes(alloc, UNMOVED, place, members)
-}
-
 /// Puts notes among the members, if there are any.
 pub fn put_notes(
     alloc: Global,
@@ -107,18 +94,24 @@ pub fn put_notes(
     Ok(())
 }
 
-/// A value that stands at a place, with its fractions set aside.
+/// A value that stands at a place, with its fractions set aside, and with the notes of the objects in it where they are saved: so many
+/// pixels further.
 #[cycle(asides)]
-pub fn aside(alloc: Global, place: Place, value: &Value) -> Result<Value, AllocError>
-    ensures { IfOk result (λ v. data_of v ≡ aside place (data_of value.now)) }
+pub fn moved_aside(
+    alloc: Global,
+    moved: Moved,
+    place: Place,
+    value: &Value,
+) -> Result<Value, AllocError>
+    ensures { IfOk result (λ v. data_of v ≡ moved_aside moved place (data_of value.now)) }
 {
     match value {
         Value::Null | Value::Bool(_) | Value::String(_) => value.clone(),
         Value::Number(number) => number_aside(alloc, place, number),
-        Value::Array(items) => Ok(Value::Array(items_aside(alloc, place.inside(), items)?)),
+        Value::Array(items) => Ok(Value::Array(items_moved(alloc, moved, place.inside(), items)?)),
         Value::Object(members) => {
-            let notes = notes_of(alloc, place, members)?;
-            let mut all = members_aside(alloc, place, members)?;
+            let notes = moved_notes(alloc, moved, place, members)?;
+            let mut all = members_moved(alloc, moved, place, members)?;
             put_notes(alloc, &mut all, notes)?;
             Ok(Value::Object(all))
         }
@@ -126,35 +119,50 @@ pub fn aside(alloc: Global, place: Place, value: &Value) -> Result<Value, AllocE
 }
 
 #[cycle(asides)]
-fn items_aside(alloc: Global, place: Place, items: &Vec<Value>) -> Result<Vec<Value>, AllocError>
+fn items_moved(
+    alloc: Global,
+    moved: Moved,
+    place: Place,
+    items: &Vec<Value>,
+) -> Result<Vec<Value>, AllocError>
     ensures { IfOk result (λ v. items_view v.items
-        ≡ items_aside place (items_view items.now.items)) }
+        ≡ items_moved moved place (items_view items.now.items)) }
 {
     let mut all = Vec::with_capacity(alloc, items.len())?;
     for item in items {
-        all.push(aside(alloc, place, item)?)?;
+        all.push(moved_aside(alloc, moved, place, item)?)?;
     }
     Ok(all)
 }
 
 #[cycle(asides)]
-fn members_aside(
+fn members_moved(
     alloc: Global,
+    moved: Moved,
     place: Place,
     members: &Map<String, Value>,
 ) -> Result<Map<String, Value>, AllocError>
     ensures { IfOk result (λ m. members_view m.entries
-        ≡ members_aside place (members_view members.now.entries)) }
+        ≡ members_moved moved place (members_view members.now.entries)) }
 {
     let mut all = Map::new(alloc);
     for (key, member) in members.iter() {
-        let value = aside(alloc, place.below(key.as_str()), member)?;
+        let value = moved_aside(alloc, moved, place.below(key.as_str()), member)?;
         serde_json::put(&mut all, alloc, key.as_str(), value)?;
     }
     Ok(all)
 }
 
+/// A value that stands at a place, with its fractions set aside.
+#[tactic(auto, using(crate::proofs::Unmoved::aside_unmoved))]
+pub fn aside(alloc: Global, place: Place, value: &Value) -> Result<Value, AllocError>
+    ensures { IfOk result (λ v. data_of v ≡ aside place (data_of value.now)) }
+{
+    moved_aside(alloc, UNMOVED, place, value)
+}
+
 /// The members of an object that stands at a place, with their fractions set aside, and with its notes where it is saved.
+#[tactic(auto, using(crate::proofs::Unmoved::members_unmoved))]
 pub fn object_aside(
     alloc: Global,
     moved: Moved,
@@ -165,7 +173,7 @@ pub fn object_aside(
         ≡ with_notes (moved_notes moved place (members_view members.now.entries)) (members_aside place (members_view members.now.entries))) }
 {
     let notes = moved_notes(alloc, moved, place, members)?;
-    let mut all = members_aside(alloc, place, members)?;
+    let mut all = members_moved(alloc, UNMOVED, place, members)?;
     put_notes(alloc, &mut all, notes)?;
     Ok(all)
 }

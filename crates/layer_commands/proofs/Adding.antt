@@ -1,5 +1,5 @@
 -- A layer that is added.
-use Rattle.std.proofs.Common.{◌≡◌, IsUtf8, ℕ, ◌*◌, List, [], length, true, ltb, Option, Some, Result, Ok, refl, ap}
+use Rattle.std.proofs.Common.{◌≡◌, IsUtf8, ℕ, ◌*◌, ◌<◌, List, [], length, true, ltb, Option, Some, Result, Ok, refl, ap, arith}
 use Rattle.std.proofs.lemmas.Bool.{and_parts, ltb-true}
 use Rattle.map_model.specs.declared.limits.TheConstants.{MAX_LAYERS, MAX_NEXT_ID}
 use Rattle.map_model.specs.declared.parts.Layer.{Layer}
@@ -7,6 +7,7 @@ use Rattle.map_model.specs.declared.parts.LayerKind.{LayerKind}
 use Rattle.map_model.specs.declared.parts.LayerKind.TheVariants as kinds
 use Rattle.map_model.specs.declared.parts.MoreLayerKind.{MoreLayerKind}
 use Rattle.map_model.specs.declared.parts.MoreLayerKind.TheVariants as more_kinds
+use Rattle.map_model.specs.declared.parts.MapParts.{MapParts}
 use Rattle.map_model.specs.Document.{DocumentParts, with_map}
 use Rattle.map_model.specs.Groups.{all_drawn, inside}
 use Rattle.map_model.specs.NewMap.{new_layer, new_more_layer}
@@ -20,7 +21,7 @@ use Rattle.command_api.specs.declared.EditFault.{EditFault}
 use Rattle.command_api.specs.Making.{Makes}
 use Rattle.command_api.proofs.Links.{link_made}
 use Rattle.edits.specs.LayerEdits.{with_last, next_layer, after_add, after_add_more, has_room}
-use Rattle.layer_commands.specs.Changes.{add_change}
+use Rattle.layer_commands.specs.Changes.{add_change, numbered}
 use Rattle.layer_commands.specs.Names.{add_names}
 
 new_layer-id : (kind : LayerKind) (id : ℕ) (name : List ℕ) (size : ℕ) → (new_layer kind id name size).id ≡ id
@@ -51,21 +52,27 @@ new_more_layer-inside more_kinds.Image id name = refl
 numbered_made : (d : DocumentParts) (l : Layer) (loose : Option Layer) (after : Result DocumentParts EditFault) → has_room d.map ≡ true → loose ≡ Some l
     → IsLayer layer_tier (d.map.width * d.map.height) l → l.id ≡ d.map.next_layer_id → object_ids_in l.body ≡ [] → inside l ≡ [] → IsWellFormed d.map
     → after ≡ Ok (with_map (with_last l) d)
-    → Makes add_names d after (add_change (record { id = d.map.next_layer_id; layer = Some loose }))
+    → Makes add_names d after (add_change (numbered d.map loose))
 numbered_made d l loose after room is layer id none alone h result =
     let both = and_parts (ltb (length (all_drawn d.map.layers)) MAX_LAYERS) (ltb d.map.next_layer_id MAX_NEXT_ID) room in
     rw is (
     link_made refl (record {
-      ready = (refl, refl);
+      ready = (refl, omega arith);
       before = h;
       after = numbered-keeps d.map (length d.map.layers) l (ltb-true (length (all_drawn d.map.layers)) MAX_LAYERS both.0)
           (ltb-true d.map.next_layer_id MAX_NEXT_ID both.1) layer id none alone h;
     }) result
     )
 
+-- there is a next id that is no greatest one
+pub room-next : (m : MapParts) → has_room m ≡ true → m.next_layer_id < MAX_NEXT_ID
+room-next m room =
+    let both = and_parts (ltb (length (all_drawn m.layers)) MAX_LAYERS) (ltb m.next_layer_id MAX_NEXT_ID) room in
+    ltb-true m.next_layer_id MAX_NEXT_ID both.1
+
 pub add_made : (d : DocumentParts) (kind : LayerKind) (name : List ℕ) (loose : Option Layer) → IsUtf8 name → loose ≡ Some (next_layer kind name d.map)
     → has_room d.map ≡ true → IsWellFormed d.map
-    → Makes add_names d (after_add d kind name) (add_change (record { id = d.map.next_layer_id; layer = Some loose }))
+    → Makes add_names d (after_add d kind name) (add_change (numbered d.map loose))
 add_made d kind name loose utf8 is room h =
     let id = d.map.next_layer_id in
     let size = d.map.width * d.map.height in
@@ -74,7 +81,7 @@ add_made d kind name loose utf8 is room h =
 
 pub add_more_made : (d : DocumentParts) (kind : MoreLayerKind) (name : List ℕ) (loose : Option Layer) → IsUtf8 name
     → loose ≡ Some (new_more_layer kind d.map.next_layer_id name) → has_room d.map ≡ true → IsWellFormed d.map
-    → Makes add_names d (after_add_more d kind name) (add_change (record { id = d.map.next_layer_id; layer = Some loose }))
+    → Makes add_names d (after_add_more d kind name) (add_change (numbered d.map loose))
 add_more_made d kind name loose utf8 is room h =
     let id = d.map.next_layer_id in
     numbered_made d (new_more_layer kind id name) loose (after_add_more d kind name) room is

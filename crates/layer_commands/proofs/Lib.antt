@@ -4,5 +4,6 @@ pub mod MovedNotes
 pub mod Moving
 pub mod NoteLaws
 pub mod NotedTrees
-pub mod Siblings
+pub mod Putting
+pub mod SiblingSlots
 pub mod SizeLaws

@@ -34,7 +34,7 @@ use Rattle.command_api.proofs.Moves.{is_moved, slot_in-holds}
 use Rattle.edits.specs.LayerEdits.{after_layer_into, after_move, put_in, siblings_or_fault, with_layer_moved}
 use Rattle.layer_commands.specs.Changes.{moving}
 use Rattle.layer_commands.specs.Names.{move_names}
-use Rattle.layer_commands.proofs.Siblings.{siblings-get, siblings-two, siblings-with, slot-item, slot-with, slot-without}
+use Rattle.layer_commands.proofs.SiblingSlots.{siblings-get, siblings-two, siblings-with, slot-item, slot-with, slot-without}
 
 -- ---- the layers of a parent
 some_at : (o : Option Layer) → IsSome o → (l : Layer) × (o ≡ Some l)
@@ -163,7 +163,7 @@ move_asked d id to from e room h =
 
 -- ---- a move to another parent
 -- the layers of a parent
-found_siblings : (m : MapParts) (parent : Option ℕ) (ls : List Layer) → siblings_or_fault m parent ≡ Ok ls → siblings_of m parent ≡ Some ls
+pub found_siblings : (m : MapParts) (parent : Option ℕ) (ls : List Layer) → siblings_or_fault m parent ≡ Ok ls → siblings_of m parent ≡ Some ls
 found_siblings m None ls e = let is : m.layers ≡ ls = cc in ap Some is
 found_siblings m (Some id) ls e = by_layer (layer_of m id) e
   where

@@ -1,10 +1,13 @@
 -- What each command is and does.
-use Rattle.std.specs.Prelude.{List, Bool, true, false, Option, None}
+use Rattle.std.specs.Prelude.{◌+◌, List, Bool, true, false, Option, Some, None}
+use Rattle.map_model.specs.declared.parts.Layer.{Layer}
+use Rattle.map_model.specs.declared.parts.MapParts.{MapParts}
 use Rattle.map_model.specs.declared.place.LayerPlace.{LayerPlace}
 use Rattle.map_model.specs.declared.canvas.Canvas.{Canvas}
 use Rattle.map_model.specs.Canvas.{with_canvas, IsCanvasOf}
+use Rattle.map_model.specs.Layers.{last_place, next_ids_of}
 use Rattle.map_model.specs.Lens.{of_layer, name, visible}
-use Rattle.map_model.specs.Slot.{layer_slot, next_layer_slot}
+use Rattle.map_model.specs.Slot.{layer_slot, new_layer_slot}
 use Rattle.command_api.specs.Law.{Change}
 use Rattle.command_api.specs.Exchange.{Exchange, change_of}
 use Rattle.command_api.specs.Swap.{swap}
@@ -37,8 +40,18 @@ abbrev pub show_change : ShowLayer → Change
 show_change c = change_of (show_exchange c)
 
 -- ---- layers that are put in and taken out
+-- the command that adds a layer with the next layer id, behind the last one that stands in no group
+abbrev pub numbered : MapParts → Option Layer → AddLayer
+numbered m layer = record {
+  id = m.next_layer_id;
+  place = last_place m;
+  next = next_ids_of m;
+  raised = record { layer = m.next_layer_id + 1; object = m.next_object_id };
+  layer = Some layer;
+}
+
 abbrev pub add_exchange : AddLayer → Exchange
-add_exchange c = link add_names (next_layer_slot c.id) c.layer
+add_exchange c = link add_names (new_layer_slot c.place c.next c.raised) c.layer
 
 abbrev pub add_change : AddLayer → Change
 add_change c = change_of (add_exchange c)

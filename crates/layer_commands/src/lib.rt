@@ -12,6 +12,7 @@ mod show;
 
 pub use add::AddLayer;
 pub use move_layer::MoveLayer;
+pub use parent::siblings;
 pub use remove::RemoveLayer;
 pub use rename::RenameLayer;
 pub use resize::ResizeMap;

@@ -69,7 +69,7 @@ inner_below Coordinate k h = refl
 inner_below Version k h = refl
 inner_below Elsewhere k h = refl
 
-inner_inside : (p : Place) → is_inner p ≡ true → is_inner (inside p) ≡ true
+pub inner_inside : (p : Place) → is_inner p ≡ true → is_inner (inside p) ≡ true
 inner_inside Map h = refl
 inner_inside Layer h = refl
 inner_inside Object h = refl
@@ -102,7 +102,7 @@ mutual
   inner_members p no_members h = refl
   inner_members p (member k d ms) h = rw (inner_float (below p k) d (inner_below p k h), inner_members p ms h) refl
 
-has_float-aside : (p : Place) (d : Data) → is_inner p ≡ true → has_float (aside p d) ≡ false
+pub has_float-aside : (p : Place) (d : Data) → is_inner p ≡ true → has_float (aside p d) ≡ false
 has_float-aside p d h = sym (inner_float p (aside p d) h) ∙ has_fraction-aside p d
 
 -- ---- a file can say it
@@ -125,7 +125,7 @@ whole_part_readable : (x : Float) → IsReadable (number (of_integer (whole_part
 unfolding whole_part
 whole_part_readable x = integer_readable (whole_part x) (to_signed_in 63 (floor binary64 x))
 
-float_readable : (p : Place) (x : Float) → T (Ieee.fits binary64 x) → IsReadable (aside p (number (float x)))
+pub float_readable : (p : Place) (x : Float) → T (Ieee.fits binary64 x) → IsReadable (aside p (number (float x)))
 float_readable Map x h = stand_in_readable x h
 float_readable Layer x h = stand_in_readable x h
 float_readable Object x h = stand_in_readable x h
@@ -173,7 +173,7 @@ noted : (z : ℤ) (k : List ℕ) (ms ns : Members) → IsUtf8 k → AreReadMembe
     → AreReadableMembers (put_some k (further_note z k ms) ns)
 noted z k ms ns utf8 h hn = note_readable z k (option_and_then fraction_at (get_member k ms)) ns utf8 (note_fits k ms h (get_member k ms) refl) hn
 
-notes_readable : (m : Moved) (p : Place) (ms : Members) → AreReadMembers ms → AreReadableMembers (moved_notes m p ms)
+pub notes_readable : (m : Moved) (p : Place) (ms : Members) → AreReadMembers ms → AreReadableMembers (moved_notes m p ms)
 notes_readable m Map ms h = tt
 notes_readable m Layer ms h = tt
 notes_readable m Object ms h =
@@ -188,7 +188,7 @@ notes_readable m Elsewhere ms h = tt
 own_notes_readable : (p : Place) (ms : Members) → AreReadMembers ms → AreReadableMembers (notes_of p ms)
 own_notes_readable p ms h = subst AreReadableMembers (notes_unmoved p ms) (notes_readable unmoved p ms h)
 
-with_notes_readable : (ns ms : Members) → AreReadableMembers ns → AreReadableMembers ms → AreReadableMembers (with_notes ns ms)
+pub with_notes_readable : (ns ms : Members) → AreReadableMembers ns → AreReadableMembers ms → AreReadableMembers (with_notes ns ms)
 with_notes_readable no_members ms hn h = h
 with_notes_readable (member k d ns) ms hn h = AreReadableMembers-put reserved_name (object (member k d ns)) ms reserved_utf8 hn h
 
@@ -217,7 +217,7 @@ mutual
   members_readable p (member k d ms) h r = (h.0, before_aside p k ms h.1, aside_readable (below p k) d h.2 r.0, members_readable p ms h.3 r.2)
 
 -- ---- notes nest as deep as stand-ins
-stand_in_depth : (x : Float) → depth (stand_in x) ≤ 2
+pub stand_in_depth : (x : Float) → depth (stand_in x) ≤ 2
 unfolding stand_in
 stand_in_depth x = omega arith
 
@@ -227,7 +227,7 @@ note_depth z k None ns h = h
 note_depth z k (Some n) ns h =
     omega (arith, members_depth-put k (stand_in (further z (to_float n))) ns, stand_in_depth (further z (to_float n)), h)
 
-notes_depth : (m : Moved) (p : Place) (ms : Members) → members_depth (moved_notes m p ms) ≤ 2
+pub notes_depth : (m : Moved) (p : Place) (ms : Members) → members_depth (moved_notes m p ms) ≤ 2
 notes_depth m Map ms = omega arith
 notes_depth m Layer ms = omega arith
 notes_depth m Object ms =
@@ -239,7 +239,7 @@ notes_depth m Coordinate ms = omega arith
 notes_depth m Version ms = omega arith
 notes_depth m Elsewhere ms = omega arith
 
-with_notes_depth : (ns ms : Members) → members_depth (with_notes ns ms) ≤ max (suc (members_depth ns)) (members_depth ms)
+pub with_notes_depth : (ns ms : Members) → members_depth (with_notes ns ms) ≤ max (suc (members_depth ns)) (members_depth ms)
 with_notes_depth no_members ms = omega arith
 with_notes_depth (member k d ns) ms = members_depth-put reserved_name (object (member k d ns)) ms
 
@@ -253,7 +253,7 @@ note_whole : (z : ℤ) (k : List ℕ) (o : Option Num) (ns : Members) → member
 note_whole z k None ns h = h
 note_whole z k (Some n) ns h = put_whole k (stand_in (further z (to_float n))) ns (stand_in_whole (further z (to_float n))) h
 
-notes_whole : (m : Moved) (p : Place) (ms : Members) → members_have_float (moved_notes m p ms) ≡ false
+pub notes_whole : (m : Moved) (p : Place) (ms : Members) → members_have_float (moved_notes m p ms) ≡ false
 notes_whole m Map ms = refl
 notes_whole m Layer ms = refl
 notes_whole m Object ms =
@@ -265,7 +265,7 @@ notes_whole m Coordinate ms = refl
 notes_whole m Version ms = refl
 notes_whole m Elsewhere ms = refl
 
-with_notes_whole : (ns ms : Members) → members_have_float ns ≡ false → members_have_float ms ≡ false → members_have_float (with_notes ns ms) ≡ false
+pub with_notes_whole : (ns ms : Members) → members_have_float ns ≡ false → members_have_float ms ≡ false → members_have_float (with_notes ns ms) ≡ false
 with_notes_whole no_members ms hn h = h
 with_notes_whole (member k d ns) ms hn h = put_whole reserved_name (object (member k d ns)) ms hn h
 
@@ -285,7 +285,7 @@ word_at-parts f p text d e =
     let same = ok_is x d e4 in
     (ok_or_ok (read text) NotJson x is ∙ ap Some same, subst (λ y. not (has_name RESERVED_NAME.now y) ≡ true) same free)))))
 
-unless : (b : Bool) → not b ≡ true → b ≡ false
+pub unless : (b : Bool) → not b ≡ true → b ≡ false
 unless true e = absurd cc
 unless false e = refl
 
@@ -315,7 +315,7 @@ words_aside p m ms inner readable was shallow =
     }
 
 -- notes make no member of others less deep
-under_notes : (ns ms : Members) → get_member reserved_name ms ≡ None → members_depth ms ≤ members_depth (with_notes ns ms)
+pub under_notes : (ns ms : Members) → get_member reserved_name ms ≡ None → members_depth ms ≤ members_depth (with_notes ns ms)
 under_notes no_members ms absent = omega arith
 under_notes (member k d ns) ms absent =
     let note : Data = object (member k d ns) in
@@ -328,12 +328,12 @@ aside_lacks_at Less x y d e later h = later h
 aside_lacks_at Equal x y d e later h = absurd cc
 aside_lacks_at Greater x y d e later h = later h
 
-aside_lacks : (p : Place) (k : List ℕ) (ms : Members) → get_member k ms ≡ None → get_member k (members_aside p ms) ≡ None
+pub aside_lacks : (p : Place) (k : List ℕ) (ms : Members) → get_member k ms ≡ None → get_member k (members_aside p ms) ≡ None
 aside_lacks p k no_members h = refl
 aside_lacks p k (member l d ms) h =
     aside_lacks_at (slice_cmp nat_cmp k l) (get_member k (members_aside p ms)) (get_member k ms) (aside (below p l) d) d (aside_lacks p k ms) h
 
-as_object_is : (d : Data) (ms : Members) → as_object d ≡ Some ms → d ≡ object ms
+pub as_object_is : (d : Data) (ms : Members) → as_object d ≡ Some ms → d ≡ object ms
 as_object_is null ms e = absurd cc
 as_object_is (boolean b) ms e = absurd cc
 as_object_is (number n) ms e = absurd cc

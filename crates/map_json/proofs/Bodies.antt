@@ -1,14 +1,17 @@
 -- What a layer holds, read from what is left after the members of every layer were taken out.
-use Rattle.std.proofs.Common.{◌≡◌, ℕ, List, [], ◌∷◌, bytes_eq, false, Bool, true, ◌||◌, refl, ◌∙◌, true≢false}
+use Rattle.std.proofs.Common.{◌≡◌, ℕ, List, [], ◌∷◌, bytes_eq, false, Bool, true, ◌||◌, Ok, refl, ap, ◌∙◌, true≢false}
 use Rattle.std.specs.List.{list_any}
 use Rattle.serde_json.specs.Data.{Members}
 use Rattle.serde_json.specs.Find.{get_member}
-use Rattle.map_model.specs.declared.names.TheConstants.{ID, X, Y, WIDTH, HEIGHT, LAYERS, ENCODING, COMPRESSION, DATA, OBJECTS}
+use Rattle.map_model.specs.declared.names.TheConstants.{ID, X, Y, WIDTH, HEIGHT, LAYERS, CHUNKS, ENCODING, COMPRESSION, DATA, OBJECTS}
 use Rattle.map_model.specs.Format.{common_names, body_names, layer_names}
 use Rattle.map_model.specs.declared.parts.Body.{Body}
 use Rattle.map_model.specs.declared.parts.Layer.{Layer}
+use Rattle.map_model.specs.Refusing.{◌>>=◌}
 use Rattle.map_json.specs.declared.body.LayerType.{LayerType}
 use Rattle.map_json.specs.declared.body.LayerType.TheVariants.{TileLayer, ObjectGroup, ImageLayer, GroupLayer}
+use Rattle.map_json.specs.declared.body.NoData.{NoData}
+use Rattle.map_json.specs.declared.body.NoData.TheVariants.{Refused, Empty}
 use Rattle.json_members.specs.Members.{without, without_all}
 use Rattle.map_json.specs.Elements.{Counting}
 use Rattle.map_json.specs.Reading.{tiles_of, objects_of, body_by, placing_of}
@@ -30,16 +33,32 @@ get_member-without_all q (k ∷ ks) ms e =
     get_member-without_all q ks (without k ms) (rest_at (bytes_eq q k) (list_any (bytes_eq q) ks) e)
     ∙ stays_at (bytes_eq q k) q k (list_any (bytes_eq q) ks) ms refl e
 
-pub body_by_common : (inner : Counting (List Layer)) (kind : LayerType) (width height count : ℕ) (ms : Members)
-    → body_by inner kind width height count (without_all common_names ms) ≡ body_by inner kind width height count ms
-unfolding tiles_of objects_of
-body_by_common inner TileLayer width height count ms =
+tiles_of_common : (no_data : NoData) (width height : ℕ) (ms : Members)
+    → tiles_of no_data width height (without_all common_names ms) ≡ tiles_of no_data width height ms
+unfolding tiles_of
+tiles_of_common Refused width height ms =
     let stays : (q : List ℕ) → list_any (bytes_eq q) common_names ≡ false
     → get_member q (without_all common_names ms) ≡ get_member q ms = λ q e. get_member-without_all q common_names ms e in
     rw (stays ENCODING.now refl, stays COMPRESSION.now refl, stays WIDTH.now refl, stays HEIGHT.now refl, stays DATA.now refl) refl
-body_by_common inner ObjectGroup width height count ms = rw (get_member-without_all OBJECTS.now common_names ms refl) refl
-body_by_common inner ImageLayer width height count ms = refl
-body_by_common inner GroupLayer width height count ms = rw (get_member-without_all LAYERS.now common_names ms refl) refl
+tiles_of_common Empty width height ms =
+    let stays : (q : List ℕ) → list_any (bytes_eq q) common_names ≡ false
+    → get_member q (without_all common_names ms) ≡ get_member q ms = λ q e. get_member-without_all q common_names ms e in
+    rw (
+      stays ENCODING.now refl,
+      stays COMPRESSION.now refl,
+      stays WIDTH.now refl,
+      stays HEIGHT.now refl,
+      stays DATA.now refl,
+      stays CHUNKS.now refl,
+    ) refl
+
+pub body_by_common : (no_data : NoData) (inner : Counting (List Layer)) (kind : LayerType) (width height count : ℕ) (ms : Members)
+    → body_by no_data inner kind width height count (without_all common_names ms) ≡ body_by no_data inner kind width height count ms
+unfolding objects_of
+body_by_common no_data inner TileLayer width height count ms = ap (λ r. r >>= λ body. Ok (count, body)) (tiles_of_common no_data width height ms)
+body_by_common no_data inner ObjectGroup width height count ms = rw (get_member-without_all OBJECTS.now common_names ms refl) refl
+body_by_common no_data inner ImageLayer width height count ms = refl
+body_by_common no_data inner GroupLayer width height count ms = rw (get_member-without_all LAYERS.now common_names ms refl) refl
 
 pub without_layer_names : (b : Body) (ms : Members) → without_all (layer_names b) ms ≡ without_all (body_names b) (without_all common_names ms)
 without_layer_names b ms = refl

@@ -79,7 +79,7 @@ IsLayer-read tier size l h e =
       body = IsBody-read tier size l.body h.body f.1;
     }
 
-Each-IsDrawn : (size : ℕ) (ds : List (ℕ × Layer)) → Each (WasReadDrawn size) ds → list_all are_named_apart (flat_map lists_of_drawn ds) ≡ true
+pub Each-IsDrawn : (size : ℕ) (ds : List (ℕ × Layer)) → Each (WasReadDrawn size) ds → list_all are_named_apart (flat_map lists_of_drawn ds) ≡ true
     → Each (IsDrawn size) ds
 Each-IsDrawn size [] h e = tt
 Each-IsDrawn size (d ∷ ds) h e =

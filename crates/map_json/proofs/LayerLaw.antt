@@ -24,6 +24,7 @@ use Rattle.json_members.specs.Members.{without_all}
 use Rattle.map_json.specs.Members.{with_own}
 use Rattle.map_json.specs.declared.body.LayerType.{LayerType}
 use Rattle.map_json.specs.declared.body.LayerType.TheVariants.{TileLayer, ObjectGroup, ImageLayer, GroupLayer}
+use Rattle.map_json.specs.declared.body.NoData.TheVariants.{Refused}
 use Rattle.map_values.specs.Presence.{absent_means}
 use Rattle.map_values.specs.Scalars.{text_at, truth_at, id_at}
 use Rattle.map_json.specs.Elements.{Counting, each_counted, elements_at}
@@ -64,7 +65,7 @@ tiles_read : (width height : ℕ) (e : Encoding) (cells : List ℕ) (ms : Member
     → get_member COMPRESSION.now ms ≡ None
     → get_member WIDTH.now ms ≡ Some (whole_tree width) → get_member HEIGHT.now ms ≡ Some (whole_tree height)
     → get_member DATA.now ms ≡ Some (cells_tree e cells)
-    → cells_at e (width * height) (cells_tree e cells) ≡ Ok cells → tiles_of width height ms ≡ Ok (Tiles e cells)
+    → cells_at e (width * height) (cells_tree e cells) ≡ Ok cells → tiles_of Refused width height ms ≡ Ok (Tiles e cells)
 unfolding tiles_of
 tiles_read width height e cells ms encoding compression wide high data_is cells_ok =
     rw (encoding, encoding_again e, compression, wide, same_again width, high, same_again height, data_is, cells_ok) refl
@@ -92,7 +93,7 @@ IsReadFrom groups tier count b inner d = (ls : List Layer) → group_in b ≡ So
 body_again : (groups tier next width height count : ℕ) → next ≤ MAX_NEXT_ID → (inner : Counting (List Layer)) (d : Data) (l : Layer) (b : Body) (kept : Members)
     → IsReadFrom groups tier count b inner d
     → LacksAll (layer_names b) kept → IsBody tier (width * height) b → Each (IsId next) (object_ids_in b)
-    → body_by inner (kind_of b) width height count (with_own (layer_own width height d (with_body l b)) kept) ≡ Ok (counted groups tier count b, b)
+    → body_by Refused inner (kind_of b) width height count (with_own (layer_own width height d (with_body l b)) kept) ≡ Ok (counted groups tier count b, b)
 body_again groups tier next width height count few inner d l (Tiles e cells) kept reads lacks h ids =
     let own = layer_own width height d (with_body l (Tiles e cells)) in
     let read = tiles_read width height e cells (with_own own kept)
@@ -123,8 +124,8 @@ layer_read : (inner : Counting (List Layer)) (width height count behind : ℕ) (
     → get_member NAME.now ms ≡ Some (string l.name) → get_member VISIBLE.now ms ≡ Some (boolean l.visible)
     → get_member PROPERTIES.now ms ≡ properties_member l.properties
     → id_at (whole_tree l.id) ≡ Ok l.id → absent_means [] (elements_at MAX_PROPERTIES property_at) (properties_member l.properties) ≡ Ok l.properties
-    → body_by inner (kind_of l.body) width height count ms ≡ Ok (behind, l.body) → without_all (layer_names l.body) ms ≡ l.kept
-    → layer_by inner width height count (object ms) ≡ Ok (behind, l)
+    → body_by Refused inner (kind_of l.body) width height count ms ≡ Ok (behind, l.body) → without_all (layer_names l.body) ms ≡ l.kept
+    → layer_by Refused inner width height count (object ms) ≡ Ok (behind, l)
 unfolding layer_by head_of text_at truth_at
 layer_read inner width height count behind l ms type id name visible properties id_ok properties_ok body_ok kept =
     rw (type, type_again l.body, id, id_ok, name, visible, properties, properties_ok, body_ok, kept) refl
@@ -149,7 +150,7 @@ Each-Fits size next next_object (d ∷ ds) h ids objects = (
 one_again : (groups tier next next_object width height count : ℕ) → next ≤ MAX_NEXT_ID → next_object ≤ MAX_NEXT_ID
     → (inner : Counting (List Layer)) (d : Data) (l : Layer) → IsReadFrom groups tier count l.body inner d
     → Fits (width * height) next next_object (tier, bare l)
-    → layer_by inner width height count (object (with_own (layer_own width height d l) l.kept)) ≡ Ok (counted groups tier count l.body, l)
+    → layer_by Refused inner width height count (object (with_own (layer_own width height d l) l.kept)) ≡ Ok (counted groups tier count l.body, l)
 one_again groups tier next next_object width height count few few_objects inner d l reads fits =
     let own = layer_own width height d l in
     let kept = l.kept in
@@ -169,7 +170,8 @@ one_again groups tier next next_object width height count few few_objects inner 
 -- ---- layers one after another
 module _ (groups tier width height : ℕ) (P : ℕ × Layer → Type 0)
     (one : (count : ℕ) (l : Layer) → Each P (tree groups tier l) → count + length (below groups tier l) ≤ MAX_LAYERS
-    → layer_by (layers_at groups width height) width height count (layer_tree groups width height l) ≡ Ok (count + length (below groups tier l), l)) where
+    → layer_by Refused (layers_at Refused groups width height) width height count (layer_tree groups width height l)
+    ≡ Ok (count + length (below groups tier l), l)) where
   -- how many stand in layers
   inside_all : List Layer → ℕ
   inside_all [] = 0
@@ -181,7 +183,7 @@ module _ (groups tier width height : ℕ) (P : ℕ × Layer → Type 0)
   inside_all-drawn (l ∷ ls) = omega (arith, length-drawn groups tier l ls, inside_all-drawn ls)
 
   each_again : (count : ℕ) (ls : List Layer) → Each P (drawn groups tier ls) → count + inside_all ls ≤ MAX_LAYERS
-      → each_counted (layer_by (layers_at groups width height) width height) count (items_by (layer_tree groups width height) ls) ≡ Ok
+      → each_counted (layer_by Refused (layers_at Refused groups width height) width height) count (items_by (layer_tree groups width height) ls) ≡ Ok
       (count + inside_all ls, ls)
   unfolding inside_all
   each_again count [] h few = ap (λ n. Ok (n, [])) (omega arith)
@@ -191,7 +193,7 @@ module _ (groups tier width height : ℕ) (P : ℕ × Layer → Type 0)
       rw (first, more) (ap (λ n. Ok (n, l ∷ ls)) (omega arith))
 
   array_again : (count : ℕ) (ls : List Layer) → Each P (drawn groups tier ls) → count + length (drawn groups tier ls) ≤ MAX_LAYERS
-      → layers_at (suc groups) width height count (layers_tree groups width height ls) ≡ Ok (count + length (drawn groups tier ls), ls)
+      → layers_at Refused (suc groups) width height count (layers_tree groups width height ls) ≡ Ok (count + length (drawn groups tier ls), ls)
   unfolding layers_at
   array_again count ls h few =
       let long = items_len-items_by (layer_tree groups width height) ls in
@@ -205,11 +207,11 @@ module _ (groups tier width height : ℕ) (P : ℕ × Layer → Type 0)
 layer_again : (groups tier next next_object width height count : ℕ) → tier + 2 * groups ≡ deepest_tier → next ≤ MAX_NEXT_ID → next_object ≤ MAX_NEXT_ID
     → (l : Layer)
     → Each (Fits (width * height) next next_object) (tree groups tier l) → count + length (below groups tier l) ≤ MAX_LAYERS
-    → layer_by (layers_at groups width height) width height count (layer_tree groups width height l) ≡ Ok (count + length (below groups tier l), l)
+    → layer_by Refused (layers_at Refused groups width height) width height count (layer_tree groups width height l) ≡ Ok (count + length (below groups tier l), l)
 unfolding layer_tree
 layer_again zero tier next next_object width height count balance few few_objects l h fits =
     let own = tree-Each (Fits (width * height) next next_object) 0 tier l h in
-    one_again 0 tier next next_object width height count few few_objects (layers_at 0 width height) (array no_items) l
+    one_again 0 tier next next_object width height count few few_objects (layers_at Refused 0 width height) (array no_items) l
     (λ ls g. absurd (no_group tier (width * height) l.body ls g (IsLayer-without (λ ks. []) tier (width * height) l own.0.0).body (omega (arith, balance))))
     own.0
 layer_again (suc groups) tier next next_object width height count balance few few_objects l h fits =
@@ -218,7 +220,7 @@ layer_again (suc groups) tier next next_object width height count balance few fe
     let one = λ (k : ℕ) (x : Layer) (f : Each P (tree groups (inner_tier tier) x)) (g : k + length (below groups (inner_tier tier) x) ≤ MAX_LAYERS).
     layer_again groups (inner_tier tier) next next_object width height k (omega (arith, balance)) few few_objects x f g in
     let all = array_again groups (inner_tier tier) width height P one count (inside l) own.1 fits in
-    one_again (suc groups) tier next next_object width height count few few_objects (layers_at (suc groups) width height)
+    one_again (suc groups) tier next next_object width height count few few_objects (layers_at Refused (suc groups) width height)
     (layers_tree groups width height (inside l)) l
     (λ ls g. all ∙ ap (λ o. Ok (count + length (drawn groups (inner_tier tier) (inside l)), or_empty o)) g) own.0
 

@@ -44,5 +44,7 @@ pub mod HeadedLayers
 pub mod MapHeadLaws
 pub mod TilesetHeadLaws
 pub mod GivenLaws
+pub mod NewLayers
 pub mod Asides
+pub mod MovedTrees
 pub mod Noting

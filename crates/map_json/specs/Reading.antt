@@ -1,11 +1,11 @@
 -- What the tree of each owner says: properties, objects, tilesets and layers, member by member in this order.
-use Rattle.std.specs.Prelude.{ℕ, zero, suc, ◌+◌, ◌*◌, ◌==◌, nat_le, ℤ, List, [], codes, true, if◌then◌else◌, ⊤, Option, Some, None, Result, Ok, Err}
+use Rattle.std.specs.Prelude.{ℕ, zero, suc, ◌+◌, ◌*◌, ◌==◌, nat_le, ℤ, List, [], codes, true, if◌then◌else◌, ⊤, replicate, Option, Some, None, Result, Ok, Err}
 use Rattle.std.specs.Str.{bytes_eq}
 use Rattle.std.specs.Option.{ok_or}
 use Rattle.serde_json.specs.Data.{Num, Data, null, boolean, number, string, array, object, Members}
 use Rattle.serde_json.specs.Events.{items_len}
 use Rattle.serde_json.specs.Find.{as_object, as_array, as_number, as_u64, as_i64, as_str, get_member}
-use Rattle.map_model.specs.declared.names.TheConstants.{TYPE, WIDTH, HEIGHT, ENCODING, COMPRESSION, DATA, VALUE}
+use Rattle.map_model.specs.declared.names.TheConstants.{TYPE, WIDTH, HEIGHT, ENCODING, COMPRESSION, DATA, CHUNKS, VALUE}
 use Rattle.map_model.specs.declared.limits.TheConstants.{MAX_GROUPS}
 use Rattle.map_model.specs.declared.parts.Encoding.{Encoding}
 use Rattle.map_model.specs.declared.parts.Encoding.TheVariants.{Array, Base64}
@@ -25,9 +25,11 @@ use Rattle.map_model.specs.Format.{layer_names, object_names, tileset_names, pro
 use Rattle.map_model.specs.Refusing.{◌>>=◌, ◌>>◌, check}
 use Rattle.map_json.specs.declared.body.LayerType.{LayerType}
 use Rattle.map_json.specs.declared.body.LayerType.TheVariants.{TileLayer, ObjectGroup, ImageLayer, GroupLayer}
+use Rattle.map_json.specs.declared.body.NoData.{NoData}
+use Rattle.map_json.specs.declared.body.NoData.TheVariants.{Refused, Empty}
 use Rattle.map_json.specs.declared.layer.Head.{Head}
 use Rattle.refusals.specs.declared.map_refusal.MapRefusal.{MapRefusal}
-use Rattle.refusals.specs.declared.map_refusal.MapRefusal.TheVariants.{MemberOfAnotherKind, Compressed, BadData, OverLimit}
+use Rattle.refusals.specs.declared.map_refusal.MapRefusal.TheVariants.{MemberMissing, MemberOfAnotherKind, Compressed, BadData, OverLimit}
 use Rattle.map_values.specs.Presence.{required, absent_means}
 use Rattle.map_values.specs.Scalars.{required_member, optional_member, member_or}
 use Rattle.map_json.specs.Elements.{Counting, each_counted, elements_at}
@@ -130,13 +132,28 @@ abbrev pub cells_at : Encoding → ℕ → Data → Result (List ℕ) MapRefusal
 cells_at Array count d = array_cells_at count d
 cells_at Base64 count d = base64_cells_at count d
 
-unfoldable pub tiles_of : ℕ → ℕ → Members → Result Body MapRefusal
-tiles_of width height ms = do
+-- the values of a tile layer that lacks them, and chunks too: it is empty
+abbrev pub empty_cells : ℕ → Option Data → Result (List ℕ) MapRefusal
+empty_cells count None = Ok (replicate count 0)
+empty_cells count (Some chunks) = Err MemberMissing
+
+-- the values of a tile layer that may lack them
+abbrev pub cells_or_empty : Encoding → ℕ → Option Data → Option Data → Result (List ℕ) MapRefusal
+cells_or_empty encoding count chunks None = empty_cells count chunks
+cells_or_empty encoding count chunks (Some d) = cells_at encoding count d
+
+-- the values of a tile layer, by what becomes of one that lacks them
+abbrev pub tile_values : NoData → Encoding → ℕ → Members → Result (List ℕ) MapRefusal
+tile_values Refused encoding count ms = required (cells_at encoding count) (get_member DATA.now ms)
+tile_values Empty encoding count ms = cells_or_empty encoding count (get_member CHUNKS.now ms) (get_member DATA.now ms)
+
+unfoldable pub tiles_of : NoData → ℕ → ℕ → Members → Result Body MapRefusal
+tiles_of no_data width height ms = do
   encoding ← absent_means Array encoding_at (get_member ENCODING.now ms)
   absent_means tt compression_at (get_member COMPRESSION.now ms)
   absent_means tt (same_at width) (get_member WIDTH.now ms)
   absent_means tt (same_at height) (get_member HEIGHT.now ms)
-  cells ← required (cells_at encoding (width * height)) (get_member DATA.now ms)
+  cells ← tile_values no_data encoding (width * height) ms
   Ok (Tiles encoding cells)
 
 unfoldable pub objects_of : Members → Result Body MapRefusal
@@ -145,11 +162,11 @@ objects_of ms = do
   Ok (Objects objects)
 
 -- what a layer of this type holds, on a map of this size; where it is a group, inner reads its layers
-abbrev pub body_by : Counting (List Layer) → LayerType → ℕ → ℕ → ℕ → Members → Result (ℕ × Body) MapRefusal
-body_by inner TileLayer width height count ms = tiles_of width height ms >>= λ body. Ok (count, body)
-body_by inner ObjectGroup width height count ms = objects_of ms >>= λ body. Ok (count, body)
-body_by inner ImageLayer width height count ms = Ok (count, Other)
-body_by inner GroupLayer width height count ms = required (inner count) (get_member layers_list.name ms) >>= λ ls. Ok (ls.0, Group ls.1)
+abbrev pub body_by : NoData → Counting (List Layer) → LayerType → ℕ → ℕ → ℕ → Members → Result (ℕ × Body) MapRefusal
+body_by no_data inner TileLayer width height count ms = tiles_of no_data width height ms >>= λ body. Ok (count, body)
+body_by no_data inner ObjectGroup width height count ms = objects_of ms >>= λ body. Ok (count, body)
+body_by no_data inner ImageLayer width height count ms = Ok (count, Other)
+body_by no_data inner GroupLayer width height count ms = required (inner count) (get_member layers_list.name ms) >>= λ ls. Ok (ls.0, Group ls.1)
 
 -- the members of a layer of any kind
 unfoldable pub head_of : Members → Result Head MapRefusal
@@ -162,11 +179,11 @@ head_of ms = do
   Ok (record { kind = kind; id = id; name = name; visible = visible; properties = properties })
 
 -- a layer, on a map of this size
-unfoldable pub layer_by : Counting (List Layer) → ℕ → ℕ → Counting Layer
-layer_by inner width height count d = do
+unfoldable pub layer_by : NoData → Counting (List Layer) → ℕ → ℕ → Counting Layer
+layer_by no_data inner width height count d = do
   ms ← ok_or (as_object d) MemberOfAnotherKind
   head ← head_of ms
-  body ← body_by inner head.kind width height count ms
+  body ← body_by no_data inner head.kind width height count ms
   Ok (
     body.0,
     record {
@@ -182,15 +199,19 @@ layer_by inner width height count d = do
 -- an array of layers, where so many such arrays may stand in one another, itself among them
 --
 -- Its length is added to those of the arrays that were reached before it: a map has at most so many layers in all.
-unfoldable pub layers_at : ℕ → ℕ → ℕ → Counting (List Layer)
-layers_at zero width height count d = do
+unfoldable pub layers_at : NoData → ℕ → ℕ → ℕ → Counting (List Layer)
+layers_at no_data zero width height count d = do
   ds ← ok_or (as_array d) MemberOfAnotherKind
   Err OverLimit
-layers_at (suc groups) width height count d = do
+layers_at no_data (suc groups) width height count d = do
   ds ← ok_or (as_array d) MemberOfAnotherKind
   check (nat_le (count + items_len ds) layers_list.most) OverLimit
-  each_counted (layer_by (layers_at groups width height) width height) (count + items_len ds) ds
+  each_counted (layer_by no_data (layers_at no_data groups width height) width height) (count + items_len ds) ds
 
 -- the layers of a map: an array, and those of groups within as many groups as may stand in one another
 abbrev pub map_layers_at : ℕ → ℕ → Data → Result (List Layer) MapRefusal
-map_layers_at width height d = layers_at (suc MAX_GROUPS) width height 0 d >>= λ ls. Ok ls.1
+map_layers_at width height d = layers_at Refused (suc MAX_GROUPS) width height 0 d >>= λ ls. Ok ls.1
+
+-- a layer that is all layers of a map, with those that stand in it; a tile layer may lack its values
+abbrev pub lone_layer_at : ℕ → ℕ → Data → Result Layer MapRefusal
+lone_layer_at width height d = layer_by Empty (layers_at Empty MAX_GROUPS width height) width height 1 d >>= λ l. Ok l.1

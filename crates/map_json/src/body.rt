@@ -4,11 +4,11 @@ ghost use Rattle.serde_json.specs.Find.{get_member};
 ghost use Rattle.serde_json.specs.View.{view as data_of};
 ghost use Rattle.map_model.specs.Format.{body_names};
 ghost use Rattle.map_model.specs.declared.limits.TheConstants.{MAX_CELLS};
-ghost use Rattle.map_model.specs.declared.names.TheConstants.{TYPE, ENCODING, COMPRESSION, DATA};
+ghost use Rattle.map_model.specs.declared.names.TheConstants.{CHUNKS, TYPE, ENCODING, COMPRESSION, DATA};
 ghost use Rattle.map_model.specs.declared.parts.Encoding.TheVariants.{Array};
 ghost use Rattle.json_members.specs.Members.{without, without_all};
 ghost use Rattle.map_values.specs.Presence.{Gives, required, absent_means};
-ghost use Rattle.map_json.specs.Reading.{type_at, encoding_at, compression_at, same_at, cells_at, tiles_of, objects_of};
+ghost use Rattle.map_json.specs.Reading.{type_at, encoding_at, compression_at, same_at, cells_at, cells_or_empty, tile_values, tiles_of, objects_of};
 
 use crate::elements::required_elements;
 use crate::size::Size;
@@ -18,6 +18,16 @@ use map_values::{JsonObject, MapFault, Trail, array_cells, base64_cells};
 use refusals::MapRefusal;
 use serde_json::Value;
 use std::alloc::Global;
+use tile_id::Gid;
+
+/// What becomes of a tile layer whose `data` is absent.
+#[derive(Clone, Copy)]
+pub enum NoData {
+    /// It is refused.
+    Refused,
+    /// It is empty, unless it has chunks.
+    Empty,
+}
 
 /// The types of layers.
 #[derive(Clone, Copy)]
@@ -181,16 +191,61 @@ fn required_cells<T: Trail>(
     Ok(found)
 }
 
+// The values of a tile layer that may lack them: it is empty then, unless it has chunks.
+fn cells_or_empty<T: Trail>(
+    alloc: Global,
+    encoding: Encoding,
+    count: usize,
+    members: &mut JsonObject,
+    trail: &mut T,
+) -> Result<Cells, MapFault>
+    requires { count ≤ MAX_CELLS }
+    ensures value { Gives result
+        (cells_or_empty encoding count (get_member CHUNKS.now members.old) (get_member DATA.now members.old)) }
+    ensures left { members.new ≡ without DATA.now members.old }
+{
+    let has_chunks = members.get(names::CHUNKS).is_some();
+    let Some(value) = members.enter(names::DATA, trail) else {
+        if has_chunks {
+            return Err(MapFault::Refused(MapRefusal::MemberMissing));
+        }
+        trail.leave();
+        return Ok(Cells::new(vec![in alloc; Gid(0); count]?));
+    };
+    let found = cells(alloc, encoding, count, &value, trail)?;
+    trail.leave();
+    Ok(found)
+}
+
+fn tile_values<T: Trail>(
+    alloc: Global,
+    no_data: NoData,
+    encoding: Encoding,
+    count: usize,
+    members: &mut JsonObject,
+    trail: &mut T,
+) -> Result<Cells, MapFault>
+    requires { count ≤ MAX_CELLS }
+    ensures value { Gives result (tile_values no_data encoding count members.old) }
+    ensures left { members.new ≡ without DATA.now members.old }
+{
+    match no_data {
+        NoData::Refused => required_cells(alloc, encoding, count, members, trail),
+        NoData::Empty => cells_or_empty(alloc, encoding, count, members, trail),
+    }
+}
+
 /// What a tile layer holds.
 #[tactic(auto, using(crate::proofs::Lacking::takes), unfolding(crate::specs::Reading::tiles_of))]
 pub fn tiles<T: Trail>(
     alloc: Global,
     size: Size,
+    no_data: NoData,
     members: &mut JsonObject,
     trail: &mut T,
 ) -> Result<Body, MapFault>
     requires { size.width * size.height ≤ MAX_CELLS }
-    ensures value { Gives result (tiles_of size.width size.height members.old) }
+    ensures value { Gives result (tiles_of no_data size.width size.height members.old) }
     ensures kept { IfOk result (λ body. members.new ≡ without_all (body_names body) members.old) }
 {
     let encoding = encoding_or_array(members, trail)?;
@@ -198,7 +253,7 @@ pub fn tiles<T: Trail>(
     same_or_absent(members, names::WIDTH, size.width, trail)?;
     same_or_absent(members, names::HEIGHT, size.height, trail)?;
     let count = size.width as usize * size.height as usize;
-    let cells = required_cells(alloc, encoding, count, members, trail)?;
+    let cells = tile_values(alloc, no_data, encoding, count, members, trail)?;
     Ok(Body::Tiles(encoding, cells))
 }
 

@@ -1,5 +1,5 @@
 // Whether what must differ does, and ids are below the next one. The trail of what is not so stands at the fault.
-ghost use Rattle.std.specs.Prelude.{◌≡◌, ◌==◌, ◌++◌, [], ◌∷◌, nat_lt, is_none, IfOk, OnOk};
+ghost use Rattle.std.specs.Prelude.{◌≡◌, ◌==◌, ◌++◌, ◌&&◌, [], ◌∷◌, nat_lt, is_none, IfOk, OnOk};
 ghost use Rattle.std.specs.List.{list_all, flat_map};
 ghost use Rattle.std.specs.Ordering.{is_eq};
 ghost use Rattle.map_model.specs.WellFormed.{ids_of, layer_ids, object_ids, object_ids_in, object_ids_of, first_ids_of};
@@ -83,16 +83,16 @@ fn push_layers(layers: &Chain<Layer>, groups: usize, ids: &mut Ids) -> Result<()
     Ok(())
 }
 
-/// The ids of all layers and objects of a map, in drawing order.
-pub fn ids_of_map(alloc: Global, parts: &MapParts) -> Result<Ids, AllocError>
-    ensures layers { IfOk result (λ ids. ids.layers.items ≡ layer_ids parts.now.layers) }
-    ensures objects { IfOk result (λ ids. ids.objects.items ≡ object_ids parts.now.layers) }
+/// The ids of all these layers and of their objects, in drawing order.
+pub fn ids_of(alloc: Global, layers: &Chain<Layer>) -> Result<Ids, AllocError>
+    ensures layers { IfOk result (λ ids. ids.layers.items ≡ layer_ids layers.now) }
+    ensures objects { IfOk result (λ ids. ids.objects.items ≡ object_ids layers.now) }
 {
     let mut ids = Ids {
         layers: Vec::new(alloc),
         objects: Vec::new(alloc),
     };
-    push_layers(&parts.layers, MAX_GROUPS, &mut ids)?;
+    push_layers(layers, MAX_GROUPS, &mut ids)?;
     Ok(ids)
 }
 
@@ -274,8 +274,8 @@ fn names_in_layer_are_distinct<T: Trail>(
     )
 }
 
-// Whether no name stands twice among the properties of a layer, of an object, or of those in the groups among them.
-fn layer_names_are_distinct<T: Trail>(
+/// Whether no name stands twice among the properties of a layer, of an object, or of those in the groups among them.
+pub fn layer_names_are_distinct<T: Trail>(
     alloc: Global,
     layers: &Chain<Layer>,
     groups: usize,
@@ -357,4 +357,21 @@ pub fn are_below_next<T: Trail>(parts: &MapParts, ids: &Ids, trail: &mut T) -> b
     }
     let object = late_place(&ids.objects, parts.next_object_id);
     is_none_at_fault(&parts.layers, Owners::Objects, object, trail)
+}
+
+/// Whether no id stands twice among these and those of a map.
+pub fn are_new_ids(alloc: Global, ids: &Ids, map: &MapParts) -> Result<bool, AllocError>
+    ensures { IfOk result (λ answer. answer
+        ≡ (are_distinct (λ a b. a == b) (ids.now.layers.items ++ layer_ids map.now.layers)
+        && are_distinct (λ a b. a == b) (ids.now.objects.items ++ object_ids map.now.layers))) }
+{
+    let mut all = Ids {
+        layers: ids.layers.clone()?,
+        objects: ids.objects.clone()?,
+    };
+    push_layers(&map.layers, MAX_GROUPS, &mut all)?;
+    Ok(
+        second_number(alloc, &all.layers)?.is_none()
+            && second_number(alloc, &all.objects)?.is_none(),
+    )
 }

@@ -1,20 +1,29 @@
 // A whole thing that a JSON text of a line says, as a file has it.
-ghost use Rattle.std.specs.Prelude.{◌≡◌, ◌≤◌, ℕ, is_some, IfOk, OnOk, string_bytes};
+ghost use Rattle.std.specs.Prelude.{◌≡◌, ◌≤◌, ◌+◌, ℕ, false, is_some, IfOk, OnOk, string_bytes};
+ghost use Rattle.serde_json.specs.Data.{depth};
 ghost use Rattle.serde_json.specs.Find.{get_member};
+ghost use Rattle.serde_json.specs.View.{view as data_of};
+ghost use Rattle.serde_json.specs.Written.{has_float};
 ghost use Rattle.map_model.specs.declared.limits.TheConstants.{MAX_NEXT_ID};
 ghost use Rattle.map_model.specs.declared.names.TheConstants.{ID};
 ghost use Rattle.map_model.specs.Keeping.{deepest_tier, object_tier, property_tier};
+ghost use Rattle.map_model.specs.NewLayers.{IsNewLayer, own_layer_ids, own_object_ids};
+ghost use Rattle.map_model.specs.Readable.{IsReadable};
 ghost use Rattle.map_model.specs.WellFormed.{IsId, IsObject, IsProperty, IsTileset};
 ghost use Rattle.map_values.specs.Presence.{Gives, GivesBy};
-ghost use Rattle.map_json.specs.Given.{given_object_at, given_property_at, given_text_at, given_tileset_at, with_id};
+ghost use Rattle.map_json.specs.Given.{given_layer_at, given_object_at, given_property_at, given_text_at, given_tileset_at, layer_said, layer_tree_at, new_layer_at, with_id};
+ghost use Rattle.map_json.specs.declared.word.TheConstants.{MAX_WORD_DEPTH};
 
-use crate::doubles::names_are_distinct;
-use crate::elements::Element;
+use crate::doubles::{Ids, are_new_ids, ids_of, layer_names_are_distinct, names_are_distinct};
+use crate::elements::{Element, ElementList};
+use crate::layer::lone_layer;
 use crate::moved::moved_in;
 use crate::size::Size;
 use crate::word::{json_word, members_said};
-use fractions::{Fractions, Place, UNMOVED};
-use map_model::{Map, Object, Property, Tileset, names};
+use fractions::{Fractions, Place, UNMOVED, moved_aside};
+use link_chain::Chain;
+use map_model::limits::MAX_GROUPS;
+use map_model::{Layer, Map, Object, Property, Tileset, names};
 use map_values::{JsonObject, MapFault, NoTrail};
 use refusals::MapRefusal;
 use serde_json::Value;
@@ -73,6 +82,87 @@ pub fn given_object(
         return Err(MapFault::Refused(MapRefusal::IdUsedTwice));
     }
     Ok(GivenObject { object, has_id })
+}
+
+/// A layer that a JSON text of a line says, with those that stand in it.
+#[derive(Drop)]
+pub struct GivenLayer {
+    pub layer: Layer,
+    /// The ids of all these layers and of their objects.
+    pub ids: Ids,
+}
+
+// A layer that a line says of a map, as the map has it.
+fn layer_said(
+    alloc: Global,
+    fractions: Fractions,
+    map: &Map,
+    value: Value,
+) -> Result<Value, AllocError>
+    ensures { IfOk result (λ tree. data_of tree ≡ layer_said fractions map.now (data_of value)) }
+{
+    match fractions {
+        Fractions::Refused => Ok(value),
+        Fractions::SetAside => {
+            moved_aside(alloc, moved_in(fractions, map), Place::Layer, &value)
+        }
+    }
+}
+
+// The tree of the layer that a JSON text of a line says of a map, as the map has it.
+fn layer_tree(alloc: Global, fractions: Fractions, map: &Map, text: &str) -> Result<Value, MapFault>
+    ensures value { GivesBy data_of result (layer_tree_at fractions map.now text.now) }
+    ensures readable { IfOk result (λ tree. IsReadable (data_of tree)) }
+    ensures whole { IfOk result (λ tree. has_float (data_of tree) ≡ false) }
+    ensures shallow { IfOk result (λ tree. depth (data_of tree) ≤ MAX_WORD_DEPTH + 3) }
+{
+    let value = json_word(alloc, fractions, Place::Layer, text)?;
+    if !value.is_object() {
+        return Err(MapFault::Refused(MapRefusal::MemberOfAnotherKind));
+    }
+    let tree = layer_said(alloc, fractions, map, value)?;
+    Ok(tree)
+}
+
+// A layer with its ids, if none of them stands twice in it and in the map, nor a name within one owner in it.
+fn new_layer(alloc: Global, map: &Map, layer: Layer) -> Result<GivenLayer, MapFault>
+    ensures layer { GivesBy (λ given. given.layer) result (new_layer_at map.now layer) }
+    ensures layers { IfOk result (λ given. given.ids.layers.items ≡ own_layer_ids layer) }
+    ensures objects { IfOk result (λ given. given.ids.objects.items ≡ own_object_ids layer) }
+{
+    let mut alone = Chain::new(alloc);
+    alone.add(alloc, layer)?;
+    let ids = ids_of(alloc, &alone)?;
+    if !are_new_ids(alloc, &ids, map.parts())?
+        || !layer_names_are_distinct(alloc, &alone, MAX_GROUPS, &mut NoTrail)?
+    {
+        return Err(MapFault::Refused(MapRefusal::IdUsedTwice));
+    }
+    Ok(GivenLayer {
+        layer: alone.take(0).into_item(),
+        ids,
+    })
+}
+
+/// The layer that a JSON text of a line says of a map, with those that stand in it, or why it says none.
+///
+/// It is read as the only layer of a file, where each tile layer may lack its values: it is empty then, unless it has chunks. Then no
+/// id may stand twice in it and in the map, nor a name within one owner in it.
+#[tactic(auto, unfolding(crate::specs::Given::given_layer_at))]
+pub fn given_layer(
+    alloc: Global,
+    fractions: Fractions,
+    map: &Map,
+    text: &str,
+) -> Result<GivenLayer, MapFault>
+    ensures value { GivesBy (λ given. given.layer) result (given_layer_at fractions map.now text.now) }
+    ensures layers { IfOk result (λ given. given.ids.layers.items ≡ own_layer_ids given.layer) }
+    ensures objects { IfOk result (λ given. given.ids.objects.items ≡ own_object_ids given.layer) }
+    ensures sound { IfOk result (λ given. IsNewLayer map.now given.layer) }
+{
+    let tree = layer_tree(alloc, fractions, map, text)?;
+    let layer = lone_layer(alloc, Size::of_map(map.parts()), tree)?;
+    new_layer(alloc, map, layer)
 }
 
 /// The tileset that a JSON text of a line says, or why it says none.

@@ -8,16 +8,16 @@ ghost use Rattle.map_model.specs.declared.limits.TheConstants.{MAX_CELLS, MAX_LA
 ghost use Rattle.json_members.specs.Members.{without, without_all};
 ghost use Rattle.map_values.specs.Presence.{Gives, GivesBy, required};
 ghost use Rattle.map_json.specs.Elements.{each_counted};
-ghost use Rattle.map_json.specs.Reading.{body_by, head_of, layer_by, layers_at, map_layers_at};
+ghost use Rattle.map_json.specs.Reading.{body_by, head_of, layer_by, layers_at, lone_layer_at, map_layers_at};
 
-use crate::body::{LayerType, objects, required_type, tiles};
+use crate::body::{LayerType, NoData, objects, required_type, tiles};
 use crate::elements::{ElementList, array_of};
 use crate::property::properties_or_none;
 use crate::size::Size;
 use link_chain::Chain;
 use map_model::limits::{MAX_GROUPS, MAX_LAYERS};
 use map_model::{Body, Layer, MapText, Property, names};
-use map_values::{JsonObject, MapFault, Segment, Trail, required_id, text_or, truth_or};
+use map_values::{JsonObject, MapFault, NoTrail, Segment, Trail, required_id, text_or, truth_or};
 use refusals::MapRefusal;
 use serde_json::Value;
 use std::alloc::Global;
@@ -27,6 +27,7 @@ use std::alloc::Global;
 fn body<T: Trail>(
     alloc: Global,
     size: Size,
+    no_data: NoData,
     groups: usize,
     kind: LayerType,
     members: &mut JsonObject,
@@ -36,19 +37,19 @@ fn body<T: Trail>(
     requires size { size.width * size.height ≤ MAX_CELLS }
     requires few { count.old ≤ MAX_LAYERS }
     ensures value { GivesBy (λ body. (count.new, body)) result
-        (body_by (layers_at groups size.width size.height) kind size.width size.height count.old members.old) }
+        (body_by no_data (layers_at no_data groups size.width size.height) kind size.width size.height count.old members.old) }
     ensures kept { IfOk result (λ body. members.new ≡ without_all (body_names body) members.old) }
     ensures few { IfOk result (λ body. count.new ≤ MAX_LAYERS) }
 {
     match kind {
-        LayerType::TileLayer => tiles(alloc, size, members, trail),
+        LayerType::TileLayer => tiles(alloc, size, no_data, members, trail),
         LayerType::ObjectGroup => objects(alloc, size, members, trail),
         LayerType::ImageLayer => Ok(Body::Other),
         LayerType::GroupLayer => {
             let value = members
                 .enter(names::LAYERS, trail)
                 .ok_or(MapRefusal::MemberMissing)?;
-            let layers = layers_in(alloc, size, groups, value, count, trail)?;
+            let layers = layers_in(alloc, size, no_data, groups, value, count, trail)?;
             trail.leave();
             Ok(Body::Group(layers))
         }
@@ -94,6 +95,7 @@ fn read_head<T: Trail>(
 fn layer<T: Trail>(
     alloc: Global,
     size: Size,
+    no_data: NoData,
     groups: usize,
     value: Value,
     count: &mut usize,
@@ -102,12 +104,21 @@ fn layer<T: Trail>(
     requires size { size.width * size.height ≤ MAX_CELLS }
     requires few { count.old ≤ MAX_LAYERS }
     ensures value { GivesBy (λ layer. (count.new, layer)) result
-        (layer_by (layers_at groups size.width size.height) size.width size.height count.old (data_of value)) }
+        (layer_by no_data (layers_at no_data groups size.width size.height) size.width size.height count.old (data_of value)) }
     ensures few { IfOk result (λ layer. count.new ≤ MAX_LAYERS) }
 {
     let mut members = JsonObject::from_value(value).ok_or(MapRefusal::MemberOfAnotherKind)?;
     let head = read_head(alloc, size, &mut members, trail)?;
-    let body = body(alloc, size, groups, head.kind, &mut members, count, trail)?;
+    let body = body(
+        alloc,
+        size,
+        no_data,
+        groups,
+        head.kind,
+        &mut members,
+        count,
+        trail,
+    )?;
     Ok(Layer {
         id: head.id,
         name: head.name,
@@ -123,6 +134,7 @@ fn layer<T: Trail>(
 fn each_layer<T: Trail>(
     alloc: Global,
     size: Size,
+    no_data: NoData,
     groups: usize,
     values: Vec<Value>,
     count: &mut usize,
@@ -132,13 +144,13 @@ fn each_layer<T: Trail>(
     requires few { count.old ≤ MAX_LAYERS }
     requires short { length values.items ≤ MAX_LAYERS }
     ensures value { GivesBy (λ layers. (count.new, layers)) result
-        (each_counted (layer_by (layers_at groups size.width size.height) size.width size.height) count.old (items_view values.items)) }
+        (each_counted (layer_by no_data (layers_at no_data groups size.width size.height) size.width size.height) count.old (items_view values.items)) }
     ensures few { IfOk result (λ layers. count.new ≤ MAX_LAYERS) }
 {
     let mut found = Chain::new(alloc);
     for value in values {
         trail.enter(Segment::Element(found.len()));
-        let layer = layer(alloc, size, groups, value, count, trail)?;
+        let layer = layer(alloc, size, no_data, groups, value, count, trail)?;
         found.add(alloc, layer)?;
         trail.leave();
     }
@@ -151,6 +163,7 @@ fn each_layer<T: Trail>(
 fn layers_in<T: Trail>(
     alloc: Global,
     size: Size,
+    no_data: NoData,
     groups: usize,
     value: Value,
     count: &mut usize,
@@ -159,7 +172,7 @@ fn layers_in<T: Trail>(
     requires size { size.width * size.height ≤ MAX_CELLS }
     requires few { count.old ≤ MAX_LAYERS }
     ensures value { GivesBy (λ layers. (count.new, layers)) result
-        (layers_at groups size.width size.height count.old (data_of value)) }
+        (layers_at no_data groups size.width size.height count.old (data_of value)) }
     ensures few { IfOk result (λ layers. count.new ≤ MAX_LAYERS) }
 {
     let values = array_of(value).ok_or(MapRefusal::MemberOfAnotherKind)?;
@@ -167,7 +180,7 @@ fn layers_in<T: Trail>(
         return Err(MapFault::Refused(MapRefusal::OverLimit));
     }
     *count += values.len();
-    each_layer(alloc, size, groups - 1, values, count, trail)
+    each_layer(alloc, size, no_data, groups - 1, values, count, trail)
 }
 
 /// The layers of a map, which must be there. They are taken out.
@@ -186,7 +199,33 @@ pub fn map_layers<T: Trail>(
         .enter(names::LAYERS, trail)
         .ok_or(MapRefusal::MemberMissing)?;
     let mut count = 0;
-    let layers = layers_in(alloc, size, MAX_GROUPS + 1, value, &mut count, trail)?;
+    let layers = layers_in(
+        alloc,
+        size,
+        NoData::Refused,
+        MAX_GROUPS + 1,
+        value,
+        &mut count,
+        trail,
+    )?;
     trail.leave();
     Ok(layers)
+}
+
+/// A layer that is all layers of a map of that size, with those that stand in it. A tile layer may lack its values: it is empty
+/// then.
+pub fn lone_layer(alloc: Global, size: Size, value: Value) -> Result<Layer, MapFault>
+    requires { size.width * size.height ≤ MAX_CELLS }
+    ensures { Gives result (lone_layer_at size.width size.height (data_of value)) }
+{
+    let mut count = 1;
+    layer(
+        alloc,
+        size,
+        NoData::Empty,
+        MAX_GROUPS,
+        value,
+        &mut count,
+        &mut NoTrail,
+    )
 }

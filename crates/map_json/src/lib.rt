@@ -37,8 +37,11 @@ mod same_head;
 mod tileset_head;
 mod word;
 
+pub use doubles::Ids;
 pub use fractions::{Fractions, Moved, Place};
-pub use given::{GivenObject, given_object, given_property, given_text, given_tileset};
+pub use given::{
+    GivenLayer, GivenObject, given_layer, given_object, given_property, given_text, given_tileset,
+};
 pub use layer_head::{is_layer_head, is_layer_member, layer_head_members, read_layer_head};
 pub use map_head::{is_map_head, is_map_member, map_head_members, read_map_head};
 pub use map_text::{saved_is_opened, write_map, write_outline, written_is_read};

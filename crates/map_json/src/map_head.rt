@@ -6,7 +6,7 @@ ghost use Rattle.map_values.specs.Presence.{Gives};
 ghost use Rattle.map_json.specs.Distinctness.{are_below_next};
 ghost use Rattle.map_json.specs.MapHeads.{is_map_member, map_head_at, map_head_members, map_head_said};
 
-use crate::doubles::{Ids, ids_of_map, late_place};
+use crate::doubles::{Ids, ids_of, late_place};
 use json_trees::{RESERVED_NAME, members_are_same};
 use map_model::limits::MAX_TILE_SIDE;
 use map_model::{Map, MapHead, names};
@@ -99,7 +99,7 @@ pub fn read_map_head(alloc: Global, map: &Map, members: JsonObject) -> Result<Ma
     ensures { Gives result (map_head_at map.now members) }
 {
     let head = said(members)?;
-    let ids = ids_of_map(alloc, map.parts())?;
+    let ids = ids_of(alloc, &map.parts().layers)?;
     if !is_above_ids(map, &ids, &head) {
         return Err(MapFault::Refused(MapRefusal::OverLimit));
     }

@@ -4,7 +4,7 @@ ghost use Rattle.serde_json.specs.View.{view as data_of};
 ghost use Rattle.map_values.specs.Presence.{Gives};
 ghost use Rattle.map_json.specs.Maps.{is_map_type, parts_of, consistent, map_of, Says};
 
-use crate::doubles::{are_below_next, ids_are_unique, ids_of_map};
+use crate::doubles::{are_below_next, ids_are_unique, ids_of};
 use crate::floats::has_fraction;
 use crate::layer::map_layers;
 use crate::property::properties_or_none;
@@ -65,7 +65,7 @@ fn parts_of<T: Trail>(
 fn consistent<T: Trail>(alloc: Global, parts: MapParts, trail: &mut T) -> Result<MapParts, MapFault>
     ensures { Gives result (consistent parts) }
 {
-    let ids = ids_of_map(alloc, &parts)?;
+    let ids = ids_of(alloc, &parts.layers)?;
     if !ids_are_unique(alloc, &parts, &ids, trail)? {
         return Err(MapFault::Refused(MapRefusal::IdUsedTwice));
     }

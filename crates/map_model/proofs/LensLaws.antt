@@ -7,7 +7,7 @@ use Rattle.map_model.specs.declared.parts.Object.{Object}
 use Rattle.map_model.specs.declared.parts.Tileset.{Tileset}
 use Rattle.map_model.specs.declared.place.ObjectPlace.{ObjectPlace}
 use Rattle.map_model.specs.Document.{DocumentParts, with_selection}
-use Rattle.map_model.specs.Layers.{layer_name, layer_with_name, layer_visible, layer_with_visible}
+use Rattle.map_model.specs.Layers.{layer_name, layer_with_name, layer_visible, layer_with_visible, next_ids_of, with_next_ids}
 use Rattle.map_model.specs.Lists.{change_at}
 use Rattle.map_model.specs.Objects.{objects_of, object_at, object_placing, object_with_placing}
 use Rattle.map_model.specs.Lookups.{layer_of}
@@ -16,7 +16,7 @@ use Rattle.map_model.proofs.GroupBodies.{group_of-with, body_with_layers-along, 
 use Rattle.map_model.proofs.TreeChanges.{layer_among-change_among, change_among-change_among, change_among-along, change_among-same}
 use Rattle.map_model.proofs.FirstChanges.{change_first-change_first, find-change_first, change_first-along, change_first-same}
 use Rattle.map_model.specs.Lens.{Lens, IsLawfulLens, AreApart, whole, inner, of_first, of_place, layers, group, siblings, of_layer, objects, layer_objects}
-use Rattle.map_model.specs.Lens.{of_object, of_tileset, next_layer_id, next_object_id, name, visible, selection, tilesets, placing, put}
+use Rattle.map_model.specs.Lens.{of_object, of_tileset, next_ids, next_layer_id, next_object_id, name, visible, selection, tilesets, placing, put}
 use Rattle.map_model.specs.Tilesets.{has_first_id}
 
 pub some-eq : {V : Type 0} (v w : V) → Some v ≡ Some w → v ≡ w
@@ -101,6 +101,10 @@ pub next_layer_id-laws : IsLawfulLens next_layer_id
 next_layer_id-laws = whole-laws (λ d. d.map.next_layer_id) (λ n d. record d { map = record d.map { next_layer_id = n } }) (λ v d. refl) (λ d. refl)
     (λ v w d. refl)
 
+pub next_ids-laws : IsLawfulLens next_ids
+next_ids-laws = whole-laws (λ d. next_ids_of d.map) (λ n d. record d { map = with_next_ids n.layer n.object d.map }) (λ v d. refl) (λ d. refl)
+    (λ v w d. refl)
+
 pub next_object_id-laws : IsLawfulLens next_object_id
 next_object_id-laws = whole-laws (λ d. d.map.next_object_id) (λ n d. record d { map = record d.map { next_object_id = n } }) (λ v d. refl) (λ d. refl)
     (λ v w d. refl)
@@ -119,6 +123,10 @@ selection-laws = whole-laws (λ d. d.selection) with_selection (λ v d. refl) (�
 
 pub layers-next_layer_id : AreApart layers next_layer_id
 layers-next_layer_id = record { get-left = λ g d. refl; get-right = λ f d. refl; swapped = λ f g d. refl }
+
+pub siblings-next_ids : (parent : Option ℕ) → AreApart (siblings parent) next_ids
+siblings-next_ids None = record { get-left = λ g d. refl; get-right = λ f d. refl; swapped = λ f g d. refl }
+siblings-next_ids (Some id) = record { get-left = λ g d. refl; get-right = λ f d. refl; swapped = λ f g d. refl }
 
 pub of_layer-laws : {V : Type 0} (id : ℕ) (p : Lens Layer V) → ((f : V → V) (l : Layer) → (p.update f l).id ≡ l.id) → IsLawfulLens p
     → IsLawfulLens (of_layer id p)

@@ -12,6 +12,7 @@ pub mod FoundLaws
 pub mod Keeps
 pub mod Listings
 pub mod Lookups
+pub mod NewLayers
 pub mod NewMaps
 pub mod ObjectKeeps
 pub mod ObjectPlaces

@@ -74,7 +74,7 @@ module _ (p : Option ℕ) (f : List Layer → List Layer) (m : MapParts) where
       by_parent None h = h
       by_parent (Some id) h = h
 
-  with_siblings-IsWellFormed : AreLayers (m.width * m.height) m.next_layer_id m.next_object_id (with_siblings p f m).layers → IsWellFormed m
+  pub with_siblings-IsWellFormed : AreLayers (m.width * m.height) m.next_layer_id m.next_object_id (with_siblings p f m).layers → IsWellFormed m
       → IsWellFormed (with_siblings p f m)
   with_siblings-IsWellFormed = by_parent p
     where

@@ -28,7 +28,7 @@ use Rattle.map_model.specs.WellFormed.{IsTileset, IsTileValue, IsLayer, IsSize, 
 use Rattle.map_model.proofs.GroupBodies.{IsLayer-with}
 use Rattle.map_model.proofs.Keeps.{tree-alone}
 
-Each-replicate : {X : Type 0} (P : X → Type 0) (n : ℕ) (x : X) → P x → Each P (replicate n x)
+pub Each-replicate : {X : Type 0} (P : X → Type 0) (n : ℕ) (x : X) → P x → Each P (replicate n x)
 Each-replicate P zero x p = tt
 Each-replicate P (suc n) x p = (p, Each-replicate P n x p)
 

@@ -2,13 +2,15 @@
 use Rattle.std.proofs.Common.{◌≡◌, ℕ, ◌+◌, ◌-◌, ◌<◌, ◌≤◌, List, length, Option, Some, None, IsSome, IsSomeAnd, option_and_then, refl, ap, ◌∙◌, arith}
 use Rattle.std.specs.List.{slice_get, insert, remove}
 use Rattle.std.proofs.lemmas.List.Edits.{length-remove}
+use Rattle.map_model.specs.declared.next_ids.NextIds.{NextIds}
 use Rattle.map_model.specs.declared.place.LayerPlace.{LayerPlace}
 use Rattle.map_model.specs.declared.place.ObjectPlace.{ObjectPlace}
 use Rattle.map_model.specs.Document.{DocumentParts}
-use Rattle.map_model.specs.Lens.{Lens, IsLawfulLens, AreApart, layers, siblings, next_layer_id, tilesets, layer_objects, next_object_id}
-use Rattle.map_model.specs.Slot.{IsLawfulSlot, slot_in, next_slot_in, layer_slot, next_layer_slot, tileset_slot, object_slot, next_object_slot}
-use Rattle.map_model.proofs.LensLaws.{layers-laws, siblings-laws, next_layer_id-laws, layers-next_layer_id, tilesets-laws, layer_objects-laws}
-use Rattle.map_model.proofs.LensLaws.{next_object_id-laws, layer_objects-next_object_id}
+use Rattle.map_model.specs.Lens.{Lens, IsLawfulLens, AreApart, layers, siblings, next_ids, next_layer_id, tilesets, layer_objects, next_object_id}
+use Rattle.map_model.specs.Slot.{IsLawfulSlot, slot_in, next_slot_in, raising_slot_in, layer_slot, new_layer_slot, next_layer_slot, tileset_slot, object_slot}
+use Rattle.map_model.specs.Slot.{next_object_slot}
+use Rattle.map_model.proofs.LensLaws.{layers-laws, siblings-laws, next_ids-laws, next_layer_id-laws, layers-next_layer_id, siblings-next_ids, tilesets-laws}
+use Rattle.map_model.proofs.LensLaws.{layer_objects-laws, next_object_id-laws, layer_objects-next_object_id}
 use Rattle.map_model.proofs.Changes.{remove-insert, insert-remove, slice_get-insert, length-insert, slice_get-within, slice_get-Some, within-removed}
 
 -- ---- places in a list
@@ -34,6 +36,41 @@ slot_in-laws {X = X} p laws k = record {
     place : (x : X) (o : Option (List X)) → option_and_then (λ xs. slice_get xs k) o ≡ Some x → (xs : List X) × ((o ≡ Some xs) × (slice_get xs k ≡ Some x))
     place x None e = cc
     place x (Some xs) e = (xs, (refl, e))
+
+-- ---- places in a list that raise ids
+pub raising_slot_in-laws : {X V : Type 0} (p : Lens DocumentParts (List X)) (ids : Lens DocumentParts V) → IsLawfulLens p → IsLawfulLens ids → AreApart p ids
+    → (next raised : V) (k : ℕ)
+    → IsLawfulSlot (raising_slot_in p ids next raised k)
+raising_slot_in-laws {X = X} {V = V} p ids laws id-laws apart next raised k = record {
+  there = λ d h. own.there d h.1;
+  filled = λ x d h. (
+    id-laws.get-update (λ n. raised) next (p.update (more x) d) (apart.get-right (more x) d ∙ h.0),
+    rw (apart.get-left (λ n. raised) (p.update (more x) d)) (own.filled x d h.1),
+  );
+  without-with = λ x d h.
+      ap (ids.update (λ n. next)) (apart.swapped less (λ n. raised) (p.update (more x) d) ∙ ap (ids.update (λ n. raised)) (own.without-with x d h.1))
+      ∙ back next raised d h.0;
+  vacated = λ x d h e. (
+    id-laws.get-update (λ n. next) raised (p.update less d) (apart.get-right less d ∙ h.0),
+    rw (apart.get-left (λ n. next) (p.update less d)) (own.vacated x d h.1 e),
+  );
+  with-without = λ x d h e.
+      ap (ids.update (λ n. raised)) (apart.swapped (more x) (λ n. next) (p.update less d) ∙ ap (ids.update (λ n. next)) (own.with-without x d h.1 e))
+      ∙ back raised next d h.0;
+}
+  where
+    own : IsLawfulSlot (slot_in p k)
+    own = slot_in-laws p laws k
+
+    more : X → List X → List X
+    more x xs = insert xs k x
+
+    less : List X → List X
+    less xs = remove xs k
+
+    -- ids that are set to others and back
+    back : (v w : V) (d : DocumentParts) → ids.get d ≡ Some v → ids.update (λ n. v) (ids.update (λ n. w) d) ≡ d
+    back v w d e = id-laws.update-update (λ n. v) (λ n. w) d ∙ id-laws.update-same (λ n. v) v d e refl
 
 -- ---- the place behind a list
 last_there : {X : Type 0} (xs : List X) → 0 < length xs → IsSome (slice_get xs (length xs - 1))
@@ -99,6 +136,10 @@ layer_slot-laws place = slot_in-laws (siblings place.parent) (siblings-laws plac
 
 pub next_layer_slot-laws : (id : ℕ) → IsLawfulSlot (next_layer_slot id)
 next_layer_slot-laws id = next_slot_in-laws layers next_layer_id layers-laws next_layer_id-laws layers-next_layer_id id (id + 1)
+
+pub new_layer_slot-laws : (place : LayerPlace) (next raised : NextIds) → IsLawfulSlot (new_layer_slot place next raised)
+new_layer_slot-laws place next raised =
+    raising_slot_in-laws (siblings place.parent) next_ids (siblings-laws place.parent) next_ids-laws (siblings-next_ids place.parent) next raised place.at
 
 -- ---- the place of a tileset
 pub tileset_slot-laws : (at : ℕ) → IsLawfulSlot (tileset_slot at)

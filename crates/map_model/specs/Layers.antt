@@ -5,6 +5,7 @@ use Rattle.std.specs.List.{insert, remove}
 use Rattle.map_model.specs.declared.limits.TheConstants.{MAX_GROUPS}
 use Rattle.map_model.specs.declared.parts.Layer.{Layer}
 use Rattle.map_model.specs.declared.parts.MapParts.{MapParts}
+use Rattle.map_model.specs.declared.next_ids.NextIds.{NextIds}
 use Rattle.map_model.specs.declared.place.LayerPlace.{LayerPlace}
 use Rattle.map_model.specs.Groups.{group_of, has_id, inside, layer_with_layers}
 use Rattle.map_model.specs.Lists.{first_some, or_else}
@@ -88,3 +89,6 @@ layer_with_visible visible l = record l { visible = visible }
 -- the map with these next ids, of a layer and of an object
 abbrev pub with_next_ids : ℕ → ℕ → MapParts → MapParts
 with_next_ids layer object m = record m { next_layer_id = layer; next_object_id = object }
+
+abbrev pub next_ids_of : MapParts → NextIds
+next_ids_of m = record { layer = m.next_layer_id; object = m.next_object_id }

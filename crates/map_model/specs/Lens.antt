@@ -6,10 +6,11 @@ use Rattle.map_model.specs.declared.parts.Layer.{Layer}
 use Rattle.map_model.specs.declared.parts.Object.{Object}
 use Rattle.map_model.specs.declared.parts.Tileset.{Tileset}
 use Rattle.map_model.specs.declared.parts.Placing.{Placing}
+use Rattle.map_model.specs.declared.next_ids.NextIds.{NextIds}
 use Rattle.map_model.specs.declared.place.ObjectPlace.{ObjectPlace}
 use Rattle.map_model.specs.Document.{DocumentParts, with_map, with_selection}
 use Rattle.map_model.specs.Groups.{group_of, layer_with_layers}
-use Rattle.map_model.specs.Layers.{layer_name, layer_with_name, layer_visible, layer_with_visible}
+use Rattle.map_model.specs.Layers.{layer_name, layer_with_name, layer_visible, layer_with_visible, next_ids_of, with_next_ids}
 use Rattle.map_model.specs.Lists.{change_at, change_first}
 use Rattle.map_model.specs.Objects.{objects_of, layer_with_objects, object_place, object_placing, object_with_placing}
 use Rattle.map_model.specs.Lookups.{layer_of, with_layer}
@@ -120,6 +121,10 @@ of_tileset first_id p = record {
 -- the next layer id
 abbrev pub next_layer_id : Lens DocumentParts ℕ
 next_layer_id = whole (λ d. d.map.next_layer_id) (λ n d. record d { map = record d.map { next_layer_id = n } })
+
+-- both next ids
+abbrev pub next_ids : Lens DocumentParts NextIds
+next_ids = whole (λ d. next_ids_of d.map) (λ n d. record d { map = with_next_ids n.layer n.object d.map })
 
 -- the next object id
 abbrev pub next_object_id : Lens DocumentParts ℕ

@@ -11,6 +11,7 @@ pub mod Keeping
 pub mod Layers
 pub mod Lists
 pub mod Objects
+pub mod NewLayers
 pub mod NewMap
 pub mod Lens
 pub mod Lookups

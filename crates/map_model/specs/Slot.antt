@@ -4,10 +4,11 @@ use Rattle.std.specs.List.{insert, remove}
 use Rattle.map_model.specs.declared.parts.Layer.{Layer}
 use Rattle.map_model.specs.declared.parts.Tileset.{Tileset}
 use Rattle.map_model.specs.declared.parts.Object.{Object}
+use Rattle.map_model.specs.declared.next_ids.NextIds.{NextIds}
 use Rattle.map_model.specs.declared.place.LayerPlace.{LayerPlace}
 use Rattle.map_model.specs.declared.place.ObjectPlace.{ObjectPlace}
 use Rattle.map_model.specs.Document.{DocumentParts}
-use Rattle.map_model.specs.Lens.{Lens, layers, siblings, next_layer_id, tilesets, layer_objects, next_object_id}
+use Rattle.map_model.specs.Lens.{Lens, put, layers, siblings, next_ids, next_layer_id, tilesets, layer_objects, next_object_id}
 
 -- a place at which a thing can stand: the document with one there and without it, and when it is vacant and filled
 pub record Slot (X : Type 0) : Type 1 where
@@ -45,6 +46,16 @@ next_slot_in p ids next raised = record {
   is_filled = λ d. (ids.get d ≡ Some raised) × IsSomeAnd (p.get d) (λ xs. 0 < length xs);
 }
 
+-- the place k of a list, for a thing with ids: the next ids are `next` while it is away, and `raised` once it is there
+abbrev pub raising_slot_in : {X V : Type 0} → Lens DocumentParts (List X) → Lens DocumentParts V → V → V → ℕ → Slot X
+raising_slot_in p ids next raised k = record {
+  item = (slot_in p k).item;
+  with_item = λ x d. put ids raised ((slot_in p k).with_item x d);
+  without_item = λ d. put ids next ((slot_in p k).without_item d);
+  is_vacant = λ d. (ids.get d ≡ Some next) × (slot_in p k).is_vacant d;
+  is_filled = λ d. (ids.get d ≡ Some raised) × (slot_in p k).is_filled d;
+}
+
 -- ---- slots of layers
 -- the place of a layer among its siblings
 abbrev pub layer_slot : LayerPlace → Slot Layer
@@ -53,6 +64,10 @@ layer_slot place = slot_in (siblings place.parent) place.at
 -- the place behind the last layer that stands in no group, of a layer with the next id
 abbrev pub next_layer_slot : ℕ → Slot Layer
 next_layer_slot id = next_slot_in layers next_layer_id id (id + 1)
+
+-- the place of a layer among its siblings, of one that raises the next ids so
+abbrev pub new_layer_slot : LayerPlace → NextIds → NextIds → Slot Layer
+new_layer_slot place next raised = raising_slot_in (siblings place.parent) next_ids next raised place.at
 
 -- ---- the place of a tileset
 abbrev pub tileset_slot : ℕ → Slot Tileset

@@ -18,6 +18,7 @@ mod layers;
 pub mod limits;
 mod map;
 pub mod names;
+mod next_ids;
 mod objects;
 mod owner;
 mod parts;
@@ -36,6 +37,7 @@ pub use document::Document;
 pub use edit::{CellEdit, Side};
 pub use heads::{LayerHead, MapHead, ObjectHead, TilesetHead};
 pub use map::Map;
+pub use next_ids::NextIds;
 pub use owner::{MemberOwner, Owner};
 pub use parts::{
     Body, Encoding, Layer, LayerKind, MapParts, MoreLayerKind, Object, Placing, PropValue,

@@ -5,7 +5,7 @@ use Rattle.map_model.specs.declared.parts.MoreLayerKind.TheVariants.{Group, Imag
 use Rattle.refusals.specs.declared.line_fault.LineFault.{LineFault}
 use Rattle.session.specs.declared.line.Line.TheVariants.{Quiet}
 use Rattle.session.specs.declared.more_line.MoreLine.{MoreLine}
-use Rattle.session.specs.declared.more_line.MoreLine.TheVariants.{SetMember, PutMembers, RemoveMember, AddLayer, PutObject}
+use Rattle.session.specs.declared.more_line.MoreLine.TheVariants.{SetMember, PutMembers, RemoveMember, AddLayer, PutObject, PutLayer}
 use Rattle.session.specs.declared.more_line.MoreLine.TheVariants.{ReparentObject, ReparentLayer, PutProperty, TakeProperty, PutTileset, NumberTileset, Extend}
 use Rattle.session.specs.Grammar.{is_quiet, line_form, line_of, read, word_at}
 use Rattle.session.specs.MoreSpelling.{MoreIsNotALine, more_spelling, more_tokens}
@@ -30,6 +30,7 @@ refused (AddLayer Image name) = record { fault = _; are = refl; loud = refl }
 refused (PutObject layer json) = record { fault = _; are = refl; loud = refl }
 refused (ReparentObject object layer place) = record { fault = _; are = refl; loud = refl }
 refused (ReparentLayer layer group place) = record { fault = _; are = refl; loud = refl }
+refused (PutLayer group place json) = record { fault = _; are = refl; loud = refl }
 refused (PutProperty owner json) = record { fault = _; are = refl; loud = refl }
 refused (TakeProperty owner json) = record { fault = _; are = refl; loud = refl }
 refused (PutTileset json) = record { fault = _; are = refl; loud = refl }

@@ -9,7 +9,7 @@ use Rattle.std.proofs.lemmas.Str.{IsUtf8-from_is_utf8}
 use Rattle.map_model.specs.declared.parts.MoreLayerKind.TheVariants.{Group, Image}
 use Rattle.session.specs.declared.limits.TheConstants.{MAX_LINE}
 use Rattle.session.specs.declared.more_line.MoreLine.{MoreLine}
-use Rattle.session.specs.declared.more_line.MoreLine.TheVariants.{SetMember, PutMembers, RemoveMember, AddLayer, PutObject}
+use Rattle.session.specs.declared.more_line.MoreLine.TheVariants.{SetMember, PutMembers, RemoveMember, AddLayer, PutObject, PutLayer}
 use Rattle.session.specs.declared.more_line.MoreLine.TheVariants.{ReparentObject, ReparentLayer, PutProperty, TakeProperty, PutTileset, NumberTileset, Extend}
 use Rattle.refusals.specs.declared.line_fault.LineFault.{LineFault}
 use Rattle.session.specs.Grammar.{Gives, read}
@@ -41,6 +41,7 @@ facts (AddLayer Image name) = record { follows = refl; plain = refl; first = _; 
 facts (PutObject layer json) = record { follows = refl; plain = refl; first = _; more = _; words = refl }
 facts (ReparentObject object layer place) = record { follows = refl; plain = refl; first = _; more = _; words = refl }
 facts (ReparentLayer layer group place) = record { follows = refl; plain = refl; first = _; more = _; words = refl }
+facts (PutLayer group place json) = record { follows = refl; plain = refl; first = _; more = _; words = refl }
 facts (PutProperty owner json) = record { follows = refl; plain = refl; first = _; more = _; words = refl }
 facts (TakeProperty owner json) = record { follows = refl; plain = refl; first = _; more = _; words = refl }
 facts (PutTileset json) = record { follows = refl; plain = refl; first = _; more = _; words = refl }

@@ -5,7 +5,7 @@ use Rattle.std.specs.Str.{is_utf8}
 use Rattle.map_model.specs.declared.parts.MoreLayerKind.TheVariants.{Group, Image}
 use Rattle.session.specs.declared.limits.TheConstants.{MAX_LINE}
 use Rattle.session.specs.declared.more_line.MoreLine.{MoreLine}
-use Rattle.session.specs.declared.more_line.MoreLine.TheVariants.{SetMember, PutMembers, RemoveMember, AddLayer, PutObject}
+use Rattle.session.specs.declared.more_line.MoreLine.TheVariants.{SetMember, PutMembers, RemoveMember, AddLayer, PutObject, PutLayer}
 use Rattle.session.specs.declared.more_line.MoreLine.TheVariants.{ReparentObject, ReparentLayer, PutProperty, TakeProperty, PutTileset, NumberTileset, Extend}
 use Rattle.refusals.specs.declared.line_fault.LineFault.{LineFault}
 use Rattle.refusals.specs.declared.line_fault.LineFault.TheVariants.{TooLong, NotUtf8, UnknownCommand, BadWord}
@@ -41,9 +41,14 @@ abbrev pub reparent_layer_form : LineForm MoreLine
 reparent_layer_form =
     Field Number λ layer. Field Number λ group. Field Number λ place. Ends (ReparentLayer layer group place)
 
+-- the group or 0 for none, and the place there
+abbrev pub put_layer_form : LineForm MoreLine
+put_layer_form = Field Number λ group. Field Number λ place. Json (PutLayer group place)
+
 -- what else is done with a layer
 abbrev pub more_layer_lines : List (List ℕ × LineForm MoreLine)
-more_layer_lines = (codes "add", choose more_layer_kinds BadWord) ∷ (codes "into", reparent_layer_form) ∷ []
+more_layer_lines =
+    (codes "add", choose more_layer_kinds BadWord) ∷ (codes "into", reparent_layer_form) ∷ (codes "put", put_layer_form) ∷ []
 
 abbrev pub put_object_form : LineForm MoreLine
 put_object_form = Field Number λ layer. Json (PutObject layer)

@@ -5,7 +5,7 @@ use Rattle.map_model.specs.declared.parts.MoreLayerKind.{MoreLayerKind}
 use Rattle.map_model.specs.declared.parts.MoreLayerKind.TheVariants.{Group, Image}
 use Rattle.session.specs.declared.limits.TheConstants.{MAX_LINE}
 use Rattle.session.specs.declared.more_line.MoreLine.{MoreLine}
-use Rattle.session.specs.declared.more_line.MoreLine.TheVariants.{SetMember, PutMembers, RemoveMember, AddLayer, PutObject}
+use Rattle.session.specs.declared.more_line.MoreLine.TheVariants.{SetMember, PutMembers, RemoveMember, AddLayer, PutObject, PutLayer}
 use Rattle.session.specs.declared.more_line.MoreLine.TheVariants.{ReparentObject, ReparentLayer, PutProperty, TakeProperty, PutTileset, NumberTileset, Extend}
 use Rattle.refusals.specs.declared.line_fault.LineFault.TheVariants.{TooLong}
 use Rattle.session.specs.Grammar.{Number, Key, OwnerName, OwnerOfMembers, line_of}
@@ -41,6 +41,8 @@ more_tokens (ReparentLayer layer group place) =
     ∷ Given Number group
     ∷ Given Number place
     ∷ []
+more_tokens (PutLayer group place json) =
+    Fixed (codes "layer") ∷ Fixed (codes "put") ∷ Given Number group ∷ Given Number place ∷ RestJson json ∷ []
 more_tokens (PutProperty owner json) = Fixed (codes "prop") ∷ Fixed (codes "put") ∷ Given OwnerName owner ∷ RestJson json ∷ []
 more_tokens (TakeProperty owner json) = Fixed (codes "prop") ∷ Fixed (codes "take") ∷ Given OwnerName owner ∷ RestJson json ∷ []
 more_tokens (PutTileset json) = Fixed (codes "tileset") ∷ Fixed (codes "put") ∷ RestJson json ∷ []

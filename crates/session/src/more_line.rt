@@ -47,6 +47,13 @@ pub enum MoreLine<'a> {
         group: u32,
         place: u32,
     },
+    /// The layer that a JSON text says, with all in it, goes into the group, or into no group where that is 0, to that place among the
+    /// layers there, where the first one is at 0.
+    PutLayer {
+        group: u32,
+        place: u32,
+        json: Text<'a>,
+    },
     /// The property that a JSON text says is put in, or takes the place of the one of its name.
     PutProperty {
         owner: Owner,

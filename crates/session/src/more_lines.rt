@@ -3,7 +3,7 @@ ghost use Rattle.std.specs.Prelude.{◌≡◌, ◌∷◌, IfErr, IfOk, true};
 ghost use Rattle.refusals.specs.declared.line_fault.LineFault.TheVariants.{BadWord, UnknownCommand};
 ghost use Rattle.session.specs.Grammar.{Gives, choose, read};
 ghost use Rattle.session.specs.Left.{fault_at, next};
-ghost use Rattle.session.specs.MoreGrammar.{extend_form, more_form, more_layer_kinds, more_layer_lines, more_line_of, more_object_lines, more_property_lines, more_tileset_lines, number_tileset_form, put_object_form, put_property_form, put_tileset_form, reparent_layer_form, reparent_object_form, take_property_form};
+ghost use Rattle.session.specs.MoreGrammar.{extend_form, more_form, more_layer_kinds, more_layer_lines, more_line_of, more_object_lines, more_property_lines, more_tileset_lines, number_tileset_form, put_layer_form, put_object_form, put_property_form, put_tileset_form, reparent_layer_form, reparent_object_form, take_property_form};
 ghost use Rattle.session.specs.MoreFaults.{IsMoreFaultAt};
 ghost use Rattle.session.specs.MoreSpelling.{CanBeSpelledMore, more_spelling};
 ghost use Rattle.session.specs.WordFaults.{is_at_more_word};
@@ -49,6 +49,16 @@ fn reparent_layer<'a, T: Trail + Copy>(
     })
 }
 
+fn put_layer<'a, T: Trail + Copy>(fields: &mut Fields<'a, T>) -> Result<MoreLine<'a>, LineFault>
+    ensures value { Gives (λ x. x) result (read put_layer_form fields.old.words) }
+    ensures place { IfErr result (λ _. fields.new.place ≡ fault_at put_layer_form (next fields.old.place) fields.old.words) }
+{
+    let group = fields.number()?;
+    let place = fields.number()?;
+    let json = fields.json()?;
+    Ok(MoreLine::PutLayer { group, place, json })
+}
+
 // The line of layers that the words behind `layer` are.
 fn layer<'a, T: Trail + Copy>(fields: &mut Fields<'a, T>) -> Result<MoreLine<'a>, LineFault>
     ensures value { Gives (λ x. x) result (read (choose more_layer_lines BadWord) fields.old.words) }
@@ -57,6 +67,7 @@ fn layer<'a, T: Trail + Copy>(fields: &mut Fields<'a, T>) -> Result<MoreLine<'a>
     match fields.word(Expected::Action)? {
         "add" => add_layer(fields),
         "into" => reparent_layer(fields),
+        "put" => put_layer(fields),
         _ => Err(LineFault::BadWord),
     }
 }

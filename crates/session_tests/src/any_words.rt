@@ -7,7 +7,7 @@ type Case = (&'static str, usize, usize, &'static str);
 
 const OWNER: &str = "word 3 is not map, or layer: or object: or tileset: and an id";
 
-const AT_FAULT: [Case; 37] = [
+const AT_FAULT: [Case; 39] = [
     ("frob 1", 0, 4, "word 1 is not a command"),
     ("layers add group a", 0, 6, "word 1 is not a command"),
     (
@@ -103,6 +103,13 @@ const AT_FAULT: [Case; 37] = [
         0,
         "word 5 is missing: a whole number from 0 to 4294967295, with no zero in front",
     ),
+    (
+        "layer put 0 x {}",
+        12,
+        1,
+        "word 4 is not a whole number from 0 to 4294967295, with no zero in front",
+    ),
+    ("layer put 0 0", 13, 0, "word 5 is missing: a JSON text"),
     ("extend 0 0 1 1 1", 15, 1, "word 6 is one too many"),
     (
         "extend 0 0 1 -1",

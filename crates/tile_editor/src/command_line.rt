@@ -80,6 +80,7 @@ Further lines, with --all-edits:
   layer add group NAME
   layer add image NAME
   layer into LAYER GROUP PLACE
+  layer put GROUP PLACE JSON
   object put LAYER JSON
   object into OBJECT LAYER PLACE
   prop put OWNER JSON

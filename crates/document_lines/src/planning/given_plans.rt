@@ -2,6 +2,7 @@
 ghost use Rattle.std.specs.Prelude.{◌≡◌, false, IfOk, IfErr};
 ghost use Rattle.command_api.specs.Making.{Makes};
 ghost use Rattle.edits.specs.LayerEdits.{after_add_more};
+ghost use Rattle.layer_commands.specs.Changes.{add_change};
 ghost use Rattle.layer_commands.specs.Names.{add_names};
 ghost use Rattle.member_commands.specs.Edits.{IsMoreRefusalOf};
 ghost use Rattle.object_commands.specs.Changes.{add_object_change};
@@ -9,15 +10,17 @@ ghost use Rattle.object_commands.specs.Names.{add_object_names};
 ghost use Rattle.property_commands.specs.Names.{add_tileset_names, put_property_names, remove_property_names};
 ghost use Rattle.property_commands.specs.PropertyChanges.{put_property_change, remove_property_change};
 ghost use Rattle.property_commands.specs.TilesetChanges.{add_tileset_change};
-ghost use Rattle.document_lines.specs.GivenEdits.{after_object_text, after_property_text, after_take_property, after_tileset_text, made};
+ghost use Rattle.document_lines.specs.GivenEdits.{after_layer_text, after_object_text, after_property_text, after_take_property, after_tileset_text, made};
 ghost use Rattle.document_lines.specs.MoreRules.{more_answer_of};
+ghost use Rattle.document_lines.specs.PlaceEdits.{parent_of};
 ghost use Rattle.document_lines.specs.Planning.{PlansEdit, more_plan_of};
 
 use crate::planned::{Edit, Planned};
+use crate::planning::place_plans::parent_of;
 use crate::planning::{planned, refused};
 use fractions::Fractions;
-use layer_commands::AddLayer;
-use map_json::{given_object, given_property, given_text, given_tileset};
+use layer_commands::{AddLayer, siblings};
+use map_json::{given_layer, given_object, given_property, given_text, given_tileset};
 use map_model::{Document, MoreLayerKind, Owner};
 use member_commands::more_fault;
 use object_commands::{AddObject, objects_of_layer};
@@ -87,6 +90,54 @@ pub fn plan_put_object(
     ensures { PlansEdit (more_answer_of add_object_names (after_object_text fractions document.now layer json.now)) document.now result }
 {
     planned_more(put_object(alloc, document, layer, json.as_str(), fractions).map(Edit::AddObject))
+}
+
+// The command that puts in the layer that a JSON text says.
+fn put_layer(
+    alloc: Global,
+    document: &Document,
+    parent: Option<u32>,
+    place: u32,
+    json: &str,
+    fractions: Fractions,
+) -> Result<AddLayer, MoreFault>
+    ensures command { IfOk result (λ c. Makes add_names document.now (after_layer_text fractions document.now parent place json.now) (add_change c)) }
+    ensures refusal { IfErr result (IsMoreRefusalOf (λ fault. false) (after_layer_text fractions document.now parent place json.now)) }
+{
+    let map = document.map();
+    if let Err(fault) = siblings(map, parent) {
+        return Err(MoreFault::Edit(fault));
+    }
+    let given = match given_layer(alloc, fractions, map, json) {
+        Ok(given) => given,
+        Err(fault) => return Err(more_fault(fault)),
+    };
+    match AddLayer::put(alloc, document, parent, place, given) {
+        Ok(command) => Ok(command),
+        Err(fault) => Err(MoreFault::Edit(fault)),
+    }
+}
+
+#[inline(never)]
+pub fn plan_put_layer(
+    alloc: Global,
+    document: &Document,
+    group: u32,
+    place: u32,
+    json: &Text<'_>,
+    fractions: Fractions,
+) -> Planned
+    ensures { PlansEdit (more_answer_of add_names (after_layer_text fractions document.now (parent_of group) place json.now)) document.now result }
+{
+    let command = put_layer(
+        alloc,
+        document,
+        parent_of(group),
+        place,
+        json.as_str(),
+        fractions,
+    );
+    planned_more(command.map(Edit::AddLayer))
 }
 
 // The command that puts in the tileset that a JSON text says.

@@ -40,8 +40,8 @@ pub fn plan_number_tileset(document: &Document, first_id: u32, number: u32) -> P
     planned(NumberTileset::new(document, first_id, number).map(Edit::NumberTileset))
 }
 
-// The group that a line names: none where the number is 0.
-fn parent_of(group: u32) -> Option<u32>
+/// The group that a line names: none where the number is 0.
+pub fn parent_of(group: u32) -> Option<u32>
     ensures { result ≡ parent_of group }
 {
     if group == 0 { None } else { Some(group) }

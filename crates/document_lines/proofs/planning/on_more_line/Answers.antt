@@ -28,3 +28,6 @@ returns-in-NumberTileset-clause-plans g c =
 
 pub returns-in-Extend-clause-plans : goal.returns-in-Extend-clause-plans
 returns-in-Extend-clause-plans g c = rw (c.in-Extend.is, sym c.document-in-Extend.ensures) (c.plan_extend.ensures, refl)
+
+pub returns-in-PutLayer-clause-plans : goal.returns-in-PutLayer-clause-plans
+returns-in-PutLayer-clause-plans g c = rw (c.in-PutLayer.is, sym c.document-in-PutLayer.ensures) (c.plan_put_layer.ensures, refl)

@@ -18,7 +18,7 @@ pub layers_in-returns-in_err-values-clause-value :
     goal.layers_in-returns-in_err-values-clause-value
 layers_in-returns-in_err-values-clause-value g t c =
     let none : as_array (data_of c.args.value) ≡ None = search rules in
-    let is = layers_at-no_array c.args.size.width c.args.size.height c.args.count.now (data_of c.args.value) c.args.groups none in
+    let is = layers_at-no_array c.args.no_data c.args.size.width c.args.size.height c.args.count.now (data_of c.args.value) c.args.groups none in
     search rules
 
 pub layers_in-returns-then-groups-eq0-clause-value :
@@ -27,10 +27,10 @@ layers_in-returns-then-groups-eq0-clause-value g t c =
     let values = items_view c.in_ok-values.values.items in
     let found : as_array (data_of c.args.value) ≡ Some values = search rules in
     elim c.then-groups-eq0.branch [
-      | layers_in-then-groups-eq0-via-then-groups-eq0 w ↦ layers_at-no_groups c.args.size.width c.args.size.height c.args.count.now
+      | layers_in-then-groups-eq0-via-then-groups-eq0 w ↦ layers_at-no_groups c.args.no_data c.args.size.width c.args.size.height c.args.count.now
           (data_of c.args.value) c.args.groups values found (omega (arith, w.if-groups-eq0))
       | layers_in-then-groups-eq0-via-else-groups-eq0+then-len-count w ↦
-          layers_at-many c.args.size.width c.args.size.height c.args.count.now (data_of c.args.value) c.args.groups values found
+          layers_at-many c.args.no_data c.args.size.width c.args.size.height c.args.count.now (data_of c.args.value) c.args.groups values found
           (omega (arith, w.if-len-count, w.len.ensures, items_len-items_view c.in_ok-values.values.items, c.requires.few))
     ]
 
@@ -41,44 +41,44 @@ layers_in-returns-clause-value g t c =
     let long : items_len values ≡ c.len-2.result = omega (arith, c.len-2.ensures, items_len-items_view c.in_ok-values.values.items) in
     let fits : c.args.count.now + items_len values ≤ MAX_LAYERS =
     omega (arith, c.if-len-count.false, c.len.ensures, items_len-items_view c.in_ok-values.values.items, c.requires.few) in
-    let is = layers_at-each c.args.size.width c.args.size.height c.args.count.now (data_of c.args.value) c.args.groups (c.args.groups - 1) values
+    let is = layers_at-each c.args.no_data c.args.size.width c.args.size.height c.args.count.now (data_of c.args.value) c.args.groups (c.args.groups - 1) values
     (omega (arith, c.if-groups-eq0.false)) found fits in
     rw (is, long) c.each_layer.ensures.value
 
 pub layer-returns-in_err-members-clause-value : goal.layer-returns-in_err-members-clause-value
 layer-returns-in_err-members-clause-value g t c =
     let none : as_object (data_of c.args.value) ≡ None = search rules in
-    let is = layer_by-no_object (layers_at c.args.groups c.args.size.width c.args.size.height) c.args.size.width c.args.size.height
+    let is = layer_by-no_object c.args.no_data (layers_at c.args.no_data c.args.groups c.args.size.width c.args.size.height) c.args.size.width c.args.size.height
     c.args.count.now (data_of c.args.value) none in
     search rules
 
 pub layer-returns-in_err-head-clause-value : goal.layer-returns-in_err-head-clause-value
 layer-returns-in_err-head-clause-value g t c =
-    let inner = layers_at c.args.groups c.args.size.width c.args.size.height in
+    let inner = layers_at c.args.no_data c.args.groups c.args.size.width c.args.size.height in
     let members : as_object (data_of c.args.value) ≡ Some c.in_ok-members.members = search rules in
-    let fails = head_refused inner c.args.size.width c.args.size.height c.args.count.now (data_of c.args.value) c.in_ok-members.members members
+    let fails = head_refused c.args.no_data inner c.args.size.width c.args.size.height c.args.count.now (data_of c.args.value) c.in_ok-members.members members
     c.in_err-head.field-0.0 c.in_err-head.ensures.value in
     search rules
 
 pub layer-returns-in_err-body-clause-value : goal.layer-returns-in_err-body-clause-value
 layer-returns-in_err-body-clause-value g t c =
-    let inner = layers_at c.args.groups c.args.size.width c.args.size.height in
+    let inner = layers_at c.args.no_data c.args.groups c.args.size.width c.args.size.height in
     let members : as_object (data_of c.args.value) ≡ Some c.in_ok-members.members = search rules in
-    let fails = body_refused inner c.args.size.width c.args.size.height c.args.count.now (data_of c.args.value) c.in_ok-members.members members
+    let fails = body_refused c.args.no_data inner c.args.size.width c.args.size.height c.args.count.now (data_of c.args.value) c.in_ok-members.members members
     c.in_ok-head.head c.in_ok-head.ensures.value c.read_head.new.members c.in_ok-head.ensures.left c.in_err-body.field-0.0 c.in_err-body.ensures.value in
     search rules
 
 pub layer-returns-clause-value : goal.layer-returns-clause-value
 layer-returns-clause-value g t c =
-    let inner = layers_at c.args.groups c.args.size.width c.args.size.height in
+    let inner = layers_at c.args.no_data c.args.groups c.args.size.width c.args.size.height in
     let members : as_object (data_of c.args.value) ≡ Some c.in_ok-members.members = search rules in
-    layer_read inner c.args.size.width c.args.size.height c.args.count.now (data_of c.args.value) c.in_ok-members.members members
+    layer_read c.args.no_data inner c.args.size.width c.args.size.height c.args.count.now (data_of c.args.value) c.in_ok-members.members members
     c.in_ok-head.head c.in_ok-head.ensures.value c.read_head.new.members c.in_ok-head.ensures.left
     c.body.new.count c.in_ok-body.body _ c.in_ok-body.ensures.value (cc c.in_ok-body.ensures.kept)
 
 pub each_layer-loop-value-preserved : goal.each_layer-loop-value-preserved
 each_layer-loop-value-preserved g t c =
-    let read = layer_by (layers_at c.args.groups c.args.size.width c.args.size.height) c.args.size.width c.args.size.height in
+    let read = layer_by c.args.no_data (layers_at c.args.no_data c.args.groups c.args.size.width c.args.size.height) c.args.size.width c.args.size.height in
     let l = c.loop-value in
     let later = c.next.new.self in
     let steps : into_iter_items l.value-iterator ≡ c.in-Some.value ∷ into_iter_items later = search rules in
@@ -96,5 +96,5 @@ pub each_layer-returns-clause-value : goal.each_layer-returns-clause-value
 each_layer-returns-clause-value g t c =
     let l = c.loop-value in
     let none = nil_from_length (into_iter_items l.value-iterator) (search (rules, c.in-None.ensures.steps.0)) in
-    let read = layer_by (layers_at c.args.groups c.args.size.width c.args.size.height) c.args.size.width c.args.size.height in
+    let read = layer_by c.args.no_data (layers_at c.args.no_data c.args.groups c.args.size.width c.args.size.height) c.args.size.width c.args.size.height in
     counted_prefix-all read l.found l.count _ (rw none at l.invariant.3)

@@ -21,7 +21,7 @@ decreases-each_layer g l = 4 * l.groups + 3
 
 abbrev pub invariant-each_layer-loop-value : goal.invariant-each_layer-loop-value
 invariant-each_layer-loop-value g l =
-    let read = layer_by (layers_at l.groups l.size.width l.size.height) l.size.width l.size.height in
+    let read = layer_by l.no_data (layers_at l.no_data l.groups l.size.width l.size.height) l.size.width l.size.height in
     (goal.iterator-each_layer-loop-value g).can_next l.value-iterator × (goal.iterator-each_layer-loop-value g).is_finite l.value-iterator
     × (length l.found + length (into_iter_items l.value-iterator) ≡ length l.fn.values.items)
     × (counted_prefix l.found (each_counted read l.count (items_view (into_iter_items l.value-iterator)))

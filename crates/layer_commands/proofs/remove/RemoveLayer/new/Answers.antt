@@ -5,7 +5,7 @@ use Rattle.map_model.specs.WellFormed.{IsWellFormed}
 use Rattle.map_model.proofs.Keeps.{remove-keeps}
 use Rattle.command_api.proofs.Links.{link_made}
 use Rattle.map_model.proofs.Places.{layer_place-there}
-use Rattle.layer_commands.proofs.Siblings.{slot-item, slot-without}
+use Rattle.layer_commands.proofs.SiblingSlots.{slot-item, slot-without}
 use Rattle.layer_commands.proofs.remove.RemoveLayer.new.Goals as goal
 
 pub returns-in-Some-clause-command : goal.returns-in-Some-clause-command

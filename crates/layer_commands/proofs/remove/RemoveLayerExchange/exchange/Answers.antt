@@ -1,7 +1,7 @@
 use Rattle.std.proofs.Common.{rules, ◌∙◌}
 use Rattle.command_api.proofs.Links.{linked_in, linked_out}
 use Rattle.map_model.proofs.SlotLaws.{layer_slot-laws}
-use Rattle.layer_commands.proofs.Siblings.{slot-given, slot-item, slot-without}
+use Rattle.layer_commands.proofs.SiblingSlots.{slot-given, slot-item, slot-without}
 use Rattle.layer_commands.proofs.remove.RemoveLayerExchange.exchange.Goals as goal
 
 pub returns-in-Some : goal.returns-in-Some
