@@ -343,6 +343,11 @@ CHECKED = [
      f'{INN}.members["point"] = True', (1, 'not as merged: object 2 "Inn": y 96 -> 160\n')),
     ('the order of what both added', ORDER.format('A'), ORDER.format('B'), 'map.layers.add("tile", "A")\n' + ORDER.format('B') + '\n'
      'map.layers["A"].move(1)', (0, '')),
+    ('a size that was taken', 'map.resize(39, 30)', 'map.stamp("Ground", 38, 0, [[7, 7]])', 'map.stamp("Ground", 38, 0, [[7, 7]])', (0, '')),
+    ('a group that was taken out', 'map.layers["Trees"].opacity = 0.5', 'map.layers["Green"].remove()', 'map.layers["Green"].remove()', (0, '')),
+    ('a layer that came back', 'map.layers["Things"].remove()', 'map.layers["Things"].name = "Objects"', 'map.layers["Things"].name = "Objects"', (0, '')),
+    ('an object that was not', 'map.layers["Things"].objects.add("box", 1, 2)', f'{INN}.y = 96', f'{INN}.y = 96',
+     (1, 'not as merged: object 7 "box": removed, in layer 15 "Things"\n')),
     ('a removal that git loses', 'map.objects["key"].remove()', 'map.objects["key"].move_into("Places")', None,
      (1, 'in conflict, and merged as text, untold: object 4 "key": removed by ours, changed by theirs; it stays removed\n')),
     ('an id twice, by git', BOXES.format('Things', 'a'), BOXES.format('Places', 'b'), None, (2, '')),
