@@ -158,6 +158,15 @@ def test_tilesets_with_one_name():
     see(((), ['a.png', 'b.png']), (found.conflicts, [each['image'] for each in tree['tilesets'] if 'image' in each]))
 
 
+def test_cells_alone():
+    """A cell of a conflict may be taken for itself; the others are in conflict as before."""
+    rows = 'map.stamp("Ground", 3, 4, [[{0}, {0}, {0}]])'
+    found, tree = taken(rows.format(7), rows.format(9), take={'layer:1/cell/4,4': 'theirs'})
+    see([7, 9, 7], tree['layers'][0]['data'][4 * 40 + 3:4 * 40 + 6])
+    see((['layer:1/cells/3,4', 'layer:1/cells/5,4'], ['layer:1/cell/4,4']),
+        ([each.key for each in found.conflicts], [each.key for each, _ in found.settled]))
+
+
 # ---- pairs
 
 
@@ -343,6 +352,11 @@ CHECKED = [
      f'{INN}.members["point"] = True', (1, 'not as merged: object 2 "Inn": y 96 -> 160\n')),
     ('the order of what both added', ORDER.format('A'), ORDER.format('B'), 'map.layers.add("tile", "A")\n' + ORDER.format('B') + '\n'
      'map.layers["A"].move(1)', (0, '')),
+    ('a size that was taken', 'map.resize(39, 30)', 'map.stamp("Ground", 38, 0, [[7, 7]])', 'map.stamp("Ground", 38, 0, [[7, 7]])', (0, '')),
+    ('a group that was taken out', 'map.layers["Trees"].opacity = 0.5', 'map.layers["Green"].remove()', 'map.layers["Green"].remove()', (0, '')),
+    ('a layer that came back', 'map.layers["Things"].remove()', 'map.layers["Things"].name = "Objects"', 'map.layers["Things"].name = "Objects"', (0, '')),
+    ('an object that was not', 'map.layers["Things"].objects.add("box", 1, 2)', f'{INN}.y = 96', f'{INN}.y = 96',
+     (1, 'not as merged: object 7 "box": removed, in layer 15 "Things"\n')),
     ('a removal that git loses', 'map.objects["key"].remove()', 'map.objects["key"].move_into("Places")', None,
      (1, 'in conflict, and merged as text, untold: object 4 "key": removed by ours, changed by theirs; it stays removed\n')),
     ('an id twice, by git', BOXES.format('Things', 'a'), BOXES.format('Places', 'b'), None, (2, '')),
@@ -398,6 +412,7 @@ def test_choices_by_the_command():
             ('all', ['--take', 'theirs'], '', 0, [f'theirs: {inn}', f'theirs: {cell}'], (32, 9)),
             ('all but one', ['--take', 'theirs', '--take', 'ours:object:2/x'], '', 0, [f'ours: {inn}', f'theirs: {cell}'], (96, 9)),
             ('by answers', ['--ask'], 'o\nt\n', 0, [f'ours: {inn}', f'theirs: {cell}'], (96, 9)),
+            ('one cell has no cells of its own', ['--ask'], 'o\ne\nt\n', 0, [f'ours: {inn}', f'theirs: {cell}'], (96, 9)),
             ('no more answers', ['--ask'], 't\nq\n', 1, [f'theirs: {inn}', f'conflict: {cell} [layer:1/cells/0,0]'], (32, 7)),
         ]
 
@@ -413,6 +428,17 @@ def test_choices_by_the_command():
         check_each([Case(name, (words, given), wanted) for name, words, given, *wanted in rows], fault_of)
         see((2, '', 'roskevad merge: no conflict has this key: object:9/x\n'), command('merge', base, ours, theirs, '-o', out, '--take', 'ours:object:9/x'))
         see(True, 'invalid' in command('merge', base, ours, theirs, '-o', out, '--take', 'both')[2])
+
+
+def test_answers_for_each_cell():
+    with tempfile.TemporaryDirectory() as folder:
+        base, out = saved(folder, 'base.tmj', 'pass'), Path(folder, 'out.tmj')
+        ours, theirs = (saved(folder, f'{value}.tmj', f'map.stamp("Ground", 3, 4, [[{value}] * 4])') for value in (7, 9))
+        for answers, wanted in (('e\nt\no\nT\n', [9, 7, 9, 9]), ('e\nt\nq\n', [9, 7, 7, 7]), ('e\ns\nO\n', [7, 7, 7, 7])):
+            status, told, _ = command('merge', base, ours, theirs, '-o', out, '--ask', given=answers)
+            see((answers, wanted), (answers, json.loads(out.read_bytes())['layers'][0]['data'][4 * 40 + 3:4 * 40 + 7]))
+            see((answers, 0 if 'T' in answers else 1), (answers, status))
+            see(True, '\n  cell 3,4: tiles.tsx:6 (ours), tiles.tsx:8 (theirs)\n' in told)
 
 
 def test_marks_by_the_command():

@@ -15,7 +15,7 @@ WRONG = [
     ('groups: ours always', 'merged_maps', 'if theirs in (ours, base):', 'if theirs in (ours, base) or ours == base:'),
     ('what is removed wins', 'merged_maps', 'if is_removed and not (self._is_changed(subject, 1) and', 'if is_removed and not (False and'),
     ('ids that both have added are not seen', 'merging', 'if subject in mine or subject.kind', "if subject.kind == 'layer' and subject in mine or subject.kind"),
-    ('one conflict of cells too few', 'merged_maps', 'for region in regions(both):', 'for region in [*regions(both)][1:]:'),
+    ('one conflict of cells too few', 'merged_maps', '*regions([cell for cell in both if cell not in apart])]:', '*[*regions(both)][1:]]:'),
     ('the size: ours always', 'framed_maps', "    return theirs if words is None or", "    return theirs if words is not None and"),
     ('a property of theirs is lost', 'merged_maps', 'theirs if is_same(base, ours) else self._property(', 'ours if is_same(base, ours) else self._property('),
 ]

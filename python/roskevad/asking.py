@@ -7,7 +7,8 @@ from .choices import Side
 from .difference_command import write
 from .merged_maps import Conflict
 
-_QUESTION = '  o ours, t theirs, O or T the same for all that are left, s skip it, q stop asking: '
+_QUESTION = '  o ours, t theirs,{} O or T the same for all that are left, s skip it, q stop asking: '
+_EACH = ' e each cell for itself,'
 _ONE: dict[str, Side] = {'o': 'ours', 't': 'theirs'}
 
 
@@ -21,9 +22,13 @@ def asked(conflicts: Iterable[Conflict]) -> dict[str, Side]:
     for key, each in by_key.items():
         if rest is None:
             write(''.join(f'{one}\n' for one in each))
-            answer = _answer()
+            cells = _cells_of(each)
+            answer = _answer(bool(cells))
             if answer == 'q':
                 raise Stopped(found)
+            if answer == 'e':
+                _ask_each(cells, found)
+                continue
             rest = _ONE[answer.lower()] if answer in ('O', 'T') else None
             side = _ONE.get(answer.lower())
         else:
@@ -41,15 +46,41 @@ class Stopped(Exception):
         self.sides = sides
 
 
-def _answer() -> str:
+def _cells_of(conflicts: list[Conflict]) -> list[tuple[str, str]]:
+    """The keys and the words of the cells of a conflict of more than one."""
+    one = conflicts[0]
+    if one.what != 'cells' or len(one.ours['cells']) < 2:
+        return []
+    sides = zip(one.ours['cells'], one.ours['tiles'], one.theirs['tiles'])
+    return [(f'layer:{one.subject.id}/cell/{x},{y}', f'  cell {x},{y}: {ours} (ours), {theirs} (theirs)') for (x, y, _), ours, theirs in sides]
+
+
+def _ask_each(cells: list[tuple[str, str]], found: dict[str, Side]) -> None:
+    """Asks for each cell of a conflict. Raises Stopped."""
+    rest: Optional[Side] = None
+    for key, words in cells:
+        side = rest
+        if side is None:
+            write(f'{words}\n')
+            answer = _answer(False)
+            if answer == 'q':
+                raise Stopped(found)
+            side = _ONE.get(answer.lower())
+            rest = side if answer in ('O', 'T') else None
+        if side is not None:
+            found[key] = side
+
+
+def _answer(has_cells: bool) -> str:
     """A letter that is asked for, again until it is one; at the end of what can be read it is to stop."""
+    letters = 'otOTsqe' if has_cells else 'otOTsq'
     while True:
-        write(_QUESTION)
+        write(_QUESTION.format(_EACH if has_cells else ''))
         line = sys.stdin.readline() if sys.stdin is not None else ''
         if not line or not sys.stdin.isatty():
             write('\n')
         if not line:
             return 'q'
         letter = line.strip()[:1]
-        if letter and letter in 'otOTsq':
+        if letter and letter in letters:
             return letter

@@ -30,9 +30,11 @@ class Choices:
         self._met.add(key)
         return self._sides.get(key, self._sides.get(''))
 
-    def is_said(self, key: str, side: Side) -> bool:
-        """Whether a side is taken of this conflict alone."""
-        return self._sides.get(key) == side
+    def said(self, key: str) -> Optional[Side]:
+        """The side that is taken of this conflict alone, if one is."""
+        if key in self._sides:
+            self._met.add(key)
+        return self._sides.get(key)
 
     def unmet(self) -> list[str]:
         """The keys that are of no conflict."""

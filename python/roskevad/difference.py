@@ -23,7 +23,8 @@ _CALLED = {
     'renderorder': 'tile render order', 'hexsidelength': 'tile side length', 'staggeraxis': 'stagger axis', 'staggerindex': 'stagger index',
     'compressionlevel': 'compression level', 'imagewidth': 'image width', 'imageheight': 'image height', 'source': 'file', 'firstgid': 'first id',
     'tilecount': 'count of tiles', 'objectalignment': 'object alignment', 'tileoffset': 'drawing offset', 'tilerendersize': 'tile render size',
-    'fillmode': 'fill mode', 'transformations': 'allowed transformations', 'tiledversion': 'version of Tiled', 'nextlayerid': 'next layer id', 'nextobjectid': 'next object id',
+    'fillmode': 'fill mode', 'transformations': 'allowed transformations', 'tiledversion': 'version of Tiled',
+    'nextlayerid': 'next layer id', 'nextobjectid': 'next object id',
 }
 _OF_TEXT = {
     'fontfamily': 'font', 'pixelsize': 'size of the font', 'wrap': 'word wrap', 'halign': 'horizontal alignment', 'valign': 'vertical alignment',

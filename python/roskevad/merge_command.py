@@ -31,7 +31,7 @@ _USAGE = '''roskevad merge BASE OURS THEIRS -o OUT [--take SIDE[:KEY]].. [--ask]
        roskevad merge --check BASE OURS THEIRS RESULT'''
 _WAYS = 'wanted are BASE OURS THEIRS -o OUT, or --resolve FILE, or --check BASE OURS THEIRS RESULT'
 _BOTH_ADDED = 'both sides have added this map, and there is none that both began with; it is as {} has it'
-_KEY_OF_BOTH = 'map/added'
+_KEY_OF_BOTH, _KEY_OF_SIZE = 'map/added', 'map/size'
 
 
 class _Trouble(Exception):
@@ -257,7 +257,14 @@ def _checked(editor: Editor, chosen: argparse.Namespace) -> _Told:
     if base is None:
         return _Told(_MERGED, [])
     _, project = _project(chosen, Path(chosen.name or chosen.maps[3]))
-    conflicts = merge(base, ours, theirs, offset=dict(chosen.offset), project=project).conflicts
+    found = merge(base, ours, theirs, offset=dict(chosen.offset), project=project)
+    conflicts = found.conflicts
+    if (ours.width, ours.height) != (result.width, result.height) and any(each.key == _KEY_OF_SIZE for each in conflicts):
+        # Somebody has taken the size of theirs, with what lies outside that of ours.
+        if found.lines:
+            ours.undo()
+        found = merge(base, ours, theirs, {_KEY_OF_SIZE: 'theirs'}, dict(chosen.offset), project)
+        conflicts = (*found.conflicts, *(each for each, _ in found.settled))
     unseen = conflicts if conflicts and is_merged_as_text(*chosen.maps) else ()
     told = [*(f'not as merged: {each}' for each in not_as_merged(base, ours, result, conflicts)),
             *(f'in conflict, and merged as text, untold: {each}' for each in unseen)]

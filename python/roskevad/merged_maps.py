@@ -29,8 +29,8 @@ class Conflict(NamedTuple):
     subject: Subject
     #: The name of a layer or an object, and the file or the name of a tileset; empty of the map.
     name: str
-    #: What is in conflict: `removed`, `added`, `moved`, `order`, `size`, `cells`, `unsaid`, or the name of a member, of a property
-    #: behind `property`.
+    #: What is in conflict: `removed`, `added`, `moved`, `order`, `size`, `cells`, `cell`, one that was chosen alone, `unsaid`, or the name of a
+    #: member, of a property behind `property`.
     what: str
     #: How it was, as a file has it; None where it was not.
     base: Any
@@ -44,10 +44,10 @@ class Conflict(NamedTuple):
     def key(self) -> str:
         """What names it where a side is chosen: what it is about, and what is in conflict. What lies outside a map is a matter of its size."""
         kind, id = self.subject
-        what, cells = self.what, self.ours['cells'] if self.what == 'cells' else ()
+        what, cells = self.what, self.ours['cells'] if self.what in ('cells', 'cell') else ()
         if what == 'size' or what == 'cells' and not cells:
             return 'map/size'
-        what = f'cells/{cells[0][0]},{cells[0][1]}' if cells else what
+        what = f'{what}/{cells[0][0]},{cells[0][1]}' if cells else what
         return f'map/{what}' if kind == 'map' else f'{kind}:{id}/{what}'
 
     def __str__(self) -> str:
@@ -63,6 +63,10 @@ class Found:
         self.conflicts: list[Conflict] = []
         self.settled: list[tuple[Conflict, Side]] = []
         self._choices = choices
+
+    def is_said(self, key: str) -> bool:
+        """Whether a side is chosen of this alone."""
+        return self._choices.said(key) is not None
 
     def side_of(self, conflict: Conflict, can_be_theirs: bool = True) -> Side:
         """The side that is taken: ours where none is chosen, and where theirs can't be."""
@@ -367,20 +371,23 @@ class Joined:
                     found[start + x] = other
                 else:
                     both.append((x, start // wide))
-        for region in regions(both):
+        alone = [[cell] for cell in both if self.found.is_said(f'layer:{id}/cell/{cell[0]},{cell[1]}')]
+        apart = {cell for cell, in alone}
+        for region in [*alone, *regions([cell for cell in both if cell not in apart])]:
             sides = [[side[y * wide + x] for x, y in region] for side in (base, ours, theirs)]
-            if self._cells_are_theirs(id, region, sides):
+            if self._cells_are_theirs(id, region, sides, 'cell' if region[0] in apart else 'cells'):
                 for (x, y), value in zip(region, sides[2]):
                     found[y * wide + x] = max(value, 0)
                 self.tiles_back.update(value for value in sides[2] if value < 0)
         return memoryview(found)
 
-    def _cells_are_theirs(self, id: int, region: list[tuple[int, int]], sides: list[list[int]]) -> bool:
+    def _cells_are_theirs(self, id: int, region: list[tuple[int, int]], sides: list[list[int]], what: str) -> bool:
         (left, right), (top, bottom) = ((min(line), max(line)) for line in zip(*region))
         count = f'{len(region)} cells' if len(region) > 1 else '1 cell'
         area = {'x': left, 'y': top, 'width': right - left + 1, 'height': bottom - top + 1, 'count': len(region)}
         told = [self._few_tiles(side) for side in sides]
-        return self.is_theirs(Subject('layer', id), 'cells', ({**area, 'cells': [*map(list, zip(*zip(*region), side))]} for side in sides),
+        values = ({**area, 'cells': [*map(list, zip(*zip(*region), side))], 'tiles': [*map(self._tile_named, side)]} for side in sides)
+        return self.is_theirs(Subject('layer', id), what, values,
                               f'{count} in {left},{top} to {right},{bottom}: {told[1]} (ours), {told[2]} (theirs)')
 
     def _few_tiles(self, values: list[int]) -> str:

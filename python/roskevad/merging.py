@@ -175,7 +175,7 @@ class _Merging:
 
     def _is_back(self, subject: Subject, holders: list[Subject], back: set[Subject]) -> bool:
         """Whether it is to be there again, alone or with what it stands in, and ours is not taken there."""
-        return subject in back or not back.isdisjoint(holders) and not self._choices.is_said(f'{subject.kind}:{subject.id}/removed', 'ours')
+        return subject in back or not back.isdisjoint(holders) and self._choices.said(f'{subject.kind}:{subject.id}/removed') != 'ours'
 
     # ---- ids
     def _named_alike(self, *maps: MapNow) -> tuple[MapNow, MapNow, MapNow]:

@@ -6,7 +6,7 @@ from typing import Optional
 
 from .choices import Choices, Side
 from .conflict_marks import mark, marked_keys, marks_of
-from .difference import MAP, Change
+from .difference import Change
 from .difference_command import opened
 from .document import Document
 from .editor import Editor
@@ -14,6 +14,7 @@ from .faults import Refused
 from .git_stages import NotInConflict, stages_of
 from .merging import Conflict, Merge, Offsets, do_merge, merge, merged
 from .settling import cells_are_settled, is_of
+
 
 class Resolving:
     """The versions of a map, and the file. A first merge, without a choice, is what git's driver has written there."""
@@ -70,18 +71,17 @@ class Resolving:
             self._by_hand = [*self._first.difference(self._now)] if self._now is not None else []
             self._kept = {each.key: 'ours' for each in first.conflicts if not self._is_left(each)}
         found = merged(self.base, self._ours, self._theirs, Choices({**self._kept, **take}), offset, project)
-        return found._replace(conflicts=tuple(each for each in found.conflicts if self._is_left(each)),
+        return found._replace(conflicts=tuple(each for each in found.conflicts if each.key not in self._kept),
                               settled=tuple(each for each in found.settled if each[0].key in take or each[0].key not in self._kept))
 
     def _is_left(self, conflict: Conflict) -> bool:
-        """Whether nobody has settled it by hand: its mark is there, or, where the map has no marks, all that it is about is as the first
-        merge has it."""
+        """Whether nobody has settled a conflict of the first merge by hand: its mark is there, or, where the map has no marks, all that it is
+        about is as that merge has it."""
         if self._marked is not None:
             return conflict.key in self._marked
         if conflict.what == 'cells' and conflict.ours['cells']:
             return self._now is None or not cells_are_settled(conflict, self._now)
-        about = conflict._replace(subject=MAP, what='size') if conflict.key == 'map/size' else conflict
-        return not any(is_of(change, about) for change in self._by_hand)
+        return not any(is_of(change, conflict) for change in self._by_hand)
 
     def _done(self, found: Merge, name: str) -> Document:
         """A map in which a merge is done."""
