@@ -7,7 +7,6 @@ use Rattle.json.specs.Json.{Json, array, object, Items, item, Members, member, P
 use Rattle.json.specs.Json.{members, value_with, value, if_last}
 use Rattle.serde_json.specs.Data.{Data}
 use Rattle.serde_json.specs.Read.{of_json, max_depth}
-use Rattle.fractions.specs.Aside.{reserved_name}
 use Rattle.tiled_maps.specs.Look.{NeedsNothing, TextNeedsNothing}
 use Rattle.tiled_maps.specs.Lexemes.{infinite, IsWhole, IsOwnName, BeginFalse, AreFalse, BeginEmpty, AreEmpty, First, ArePlain}
 use Rattle.tiled_maps.specs.Packed.{compression}

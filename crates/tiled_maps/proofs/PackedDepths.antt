@@ -1,6 +1,6 @@
 -- A map whose layers are packed nests no deeper than the map.
 use Rattle.std.proofs.Common.{◌≡◌, ◌≤◌, ℕ, zero, suc, max, List, Bool, true, false, Option, Some, None, Ordering, Less, Equal, Greater, nat_cmp, codes}
-use Rattle.std.proofs.Common.{subst, sym, ap}
+use Rattle.std.proofs.Common.{ap}
 use Rattle.std.proofs.Common.{arith}
 use Rattle.std.specs.Cmp.Lexicographic.{slice_cmp}
 use Rattle.std.specs.Ordering.{match_ordering}

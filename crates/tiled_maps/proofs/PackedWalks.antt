@@ -1,8 +1,8 @@
 -- The walks that unpack layers, and pack them.
-use Rattle.std.proofs.Common.{◌≡◌, ◌≤◌, ℕ, suc, ◌+◌, min, drop, Bool, true, List, [], ◌∷◌, ◌++◌, length, map, Option, Some, None, codes, refl, sym, ap, ◌∙◌, subst}
+use Rattle.std.proofs.Common.{◌≡◌, ◌≤◌, ℕ, suc, ◌+◌, min, drop, Bool, true, List, [], ◌∷◌, ◌++◌, length, map, Some, None, codes, refl, sym, ap, ◌∙◌, subst}
 use Rattle.std.proofs.Common.{append_assoc, arith}
 use Rattle.std.proofs.lemmas.List.{append-nil, map-append, drop_all}
-use Rattle.serde_json.specs.Data.{Data, item, Members, put}
+use Rattle.serde_json.specs.Data.{Data, Members, put}
 use Rattle.serde_json.specs.Find.{get_member}
 use Rattle.serde_json.specs.View.{view, items_of, items_view}
 use Rattle.serde_json.specs.declared.value.Value.{Value}
@@ -13,12 +13,18 @@ use Rattle.tiled_maps.specs.Packed.{layers_unpacked, item_unpacked}
 use Rattle.tiled_maps.specs.Packed.{sum_in, sum_below, layer_cells, all_cells}
 use Rattle.tiled_maps.specs.Packing.{ItemsRelated, ArrayRelated, SomeRelated, MemberRelated, LayerPacked, LayersPacked, ItemPacked}
 
-pub layers_unpacked-suc : (n m cells : ℕ) (ms : Members) → n ≡ suc m
+layers_unpacked-suc : (n m cells : ℕ) (ms : Members) → n ≡ suc m
     → layers_unpacked n cells ms ≡ layer_unpacked cells (member_with (codes "layers") (array_with (item_unpacked m cells)) ms)
 unfolding layers_unpacked
 layers_unpacked-suc n m cells ms e = ap (λ k. layers_unpacked k cells ms) e
 
--- a packed layer, with what was made of it step by step
+-- a map, a group or a layer, with what was made of it step by step
+pub layers_unpacked-made : (n m cells : ℕ) (ms own ns : Members) → n ≡ suc m → own ≡ member_with (codes "layers") (array_with (item_unpacked m cells)) ms
+    → ns ≡ layer_unpacked cells own → ns ≡ layers_unpacked n cells ms
+layers_unpacked-made n m cells ms own ns more below layer =
+    layer ∙ (ap (layer_unpacked cells) below ∙ sym (layers_unpacked-suc n m cells ms more))
+
+-- a packed layer, the same
 pub layer_unpacked-packed : (cells : ℕ) (ms own all ns : Members) → is_packed ms ≡ true → own ≡ data_unpacked cells ms
     → all ≡ member_with (codes "chunks") (array_with chunk_unpacked) own → ns ≡ renamed compression note_name (void_checked all)
     → ns ≡ layer_unpacked cells ms

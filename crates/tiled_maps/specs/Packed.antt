@@ -1,5 +1,5 @@
 -- Layers whose cells are packed by zlib or gzip, and the map in which they are unpacked.
-use Rattle.std.specs.Prelude.{true, false, ℕ, zero, suc, ◌+◌, ◌*◌, ◌==◌, Bool, not, ◌&&◌, ◌||◌, List, [], length, slice_index}
+use Rattle.std.specs.Prelude.{false, ℕ, zero, suc, ◌+◌, ◌*◌, ◌==◌, Bool, not, ◌&&◌, ◌||◌, List, [], slice_index}
 use Rattle.std.specs.Prelude.{codes, nat_lt, Option, Some, None, option_map, option_and_then, is_some, unwrap_or, if◌then◌else◌}
 use Rattle.std.specs.List.{filter}
 use Rattle.std.specs.Option.{option_or}

@@ -1,5 +1,5 @@
 -- The maps that are a map in which those layers are packed that note how they were.
-use Rattle.std.specs.Prelude.{◌≡◌, ◌≤◌, ◌⊎◌, ℕ, zero, suc, true, false, Bool, List, [], length, codes, Ok, Option, Some, None}
+use Rattle.std.specs.Prelude.{◌≡◌, ◌≤◌, ◌⊎◌, ℕ, zero, suc, true, false, Bool, List, length, codes, Ok, Option, Some, None}
 use Rattle.deflate.specs.declared.frame.Frame.{Frame}
 use Rattle.deflate.specs.Frames.{unpacked}
 use Rattle.serde_json.specs.Data.{Data, null, boolean, number, string, array, object, Items, no_items, item, Members, depth}

@@ -1,4 +1,5 @@
-use Rattle.std.proofs.Common.{rules, ◌≡◌, suc, ◌-◌, arith}
+use Rattle.std.proofs.Common.{rules, ℕ, ◌≡◌, suc, ◌-◌, arith}
+use Rattle.serde_json.specs.Data.{Members}
 use Rattle.serde_json.specs.View.{members_view}
 use Rattle.tiled_maps.specs.Packed.{all_cells}
 use Rattle.tiled_maps.specs.Formats.{is_counted}
@@ -14,5 +15,5 @@ all_cells-returns t c =
 pub cells_in-returns : goal.cells_in-returns
 cells_in-returns t c =
     let l = c.loop-layer in
-    sum_at_end (λ own. all_cells (is_counted c.args.counted) c.args.tiers c.args.cells own) _ _ l.layer-index l.sum c.deref-layer-items.ensures.value (search rules) l.invariant.0
-    l.invariant.1
+    let cells : Members → ℕ = λ own. all_cells (is_counted c.args.counted) c.args.tiers c.args.cells own in
+    sum_at_end cells _ _ l.layer-index l.sum c.deref-layer-items.ensures.value (search rules) l.invariant.0 l.invariant.1

@@ -1,5 +1,4 @@
-use Rattle.std.proofs.Common.{◌≤◌, Option, option_map, subst, inr, arith, sym, rules}
-use Rattle.serde_json.specs.Data.{depth}
+use Rattle.std.proofs.Common.{Option, option_map, subst, inr, arith, sym}
 use Rattle.serde_json.specs.View.{view}
 use Rattle.serde_json.specs.declared.value.Value.{Value}
 use Rattle.json_trees.specs.Names.{has_name}

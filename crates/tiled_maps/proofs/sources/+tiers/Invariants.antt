@@ -22,5 +22,7 @@ decreases-put_layers l = 5 * l.tiers + 4
 
 abbrev pub invariant-items_like-loop-item : goal.invariant-items_like-loop-item
 invariant-items_like-loop-item l =
-    IsMade (layer_as l.tiers (option_map (λ m. members_view m.now.entries) l.first) (option_map (λ m. members_view m.now.entries) l.olds)) l.fn.items.items l.all.items (into_iter_items l.item-iterator)
+    let first = option_map (λ m. members_view m.now.entries) l.first in
+    let olds = option_map (λ m. members_view m.now.entries) l.olds in
+    IsMade (layer_as l.tiers first olds) l.fn.items.items l.all.items (into_iter_items l.item-iterator)
     × (into_iter_len l.item-iterator ≡ length (into_iter_items l.item-iterator))

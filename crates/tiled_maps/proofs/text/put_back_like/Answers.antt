@@ -1,9 +1,6 @@
-use Rattle.std.proofs.Common.{◌≡◌, ◌≤◌, Option, option_map, ◌∙◌, sym, ap, subst}
-use Rattle.std.proofs.lemmas.Bool.{leb-true}
-use Rattle.serde_json.specs.Data.{Data, depth}
-use Rattle.serde_json.specs.Read.{max_depth}
+use Rattle.std.proofs.Common.{◌≡◌, Option, option_map, ◌∙◌, ap, subst}
+use Rattle.serde_json.specs.Data.{Data}
 use Rattle.serde_json.specs.View.{view}
-use Rattle.json_trees.specs.Texts.{IsTreeOf}
 use Rattle.tiled_maps.specs.Likeness.{IsSource}
 use Rattle.tiled_maps.specs.Packing.{IsPackedAs, IsKept}
 use Rattle.tiled_maps.specs.Alike.{as_in}

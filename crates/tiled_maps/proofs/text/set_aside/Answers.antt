@@ -1,8 +1,8 @@
-use Rattle.std.proofs.Common.{◌≡◌, ◌≤◌, ◌<◌, true, false, inl, ◌∙◌, sym, ap, subst, arith}
+use Rattle.std.proofs.Common.{◌≡◌, ◌≤◌, false, inl, ◌∙◌, sym, subst, arith}
 use Rattle.serde_json.specs.View.{view}
 use Rattle.json_trees.specs.Names.{has_name}
 use Rattle.json_trees.specs.Texts.{IsTreeOf}
-use Rattle.tiled_maps.specs.Packed.{note_name, has_packed, unpacked_layers, packed_cells, most_packed}
+use Rattle.tiled_maps.specs.Packed.{note_name, has_packed, packed_cells, most_packed}
 use Rattle.tiled_maps.proofs.Answered.{SetsAside-plain, SetsAside-unpacked, unpacked-none, few_cells}
 use Rattle.tiled_maps.proofs.text.set_aside.Goals as goal
 

@@ -1,7 +1,7 @@
-use Rattle.std.proofs.Common.{rules, ◌≡◌, suc, ◌-◌, length, sym, ap, ◌∙◌, arith}
+use Rattle.std.proofs.Common.{rules, ◌≡◌, suc, ◌-◌, length, ap, arith}
 use Rattle.std.specs.Vec.Iter.{into_iter_items}
 use Rattle.tiled_maps.proofs.SourceWalks.{IsMade-none, IsMade-pushed, IsMade-all}
-use Rattle.tiled_maps.proofs.PackedWalks.{layers_unpacked-suc}
+use Rattle.tiled_maps.proofs.PackedWalks.{layers_unpacked-made}
 use Rattle.tiled_maps.proofs.unpacking.+unpacking.Goals as goal
 
 pub items_unpacked-loop-item-init : goal.items_unpacked-loop-item-init
@@ -25,6 +25,5 @@ items_unpacked-returns t c =
 
 pub unpack_tiers-returns : goal.unpack_tiers-returns
 unpack_tiers-returns t c =
-    let tiers = c.args.tiers in
-    let more : tiers ≡ suc (tiers - 1) = omega arith in
-    (rw c.in_ok-unpack_below.ensures at c.in_ok-unpack_layer.ensures) ∙ sym (layers_unpacked-suc tiers (tiers - 1) c.args.cells _ more)
+    let more : c.args.tiers ≡ suc (c.args.tiers - 1) = omega arith in
+    layers_unpacked-made c.args.tiers (c.args.tiers - 1) c.args.cells _ _ _ more c.in_ok-unpack_below.ensures c.in_ok-unpack_layer.ensures

@@ -1,6 +1,6 @@
 use Rattle.serde_json.specs.View.{members_view}
 use Rattle.std.proofs.Common.{◌≡◌, true, sym, ap, ◌∙◌}
-use Rattle.tiled_maps.specs.Packed.{compression, note_name, is_packed, void_checked, renamed}
+use Rattle.tiled_maps.specs.Packed.{compression, note_name, is_packed, renamed}
 use Rattle.tiled_maps.proofs.PackedWalks.{layer_unpacked-packed}
 use Rattle.tiled_maps.proofs.unpacking.unpack_layer.Goals as goal
 
