@@ -151,13 +151,27 @@ fn value_of(digits: &[u8]) -> u32
     }
 }
 
-/// The digits in front of other bytes, where they are few and do not begin with a zero: how many, and their value.
+/// The digit 0 in front of other bytes, where no other digit stands behind it.
+#[inline(always)]
+fn zero(bytes: &[u8]) -> Option<(usize, u32)>
+    ensures { IfSome result (λ x. IsLeadingNumber bytes.now x.0 x.1) }
+{
+    if bytes.is_empty() || bytes[0] != b'0' {
+        return None;
+    }
+    if bytes.len() > 1 && bytes[1].is_ascii_digit() {
+        return None;
+    }
+    Some((1, 0))
+}
+
+/// The digits in front of other bytes, where they are few and no zero stands in front of others: how many, and their value.
 #[inline(always)]
 fn few_digits(bytes: &[u8]) -> Option<(usize, u32)>
     ensures { IfSome result (λ x. IsLeadingNumber bytes.now x.0 x.1) }
 {
     if bytes.is_empty() || bytes[0] < b'1' || bytes[0] > b'9' {
-        return None;
+        return zero(bytes);
     }
     let mut value = u32::from(bytes[0]) - ZERO;
     let mut len = 1;

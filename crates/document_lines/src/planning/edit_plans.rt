@@ -1,6 +1,6 @@
 // The edits that lines ask for. Each but a stamp is planned in a frame of its own: a function pays at its entry for the size of
 // its locals.
-ghost use Rattle.std.specs.Prelude.{◌≡◌, IfOk};
+ghost use Rattle.std.specs.Prelude.{◌≡◌, [], OnOk};
 ghost use Rattle.edits.specs.Filling.{after_fill};
 ghost use Rattle.edits.specs.LayerEdits.{after_add, after_move, after_remove, after_rename, after_show};
 ghost use Rattle.edits.specs.ObjectEdits.{after_add_object, after_move_object, after_remove_object, after_resize_object};
@@ -36,16 +36,17 @@ use tile_id::Gid;
 // So many values of a stamp take no memory.
 const FEW_VALUES: usize = 16;
 
-// The values of a line, one after another; where they are not few, room for them is taken once.
-fn collected(alloc: Global, values: &Gids<'_>) -> Result<SmallVec<Gid, FEW_VALUES>, AllocError>
-    ensures { IfOk result (λ v. v.items ≡ values.now) }
+// Collects the values of a line, one after another; where they are not few, room for them is taken once. They are put where they
+// stay, since a value that is handed back is copied.
+fn collect(values: &Gids<'_>, collected: &mut SmallVec<Gid, FEW_VALUES>) -> Result<(), AllocError>
+    requires { collected.old.items ≡ [] }
+    ensures { OnOk result (collected.new.items ≡ values.now) }
 {
-    let mut collected = SmallVec::new(alloc);
     collected.reserve(values.len())?;
     for value in values.values() {
         collected.push_reserved(value);
     }
-    Ok(collected)
+    Ok(())
 }
 
 /// The block of a stamp, its values as they stand in the line.
@@ -70,7 +71,8 @@ pub fn plan_stamp(
     ensures { PlansEdit (answer_of (stamp_names layer follows) (after_stamp document.now layer
         (record { x = block.now.x; y = block.now.y; width = block.now.width; values = block.now.values.now }))) document.now result }
 {
-    let Ok(values) = collected(alloc, block.values) else {
+    let mut values = SmallVec::new(alloc);
+    let Ok(()) = collect(block.values, &mut values) else {
         return refused(Refusal::NoMemory);
     };
     let block = Block {

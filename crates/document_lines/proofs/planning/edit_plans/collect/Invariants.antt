@@ -1,6 +1,6 @@
 use Rattle.std.proofs.Common.{◌≡◌, length}
 use Rattle.smallvec.specs.SmallVec.{HasRoomFor}
-use Rattle.document_lines.proofs.planning.edit_plans.collected.Given as goal
+use Rattle.document_lines.proofs.planning.edit_plans.collect.Given as goal
 
 abbrev pub invariant-loop-value : goal.invariant-loop-value
 invariant-loop-value l = record {
