@@ -115,10 +115,11 @@ def _sides(editor: Editor, maps: Sequence[Path]) -> tuple[Optional[Document], Do
 
 def _merged(editor: Editor, chosen: argparse.Namespace) -> _Told:
     """Merges into the file to write."""
-    base, ours, theirs = _sides(editor, chosen.maps)
+    first, ours, theirs = _sides(editor, chosen.maps)
     take = dict(chosen.take)
-    if base is None:
+    if first is None:
         return _of_both_added(chosen, ours, theirs, take)
+    base = first
     notes, project = _project(chosen, Path(chosen.name or chosen.out))
     corner = ours.origin
 
