@@ -15,8 +15,8 @@ _ONE: dict[str, Side] = {'o': 'ours', 't': 'theirs'}
 def asked(conflicts: Iterable[Conflict]) -> dict[str, Side]:
     """The sides that are answered, by keys: what has one key is asked once, and what is skipped has no side. Raises Stopped."""
     by_key: dict[str, list[Conflict]] = {}
-    for each in conflicts:
-        by_key.setdefault(each.key, []).append(each)
+    for conflict in conflicts:
+        by_key.setdefault(conflict.key, []).append(conflict)
     found: dict[str, Side] = {}
     rest: Optional[Side] = None
     for key, each in by_key.items():
@@ -76,11 +76,11 @@ def _answer(has_cells: bool) -> str:
     letters = 'otOTsqe' if has_cells else 'otOTsq'
     while True:
         write(_QUESTION.format(_EACH if has_cells else ''))
-        line = sys.stdin.readline() if sys.stdin is not None else ''
-        if not line or not sys.stdin.isatty():
+        answer = sys.stdin.readline() if sys.stdin is not None else ''
+        if not answer or not sys.stdin.isatty():
             write('\n')
-        if not line:
+        if not answer:
             return 'q'
-        letter = line.strip()[:1]
+        letter = answer.strip()[:1]
         if letter and letter in letters:
             return letter

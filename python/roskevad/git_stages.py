@@ -27,10 +27,11 @@ def stages_of(path: Path) -> Stages:
     if top.returncode != 0:
         raise NotInConflict(f'in no repository of git: {path}')
     listed = _git(folder, 'ls-files', '-u', '-z', '--', f':(literal){name}').stdout.split(b'\0')
-    hashes = dict(reversed(each.split(b'\t')[0].decode().split(' ')[1:]) for each in listed if each)
-    if not hashes:
+    # Of each version its mode, its hash and its number.
+    rows = [each.partition(b'\t')[0].decode().split(' ') for each in listed if each]
+    if not rows:
         raise NotInConflict(f'git has no conflict in {path}')
-    found = {stage: _git(folder, 'cat-file', '--filters', f'--path={name}', hash).stdout for stage, hash in hashes.items()}
+    found = {stage: _git(folder, 'cat-file', '--filters', f'--path={name}', hash).stdout for _, hash, stage in rows}
     return Stages(found.get(_BASE), found.get(_OURS), found.get(_THEIRS), Path(top.stdout.decode().rstrip('\n')))
 
 

@@ -28,7 +28,7 @@ from .settling import is_merged_as_text, not_as_merged
 _MERGED, _IN_CONFLICT, _TROUBLE = 0, 1, 2
 _USAGE = '''roskevad merge BASE OURS THEIRS -o OUT [--take SIDE[:KEY]].. [--ask] [--marks] [--offset SIDE:X,Y].. [--project FILE] [--name NAME]
        roskevad merge --resolve FILE [--take SIDE[:KEY]].. [--ask] [--marks] [--offset SIDE:X,Y].. [--project FILE]
-       roskevad merge --check BASE OURS THEIRS RESULT'''
+       roskevad merge --check BASE OURS THEIRS RESULT [--offset SIDE:X,Y].. [--project FILE]'''
 _WAYS = 'wanted are BASE OURS THEIRS -o OUT, or --resolve FILE, or --check BASE OURS THEIRS RESULT'
 _BOTH_ADDED = 'both sides have added this map, and there is none that both began with; it is as {} has it'
 _KEY_OF_BOTH, _KEY_OF_SIZE = 'map/added', 'map/size'
@@ -115,10 +115,11 @@ def _sides(editor: Editor, maps: Sequence[Path]) -> tuple[Optional[Document], Do
 
 def _merged(editor: Editor, chosen: argparse.Namespace) -> _Told:
     """Merges into the file to write."""
-    base, ours, theirs = _sides(editor, chosen.maps)
+    first, ours, theirs = _sides(editor, chosen.maps)
     take = dict(chosen.take)
-    if base is None:
+    if first is None:
         return _of_both_added(chosen, ours, theirs, take)
+    base = first
     notes, project = _project(chosen, Path(chosen.name or chosen.out))
     corner = ours.origin
 

@@ -72,8 +72,8 @@ def merged(
 ) -> Merge:
     """What a merge would do, tried on copies."""
     types = types_of(project)
-    with copied(*map(text_of, (base, ours, theirs))) as copies:
-        return _Merging(*copies, choices, dict(offset or {}), types).found()
+    with copied(*map(text_of, (base, ours, theirs))) as (first, mine, other):
+        return _Merging(first, mine, other, choices, dict(offset or {}), types).found()
 
 
 def do_merge(ours: 'Document', found: Merge) -> None:
