@@ -494,12 +494,12 @@ def test_a_full_journal_with_a_macro():
         page.js('roskevad.editor.journal.bound = roskevad.editor.journal.size + 1')
         page.editor.lines('begin Wall', 'stamp 1 5 20 1 12', 'begin Deep', 'stamp 1 6 20 1 12')
         before = page.editor.shown()
-        assert 'is full' in page.notices()[0]
+        assert 'no more room' in page.notices()[0]
         assert page.editor.lines('stamp 1 7 20 1 12') == [] and page.editor.shown() == before
         page.answer('Save and begin anew')
         assert 'A macro is open in town.tmj' in page.find('dialog').text
         page.fill_in('Cancel')
-        assert page.editor.state()['depth'] == 2 and 'is full' in page.notices()[0]
+        assert page.editor.state()['depth'] == 2 and 'no more room' in page.notices()[0]
         page.click('#macro')
         assert page.editor.state()['depth'] == 1, 'end goes on'
         page.answer('Save and begin anew')

@@ -459,7 +459,7 @@ def test_height_of_a_text():
                   return [clientHeight, Math.max(24, scrollHeight)];'''
         heights = {}
         for width in (310, 280, 250, 200, 420):
-            page.js('roskevad.panels.widen("right", arguments[0])', width)
+            page.js('roskevad.panels.widen("left", arguments[0])', width)
             page.settle()
             page.wait(lambda: page.js(told)[0] == page.js(told)[1], f'its height for {width}')
             heights[width] = page.js(told)[0]

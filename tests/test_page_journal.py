@@ -212,10 +212,10 @@ def test_a_full_journal():
         page.js('roskevad.editor.journal.bound = roskevad.editor.journal.size + 1')
         draw(page, 21)
         [told] = page.notices()
-        assert 'is full' in told and 'steps end' in told, told
+        assert 'no more room' in told and 'steps end' in told, told
         before = page.editor.shown()
         page.drag([(3, 22), (6, 22)])
-        assert page.editor.shown() == before and 'journal is full' in page.bubble()
+        assert page.editor.shown() == before and 'no more room' in page.bubble()
         page.js('roskevad.editor.journal.bound = 2 ** 28')
         page.answer('Save and begin anew')
         page.wait(lambda: page.notices() == [], 'it has begun anew')

@@ -116,7 +116,7 @@ export class PageEditor extends EventTarget {
   get barred() {
     if (this.isBroken) return "The editor has ended: load the page anew.";
     if (this.isAside) return "The page begins anew from its maps: a moment.";
-    return this.journal.isFull ? "The journal is full: see the message." : "";
+    return this.journal.isFull ? "The browser has no more room for steps: see the message." : "";
   }
 
   isBarred(line) {

@@ -170,8 +170,13 @@ export class StepPanel {
     queueMicrotask(() => {
       const begun = performance.now();
       if (isOther) this.now?.scrollIntoView({ block: "nearest" });
-      this.time = Math.max(LEAST_TIME, Math.min(MOST_TIME, SHARE * (done + performance.now() - begun)));
+      this.measure(done + performance.now() - begun);
     });
+  }
+
+  // Takes how long the rows of a change of the list have taken.
+  measure(taken) {
+    this.time = Math.max(LEAST_TIME, Math.min(MOST_TIME, SHARE * taken));
   }
 
   keepNames() {
