@@ -175,7 +175,10 @@ def test_functions():
         line = f'{front}{said}{back}' if not case.given.written[JAVASCRIPT] else f'{front}\n  {case.given.takes}: '
         return unlike(case.wanted, came) or (None if line in declared and back in declared else f'no {line} in js/roskevad.d.ts')
 
-    check_each([Case(call.name, call, call.takes.split(', ')) for call in calls.FUNCTIONS], fault_of)
+    def names(call):
+        return [said.partition('=')[0] for said in re.split('[,;] ', call.takes)]
+
+    check_each([Case(call.name, call, names(call)) for call in calls.FUNCTIONS], fault_of)
 
 
 def test_records_of_python():

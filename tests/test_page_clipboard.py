@@ -9,7 +9,6 @@ from lib.cases import passed
 from lib.maps import objects_in
 from lib.places import EXAMPLE_MAPS
 from page.bench import Bench, choose, spelled, standing
-from page.browser import Keys
 
 NEEDS_BROWSER = True
 IS_LONG = True

@@ -8,14 +8,16 @@ use Rattle.lines.proofs.reader.newline_at.Goals as goal
 pub returns-then-bits-ne0-clause-offset : goal.returns-then-bits-ne0-clause-offset
 returns-then-bits-ne0-clause-offset c =
     let rest = drop c.loop-seen.seen c.args.bytes.now in
-    let mask : c.newline_bits-bits.result ≡ mask_l (map newline (take 32 rest)) = rw (behind c.args.bytes.now c.loop-seen.seen) at c.newline_bits-bits.ensures.mask in
+    let mask : c.newline_bits-bits.result ≡ mask_l (map newline (take 32 rest)) =
+    rw (behind c.args.bytes.now c.loop-seen.seen) at c.newline_bits-bits.ensures.mask in
     let near = first_near rest 32 c.newline_bits-bits.result mask (omega (arith, c.if-bits-ne0.true)) c.newline_bits-bits.ensures.small in
     omega (arith, near.0, c.loop-seen.invariant.first)
 
 pub returns-then-bits-ne0-clause-within : goal.returns-then-bits-ne0-clause-within
 returns-then-bits-ne0-clause-within c =
     let rest = drop c.loop-seen.seen c.args.bytes.now in
-    let mask : c.newline_bits-bits.result ≡ mask_l (map newline (take 32 rest)) = rw (behind c.args.bytes.now c.loop-seen.seen) at c.newline_bits-bits.ensures.mask in
+    let mask : c.newline_bits-bits.result ≡ mask_l (map newline (take 32 rest)) =
+    rw (behind c.args.bytes.now c.loop-seen.seen) at c.newline_bits-bits.ensures.mask in
     let near = first_near rest 32 c.newline_bits-bits.result mask (omega (arith, c.if-bits-ne0.true)) c.newline_bits-bits.ensures.small in
     omega (arith, near.1, length-drop c.loop-seen.seen c.args.bytes.now, c.loop-seen.invariant.within)
 
