@@ -589,8 +589,10 @@ static inline size_t roskevad_editor_put_back(const void *bytes, size_t length, 
 
 /* That text, laid out as a source is: the bytes of the file that the map was opened from. Its tree is the one of
  * `roskevad_editor_put_back`, but `version` of the map and the empty `compression` of a tile layer are as the source has them, and so are
- * the packed data of a layer with the source's cells. Where that is the source's tree, the text is the source. Else each value that the source has too keeps its bytes, and what is new is laid out as
- * its neighbours are. A source of no bytes, or of bytes that are no map, counts for nothing: then the text is in Tiled's layout. The
+ * the packed data of a layer with the source's cells; an array of a tile layer has the format that the layer has in the source, or
+ * else the source's first tile layer. Where that is the source's tree, the text is the source. Else each value that the source has too
+ * keeps its bytes, and what is new is laid out as its neighbours are. A source of no bytes, or of bytes that are no map, counts for
+ * nothing: then the text is in Tiled's layout. The
  * text's size; ROSKEVAD_NO_MEMORY, ROSKEVAD_NOT_JSON or ROSKEVAD_TOO_DEEP. It is made anew at each call; the length of both and 65,536
  * bytes are room enough for most maps. */
 static inline size_t roskevad_editor_put_back_like(const void *bytes, size_t length, const void *source, size_t source_length,

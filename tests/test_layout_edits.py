@@ -16,7 +16,7 @@ from contextlib import contextmanager
 from pathlib import Path
 
 from lib import tiled_package
-from lib.asides import OPTION
+from lib.asides import OPTION, as_in
 from lib.cases import CORES, Case, check_each, passed, unlike
 from lib.edits import EDITS, edited, read_edit
 from lib.map_layouts import in_base64, in_csv, lines_changed, map_for_edits, printers, turned
@@ -109,18 +109,17 @@ PLACE_LINES = [
     'prop put map {"name":"people","type":"int","value":13}', 'prop put object:2 {"name":"two words","propertytype":"T","type":"class","value":{"a":[1]}}',
     'extend 1 0 0 0', 'extend 0 2 1 1',
 ]
-# The edits of a map in Base64, where the cells of a layer are one text. A new layer is CSV.
+# The edits of a map in Base64, where the cells of a layer are one text. So are those of a new one.
 CELL_WORDS = ('stamp', 'erase', 'fill', 'resize')
 BASE64_ROWS = [
     *((line, one, one) for line, one, _ in EDIT_ROWS if line.split(' ')[0] in CELL_WORDS),
-    ('layer add tile Roof', (1, 1 + 12), (1, 1 + 12 + 13)),
+    # Two more members say that it is so.
+    ('layer add tile Roof', (1, 1 + 14), (1, 1 + 14)),
 ]
-# What Tiled's next save changes besides. It sorts properties, and a new one stands last. It gives
-# all layers the format of the last one; so three in Base64 lose three members each, and get one.
+# What Tiled's next save changes besides. It sorts properties, and a new one stands last.
 # It writes some members of each object, layer and map, and two more of a hexagonal map.
 CHANGED_BY_TILED = {
     ('prop set map age int 3', in_csv): (5, 5),
-    ('layer add tile Roof', in_base64): (3 * 3, 3 * 1),
     ('member put map {"hexsidelength":8,"orientation":"hexagonal"}', in_csv): (0, 2),
     ('member remove object:1 rotation', in_csv): (0, 1),
     ('member remove layer:3 draworder', in_csv): (0, 1),
@@ -177,8 +176,9 @@ def fault_of_edit(case):
     changed = lines_changed(source, came)
     if case.wanted and changed != case.wanted:
         return f'wanted {case.wanted} lines to go and come, went and came {changed}'
-    fault = unlike(printer(tree_behind(tree, line)), came)
-    fault = fault or unlike(saved(source, line, options=()), compact(came))
+    behind = tree_behind(tree, line)
+    fault = unlike(printer(as_in(source, behind)), came)
+    fault = fault or unlike(saved(source, line, options=()), compact(printer(behind)))
     if fault or (line, layout) in NOT_BROUGHT_BACK:
         return fault
     return unlike(source, saved(source, line, 'save m.tmj', 'undo'))

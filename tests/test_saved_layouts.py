@@ -259,10 +259,10 @@ def test_versions():
 
 
 def test_empty_compressions():
-    """They come back where the layer is still in base64; a layer that is new has none."""
+    """They come back where the layer is still in base64; a layer that is new has one, as the others."""
     data = (EXAMPLE_MAPS / 'base64.tmj').read_bytes()
     edited = json.loads(saved(data, 'stamp 1 0 0 1 9', 'layer add tile New'))
-    wanted = ['', '', None]
+    wanted = ['', '', '']
     came = [layer.get('compression') for layer in edited['layers']]
     fault = unlike(wanted, came)
     assert not fault, fault

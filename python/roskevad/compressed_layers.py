@@ -6,7 +6,7 @@ compress the library unpacks and packs itself.
     pack_layers(put_back(..), data)          what the file has then
 
 While a layer is unpacked, a member of it notes that. The level stands in the map's own `compressionlevel`, which the library keeps.
-Layers that are added meanwhile have no such note, and are arrays.
+Layers that are added meanwhile have no such note, and are arrays beside layers that Zstandard packs.
 """
 import base64
 import binascii

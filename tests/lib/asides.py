@@ -12,7 +12,7 @@ from lib.infinite import finite_of, infinite_of
 from lib.json_texts import depth_of, text_behind, tree_of
 from lib.maps import text_of
 from lib.model import Editor, Play
-from lib.packed_layers import by_bytes, packed, unpacked
+from lib.packed_layers import PACKERS, all_layers, by_bytes, packed, text_of_bytes, unpacked
 from lib.sessions import ALL_MAPS as OPTION
 from lib.sessions import fault_of_reasons, fault_of_replies, heard
 
@@ -141,27 +141,51 @@ def layer_in(olds, layer):
     return next(found, {})
 
 
-def with_compressions(olds, layers):
-    """Layers with the empty compressions of a list of others."""
+def is_tiles(layer):
+    return layer.get('type') == 'tilelayer' and ('data' in layer or 'chunks' in layer)
+
+
+def written_as(layer, other):
+    """A tile layer that is an array, written as another one is."""
+    compression, held = other.get('compression', ''), [layer, *layer.get('chunks', [])]
+    is_array = is_tiles(layer) and all(isinstance(each.get('data', []), list) for each in held)
+    if not is_array or other.get('encoding') != 'base64' or compression not in ('', *PACKERS):
+        return layer
+    pack = PACKERS.get(compression, bytes)
+    told = {name: other[name] for name in ('encoding', 'compression') if name in other}
+    if 'data' in layer:
+        told['data'] = text_of_bytes(pack(bytes_of(layer['data'])))
+    if 'chunks' in layer:
+        told['chunks'] = [{**each, 'data': text_of_bytes(pack(bytes_of(each['data'])))} for each in layer['chunks']]
+    return {**layer, **told}
+
+
+def bytes_of(cells):
+    return struct.pack(f'<{len(cells)}I', *cells)
+
+
+def layers_like(olds, layers, first):
+    """Layers with the empty compressions of a list of others, and written as these are, new ones as the first one."""
     for layer in layers:
         old = layer_in(olds, layer)
         is_left_out = 'compression' not in layer and old.get('compression') == ''
         more = {'compression': ''} if is_left_out and layer.get('encoding') == 'base64' else {}
         if 'layers' in layer:
             olds_inside = old.get('layers', [])
-            more['layers'] = list(with_compressions(olds_inside, layer['layers']))
-        yield {**layer, **more}
+            more['layers'] = list(layers_like(olds_inside, layer['layers'], first))
+        yield written_as({**layer, **more}, old or first)
 
 
 def as_in(source, tree):
-    """The tree of a map as it is saved over a file: with its version, and its empty compressions."""
+    """The tree of a map as it is saved over a file: with its version, its empty compressions, and its layers written as they are there."""
     found = tree_of(source) if source is not None else None
     old = found[0] if found else None
     if not isinstance(old, dict) or not isinstance(old.get('layers'), list):
         return tree
     others = {name: member for name, member in tree.items() if name != 'version'}
     version = {'version': old['version']} if 'version' in old else {}
-    return {**others, **version, 'layers': list(with_compressions(old['layers'], tree['layers']))}
+    first = next(filter(is_tiles, all_layers(old)), {})
+    return {**others, **version, 'layers': list(layers_like(old['layers'], tree['layers'], first))}
 
 
 # ---- what stands in a tree
