@@ -197,7 +197,8 @@ fn insert_reserved(cells: &mut Vec<CellEdit>, at: usize, cell: CellEdit)
     ensures len { vec_len cells.new ≡ vec_len cells.old + 1 }
     ensures capacity { vec_capacity cells.new ≡ vec_capacity cells.old }
 {
-    let _ = cells.insert(at, cell);
+    cells.push_reserved(cell);
+    cells.slice_mut(at..).rotate_right(1);
 }
 
 // Puts the first of some newer cells, which the older change has not, in front of the gap, for which there is room if there is
