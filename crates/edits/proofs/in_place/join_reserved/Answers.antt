@@ -60,14 +60,16 @@ loop-at-preserved c =
       | else-back-len w ↦
           let none_before : HasNoneBefore es n = elim w.else-back-len.branch [
             | else-back-len-via-then-back-len+else-comes_before v ↦
-                first-HasNoneBefore es n v.index.result.now (first_is xs back v.index.result.now v.index.ensures) (sym v.comes_before.ensures ∙ v.if-comes_before.false)
+                first-HasNoneBefore es n v.index.result.now (first_is xs back v.index.result.now v.index.ensures)
+                (sym v.comes_before.ensures ∙ v.if-comes_before.false)
             | else-back-len-via-else-back-len v ↦ λ l. absurd (omega (arith, l, length-drop back xs))
           ] in
           rw (w.cells-is, w.front-is, w.back-is) (before, c.loop-at.invariant.ordered, none_before, c.loop-at.invariant.room, c.loop-at.invariant.order)
     ] in
+    let room = c.if-back-len-2.cells.cap + (c.if-back-len-2.back - c.if-back-len-2.front) in
     let done : (take c.if-back-len-2.front c.if-back-len-2.cells.items ++ joined (drop c.if-back-len-2.back c.if-back-len-2.cells.items) ns ≡ whole)
     × AreInRowOrder (drop c.if-back-len-2.back c.if-back-len-2.cells.items)
-    × (c.if-back-len-2.cells.len + (length c.args.newer.now - (at + 1)) ≤ c.if-back-len-2.cells.cap + (c.if-back-len-2.back - c.if-back-len-2.front)) = elim c.if-back-len-2.branch [
+    × (c.if-back-len-2.cells.len + (length c.args.newer.now - (at + 1)) ≤ room) = elim c.if-back-len-2.branch [
       | then-back-len-2+then-is_same_cell w ↦
           let f = w.index-then-back-len-2.result.now in
           let e = get_or ys behind n in
