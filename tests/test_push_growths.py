@@ -6,7 +6,7 @@ The box: an edit whose command takes no memory when it is made, in a list with r
 once. The place: behind some numbers of steps, the same for each edit, the list has no room, and the
 line grows memory once more; a push takes its place last. The merge: a line with a plus takes no
 place, and still grows memory more often than the same line without the plus, which finds room; the
-merge is last there. A merge of moves grows none.
+merge is last there, if its list has no room. A merge of moves grows none.
 
 10,000 stamps must ask for as many bytes on a large map as on a small one, and their replies take
 few writes; neither the end of a macro nor a refused beginning may grow memory."""
@@ -14,6 +14,14 @@ from lib.cases import CORES, Case, check_each, passed
 from lib.growths import Refuser, Session
 
 REFUSER = Refuser({})
+
+
+def stamp_of(word, column, row, side):
+    """A stamp of so many columns and rows."""
+    tiles = b','.join([b'5'] * (side * side))
+    return b'%s 1 %d %d %d %s' % (word, column, row, side, tiles)
+
+
 # A document with something of each kind to edit.
 BEGUN = [
     b'new town 4 3 16 16 town.tsj',
@@ -46,11 +54,21 @@ OTHERS = [
     b'prop set map kind string door',
     b'tileset add 200 y.tsj',
 ]
-# An edit that merges with the one in front of it, and the most growths that its merge may take.
+# An edit that merges with the one in front of it, and how many growths its merge may take. A list
+# of several cells has room for nine.
 MERGES = [
-    (b'stamp 1 0 0 4 5,5,5,5', b'stamp+ 1 1 0 2 0,6', 1),
-    (b'erase 1 0 0 1 1', b'erase+ 1 1 0 1 1', 1),
-    (b'prop set map kind string door', b'prop set+ map kind string gate', 2),
+    (b'stamp 1 0 0 3 5,5,5,5,5,5,5,5,5', b'stamp+ 1 3 0 1 6,7', {1}),
+    (b'stamp 1 0 0 4 5,5,5,5', b'stamp+ 1 1 0 2 0,6', {0}),
+    (b'erase 1 0 0 1 1', b'erase+ 1 1 0 1 1', {1}),
+    (b'prop set map kind string door', b'prop set+ map kind string gate', {1, 2}),
+]
+# A stroke of 4,096 cells, and lines that merge into it in turn: a list of more has room for whole
+# 4,096, so the third of them finds some.
+LARGE = [b'new town 128 128 16 16 town.tsj', stamp_of(b'stamp', 0, 0, 64)]
+LARGE_MERGES = [
+    (stamp_of(b'stamp+', 64, 0, 64), {1}),
+    (stamp_of(b'stamp+', 0, 64, 1), {1}),
+    (stamp_of(b'stamp+', 1, 64, 1), {0}),
 ]
 # Steps that fill a list, one that waits to be made again, two levels, and what is looked at behind
 # a push.
@@ -102,13 +120,17 @@ def test_the_growths_of_merges():
     def see_merge(case):
         before, line = case.given
         count = growths(before + [line]) - growths(before + [line.replace(b'+', b'')])
-        assert 1 <= count <= case.wanted, f'the merge takes {count} growths'
+        assert count in case.wanted, f'the merge takes {count} growths'
         see_push(before, line, count)
 
     cases = []
-    for first, line, most in MERGES:
+    for first, line, counts in MERGES:
         befores = (BEGUN + [first] + UNDONE, BEGUN + LEVELS + [first])
-        cases += cases_of(befores, [line], most)
+        cases += cases_of(befores, [line], counts)
+    before = LARGE
+    for line, counts in LARGE_MERGES:
+        cases += cases_of([before], [line], counts)
+        before = before + [line]
     check_each(cases, see_merge, CORES)
 
 

@@ -1,13 +1,17 @@
 # SPDX-License-Identifier: MIT OR Apache-2.0
 """Makes 3,000 pairs of edits and 415 strokes of stamps and erases by chance, with clean marks,
 undos, limits and macros between them, and compares the replies of the program with those of the
-plain model of tests/lib/model.py. The model keeps whole maps before and after each step, where the
-program walks two lists of cells side by side."""
+plain model of tests/lib/model.py; and five strokes of up to 20,000 lines, whose cells it compares
+with a plain list. The model keeps whole maps before and after each step, where the program walks
+two lists of cells side by side."""
+import json
 import random
+from dataclasses import dataclass
 
+from lib.cases import CORES, Case, check_each
 from lib.maps import cells_of, layers_in
 from lib.model import Play
-from lib.sessions import check_together
+from lib.sessions import check_together, heard
 
 SEED = 20261125
 FLAGGED = 0x80000001
@@ -205,3 +209,88 @@ def test_strokes_on_small_maps():
 
 def test_strokes_on_large_maps():
     check_strokes(large_stroke, 15)
+
+
+# How wide and high the map of a long stroke is.
+LONG_SIDE = 256
+
+
+@dataclass(frozen=True)
+class LongStroke:
+    """So many stamps with these values, or erases where there are none, of up to so many columns
+    and rows. Each stands near the one before it."""
+
+    name: str
+    lines: int
+    side: int
+    tiles: tuple
+
+
+# Where the values are those of the map before, many cells come back to what they were.
+LONG_STROKES = [
+    LongStroke('stamps of one value', 20000, 3, (7,)),
+    LongStroke('stamps of the values before', 20000, 3, (0, 1, 2)),
+    LongStroke('large stamps of one value', 1000, 40, (7,)),
+    LongStroke('large stamps of the values before', 1000, 40, (0, 1, 2)),
+    LongStroke('erases', 20000, 3, ()),
+]
+
+
+def made_stroke(stroke):
+    """The lines of a stroke, and the cells before and after it. Its first line changes the first
+    cell, which no other changes, so the stroke never vanishes."""
+    chosen = random.Random(f'{SEED} {stroke.name}')
+    cells = chosen.choices((0, 1, 2), k=LONG_SIDE * LONG_SIDE)
+    cells[0] = 1
+    before = list(cells)
+    cells[0] = 3 if stroke.tiles else 0
+    lines = ['stamp 1 0 0 1 3' if stroke.tiles else 'erase 1 0 0 1 1']
+    x = y = LONG_SIDE // 2
+    for _ in range(stroke.lines):
+        x = min(max(x + chosen.randint(-2, 2), 1), LONG_SIDE - 1)
+        y = min(max(y + chosen.randint(-2, 2), 1), LONG_SIDE - 1)
+        width, height = chosen.randint(1, stroke.side), chosen.randint(1, stroke.side)
+        block = chosen.choices(stroke.tiles, k=width * height) if stroke.tiles else None
+        for at in range(width * height):
+            column, row = x + at % width, y + at // width
+            if column < LONG_SIDE and row < LONG_SIDE and (block is None or block[at]):
+                cells[row * LONG_SIDE + column] = block[at] if block else 0
+        if block:
+            lines.append(f'stamp+ 1 {x} {y} {width} {",".join(map(str, block))}')
+        else:
+            lines.append(f'erase+ 1 {x} {y} {width} {height}')
+    return lines, before, cells
+
+
+def saved_cells(data):
+    return cells_of(next(layers_in(json.loads(data)['layers'])))
+
+
+def fault_of_long_stroke(case):
+    lines, before, after = made_stroke(case.given)
+    rows = [before[at : at + LONG_SIDE] for at in range(0, len(before), LONG_SIDE)]
+    session = [
+        f'new a {LONG_SIDE} {LONG_SIDE} 16 16 t.tsj',
+        *(f'stamp 1 0 {y} {LONG_SIDE} {",".join(map(str, row))}' for y, row in enumerate(rows)),
+        'clear',
+        *lines,
+        'save whole.tmj',
+        'undo',
+        'save undone.tmj',
+        'redo',
+        'save redone.tmj',
+    ]
+    done, files = heard(''.join(f'{line}\n' for line in session).encode(), {})
+    replies = done.stdout.decode().splitlines()[LONG_SIDE + 2 :]
+    if done.returncode != 0 or set(replies[: len(lines)]) != {'ok 1/1 dirty 0'}:
+        return f'status {done.returncode}, replies {sorted(set(replies[: len(lines)]))}'
+    if replies[len(lines) + 1 :: 2] != ['ok 0/1 dirty 0', 'ok 1/1 dirty 0']:
+        return f'undo and redo are answered by {replies[len(lines) + 1 :: 2]}'
+    wanted = {'whole.tmj': after, 'undone.tmj': before, 'redone.tmj': after}
+    wrong = [name for name, cells in wanted.items() if saved_cells(files[name]) != cells]
+    return f'wrong cells are in {wrong}' if wrong else None
+
+
+def test_long_strokes():
+    cases = [Case(stroke.name, stroke, None) for stroke in LONG_STROKES]
+    check_each(cases, fault_of_long_stroke, CORES)

@@ -131,10 +131,10 @@ def objects(folder):
 def merges(folder):
     for count in (100, 1_000, 10_000, 100_000):
         places = [(at % 1024, at // 1024) for at in range(count)]
-        lines = ['new m 1024 1024 16 16 t.tsj', 'stamp 1 0 0 1 7'] + [f'stamp+ 1 {x} {y} 1 7' for x, y in places[1:]]
-        # Each merge makes one list of the cells of both steps, of 12 bytes each.
-        copied = sum(12 * cells for cells in range(2, count + 1))
-        yield count, seconds(lines, folder) * 1_000, copied / 1_000_000
+        stamps = [f'stamp+ 1 {x} {y} 1 7' for x, y in places]
+        begun = ['new m 1024 1024 16 16 t.tsj', 'stamp 1 1023 1023 1 7']
+        # A new cell stands behind all others but one, or in front of all others, which make way for it.
+        yield count, seconds(begun + stamps, folder) * 1_000, seconds(begun + stamps[::-1], folder) * 1_000
 
 
 def bytes_of_a_map(folder):
@@ -171,7 +171,7 @@ SERIES = {
     'columns': (rows_and_columns, ['cells a side', 'a fill of a row', 'a fill of a column']),
     'selections': (selections, ['cells chosen', 'a select of one more']),
     'objects': (objects, ['objects', 'a move of the last', 'a move of the first', 'a move of a random one']),
-    'merges': (merges, ['merges', 'milliseconds', 'megabytes copied']),
+    'merges': (merges, ['merges', 'ms, downwards', 'ms, upwards']),
     'map': (bytes_of_a_map, ['bytes', 'instructions a byte read', 'instructions a byte written']),
 }
 

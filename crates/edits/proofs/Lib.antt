@@ -7,6 +7,7 @@ pub mod FilledAlike
 pub mod Fills
 pub mod Flooded
 pub mod Joined
+pub mod InPlace
 pub mod KnownValues
 pub mod Laws
 pub mod Marking

@@ -1,11 +1,14 @@
-ghost use Rattle.std.specs.Prelude.{◌≡◌, ◌++◌, ◌∷◌, [], OnOk};
+ghost use Rattle.std.specs.Prelude.{◌≡◌, ◌++◌, ◌∷◌, [], OnErr, OnOk};
 ghost use Rattle.edits.specs.CellLists.{IsSoundlyKept, cells_in, kept_cells};
+ghost use Rattle.edits.specs.Merging.{joined};
 ghost use Rattle.map_model.specs.Alike.{AreAlike};
 ghost use Rattle.map_model.specs.CellEdits.{AreInRowOrder};
 ghost use Rattle.map_model.specs.Document.{IsDocument, painted};
 ghost use Rattle.map_model.specs.Lists.{Each};
 ghost use Rattle.map_model.specs.Lookups.{HasTiles, IsWithin};
 
+use crate::in_place::join_in_place;
+use crate::merging::joined_cells;
 use map_model::{CellEdit, Document, Side};
 use std::alloc::{AllocError, Global};
 use std::marker::Model;
@@ -141,6 +144,23 @@ impl CellEdits {
         ensures ordered { AreInRowOrder self.now }
     {
         self.cells.as_slice()
+    }
+
+    /// Joins them with the cells of a newer change, which was made behind them: a cell of one of the two keeps its values; a
+    /// cell of both has its value before the older one and after the newer one, and goes where these are equal.
+    ///
+    /// Refused only where there is no memory, and then the cells stay. There is at most one growth.
+    pub fn join(&mut self, alloc: Global, newer: &[CellEdit]) -> Result<(), AllocError>
+        requires { AreInRowOrder (joined self.old newer.now) }
+        ensures joined { OnOk result (self.new ≡ joined self.old newer.now) }
+        ensures refused { OnErr result (self.new ≡ self.old) }
+    {
+        if let KeptCells::Many(cells) = &mut self.cells {
+            return join_in_place(cells, newer);
+        }
+        let cells = joined_cells(alloc, self.cells.as_slice(), newer)?;
+        self.cells = KeptCells::Many(cells);
+        Ok(())
     }
 
     /// Sets the cells, in a tile layer of a document, to their values on a side.

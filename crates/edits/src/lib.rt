@@ -11,6 +11,7 @@ mod fill;
 mod filled;
 mod flood;
 mod ground;
+mod in_place;
 mod joining;
 mod layer;
 mod laying;

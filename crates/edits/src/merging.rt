@@ -1,5 +1,5 @@
 // The join of two changes of one layer.
-ghost use Rattle.std.specs.Prelude.{◌≡◌, ◌+◌, ◌<◌, ◌≤◌, ◌++◌, IfOk, OnOk, length};
+ghost use Rattle.std.specs.Prelude.{◌≡◌, ◌+◌, ◌*◌, ◌<◌, ◌≤◌, ◌++◌, IfOk, OnOk, length};
 ghost use Rattle.std.specs.Ordering.{is_eq, is_lt};
 ghost use Rattle.std.specs.Vec.{vec_capacity, vec_len};
 ghost use Rattle.region.specs.Cells.{cell_cmp};
@@ -9,18 +9,27 @@ ghost use Rattle.edits.specs.Merging.{AreNumbersAround, IsNumberOf, JoinedIsDiff
 use map_model::CellEdit;
 use std::alloc::{AllocError, Global};
 
+// A number by which changed cells stand in row order. It is one comparison where a row and a column would be two.
+#[inline(always)]
+fn place(a: &CellEdit) -> u32
+    ensures value { result ≡ a.now.y * 65536 + a.now.x }
+    ensures column { a.now.x < 65536 }
+{
+    a.y as u32 * 65536 + a.x as u32
+}
+
 // Whether a changed cell comes before another one in row order.
-fn comes_before(a: &CellEdit, b: &CellEdit) -> bool
+pub(crate) fn comes_before(a: &CellEdit, b: &CellEdit) -> bool
     ensures { result ≡ is_lt (cell_cmp (cell a.now) (cell b.now)) }
 {
-    a.y < b.y || a.y == b.y && a.x < b.x
+    place(a) < place(b)
 }
 
 // Whether two changes are of one cell.
-fn is_same_cell(a: &CellEdit, b: &CellEdit) -> bool
+pub(crate) fn is_same_cell(a: &CellEdit, b: &CellEdit) -> bool
     ensures { result ≡ is_eq (cell_cmp (cell a.now) (cell b.now)) }
 {
-    a.y == b.y && a.x == b.x
+    place(a) == place(b)
 }
 
 // Two numbers around the first one of which the cell does not come before the newer one. The search goes first as far as
@@ -61,7 +70,7 @@ fn number_between(older: &[CellEdit], mut low: usize, mut high: usize, newer: &C
 
 // The first number of which the cell does not come before the newer one.
 #[inline(never)]
-fn number_of(older: &[CellEdit], jump: usize, newer: &CellEdit) -> usize
+pub(crate) fn number_of(older: &[CellEdit], jump: usize, newer: &CellEdit) -> usize
     requires { AreInRowOrder older.now }
     ensures { IsNumberOf older.now newer.now result }
 {

@@ -13,8 +13,7 @@ ghost use Rattle.paint_commands.specs.Names.{erase_names, fill_names, stamp_name
 use command_api::ids::{ERASE_ID, STAMP_ID};
 use command_api::{Command, Exchange, Label, Offer};
 use edits::{
-    Area, Block, CellChange, CellEdits, EditFault, erase_change, fill_change, joined_cells,
-    stamp_change,
+    Area, Block, CellChange, CellEdits, EditFault, erase_change, fill_change, stamp_change,
 };
 use map_model::{CellEdit, Document, Side};
 use std::alloc::{AllocError, Global};
@@ -261,8 +260,7 @@ impl Command for PaintCommand {
         if !self.has_tag(*id, *layer) {
             return Ok(false);
         }
-        let joined = joined_cells(alloc, self.cells.as_slice(), cells)?;
-        self.cells = CellEdits::new(joined);
+        self.cells.join(alloc, cells)?;
         Ok(true)
     }
 }

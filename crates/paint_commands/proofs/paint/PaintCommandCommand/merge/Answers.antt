@@ -1,21 +1,16 @@
-use Rattle.std.proofs.Common.{◌≡◌, refl, sym, ap, subst, ◌∙◌}
+use Rattle.std.proofs.Common.{◌≡◌, refl, sym, ap, ◌∙◌}
 use Rattle.map_model.specs.declared.edit.Side.TheVariants.{Before}
-use Rattle.map_model.specs.CellEdits.{AreInRowOrder}
 use Rattle.map_model.specs.Document.{painted}
-use Rattle.edits.specs.Merging.{joined}
 use Rattle.paint_commands.specs.Painting.{side_of}
 use Rattle.paint_commands.proofs.Merges.{tag-layer, order_merged, paint_merged}
 use Rattle.paint_commands.proofs.paint.PaintCommandCommand.merge.Goals as goal
 
-pub new-requires : goal.new-requires
-new-requires c =
+pub join-requires : goal.join-requires
+join-requires c =
     let p = c.args.self.now in
     let asked = rw c.in-Cells.is at c.requires in
     let same : c.in-Cells.layer ≡ p.layer = tag-layer p.kind p.layer p.follows c.in-Cells.id c.in-Cells.layer (c.has_tag.ensures.0 c.if-not-has_tag.false) in
-    let cells : c.in_ok-joined.joined.items ≡ joined p.cells c.in-Cells.cells.now = c.in_ok-joined.ensures
-    ∙ ap (λ es. joined es c.in-Cells.cells.now) c.as_slice.ensures.cells in
-    subst AreInRowOrder (sym cells) (order_merged p.kind p.layer p.follows p.is_made p.cells c.in-Cells.cells.now c.args.document.now (rw same at asked.0)
-    (rw same at asked.1))
+    order_merged p.kind p.layer p.follows p.is_made p.cells c.in-Cells.cells.now c.args.document.now (rw same at asked.0) (rw same at asked.1)
 
 pub returns-clause-merged : goal.returns-clause-merged
 returns-clause-merged c told =
@@ -24,9 +19,8 @@ returns-clause-merged c told =
     let d = c.args.document.now in
     let asked = rw c.in-Cells.is at c.requires in
     let same : c.in-Cells.layer ≡ p.layer = tag-layer p.kind p.layer p.follows c.in-Cells.id c.in-Cells.layer (c.has_tag.ensures.0 c.if-not-has_tag.false) in
-    let cells : c.new.result ≡ joined p.cells newer = c.new.ensures ∙ c.in_ok-joined.ensures ∙ ap (λ es. joined es newer) c.as_slice.ensures.cells in
     let merged = paint_merged p.kind p.layer p.follows p.is_made p.cells newer d (rw same at asked.0) (rw same at asked.1) in
-    rw (c.in-Cells.is, cells) (
+    rw (c.in-Cells.is, c.in_ok-join.ensures.joined) (
     record {
       fits = merged.0;
       undone = merged.1 ∙ ap (λ l. painted p.layer p.cells (side_of p.is_made) (painted l newer Before d)) (sym same);
