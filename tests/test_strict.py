@@ -129,7 +129,7 @@ LAYERS = [
 PROPERTIES = ['prop set OWNER KEY TYPE VALUE', 'prop set+ OWNER KEY TYPE VALUE', 'prop remove OWNER KEY']
 # Those that stand there with `--all-edits` alone.
 ERASE = ['erase LAYER X Y WIDTH HEIGHT', 'erase+ LAYER X Y WIDTH HEIGHT']
-MORE_LAYERS = ['layer add group NAME', 'layer add image NAME', 'layer into LAYER GROUP PLACE']
+MORE_LAYERS = ['layer add group NAME', 'layer add image NAME', 'layer into LAYER GROUP PLACE', 'layer put GROUP PLACE JSON']
 MEMBERS = [
     'member set OWNER KEY JSON', 'member set+ OWNER KEY JSON', 'member put OWNER JSON', 'member put+ OWNER JSON',
     'member remove OWNER KEY',
