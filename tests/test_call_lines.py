@@ -570,7 +570,7 @@ editor.active = document;""", []),
              'whole = {"type": "tilelayer", "id": 5, "data": [1000000000] * 40000}\n'
              'things = {"type": "objectgroup", "id": 6, "objects": [{"id": at, "name": "a" * 99} for at in range(1, 800)]}\n'
              'document.layers.put({"type": "group", "id": 4, "layers": [whole, things]}, at=1)\n'
-             'assert document.layers[5].cells().count(1000000000) == 40000 and len(document.selection) == 3\ndocument.undo()\ndocument.redo()',
+             'assert list(document.layers[5].cells()).count(1000000000) == 40000 and len(document.selection) == 3\ndocument.undo()\ndocument.redo()',
              'document.select(1, 2, 3, 1); const whole = { type: "tilelayer", id: 5, data: Array(40000).fill(1000000000) };'
              'const objects = Array.from({ length: 799 }, (_, at) => ({ id: at + 1, name: "a".repeat(99) }));'
              'document.layers.put({ type: "group", id: 4, layers: [whole, { type: "objectgroup", id: 6, objects }] }, null, 1);'

@@ -94,7 +94,7 @@ def test_random_maps():
 
 
 def test_layers_stay_packed():
-    """By their own compression, Zstandard with the level of the file; a layer that is added is an array."""
+    """By their own compression, Zstandard with the level of the file; a layer that is added is as the others are, beside Zstandard an array."""
     cells = [1 + at % 9 for at in range(30)]
     for compression in (ZLIB, GZIP, ZSTANDARD):
         for level in (-1, 1, 9):
@@ -104,10 +104,12 @@ def test_layers_stay_packed():
                 editor.step('layer add tile New')
                 first, second = json.loads(editor.save_map(all_maps=True))['layers']
             wanted = [3, *cells[1:]]
-            fault = unlike((compression, wanted), (first['compression'], cells_in(first['data'], compression))) or unlike([0] * 30, second['data'])
+            added = second['data'] if compression == ZSTANDARD else cells_in(second['data'], compression)
+            fault = unlike((compression, wanted), (first['compression'], cells_in(first['data'], compression))) or unlike([0] * 30, added)
             if compression == ZSTANDARD:
                 fault = fault or unlike(text_of_bytes(compressed_bytes(_words(wanted), compression, level)), first['data'])
-            assert not fault and 'compression' not in second, f'{compression} {level}: {fault}'
+            fault = fault or unlike(None if compression == ZSTANDARD else compression, second.get('compression'))
+            assert not fault, f'{compression} {level}: {fault}'
             passed()
 
 

@@ -1,8 +1,6 @@
 # SPDX-License-Identifier: MIT OR Apache-2.0
 """Layers that are added as a file has them, with all in them: the line that adds one; or, where one line is too short for it, those that
 add it without what it holds, and then that."""
-import base64
-import binascii
 import json
 from typing import Any, Iterable, Iterator, Mapping, Optional
 
@@ -71,8 +69,10 @@ def _values(data: Any) -> Optional[list[int]]:
     """The values of a tile layer, which a file has as numbers or in base64; None where it has neither."""
     if isinstance(data, list):
         return data if all(isinstance(value, int) for value in data) else None
+    import base64  # with the first layer that needs it
+
     try:
         packed = base64.b64decode(''.join(data.split()), validate=True)
-    except (AttributeError, binascii.Error):
+    except (AttributeError, ValueError):
         return None
     return [int.from_bytes(packed[at:at + 4], 'little') for at in range(0, len(packed), 4)]

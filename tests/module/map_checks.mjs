@@ -97,8 +97,10 @@ async function packedMaps() {
     editor.step("stamp 1 0 0 1 3");
     editor.step("layer add tile New");
     const { layers: [layer, added] } = await savedTree(editor);
-    same([layer.compression, layer.encoding, added.compression], [compression, "base64", undefined]);
-    same([added.data.length, layer.roskevad_compression], [WIDTH * HEIGHT, undefined]);
+    same([layer.compression, layer.encoding, added.compression, added.encoding], [compression, "base64", compression, "base64"]);
+    const empty = await unpacked(bytesOf(added.data), compression);
+    same([...new Uint32Array(empty.buffer)], [...CELLS].map(() => 0));
+    same([layer.roskevad_compression, layer.roskevad_packed], [undefined, undefined]);
     const cells = await unpacked(bytesOf(layer.data), compression);
     same([...new Uint32Array(cells.buffer)], [3, ...CELLS.slice(1)]);
     editor.close();
