@@ -26,3 +26,8 @@ Gives (Err e) given = Fails e given
 abbrev pub GivesBy : {A B : Type 0} → (A → B) → Result A Fault → Result B Refusal → Type 0
 GivesBy view (Ok x) given = given ≡ Ok (view x)
 GivesBy view (Err e) given = Fails e given
+
+-- what code left, if it ran to its end, is what a definition gives
+abbrev pub Leaves : {A : Type 0} → Result ⊤ Fault → A → Result A Refusal → Type 0
+Leaves (Ok x) left given = given ≡ Ok left
+Leaves (Err e) left given = Fails e given

@@ -5,6 +5,7 @@ use Rattle.std.specs.Str.{trim}
 use Rattle.std.specs.Float.{binary64, floor, float_to_signed}
 use Rattle.std.specs.Float.Ieee.{of_int, eq}
 use Rattle.std.specs.Int.{w64}
+use Rattle.fast_float.specs.Parse.{parse_float}
 use Rattle.serde_json.specs.Data.{Num}
 use Rattle.serde_json.specs.Find.{of_integer, of_float}
 
@@ -73,6 +74,10 @@ unfoldable pub wrapped_of : List ℕ → Option ℤ
 wrapped_of s = wrapped_in (trim s)
 
 -- ---- numbers with fractions
+-- the float of a text; blanks may stand around it
+unfoldable pub real_of : List ℕ → Option Float
+real_of s = parse_float binary64 (trim s)
+
 -- the greatest whole number that is not above it, as far as 64 bits reach
 unfoldable pub whole_part : Float → ℤ
 whole_part x = float_to_signed w64 (floor binary64 x)

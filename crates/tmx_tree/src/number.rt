@@ -1,7 +1,7 @@
 // Numbers that a text spells.
 ghost use Rattle.std.specs.Prelude.{◌≡◌, ◌^◌, ◌<◌, option_map, drop, slice_index};
 ghost use Rattle.serde_json.specs.View.{number_view};
-ghost use Rattle.tmx_tree.specs.Numbers.{is_digit, digits_of, wrapped_digits_of, unsigned_of, positive, negative, whole_of, signed, wrapped_of, real_number, is_whole, without_plus, negated, whole_in, wrapped_in};
+ghost use Rattle.tmx_tree.specs.Numbers.{is_digit, digits_of, wrapped_digits_of, unsigned_of, positive, negative, whole_of, signed, wrapped_of, real_number, real_of, is_whole, without_plus, negated, whole_in, wrapped_in};
 
 use serde_json::Number;
 use std::num::{nearest_i64_to_f64, saturating_f64_to_i64};
@@ -175,5 +175,16 @@ pub fn real_number(x: f64) -> Option<Number>
         Some(Number::from(whole))
     } else {
         Number::from_f64(x)
+    }
+}
+
+/// The float of a text.
+#[tactic(auto, unfolding(crate::specs::Numbers::real_of))]
+pub fn real_of(text: &str) -> Option<f64>
+    ensures { result ≡ real_of text.now }
+{
+    match fast_float::parse::<f64, _>(text.trim()) {
+        Ok(x) => Some(x),
+        Err(_) => None,
     }
 }
