@@ -25,8 +25,12 @@ pub enum Refusal {
     NoChunks,
     /// The corners of a polygon or a polyline are no pairs of numbers.
     Corners,
+    /// A property has a type that Tiled does not know.
+    PropertyType,
     /// No id is left for a layer or an object that has none.
     NoIdLeft,
+    /// A tileset stands in the map itself.
+    Embedded,
     /// Groups or classes nest too deep for a tree.
     TooDeep,
 }

@@ -1,10 +1,25 @@
 //! A map in Tiled's XML, as the tree that Tiled's JSON has of it.
 #![tactic(auto)]
 
-mod attribute;
+mod cells;
+mod corners;
+mod element;
 mod fault;
+mod format;
+mod layers;
+mod map;
 mod number;
+mod objects;
+mod plain_value;
+mod properties;
+mod property;
 mod row;
+mod settings;
 mod tables;
+mod texts;
+mod tile_layer;
+mod tilesets;
 
 pub use fault::{Fault, Refusal};
+pub use map::tree;
+pub use property::NOTE_NAME;

@@ -9,7 +9,8 @@ use std::num::{nearest_i64_to_f64, saturating_f64_to_i64};
 /// How many values 32 bits have.
 const WORD: u64 = 0x1_0000_0000;
 
-fn is_digit(byte: u8) -> bool
+/// Whether a byte is a digit.
+pub fn is_digit(byte: u8) -> bool
     ensures { result ≡ is_digit byte }
 {
     b'0' <= byte && byte <= b'9'
@@ -36,7 +37,7 @@ fn digits_of(digits: &[u8]) -> Option<u32>
 }
 
 // The last 32 bits of the number that digits spell.
-pub fn wrapped_digits_of(digits: &[u8]) -> Option<u32>
+fn wrapped_digits_of(digits: &[u8]) -> Option<u32>
     ensures { result ≡ wrapped_digits_of digits.now }
 {
     if digits.is_empty() {

@@ -8,7 +8,7 @@ ghost use Rattle.tmx_tree.specs.Answers.{GivesBy, Leaves};
 ghost use Rattle.tmx_tree.specs.Numbers.{real_of, real_number};
 ghost use Rattle.tmx_tree.specs.Rows.{row_of, real_in, read_as, usual, is_whole_data, is_empty_text, is_flag, is_usual, unless_usual, where_absent, where_given, row_value, with_row, with_rows};
 
-use crate::attribute::attribute_value;
+use crate::element::attribute_value;
 use crate::fault::{Fault, Refusal};
 use crate::number::{real_number, real_of, unsigned_of, whole_of};
 use serde_json::{Map, Number, Value};
@@ -50,17 +50,24 @@ pub struct Row {
     pub shown: Shown,
 }
 
-/// The number of a text.
-pub fn real_in(text: &str) -> Result<Option<Number>, Fault>
-    ensures { GivesBy (option_map number_view) result (real_in (real_of text.now)) }
+/// The number of a float.
+pub fn number_in(float: Option<f64>) -> Result<Option<Number>, Fault>
+    ensures { GivesBy (option_map number_view) result (real_in float) }
 {
-    match real_of(text) {
+    match float {
         Some(x) => match real_number(x) {
             Some(number) => Ok(Some(number)),
             None => Err(Fault::Refused(Refusal::NotFinite)),
         },
         None => Ok(None),
     }
+}
+
+/// The number of a text.
+pub fn real_in(text: &str) -> Result<Option<Number>, Fault>
+    ensures { GivesBy (option_map number_view) result (real_in (real_of text.now)) }
+{
+    number_in(real_of(text))
 }
 
 fn read_as(alloc: Global, kind: Kind, text: &str) -> Result<Option<Value>, Fault>
