@@ -96,3 +96,46 @@ text_rows =
     ∷ row (codes "kerning") (Flag true) Unusual
     ∷ row (codes "pixelsize") (Whole (pos 16)) Unusual
     ∷ []
+
+-- a tileset that stands in the map
+unfoldable pub tileset_rows : List Named
+tileset_rows =
+    row (codes "firstgid") Unsigned Always
+    ∷ row (codes "name") Text Always
+    ∷ row (codes "class") Text Unusual
+    ∷ row (codes "tilewidth") (Whole (pos 0)) Always
+    ∷ row (codes "tileheight") (Whole (pos 0)) Always
+    ∷ row (codes "spacing") (Whole (pos 0)) Always
+    ∷ row (codes "margin") (Whole (pos 0)) Always
+    ∷ row (codes "tilecount") (Whole (pos 0)) Always
+    ∷ row (codes "columns") (Whole (pos 0)) Always
+    ∷ row (codes "backgroundcolor") Text Unusual
+    ∷ row (codes "tilerendersize") Text Unusual
+    ∷ row (codes "fillmode") Text Unusual
+    ∷ []
+
+-- how its tiles may be turned
+unfoldable pub turning_rows : List Named
+turning_rows =
+    row (codes "hflip") (Flag false) Always
+    ∷ row (codes "vflip") (Flag false) Always
+    ∷ row (codes "rotate") (Flag false) Always
+    ∷ row (codes "preferuntransformed") (Flag false) Always
+    ∷ []
+
+-- a tile of it
+unfoldable pub tile_rows : List Named
+tile_rows =
+    row (codes "id") (Whole (pos 0)) Always
+    ∷ row (codes "type") Text Unusual
+    ∷ row (codes "class") Text Unusual
+    ∷ row (codes "probability") (Real (pos 1)) Unusual
+    ∷ row (codes "x") (Whole (pos 0)) Given
+    ∷ row (codes "y") (Whole (pos 0)) Given
+    ∷ row (codes "width") (Whole (pos 0)) Given
+    ∷ row (codes "height") (Whole (pos 0)) Given
+    ∷ []
+
+-- a frame of its animation
+unfoldable pub frame_rows : List Named
+frame_rows = row (codes "tileid") (Whole (pos 0)) Always ∷ row (codes "duration") (Whole (pos 0)) Always ∷ []

@@ -29,8 +29,8 @@ pub enum Refusal {
     PropertyType,
     /// No id is left for a layer or an object that has none.
     NoIdLeft,
-    /// A tileset stands in the map itself.
-    Embedded,
+    /// A tileset in the map itself has wang sets or terrains, or does not say how many tiles it has.
+    OldTileset,
     /// Groups or classes nest too deep for a tree.
     TooDeep,
 }

@@ -112,7 +112,8 @@ pub struct Counted {
     pub next: u32,
 }
 
-fn object_layer(alloc: Global, element: &Element, id: i64, next: u32) -> Result<Counted, Fault>
+/// An object layer, and the next object's id.
+pub fn object_layer(alloc: Global, element: &Element, id: i64, next: u32) -> Result<Counted, Fault>
     ensures { GivesBy layer_view result
         (object_layer (attributes_of (view element.now)) (kids_of (view element.now)) id next) }
 {
@@ -154,7 +155,8 @@ fn starts_with_hash(text: &[u8]) -> bool
     !text.is_empty() && text[0] == b'#'
 }
 
-fn transparent(alloc: Global, text: &str) -> Result<Option<Value>, AllocError>
+/// A color that is transparent, if one is.
+pub fn transparent(alloc: Global, text: &str) -> Result<Option<Value>, AllocError>
     ensures { IfOk result (λ o. option_map data_of o ≡ transparent text.now) }
 {
     if text.is_empty() {

@@ -18,6 +18,8 @@ mod settings;
 mod tables;
 mod texts;
 mod tile_layer;
+mod tiles;
+mod tileset;
 mod tilesets;
 
 pub use fault::{Fault, Refusal};

@@ -4,7 +4,8 @@ ghost use Rattle.serde_json.specs.View.{members_view};
 ghost use Rattle.xml_text.specs.Xml.{attribute_view};
 ghost use Rattle.tmx_tree.specs.Answers.{Leaves};
 ghost use Rattle.tmx_tree.specs.Rows.{with_rows};
-ghost use Rattle.tmx_tree.specs.Tables.{map_rows, hexagonal_rows, layer_rows, size_rows, place_rows, image_layer_rows, object_layer_rows, object_rows, own_object_rows, instance_rows, text_rows};
+ghost use Rattle.tmx_tree.specs.Tables.{map_rows, hexagonal_rows, layer_rows, size_rows, place_rows, image_layer_rows, object_layer_rows, object_rows, own_object_rows};
+ghost use Rattle.tmx_tree.specs.Tables.{instance_rows, text_rows, tileset_rows, turning_rows, tile_rows, frame_rows};
 
 use crate::fault::Fault;
 use crate::row::{Kind, Row, Shown, put_rows};
@@ -275,6 +276,108 @@ pub fn put_text_rows(
             row("strikeout", Kind::Flag(false), Shown::Unusual),
             row("kerning", Kind::Flag(true), Shown::Unusual),
             row("pixelsize", Kind::Whole(16), Shown::Unusual),
+        ],
+        attributes,
+        members,
+    )
+}
+
+/// Puts those of a tileset that stands in the map.
+#[tactic(auto, unfolding(crate::specs::Tables::tileset_rows))]
+pub fn put_tileset_rows(
+    alloc: Global,
+    attributes: &Vec<Attribute>,
+    members: &mut Map<String, Value>,
+) -> Result<(), Fault>
+    ensures { Leaves result (members_view members.new.entries)
+        (with_rows tileset_rows (map attribute_view attributes.now.items) (members_view members.old.entries)) }
+{
+    put_rows(
+        alloc,
+        &[
+            row("firstgid", Kind::Unsigned, Shown::Always),
+            row("name", Kind::Text, Shown::Always),
+            row("class", Kind::Text, Shown::Unusual),
+            row("tilewidth", Kind::Whole(0), Shown::Always),
+            row("tileheight", Kind::Whole(0), Shown::Always),
+            row("spacing", Kind::Whole(0), Shown::Always),
+            row("margin", Kind::Whole(0), Shown::Always),
+            row("tilecount", Kind::Whole(0), Shown::Always),
+            row("columns", Kind::Whole(0), Shown::Always),
+            row("backgroundcolor", Kind::Text, Shown::Unusual),
+            row("tilerendersize", Kind::Text, Shown::Unusual),
+            row("fillmode", Kind::Text, Shown::Unusual),
+        ],
+        attributes,
+        members,
+    )
+}
+
+/// Puts those of how tiles may be turned.
+#[tactic(auto, unfolding(crate::specs::Tables::turning_rows))]
+pub fn put_turning_rows(
+    alloc: Global,
+    attributes: &Vec<Attribute>,
+    members: &mut Map<String, Value>,
+) -> Result<(), Fault>
+    ensures { Leaves result (members_view members.new.entries)
+        (with_rows turning_rows (map attribute_view attributes.now.items) (members_view members.old.entries)) }
+{
+    put_rows(
+        alloc,
+        &[
+            row("hflip", Kind::Flag(false), Shown::Always),
+            row("vflip", Kind::Flag(false), Shown::Always),
+            row("rotate", Kind::Flag(false), Shown::Always),
+            row("preferuntransformed", Kind::Flag(false), Shown::Always),
+        ],
+        attributes,
+        members,
+    )
+}
+
+/// Puts those of a tile.
+#[tactic(auto, unfolding(crate::specs::Tables::tile_rows))]
+pub fn put_tile_rows(
+    alloc: Global,
+    attributes: &Vec<Attribute>,
+    members: &mut Map<String, Value>,
+) -> Result<(), Fault>
+    ensures { Leaves result (members_view members.new.entries)
+        (with_rows tile_rows (map attribute_view attributes.now.items) (members_view members.old.entries)) }
+{
+    put_rows(
+        alloc,
+        &[
+            row("id", Kind::Whole(0), Shown::Always),
+            row("type", Kind::Text, Shown::Unusual),
+            row("class", Kind::Text, Shown::Unusual),
+            row("probability", Kind::Real(1), Shown::Unusual),
+            row("x", Kind::Whole(0), Shown::Given),
+            row("y", Kind::Whole(0), Shown::Given),
+            row("width", Kind::Whole(0), Shown::Given),
+            row("height", Kind::Whole(0), Shown::Given),
+        ],
+        attributes,
+        members,
+    )
+}
+
+/// Puts those of a frame of an animation.
+#[tactic(auto, unfolding(crate::specs::Tables::frame_rows))]
+pub fn put_frame_rows(
+    alloc: Global,
+    attributes: &Vec<Attribute>,
+    members: &mut Map<String, Value>,
+) -> Result<(), Fault>
+    ensures { Leaves result (members_view members.new.entries)
+        (with_rows frame_rows (map attribute_view attributes.now.items) (members_view members.old.entries)) }
+{
+    put_rows(
+        alloc,
+        &[
+            row("tileid", Kind::Whole(0), Shown::Always),
+            row("duration", Kind::Whole(0), Shown::Always),
         ],
         attributes,
         members,

@@ -10,6 +10,7 @@ use crate::element::{attributes, named};
 use crate::fault::{Fault, Refusal};
 use crate::plain_value::text_at;
 use crate::property::put_text;
+use crate::tileset::{embedded, is_old};
 use serde_json::{Map, Value};
 use std::alloc::{AllocError, Global};
 use xml_text::{Attribute, Element, Node};
@@ -26,10 +27,13 @@ fn external(alloc: Global, attributes: &Vec<Attribute>) -> Result<Value, AllocEr
 fn tileset_of(alloc: Global, element: &Element) -> Result<Value, Fault>
     ensures { GivesBy data_of result (tileset_of (view element.now)) }
 {
-    if text_at(attributes(element), "source").is_empty() {
-        return Err(Fault::Refused(Refusal::Embedded));
+    if !text_at(attributes(element), "source").is_empty() {
+        return Ok(external(alloc, attributes(element))?);
     }
-    Ok(external(alloc, attributes(element))?)
+    if is_old(element) {
+        return Err(Fault::Refused(Refusal::OldTileset));
+    }
+    embedded(alloc, element)
 }
 
 fn push_tileset(alloc: Global, node: &Node, found: &mut Vec<Value>) -> Result<(), Fault>
