@@ -43,8 +43,8 @@ with_order attrs ms =
 abbrev pub with_stagger : Attributes → Members → Members
 with_stagger attrs ms =
     if is_one_of (codes "staggered" ∷ codes "hexagonal" ∷ []) (orientation attrs) then
-      put (codes "staggeraxis") (string (one_of (codes "x" ∷ []) (codes "y") (text_at (codes "staggeraxis") attrs)))
-      (put (codes "staggerindex") (string (one_of (codes "even" ∷ []) (codes "odd") (text_at (codes "staggerindex") attrs))) ms)
+    put (codes "staggeraxis") (string (one_of (codes "x" ∷ []) (codes "y") (text_at (codes "staggeraxis") attrs)))
+    (put (codes "staggerindex") (string (one_of (codes "even" ∷ []) (codes "odd") (text_at (codes "staggerindex") attrs))) ms)
     else ms
 
 abbrev pub with_hexagons : Attributes → Members → Result Members Refusal

@@ -101,7 +101,6 @@ text_or_inner s inner = if bytes_eq s [] then unless_blank inner else s
 abbrev pub value_text : Attributes → Children → List ℕ
 value_text attrs kids = text_or_inner (text_at (codes "value") attrs) (text_in kids)
 
-
 -- name, type, class and value
 abbrev pub named_value : Attributes → Typed → Members
 named_value attrs v =

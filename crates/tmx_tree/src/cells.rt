@@ -197,12 +197,7 @@ fn base64_text(alloc: Global, nodes: &Vec<Node>) -> Result<Value, AllocError>
 }
 
 /// The cells that stand in an element.
-pub fn cells_in(
-    alloc: Global,
-    form: Form,
-    count: u64,
-    nodes: &Vec<Node>,
-) -> Result<Value, Fault>
+pub fn cells_in(alloc: Global, form: Form, count: u64, nodes: &Vec<Node>) -> Result<Value, Fault>
     ensures { GivesBy data_of result
         (cells_in form count (children_of (map node_view nodes.now.items))) }
 {

@@ -144,7 +144,12 @@ fn image_note(alloc: Global, attributes: &Vec<Attribute>) -> Result<Map<String, 
     ensures { IfOk result (λ m. members_view m.entries ≡ image_note (map attribute_view attributes.now.items)) }
 {
     let mut note = Map::new(alloc);
-    put_some(alloc, &mut note, "height", side_member(attributes, "height"))?;
+    put_some(
+        alloc,
+        &mut note,
+        "height",
+        side_member(attributes, "height"),
+    )?;
     put_some(alloc, &mut note, "width", side_member(attributes, "width"))?;
     Ok(note)
 }
@@ -183,7 +188,12 @@ fn put_image(
     };
     let color = transparent(alloc, text_at(attributes(image), "trans"))?;
     put_some(alloc, members, "transparentcolor", color)?;
-    put_text(alloc, members, "image", text_at(attributes(image), "source"))?;
+    put_text(
+        alloc,
+        members,
+        "image",
+        text_at(attributes(image), "source"),
+    )?;
     let note = image_note(alloc, attributes(image))?;
     put_notes(alloc, members, note)
 }
@@ -252,12 +262,7 @@ pub fn find_layers(
 }
 
 #[cycle(groups)]
-fn find_layer(
-    alloc: Global,
-    infinite: bool,
-    node: &Node,
-    layers: &mut Layers,
-) -> Result<(), Fault>
+fn find_layer(alloc: Global, infinite: bool, node: &Node, layers: &mut Layers) -> Result<(), Fault>
     ensures { Leaves result (layers_view layers.new)
         (with_layer infinite (node_view node.now) (layers_view layers.old)) }
 {
@@ -292,7 +297,11 @@ fn find_group(
         object: layers.object,
     };
     find_layers(alloc, infinite, element, &mut inner)?;
-    let Layers { found, layer, object } = inner;
+    let Layers {
+        found,
+        layer,
+        object,
+    } = inner;
     serde_json::put(&mut members, alloc, "layers", Value::from(found))?;
     layers.found.push(Value::from(members))?;
     layers.layer = layer;

@@ -53,7 +53,10 @@ fn put_stagger(
     ensures { OnOk result (members_view members.new.entries
         ≡ with_stagger (map attribute_view attributes.now.items) (members_view members.old.entries)) }
 {
-    if !is_one_of(&["staggered", "hexagonal"], text_at(attributes, "orientation")) {
+    if !is_one_of(
+        &["staggered", "hexagonal"],
+        text_at(attributes, "orientation"),
+    ) {
         return Ok(());
     }
     let index = one_of(&["even"], "odd", text_at(attributes, "staggerindex"));
@@ -168,7 +171,11 @@ fn put_layers(
     ensures { OnOk result (members_view members.new.entries
         ≡ put_layers (layers_view layers) (members_view members.old.entries)) }
 {
-    let Layers { found, layer, object } = layers;
+    let Layers {
+        found,
+        layer,
+        object,
+    } = layers;
     serde_json::put(members, alloc, "nextobjectid", Value::from(object))?;
     serde_json::put(members, alloc, "nextlayerid", Value::from(layer))?;
     serde_json::put(members, alloc, "layers", Value::from(found))

@@ -101,10 +101,7 @@ fn is_without_alpha(color: &[u8]) -> bool
     ensures ascii { IsTrue result → slice_index color.now 1 < 128 }
     ensures long { IsTrue result → 1 < length color.now }
 {
-    color.len() == 7
-        && color[0] == b'#'
-        && is_hexadecimal(color[1])
-        && are_hexadecimal(&color[2..])
+    color.len() == 7 && color[0] == b'#' && is_hexadecimal(color[1]) && are_hexadecimal(&color[2..])
 }
 
 // A color with its alpha.

@@ -107,7 +107,12 @@ fn named_value(
     let Typed { kind, value } = typed;
     let mut members = Map::new(alloc);
     serde_json::put(&mut members, alloc, "value", value)?;
-    put_unless_empty(alloc, &mut members, "propertytype", text_at(attributes, "propertytype"))?;
+    put_unless_empty(
+        alloc,
+        &mut members,
+        "propertytype",
+        text_at(attributes, "propertytype"),
+    )?;
     put_text(alloc, &mut members, "type", kind)?;
     put_text(alloc, &mut members, "name", text_at(attributes, "name"))?;
     Ok(members)
@@ -171,7 +176,12 @@ fn note_of_member(
         ≡ note_of_member (map attribute_view attributes.now.items) kind.now (members_view notes.entries)) }
 {
     let mut own = Map::new(alloc);
-    put_unless_empty(alloc, &mut own, "propertytype", text_at(attributes, "propertytype"))?;
+    put_unless_empty(
+        alloc,
+        &mut own,
+        "propertytype",
+        text_at(attributes, "propertytype"),
+    )?;
     let kind = other_type(alloc, kind)?;
     put_some(alloc, &mut own, "type", kind)?;
     put_notes(alloc, &mut own, notes)?;

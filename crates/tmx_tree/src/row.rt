@@ -193,11 +193,7 @@ fn where_given(alloc: Global, shown: Shown, kind: Kind, read: Option<Value>) -> 
     }
 }
 
-fn row_value(
-    alloc: Global,
-    row: &Row,
-    attributes: &Vec<Attribute>,
-) -> Result<Option<Value>, Fault>
+fn row_value(alloc: Global, row: &Row, attributes: &Vec<Attribute>) -> Result<Option<Value>, Fault>
     ensures { GivesBy (option_map data_of) result
         (row_value (row_of row.now) (map attribute_view attributes.now.items)) }
 {

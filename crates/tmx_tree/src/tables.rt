@@ -62,9 +62,7 @@ pub fn put_hexagonal_rows(
 {
     put_rows(
         alloc,
-        &[
-            row("hexsidelength", Kind::Whole(0), Shown::Always),
-        ],
+        &[row("hexsidelength", Kind::Whole(0), Shown::Always)],
         attributes,
         members,
     )
@@ -175,9 +173,7 @@ pub fn put_object_layer_rows(
 {
     put_rows(
         alloc,
-        &[
-            row("color", Kind::Text, Shown::Unusual),
-        ],
+        &[row("color", Kind::Text, Shown::Unusual)],
         attributes,
         members,
     )

@@ -107,12 +107,7 @@ fn chunk_of(alloc: Global, form: Form, element: &Element) -> Result<Value, Fault
     Ok(Value::from(members))
 }
 
-fn push_chunk(
-    alloc: Global,
-    form: Form,
-    node: &Node,
-    found: &mut Vec<Value>,
-) -> Result<(), Fault>
+fn push_chunk(alloc: Global, form: Form, node: &Node, found: &mut Vec<Value>) -> Result<(), Fault>
     ensures { Leaves result (map data_of found.new.items)
         (with_chunk form (node_view node.now) (map data_of found.old.items)) }
 {
@@ -214,12 +209,7 @@ fn put_cells(
 }
 
 /// A tile layer.
-pub fn tile_layer(
-    alloc: Global,
-    infinite: bool,
-    element: &Element,
-    id: i64,
-) -> Result<Value, Fault>
+pub fn tile_layer(alloc: Global, infinite: bool, element: &Element, id: i64) -> Result<Value, Fault>
     ensures { GivesBy data_of result
         (tile_layer infinite (attributes_of (view element.now)) (kids_of (view element.now)) id) }
 {

@@ -20,7 +20,12 @@ fn external(alloc: Global, attributes: &Vec<Attribute>) -> Result<Value, AllocEr
 {
     let mut members = Map::new(alloc);
     put_text(alloc, &mut members, "source", text_at(attributes, "source"))?;
-    serde_json::put(&mut members, alloc, "firstgid", Value::from(side(attributes, "firstgid")))?;
+    serde_json::put(
+        &mut members,
+        alloc,
+        "firstgid",
+        Value::from(side(attributes, "firstgid")),
+    )?;
     Ok(Value::from(members))
 }
 
@@ -51,11 +56,7 @@ fn push_tileset(alloc: Global, node: &Node, found: &mut Vec<Value>) -> Result<()
 }
 
 /// Pushes the tilesets among nodes.
-pub fn push_tilesets(
-    alloc: Global,
-    nodes: &Vec<Node>,
-    found: &mut Vec<Value>,
-) -> Result<(), Fault>
+pub fn push_tilesets(alloc: Global, nodes: &Vec<Node>, found: &mut Vec<Value>) -> Result<(), Fault>
     ensures { Leaves result (map data_of found.new.items)
         (with_tilesets (children_of (map node_view nodes.now.items)) (map data_of found.old.items)) }
 {
