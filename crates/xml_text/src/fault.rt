@@ -29,6 +29,8 @@ pub enum Flaw {
     BadAttribute,
     /// An element has two attributes of one name.
     AttributeTwice,
+    /// An element has more than 256 attributes.
+    TooManyAttributes,
     /// A reference that is none of the five entities, nor one to a character.
     BadReference,
     /// A CDATA section that does not end.
