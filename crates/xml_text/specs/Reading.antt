@@ -3,14 +3,14 @@ use Rattle.std.specs.Prelude.{ℕ, zero, suc, ◌+◌, ◌==◌, Bool, true, fal
 use Rattle.std.specs.Prelude.{Option, Some, None, Result, Ok, Err, if◌then◌else◌, ok_or, unwrap_or, is_some}
 use Rattle.std.specs.Result.{result_ok}
 use Rattle.std.specs.List.{list_all, list_any}
-use Rattle.std.specs.Str.{bytes_eq, is_utf8, chars, str_to_ascii_lowercase}
+use Rattle.std.specs.Str.{bytes_eq, is_utf8, chars}
 use Rattle.xml_text.specs.declared.fault.Flaw.{Flaw}
 use Rattle.xml_text.specs.declared.fault.Flaw.TheVariants.{NotUtf8, ControlCharacter, BadDeclaration, OtherEncoding, BadDoctype, BadComment}
 use Rattle.xml_text.specs.declared.fault.Flaw.TheVariants.{BadInstruction, BadTag, BadAttribute, AttributeTwice, TooManyAttributes, BadCdata}
 use Rattle.xml_text.specs.declared.fault.Flaw.TheVariants.{CdataEnd, WrongEnd, NoEnd, TooDeep, NoRoot, BehindRoot}
 use Rattle.xml_text.specs.Answers.{◌>>=◌, made_of, Turn, More, Done, turns}
-use Rattle.xml_text.specs.Words.{is_blank, begins_name, first_is, unblanked, after, cut, up_to, name}
-use Rattle.xml_text.specs.Said.{is_character, lines, said}
+use Rattle.xml_text.specs.Words.{is_blank, begins_name, first_is, unblanked, after, cut, up_to, name, is_word}
+use Rattle.xml_text.specs.Said.{is_character, plain, said}
 use Rattle.xml_text.specs.Xml.{Xml, element, text, children_of}
 
 abbrev pub Attributes : Type 0
@@ -34,7 +34,7 @@ comment bytes = ok_or (cut (codes "--") bytes) BadComment >>= λ parts. ok_or (a
 unfoldable pub instruction : List ℕ → Result (List ℕ) Flaw
 instruction bytes =
     name bytes >>= λ target.
-    if bytes_eq (str_to_ascii_lowercase (take 3 target.0)) (codes "xml") then Err BadInstruction
+    if is_word (take 3 target.0) (codes "xml") then Err BadInstruction
     else if first_is is_blank target.1 || is_some (after (codes "?>") target.1)
     then (ok_or (cut (codes "?>") target.1) BadInstruction >>= λ parts. Ok parts.1)
     else Err BadInstruction
@@ -76,7 +76,7 @@ is_version (Some value) = bytes_eq value (codes "1.0")
 
 abbrev pub is_encoding : Option (List ℕ) → Bool
 is_encoding None = true
-is_encoding (Some value) = bytes_eq (str_to_ascii_lowercase value) (codes "utf-8")
+is_encoding (Some value) = is_word value (codes "utf-8")
 
 abbrev pub is_standalone : Option (List ℕ) → Bool
 is_standalone None = true
@@ -150,7 +150,7 @@ end_tag key bytes = name bytes >>= λ found. if bytes_eq found.0 key then behind
 
 -- a CDATA section behind its `<![CDATA[`
 unfoldable pub cdata : List ℕ → Result (Xml × List ℕ) Flaw
-cdata bytes = ok_or (cut (codes "]]>") bytes) BadCdata >>= λ parts. Ok (text (lines parts.0), parts.1)
+cdata bytes = ok_or (cut (codes "]]>") bytes) BadCdata >>= λ parts. Ok (text (plain false parts.0), parts.1)
 
 -- characters up to a tag
 unfoldable pub characters : List ℕ → Result (Xml × List ℕ) Flaw

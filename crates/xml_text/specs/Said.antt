@@ -15,19 +15,18 @@ is_character c =
     c == 9 || c == 10 || c == 13
     || (nat_le 32 c && nat_lt c 0xD800) || (nat_le 0xE000 c && nat_lt c 0xFFFE) || (nat_le 0x10000 c && nat_lt c 0x110000)
 
--- each line end as one line feed: CR and LF, CR, or LF
-unfoldable pub lines : List ℕ → List ℕ
-lines [] = []
-lines (b ∷ bytes) =
-    if b == 13 then (if first_is (λ c. c == 10) bytes then lines bytes else 10 ∷ lines bytes) else b ∷ lines bytes
+-- a byte that says another: a carriage return a line feed; in the value of an attribute this, a tab and a line feed a space
+abbrev pub is_changed : Bool → ℕ → Bool
+is_changed is_value b = b == 13 || (is_value && (b == 9 || b == 10))
 
--- a blank in the place of a tab or a line feed
-abbrev pub spaced : ℕ → ℕ
-spaced b = if b == 9 || b == 10 then 32 else b
+abbrev pub meant : Bool → ℕ → ℕ
+meant is_value b = if is_changed is_value b then (if is_value then 32 else 10) else b
 
--- what characters say that are no reference: in the value of an attribute each blank is a space
-abbrev pub plain : Bool → List ℕ → List ℕ
-plain is_value bytes = if is_value then map spaced (lines bytes) else lines bytes
+-- what bytes say that are no reference; a carriage return before a line feed says nothing
+unfoldable pub plain : Bool → List ℕ → List ℕ
+plain is_value [] = []
+plain is_value (b ∷ bytes) =
+    if b == 13 && first_is (λ c. c == 10) bytes then plain is_value bytes else meant is_value b ∷ plain is_value bytes
 
 -- the number that digits of a base make, at least one
 abbrev pub number_from : ℕ → ℕ → List ℕ → ℕ
@@ -65,7 +64,7 @@ said_turn is_value so_far =
     let said = so_far.0 ++ plain is_value parts.0 in
     made_of (after (codes "&") parts.1)
     (λ bytes. reference bytes >>= λ found. Ok (More (said ++ encode_utf8 found.0, found.1)))
-    (Ok (Done (said, parts.1)))
+    (Ok (Done (said, [])))
 
 -- what the characters of a text say, or of the value of an attribute
 unfoldable pub said : Bool → List ℕ → Result (List ℕ) Flaw

@@ -2,7 +2,7 @@
 use Rattle.std.specs.Prelude.{ℕ, ◌==◌, Bool, false, ◌||◌, ◌&&◌, nat_le, List, [], ◌∷◌, length, take, drop}
 use Rattle.std.specs.Prelude.{Option, Some, None, option_map, Result, Ok, Err, if◌then◌else◌}
 use Rattle.std.specs.List.{prefix_len, position_or_len}
-use Rattle.std.specs.Str.{bytes_eq}
+use Rattle.std.specs.Str.{bytes_eq, str_to_ascii_lowercase}
 use Rattle.xml_text.specs.declared.fault.Flaw.{Flaw}
 use Rattle.xml_text.specs.declared.fault.Flaw.TheVariants.{NoName}
 
@@ -53,3 +53,7 @@ unfoldable pub name : List ℕ → Result (List ℕ × List ℕ) Flaw
 name bytes =
     let n = prefix_len is_of_name bytes in
     if first_is begins_name bytes then Ok (take n bytes, drop n bytes) else Err NoName
+
+-- whether a text is a word, in small letters or large ones
+abbrev pub is_word : List ℕ → List ℕ → Bool
+is_word text word = bytes_eq (str_to_ascii_lowercase text) (str_to_ascii_lowercase word)

@@ -2,7 +2,18 @@
 #![tactic(auto)]
 
 mod fault;
+mod markup;
+mod nodes;
+mod prolog;
+mod reading;
+mod said;
+mod tags;
 mod tree;
+mod words;
 
 pub use fault::{Fault, Flaw};
+pub use reading::read;
 pub use tree::{Attribute, Element, Node, Span, Text};
+
+#[cfg(test)]
+mod tests;

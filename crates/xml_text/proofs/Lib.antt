@@ -1,0 +1,2 @@
+mod SaidLaws
+mod WordLaws
