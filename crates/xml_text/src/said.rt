@@ -1,5 +1,5 @@
 // What the characters of a text and of a value say.
-ghost use Rattle.std.specs.Prelude.{◌≡◌, ◌==◌, ◌⊎◌, ◌<◌, ◌≤◌, ◌++◌, length, IfOk, IfSome, OnOk, option_map, string_bytes, if◌then◌else◌, unwrap_or, slice_index, true, Some, None};
+ghost use Rattle.std.specs.Prelude.{◌≡◌, ◌==◌, ◌&&◌, ◌⊎◌, ◌<◌, ◌≤◌, ◌++◌, length, IfOk, IfSome, OnOk, option_map, string_bytes, if◌then◌else◌, unwrap_or, slice_index, true, Some, None};
 ghost use Rattle.std.specs.Char.{digit_value};
 ghost use Rattle.std.specs.List.{position_or_len};
 ghost use Rattle.xml_text.specs.Answers.{Gives};
@@ -62,6 +62,13 @@ fn has_line_feed(text: &str) -> bool
     }
 }
 
+fn is_line_end(text: &str, rest: &str) -> bool
+    requires { 0 < length text.now }
+    ensures { result ≡ ((slice_index text.now 0 == 13) && first_is (λ c. c == 10) rest.now) }
+{
+    text.as_bytes()[0] == b'\r' && has_line_feed(rest)
+}
+
 fn blank_of(is_value: bool) -> char
     ensures { result ≡ (if is_value then 32 else 10) }
 {
@@ -85,7 +92,7 @@ fn push_changed<'a>(
     ensures shorter { IfOk result (λ rest. length rest.now < length text.now) }
 {
     let rest = &text[1..];
-    if text.as_bytes()[0] == b'\r' && has_line_feed(rest) {
+    if is_line_end(text, rest) {
         return Ok(rest);
     }
     out.push(blank_of(is_value))?;

@@ -12,9 +12,9 @@ fn reads_a_map(rt: HostRuntime) -> Result<(), Fail> {
     let map = root(rt.alloc(), text)?;
     assert_eq!(rt; map.name.as_str(), "map");
     assert_eq!(rt; map.span.from, 22);
-    assert_eq!(rt; map.span.end, 87);
-    assert_eq!(rt; map.content.from, 41);
-    assert_eq!(rt; map.content.end, 81);
+    assert_eq!(rt; map.span.end, 79);
+    assert_eq!(rt; map.content.from, 40);
+    assert_eq!(rt; map.content.end, 73);
     assert_eq!(rt; map.attributes.len(), 1);
     assert_eq!(rt; map.attributes[0].value.as_str(), "1& x");
     assert_eq!(rt; map.attributes[0].value_span.from, 30);
