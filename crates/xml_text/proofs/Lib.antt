@@ -1,3 +1,4 @@
 mod Loops
+mod PlaceLaws
 mod SaidLaws
 mod WordLaws

@@ -15,6 +15,7 @@ use crate::words::{after, cut, name, up_to};
 use std::alloc::Global;
 
 // A CDATA section, of which `<![CDATA[` was read; it began at a byte of the text of so many.
+#[tactic(auto, unfolding(crate::specs::Reading::cdata))]
 fn cdata(alloc: Global, bytes: &str, from: usize, whole: usize) -> Result<(Text, &str), Fault>
     requires whole { length bytes.now ≤ whole }
     requires from { from ≤ whole - length bytes.now }
@@ -32,6 +33,7 @@ fn cdata(alloc: Global, bytes: &str, from: usize, whole: usize) -> Result<(Text,
 }
 
 // Characters up to a tag.
+#[tactic(auto, unfolding(crate::specs::Reading::characters))]
 fn characters(alloc: Global, bytes: &str, whole: usize) -> Result<(Text, &str), Fault>
     requires { length bytes.now ≤ whole }
     ensures text { Gives (λ x. (text (string_bytes x.0.text), x.1.now)) result (characters bytes.now) }
@@ -49,6 +51,7 @@ fn characters(alloc: Global, bytes: &str, whole: usize) -> Result<(Text, &str), 
 
 // One child more, or what is none. Says whether an end tag has come.
 #[cycle(elements)]
+#[tactic(auto, unfolding(crate::specs::Reading::node_turn))]
 fn node_turn<'a>(
     alloc: Global,
     levels: u8,
@@ -119,6 +122,7 @@ fn nodes(
 
 // An element of so many levels, of which `<` was read; it began at a byte of the text of so many.
 #[cycle(elements)]
+#[tactic(auto, unfolding(crate::specs::Reading::element_of, crate::specs::Reading::content))]
 pub fn element(
     alloc: Global,
     levels: u8,
