@@ -28,7 +28,10 @@ fn cdata(alloc: Global, bytes: &str, from: usize, whole: usize) -> Result<(Text,
     };
     let mut said = String::new(alloc);
     push_plain(&mut said, raw, false)?;
-    let span = Span { from, end: whole - rest.len() };
+    let span = Span {
+        from,
+        end: whole - rest.len(),
+    };
     Ok((Text { text: said, span }, rest))
 }
 
@@ -44,8 +47,11 @@ fn characters(alloc: Global, bytes: &str, whole: usize) -> Result<(Text, &str), 
     if cut(raw, "]]>").is_some() {
         return Err(Fault::Flawed(Flaw::CdataEnd, bytes.len()));
     }
-    let said = said(alloc, raw, false)?;
-    let span = Span { from: whole - bytes.len(), end: whole - rest.len() };
+    let said = said(alloc, raw, false, rest.len())?;
+    let span = Span {
+        from: whole - bytes.len(),
+        end: whole - rest.len(),
+    };
     Ok((Text { text: said, span }, rest))
 }
 
@@ -98,12 +104,7 @@ fn node_turn<'a>(
 
 // The children up to an end tag, of which `</` is read; and where this begins.
 #[cycle(elements)]
-fn nodes(
-    alloc: Global,
-    levels: u8,
-    bytes: &str,
-    whole: usize,
-) -> Result<(Vec<Node>, &str), Fault>
+fn nodes(alloc: Global, levels: u8, bytes: &str, whole: usize) -> Result<(Vec<Node>, &str), Fault>
     requires { length bytes.now ≤ whole }
     ensures nodes { Gives (λ x. (map node_view x.0.items, x.1.now)) result (nodes (element_of levels) bytes.now) }
     ensures shorter { IfOk result (λ x. length x.1.now < length bytes.now) }
@@ -160,7 +161,22 @@ pub fn element(
     };
     let (children, tag) = nodes(alloc, levels - 1, inner, whole)?;
     let rest = end_tag(tag, key)?;
-    let content = Span { from: whole - inner.len(), end: whole - tag.len() - 2 };
-    let span = Span { from, end: whole - rest.len() };
-    Ok((Element { name, attributes: found, children, span, content }, rest))
+    let content = Span {
+        from: whole - inner.len(),
+        end: whole - tag.len() - 2,
+    };
+    let span = Span {
+        from,
+        end: whole - rest.len(),
+    };
+    Ok((
+        Element {
+            name,
+            attributes: found,
+            children,
+            span,
+            content,
+        },
+        rest,
+    ))
 }

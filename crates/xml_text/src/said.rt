@@ -19,7 +19,9 @@ const PAST_CHARACTERS: u32 = 0x11_0000;
 pub fn is_character(c: u32) -> bool
     ensures { result ≡ is_character c }
 {
-    c == 9 || c == 10 || c == 13
+    c == 9
+        || c == 10
+        || c == 13
         || (32 <= c && c < 0xD800)
         || (0xE000 <= c && c < 0xFFFE)
         || (0x1_0000 <= c && c < PAST_CHARACTERS)
@@ -72,19 +74,11 @@ fn is_line_end(text: &str, rest: &str) -> bool
 fn blank_of(is_value: bool) -> char
     ensures { result ≡ (if is_value then 32 else 10) }
 {
-    if is_value {
-        ' '
-    } else {
-        '\n'
-    }
+    if is_value { ' ' } else { '\n' }
 }
 
 // Pushes what a byte at the front says that says another. Gives what follows it.
-fn push_changed<'a>(
-    out: &mut String,
-    text: &'a str,
-    is_value: bool,
-) -> Result<&'a str, AllocError>
+fn push_changed<'a>(out: &mut String, text: &'a str, is_value: bool) -> Result<&'a str, AllocError>
     requires some { 0 < length text.now }
     requires changed { is_changed is_value (slice_index text.now 0) ≡ true }
     ensures said { IfOk result (λ rest. string_bytes out.new ++ plain is_value rest.now
@@ -196,18 +190,19 @@ fn character(name: &str) -> Option<char>
     }
 }
 
-// A reference behind its `&`.
+// A reference behind its `&`, in a text with so many bytes behind it.
 #[tactic(auto, unfolding(crate::specs::Said::reference))]
-fn reference(text: &str) -> Result<(char, &str), Fault>
+fn reference(text: &str, behind: usize) -> Result<(char, &str), Fault>
     ensures character { Gives (λ found. (found.0, found.1.now)) result (reference text.now) }
     ensures shorter { IfOk result (λ found. length found.1.now < length text.now) }
 {
-    let (name, behind) = up_to(text, b';');
-    let Some(rest) = after(behind, ";") else {
-        return Err(Fault::Flawed(Flaw::BadReference, text.len()));
+    let left = text.len().saturating_add(behind);
+    let (name, end) = up_to(text, b';');
+    let Some(rest) = after(end, ";") else {
+        return Err(Fault::Flawed(Flaw::BadReference, left));
     };
     let Some(c) = character(name) else {
-        return Err(Fault::Flawed(Flaw::BadReference, text.len()));
+        return Err(Fault::Flawed(Flaw::BadReference, left));
     };
     Ok((c, rest))
 }
@@ -218,27 +213,28 @@ fn push_said<'a>(
     out: &mut String,
     text: &'a str,
     is_value: bool,
+    behind: usize,
 ) -> Result<Option<&'a str>, Fault>
     ensures said { Gives (λ left. said_state (string_bytes out.new) left) result (said_turn is_value (string_bytes out.old, text.now)) }
     ensures shorter { IfOk result (λ left. IfSome left (λ rest. length rest.now < length text.now)) }
 {
-    let (front, behind) = up_to(text, b'&');
+    let (front, end) = up_to(text, b'&');
     push_plain(out, front, is_value)?;
-    let Some(inner) = after(behind, "&") else {
+    let Some(inner) = after(end, "&") else {
         return Ok(None);
     };
-    let (c, rest) = reference(inner)?;
+    let (c, rest) = reference(inner, behind)?;
     out.push(c)?;
     Ok(Some(rest))
 }
 
-/// What the characters of a text say, or of the value of an attribute.
-pub fn said(alloc: Global, text: &str, is_value: bool) -> Result<String, Fault>
+/// What characters say: those of a text, or of the value of an attribute. So many bytes are left behind them.
+pub fn said(alloc: Global, text: &str, is_value: bool, behind: usize) -> Result<String, Fault>
     ensures { Gives (λ s. string_bytes s) result (said is_value text.now) }
 {
     let mut out = String::new(alloc);
     let mut rest = text;
-    while let Some(left) = push_said(&mut out, rest, is_value)? {
+    while let Some(left) = push_said(&mut out, rest, is_value, behind)? {
         rest = left;
     }
     Ok(out)

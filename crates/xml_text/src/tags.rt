@@ -31,13 +31,19 @@ fn attribute(alloc: Global, text: &str, whole: usize) -> Result<(Attribute, &str
     if cut(value, "<").is_some() {
         return Err(Fault::Flawed(Flaw::BadAttribute, text.len()));
     }
-    let said = said(alloc, value, true)?;
+    let said = said(alloc, value, true, rest.len() + 1)?;
     let end = whole - rest.len();
     let attribute = Attribute {
         name: String::from_str(alloc, key)?,
         value: said,
-        span: Span { from: whole - text.len(), end },
-        value_span: Span { from: end - 1 - value.len(), end: end - 1 },
+        span: Span {
+            from: whole - text.len(),
+            end,
+        },
+        value_span: Span {
+            from: end - 1 - value.len(),
+            end: end - 1,
+        },
     };
     Ok((attribute, rest))
 }
