@@ -5,6 +5,7 @@ use Rattle.std.specs.Char.{digit_value}
 use Rattle.std.specs.List.{prefix_len, position_or_len, list_all}
 use Rattle.std.proofs.lemmas.Bool.{cond-true, cond-false, cond_both, false_from_ne_true}
 use Rattle.std.proofs.lemmas.List.Sums.{position_or_len_is, prefix_len-le-length, prefix_len_stops}
+use Rattle.std.proofs.lemmas.Str.{encode_ascii}
 use Rattle.memchr.specs.Find.{IsFirstByte, is_byte, is_byte3}
 use Rattle.xml_text.specs.Words.{first_is}
 use Rattle.xml_text.specs.Said.{is_character, is_changed, meant, plain, number_from}
@@ -162,8 +163,8 @@ said_blank v out new text rest b l h is test so pushed =
     ap (λ n. n ++ plain v rest) (pushed ∙ ap (λ c. out ++ c) (one v)) ∙ append_assoc out (cond v 32 10 ∷ []) (plain v rest) ∙ ap (λ p. out ++ p) (sym same)
   where
     one : (v : Bool) → encode_utf8 (cond v 32 10) ≡ cond v 32 10 ∷ []
-    one true = refl
-    one false = refl
+    one true = encode_ascii 32 (omega arith)
+    one false = encode_ascii 10 (omega arith)
 
 -- a whole text without such a byte
 pub said_all : (v : Bool) (out new front behind text : List ℕ) → plain v text ≡ front ++ plain v behind → length behind ≡ 0 → new ≡ out ++ front

@@ -54,10 +54,10 @@ misc bytes = turns (length bytes + 1) misc_turn bytes
 
 -- what stands between two quotes of a kind
 unfoldable pub quoted : Flaw → List ℕ → Result (List ℕ × List ℕ) Flaw
-quoted flaw [] = Err flaw
-quoted flaw (q ∷ bytes) =
-    let parts = up_to q bytes in
-    if q == 34 || q == 39 then (ok_or (after (q ∷ []) parts.1) flaw >>= λ rest. Ok (parts.0, rest)) else Err flaw
+quoted flaw bytes =
+    made_of (after (34 ∷ []) bytes) (λ rest. ok_or (cut (34 ∷ []) rest) flaw)
+    (made_of (after (39 ∷ []) bytes) (λ rest. ok_or (cut (39 ∷ []) rest) flaw)
+    (Err flaw))
 
 -- `=` and a text in quotes
 unfoldable pub assigned : Flaw → List ℕ → Result (List ℕ × List ℕ) Flaw

@@ -1,12 +1,12 @@
 // Comments, processing instructions, and what stands between quotes.
-ghost use Rattle.std.specs.Prelude.{◌≡◌, ◌<◌, ◌≤◌, ◌+◌, false, length, take, codes, IfOk, option_map};
+ghost use Rattle.std.specs.Prelude.{◌≡◌, ◌<◌, ◌≤◌, ◌+◌, false, length, take, codes, ok_or, IfOk, option_map};
 ghost use Rattle.xml_text.specs.Answers.{Gives};
 ghost use Rattle.xml_text.specs.Views.{turn_of};
-ghost use Rattle.xml_text.specs.Words.{is_word};
+ghost use Rattle.xml_text.specs.Words.{cut, is_word};
 ghost use Rattle.xml_text.specs.Reading.{comment, instruction, misc_turn, misc, quoted, behind, assigned};
 
 use crate::fault::{Fault, Flaw};
-use crate::words::{after, cut, has_blank, is_word, name, unblanked, up_to};
+use crate::words::{after, cut, has_blank, is_word, name, unblanked};
 
 /// The text behind a comment, of which `<!--` was read.
 #[tactic(auto, unfolding(crate::specs::Reading::comment))]
@@ -26,10 +26,11 @@ pub fn comment(text: &str) -> Result<&str, Fault>
 fn is_reserved(target: &str) -> bool
     ensures { result ≡ is_word (take 3 target.now) (codes "xml") }
 {
-    match target.get(..3) {
-        Some(front) => is_word(front, "xml"),
-        None => false,
+    let bytes = target.as_bytes();
+    if bytes.len() < 3 {
+        return is_word(bytes, b"xml");
     }
+    is_word(&bytes[..3], b"xml")
 }
 
 /// The text behind a processing instruction, of which `<?` was read.
@@ -85,29 +86,31 @@ pub fn misc(text: &str) -> Result<&str, Fault>
     }
 }
 
-// What stands before the next quote of this kind, and what behind it.
-fn up_to_quote<'a>(text: &'a str, quote: &str, byte: u8) -> Option<(&'a str, &'a str)> {
-    let (value, end) = up_to(text, byte);
-    let rest = after(end, quote)?;
-    Some((value, rest))
+// What stands before the next quote, and what behind it.
+fn closed<'a>(text: &'a str, quote: &str, flaw: Flaw) -> Result<(&'a str, &'a str), Fault>
+    requires { 0 < length quote.now }
+    ensures value { Gives (λ parts. (parts.0.now, parts.1.now)) result (ok_or (cut quote.now text.now) flaw) }
+    ensures shorter { IfOk result (λ parts. length parts.0.now + length parts.1.now + length quote.now ≡ length text.now) }
+{
+    match cut(text, quote) {
+        Some(parts) => Ok(parts),
+        None => Err(Fault::Flawed(flaw, text.len())),
+    }
 }
 
 /// What stands between two quotes, and what behind them.
+#[tactic(auto, unfolding(crate::specs::Reading::quoted))]
 pub fn quoted(text: &str, flaw: Flaw) -> Result<(&str, &str), Fault>
     ensures value { Gives (λ parts. (parts.0.now, parts.1.now)) result (quoted flaw text.now) }
     ensures shorter { IfOk result (λ parts. length parts.0.now + length parts.1.now + 2 ≡ length text.now) }
 {
-    let found = if let Some(inner) = after(text, "\"") {
-        up_to_quote(inner, "\"", b'"')
-    } else if let Some(inner) = after(text, "'") {
-        up_to_quote(inner, "'", b'\'')
-    } else {
-        None
-    };
-    match found {
-        Some(parts) => Ok(parts),
-        None => Err(Fault::Flawed(flaw, text.len())),
+    if let Some(inner) = after(text, "\"") {
+        return closed(inner, "\"", flaw);
     }
+    if let Some(inner) = after(text, "'") {
+        return closed(inner, "'", flaw);
+    }
+    Err(Fault::Flawed(flaw, text.len()))
 }
 
 /// The text behind a word that must stand at its front, but for blanks.

@@ -47,7 +47,7 @@ fn is_encoding(value: Option<&str>) -> bool
     ensures { result ≡ is_encoding (option_map (λ value. value.now) value.entry) }
 {
     match value {
-        Some(value) => is_word(value, "utf-8"),
+        Some(value) => is_word(value.as_bytes(), b"utf-8"),
         None => true,
     }
 }

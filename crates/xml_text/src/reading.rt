@@ -1,11 +1,12 @@
 // A whole text.
-ghost use Rattle.std.specs.Prelude.{◌≡◌, ◌<◌, ◌≤◌, ◌↔◌, true, length, Some, None, IfOk, IfErr, IsNone};
+ghost use Rattle.std.specs.Prelude.{◌≡◌, length, Result, Some, None, IfOk, IfErr};
+ghost use Rattle.xml_text.specs.declared.fault.Flaw.{Flaw};
 ghost use Rattle.std.specs.List.{list_all};
 ghost use Rattle.std.specs.Str.{chars};
 ghost use Rattle.xml_text.specs.declared.fault.Fault.TheVariants.{Memory};
-ghost use Rattle.xml_text.specs.Answers.{Gives};
+ghost use Rattle.xml_text.specs.Answers.{Gives, Fails};
 ghost use Rattle.xml_text.specs.Said.{is_character};
-ghost use Rattle.xml_text.specs.Xml.{view};
+ghost use Rattle.xml_text.specs.Xml.{Xml, view};
 ghost use Rattle.xml_text.specs.Places.{IsPlaced, place_of, IsWithin};
 ghost use Rattle.xml_text.specs.Reading.{document, reading, xml_of};
 
@@ -22,16 +23,20 @@ use std::alloc::Global;
 /// As deep as elements may nest.
 const MOST_LEVELS: u8 = 64;
 
-// The first character that no text may hold.
-fn control_at(text: &str) -> Option<usize>
-    ensures { IsNone result ↔ (list_all is_character (chars text.now) ≡ true) }
+fn has_characters(text: &str) -> bool
+    ensures { result ≡ list_all is_character (chars text.now) }
 {
+    text.chars().all(|c| is_character(c as u32))
+}
+
+// Where the first character stands that no text may hold.
+fn control_at(text: &str) -> usize {
     for (at, c) in text.char_indices() {
         if !is_character(c as u32) {
-            return Some(at);
+            return at;
         }
     }
-    None
+    0
 }
 
 #[tactic(auto, unfolding(crate::specs::Reading::document))]
@@ -53,7 +58,9 @@ fn document(alloc: Global, text: &str) -> Result<Element, Fault>
 }
 
 // A fault whose place was told by how many bytes are left.
-fn placed(fault: Fault, whole: usize) -> Fault {
+fn placed(fault: Fault, whole: usize) -> Fault
+    ensures { (read : Result Xml Flaw) → Fails fault read → Fails result read }
+{
     match fault {
         Fault::Memory => Fault::Memory,
         Fault::Flawed(flaw, left) => Fault::Flawed(flaw, whole.saturating_sub(left)),
@@ -71,8 +78,8 @@ pub fn read(alloc: Global, bytes: &[u8]) -> Result<Element, Fault>
         Ok(text) => text,
         Err(error) => return Err(Fault::Flawed(Flaw::NotUtf8, error.valid_up_to())),
     };
-    if let Some(at) = control_at(text) {
-        return Err(Fault::Flawed(Flaw::ControlCharacter, at));
+    if !has_characters(text) {
+        return Err(Fault::Flawed(Flaw::ControlCharacter, control_at(text)));
     }
     match document(alloc, text) {
         Ok(root) => Ok(root),

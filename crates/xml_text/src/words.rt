@@ -73,7 +73,7 @@ fn name_at(bytes: &[u8]) -> usize
 }
 
 /// Whether a text is a word of small letters, but for large ones.
-pub fn is_word(text: &str, word: &str) -> bool
+pub fn is_word(text: &[u8], word: &[u8]) -> bool
     ensures { result ≡ bytes_eq (str_to_ascii_lowercase text.now) (str_to_ascii_lowercase word.now) }
 {
     text.eq_ignore_ascii_case(word)
