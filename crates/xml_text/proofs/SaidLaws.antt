@@ -1,6 +1,6 @@
 -- Laws of what characters say.
 use Rattle.std.proofs.Common.{◌≡◌, ℕ, zero, suc, ◌+◌, ◌*◌, ◌<◌, ◌≤◌, min, Bool, true, false, cond, ◌||◌, ◌&&◌, eqb, leb, ltb, List, [], ◌∷◌, ◌++◌, length, take, drop}
-use Rattle.std.proofs.Common.{get_or, Option, None, Some, unwrap_or, refl, sym, ap, ◌∙◌, arith, subst, ltb-true, ltb-false, leb-true, leb-false, ne_eqb, one-add, not, true≢false, le-mul_of_pos_right, add-one, IsCharBoundary, length-drop, get_or-drop, add-zero, append_assoc, append-nil, drop-cons, lt-ltb, encode_utf8}
+use Rattle.std.proofs.Common.{get_or, Option, None, Some, unwrap_or, refl, sym, ap, ◌∙◌, arith, subst, ltb-true, ltb-false, leb-true, leb-false, ne_eqb, one-add, not, true≢false, le-mul_of_pos_right, add-one, IsCharBoundary, length-drop, get_or-drop, add-zero, append_assoc, append-nil, drop-cons, lt-ltb, encode_utf8, ◌⊎◌, inl, inr}
 use Rattle.std.specs.Char.{digit_value}
 use Rattle.std.specs.List.{prefix_len, position_or_len, list_all}
 use Rattle.std.proofs.lemmas.Bool.{cond-true, cond-false, cond_both, false_from_ne_true}
@@ -195,3 +195,10 @@ pub digits_step : (base value i : ℕ) (digits : List ℕ) → i < length digits
 digits_step base value i digits l is small =
     sym (ap (list_all (λ b. ltb (digit_value b) base)) (behind_one digits i l)
     ∙ ap (λ t. t && list_all (λ b. ltb (digit_value b) base) (drop (i + 1) digits)) (lt-ltb (digit_value (get_or digits i 0)) base (omega (arith, is, small))))
+
+pub some_base : (base : ℕ) → (base ≡ 10) ⊎ (base ≡ 16) → 1 ≤ base
+some_base base (inl h) = omega (arith, h)
+some_base base (inr h) = omega (arith, h)
+
+pub other_way : (x y z : ℕ) → x ≡ min y z → x ≡ min z y
+other_way x y z h = omega (arith, h)
