@@ -7,8 +7,9 @@ use Rattle.xml_text.proofs.said.said.Goals as goal
 
 pub loop-out-preserved : goal.loop-out-preserved
 loop-out-preserved c =
-    let e = c.in-Some.ensures in
-    record { utf8 = search rules; goes = goes_on (said_turn c.args.is_value) _ _ _ _ _ c.loop-out.invariant.goes e.shorter e.said }
+    let said = rw c.in-Some.is at c.in_ok-left.ensures.said in
+    let shorter = rw c.in-Some.is at c.in_ok-left.ensures.shorter in
+    record { utf8 = search rules; goes = goes_on (said_turn c.args.is_value) _ _ _ _ _ c.loop-out.invariant.goes shorter said }
 
 pub returns-in_err-left : goal.returns-in_err-left
 unfolding said
@@ -20,4 +21,4 @@ pub returns : goal.returns
 unfolding said
 returns c =
     ap (λ r. r >>= λ (x : List ℕ × List ℕ). Ok x.0)
-    (ends_with (said_turn c.args.is_value) _ _ _ _ c.loop-out.invariant.goes c.in_default.ensures.said)
+    (ends_with (said_turn c.args.is_value) _ _ _ _ c.loop-out.invariant.goes (rw c.in_default.is at c.in_ok-left.ensures.said))
