@@ -89,3 +89,20 @@ first_byte byte n bs h =
 pub no_first_byte : (byte : ℕ) (bs : List ℕ) → IsFirstByte (is_byte byte) bs None → position_or_len (λ b. eqb b byte) bs ≡ length bs
 no_first_byte byte bs h =
     position_or_len_is (λ b. eqb b byte) bs (length bs) 0 (omega arith) (λ k l. false_from_ne_true _ (h k (omega arith) l)) (λ l. absurd (omega (arith, l)))
+
+-- characters before a tag, where none begins at once
+pub some_before : (bytes : List ℕ) → 0 < length bytes → after (60 ∷ []) bytes ≡ None → length (up_to 60 bytes).1 < length bytes
+unfolding after up_to
+some_before [] l h = absurd (omega (arith, l))
+some_before (b ∷ bytes) l h = by (eqb b 60) refl
+  where
+    by : (t : Bool) → eqb b 60 ≡ t → length (drop (position_or_len (λ b. eqb b 60) (b ∷ bytes)) (b ∷ bytes)) < length (b ∷ bytes)
+    by true e =
+        let is : b ≡ 60 = eqb-true b 60 e in
+        let found : after (60 ∷ []) (b ∷ bytes) ≡ Some bytes = after_found (60 ∷ []) (b ∷ bytes) bytes (ap (λ c. c ∷ bytes) is) in
+        absurd (let no = sym h ∙ found in cc)
+    by false e =
+        let n : position_or_len (λ b. eqb b 60) (b ∷ bytes) ≡ 1 + position_or_len (λ b. eqb b 60) bytes =
+        ap (λ t. cond (not t) (1 + position_or_len (λ b. eqb b 60) bytes) 0) e in
+        let size = length-drop (position_or_len (λ b. eqb b 60) (b ∷ bytes)) (b ∷ bytes) in
+        omega (arith, n, size)

@@ -189,14 +189,18 @@ content child key found bytes =
     nodes child bytes >>= λ inner.
     end_tag key inner.1 >>= λ rest. Ok (element key found (children_of inner.0), rest)
 
--- an element of so many levels behind its `<`
-unfoldable pub element_of : ℕ → List ℕ → Result (Xml × List ℕ) Flaw
-element_of zero bytes = Err TooDeep
-element_of (suc levels) bytes =
+-- an element behind its `<`
+unfoldable pub element_by : Reader → List ℕ → Result (Xml × List ℕ) Flaw
+element_by child bytes =
     name bytes >>= λ key.
     attributes key.1 >>= λ found.
     made_of (after (codes "/>") found.1) (λ rest. Ok (element key.0 found.0 (children_of []), rest))
-    (ok_or (after (codes ">") found.1) BadTag >>= content (element_of levels) key.0 found.0)
+    (ok_or (after (codes ">") found.1) BadTag >>= content child key.0 found.0)
+
+-- an element of so many levels
+unfoldable pub element_of : ℕ → List ℕ → Result (Xml × List ℕ) Flaw
+element_of zero bytes = Err TooDeep
+element_of (suc levels) bytes = element_by (element_of levels) bytes
 
 -- ---- a text
 

@@ -1,18 +1,19 @@
 // Elements, and what stands between their tags.
-ghost use Rattle.std.specs.Prelude.{◌≡◌, ◌<◌, ◌≤◌, ◌+◌, ◌-◌, ℕ, false, length, map, string_bytes, IfOk};
+ghost use Rattle.std.specs.Prelude.{◌≡◌, ◌<◌, ◌≤◌, ◌+◌, ◌-◌, ◌++◌, ℕ, [], ◌∷◌, false, None, codes, length, map, string_bytes, IfOk, OnOk};
+ghost use Rattle.xml_text.specs.Words.{after};
 ghost use Rattle.xml_text.specs.Answers.{Gives};
 ghost use Rattle.xml_text.specs.Views.{turn_of};
 ghost use Rattle.xml_text.specs.Xml.{text, view, node_view, attribute_view};
 ghost use Rattle.xml_text.specs.Places.{IsBetween, IsPlaced, ArePlaced, AttributesBetween, place_of, places_of, node_place, attribute_place};
-ghost use Rattle.xml_text.specs.Reading.{cdata, characters, node_turn, nodes, content, element_of};
+ghost use Rattle.xml_text.specs.Reading.{cdata, characters, node_turn, nodes, element_by, element_of};
 
 use crate::fault::{Fault, Flaw};
 use crate::markup::{comment, instruction};
 use crate::said::{push_plain, said};
 use crate::tags::{attributes, end_tag};
-use crate::tree::{Attribute, Element, Node, Span, Text};
+use crate::tree::{Element, Node, Span, Text, made};
 use crate::words::{after, cut, name, up_to};
-use std::alloc::Global;
+use std::alloc::{AllocFailed, Global};
 
 // A CDATA section, of which `<![CDATA[` was read; it began at a byte of the text of so many.
 #[tactic(auto, unfolding(crate::specs::Reading::cdata))]
@@ -38,9 +39,11 @@ fn cdata(alloc: Global, bytes: &str, from: usize, whole: usize) -> Result<(Text,
 // Characters up to a tag.
 #[tactic(auto, unfolding(crate::specs::Reading::characters))]
 fn characters(alloc: Global, bytes: &str, whole: usize) -> Result<(Text, &str), Fault>
-    requires { length bytes.now ≤ whole }
+    requires whole { length bytes.now ≤ whole }
+    requires some { 0 < length bytes.now }
+    requires no_tag { after (codes "<") bytes.now ≡ None }
     ensures text { Gives (λ x. (text (string_bytes x.0.text), x.1.now)) result (characters bytes.now) }
-    ensures shorter { IfOk result (λ x. length x.1.now ≤ length bytes.now) }
+    ensures shorter { IfOk result (λ x. length x.1.now < length bytes.now) }
     ensures place { IfOk result (λ x. IsBetween (whole - length bytes.now) (whole - length x.1.now) x.0.span) }
 {
     let (raw, rest) = up_to(bytes, b'<');
@@ -53,6 +56,25 @@ fn characters(alloc: Global, bytes: &str, whole: usize) -> Result<(Text, &str), 
         end: whole - rest.len(),
     };
     Ok((Text { text: said, span }, rest))
+}
+
+// One text more.
+fn add_text(children: &mut Vec<Node>, found: Text) -> Result<(), AllocFailed<Node>>
+    ensures view { OnOk result (map node_view children.new.items
+        ≡ map node_view children.old.items ++ text (string_bytes found.text) ∷ []) }
+    ensures places { OnOk result ((low mid high : ℕ) → ArePlaced low mid (places_of (map node_place children.old.items))
+        → IsBetween mid high found.span → ArePlaced low high (places_of (map node_place children.new.items))) }
+{
+    children.push(Node::Text(found))
+}
+
+// One element more.
+fn add_element(children: &mut Vec<Node>, found: Element) -> Result<(), AllocFailed<Node>>
+    ensures view { OnOk result (map node_view children.new.items ≡ map node_view children.old.items ++ view found ∷ []) }
+    ensures places { OnOk result ((low mid high : ℕ) → ArePlaced low mid (places_of (map node_place children.old.items))
+        → IsPlaced mid high (place_of found) → ArePlaced low high (places_of (map node_place children.new.items))) }
+{
+    children.push(Node::Element(found))
 }
 
 // One child more, or what is none. Says whether an end tag has come.
@@ -89,16 +111,16 @@ fn node_turn<'a>(
     }
     if let Some(rest) = after(bytes, "<![CDATA[") {
         let (found, rest) = cdata(alloc, rest, from, whole)?;
-        children.push(Node::Text(found))?;
+        add_text(children, found)?;
         return Ok((false, rest));
     }
     if let Some(rest) = after(bytes, "<") {
         let (found, rest) = element(alloc, levels, rest, from, whole)?;
-        children.push(Node::Element(found))?;
+        add_element(children, found)?;
         return Ok((false, rest));
     }
     let (found, rest) = characters(alloc, bytes, whole)?;
-    children.push(Node::Text(found))?;
+    add_text(children, found)?;
     Ok((false, rest))
 }
 
@@ -121,9 +143,49 @@ fn nodes(alloc: Global, levels: u8, bytes: &str, whole: usize) -> Result<(Vec<No
     }
 }
 
-// An element of so many levels, of which `<` was read; it began at a byte of the text of so many.
+// An element whose children have so many levels, of which `<` was read; it began at a byte of the text of so many.
 #[cycle(elements)]
-#[tactic(auto, unfolding(crate::specs::Reading::element_of, crate::specs::Reading::content))]
+#[tactic(auto, unfolding(crate::specs::Reading::element_by, crate::specs::Reading::content))]
+fn element_by(
+    alloc: Global,
+    levels: u8,
+    bytes: &str,
+    from: usize,
+    whole: usize,
+) -> Result<(Element, &str), Fault>
+    requires whole { length bytes.now ≤ whole }
+    requires from { from ≤ whole - length bytes.now }
+    ensures element { Gives (λ x. (view x.0, x.1.now)) result (element_by (element_of levels) bytes.now) }
+    ensures shorter { IfOk result (λ x. length x.1.now < length bytes.now) }
+    ensures place { IfOk result (λ x. IsPlaced from (whole - length x.1.now) (place_of x.0)) }
+{
+    let (key, rest) = name(bytes)?;
+    let (found, behind) = attributes(alloc, rest, whole)?;
+    let name = String::from_str(alloc, key)?;
+    if let Some(rest) = after(behind, "/>") {
+        let end = whole - rest.len();
+        let span = Span { from, end };
+        let content = Span { from: end, end };
+        return Ok((made(name, found, Vec::new(alloc), span, content), rest));
+    }
+    let Some(inner) = after(behind, ">") else {
+        return Err(Fault::Flawed(Flaw::BadTag, behind.len()));
+    };
+    let (children, tag) = nodes(alloc, levels, inner, whole)?;
+    let rest = end_tag(tag, key)?;
+    let content = Span {
+        from: whole - inner.len(),
+        end: whole - tag.len() - 2,
+    };
+    let span = Span {
+        from,
+        end: whole - rest.len(),
+    };
+    Ok((made(name, found, children, span, content), rest))
+}
+
+/// An element of so many levels, of which `<` was read; it began at a byte of the text of so many.
+#[cycle(elements)]
 pub fn element(
     alloc: Global,
     levels: u8,
@@ -140,43 +202,5 @@ pub fn element(
     if levels == 0 {
         return Err(Fault::Flawed(Flaw::TooDeep, bytes.len()));
     }
-    let (key, rest) = name(bytes)?;
-    let (found, behind) = attributes(alloc, rest, whole)?;
-    let name = String::from_str(alloc, key)?;
-    if let Some(rest) = after(behind, "/>") {
-        let end = whole - rest.len();
-        return Ok((
-            Element {
-                name,
-                attributes: found,
-                children: Vec::new(alloc),
-                span: Span { from, end },
-                content: Span { from: end, end },
-            },
-            rest,
-        ));
-    }
-    let Some(inner) = after(behind, ">") else {
-        return Err(Fault::Flawed(Flaw::BadTag, behind.len()));
-    };
-    let (children, tag) = nodes(alloc, levels - 1, inner, whole)?;
-    let rest = end_tag(tag, key)?;
-    let content = Span {
-        from: whole - inner.len(),
-        end: whole - tag.len() - 2,
-    };
-    let span = Span {
-        from,
-        end: whole - rest.len(),
-    };
-    Ok((
-        Element {
-            name,
-            attributes: found,
-            children,
-            span,
-            content,
-        },
-        rest,
-    ))
+    element_by(alloc, levels - 1, bytes, from, whole)
 }

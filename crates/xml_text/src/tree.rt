@@ -49,7 +49,8 @@ pub enum Node {
     Text(Text),
 }
 
-fn made(
+/// An element of these parts.
+pub(crate) fn made(
     name: String,
     attributes: Vec<Attribute>,
     children: Vec<Node>,

@@ -4,13 +4,18 @@ use Rattle.xml_text.specs.Reading.{attribute_turn, attributes}
 use Rattle.xml_text.proofs.Loops.{begins_to_go, more, last, fails}
 use Rattle.xml_text.proofs.tags.attributes.Goals as goal
 
-pub loop-is_last-init : goal.loop-is_last-init
+pub loop-found-init : goal.loop-found-init
 unfolding attributes
-loop-is_last-init c = record { utf8 = search rules; shorter = omega arith; goes = ?; places = ? }
+loop-found-init c = record {
+  utf8 = search rules;
+  shorter = omega arith;
+  goes = rw c.new-found.ensures.items (begins_to_go _ _ _);
+  places = rw c.new-found.ensures.items (omega arith);
+}
 
-pub loop-is_last-preserved : goal.loop-is_last-preserved
-loop-is_last-preserved c =
-    let i = c.loop-is_last.invariant in
+pub loop-found-preserved : goal.loop-found-preserved
+loop-found-preserved c =
+    let i = c.loop-found.invariant in
     let e = c.in_ok-is_last.ensures in
     record {
       utf8 = search rules;
@@ -20,9 +25,9 @@ loop-is_last-preserved c =
     }
 
 pub returns-then-is_last-clause-attributes : goal.returns-then-is_last-clause-attributes
-returns-then-is_last-clause-attributes c = last attribute_turn _ _ _ _ _ c.loop-is_last.invariant.goes c.if-is_last.true c.in_ok-is_last.ensures.turn
+returns-then-is_last-clause-attributes c = last attribute_turn _ _ _ _ _ c.loop-found.invariant.goes c.if-is_last.true c.in_ok-is_last.ensures.turn
 
 pub returns-in_err-is_last-clause-attributes : goal.returns-in_err-is_last-clause-attributes
 returns-in_err-is_last-clause-attributes c =
     let p = err_from_is_err_and c.from_residual.result c.from_residual.ensures.1 in
-    rw (p.1, p.2) (fails attribute_turn _ _ _ _ c.loop-is_last.invariant.goes c.in_err-is_last.ensures.turn)
+    rw (p.1, p.2) (fails attribute_turn _ _ _ _ c.loop-found.invariant.goes c.in_err-is_last.ensures.turn)
