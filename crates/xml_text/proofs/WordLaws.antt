@@ -9,7 +9,7 @@ use Rattle.std.proofs.lemmas.List.Sums.{position_or_len_is, prefix_len-le-length
 use Rattle.std.proofs.lemmas.Slice.Eq.{bytes_eq-Decides}
 use Rattle.std.proofs.lemmas.Str.{IsCharBoundary-after_ascii, IsCharBoundary-start}
 use Rattle.memchr.specs.Find.{IsFirstByte, is_byte}
-use Rattle.xml_text.specs.Words.{after, cut, onto, is_blank, is_of_name}
+use Rattle.xml_text.specs.Words.{after, cut, onto, up_to, is_blank, is_of_name}
 
 -- a word at the front
 here : (word bytes rest : List ℕ) → bytes ≡ word ++ rest → bytes_eq (take (length word) bytes) word ≡ true

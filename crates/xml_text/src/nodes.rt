@@ -4,7 +4,7 @@ ghost use Rattle.xml_text.specs.Words.{after};
 ghost use Rattle.xml_text.specs.Answers.{Gives};
 ghost use Rattle.xml_text.specs.Views.{turn_of};
 ghost use Rattle.xml_text.specs.Xml.{text, view, node_view, attribute_view};
-ghost use Rattle.xml_text.specs.Places.{IsBetween, IsPlaced, ArePlaced, AttributesBetween, place_of, places_of, node_place, attribute_place};
+ghost use Rattle.xml_text.specs.Places.{IsBetween, IsPlaced, ArePlaced, AttributesBetween, place_of, places_of, node_place, text_place, attribute_place};
 ghost use Rattle.xml_text.specs.Reading.{cdata, characters, node_turn, nodes, element_by, element_of};
 
 use crate::fault::{Fault, Flaw};
@@ -62,8 +62,8 @@ fn characters(alloc: Global, bytes: &str, whole: usize) -> Result<(Text, &str), 
 fn add_text(children: &mut Vec<Node>, found: Text) -> Result<(), AllocFailed<Node>>
     ensures view { OnOk result (map node_view children.new.items
         ≡ map node_view children.old.items ++ text (string_bytes found.text) ∷ []) }
-    ensures places { OnOk result ((low mid high : ℕ) → ArePlaced low mid (places_of (map node_place children.old.items))
-        → IsBetween mid high found.span → ArePlaced low high (places_of (map node_place children.new.items))) }
+    ensures place { OnOk result (map node_place children.new.items
+        ≡ map node_place children.old.items ++ text_place found.span ∷ []) }
 {
     children.push(Node::Text(found))
 }
@@ -71,8 +71,7 @@ fn add_text(children: &mut Vec<Node>, found: Text) -> Result<(), AllocFailed<Nod
 // One element more.
 fn add_element(children: &mut Vec<Node>, found: Element) -> Result<(), AllocFailed<Node>>
     ensures view { OnOk result (map node_view children.new.items ≡ map node_view children.old.items ++ view found ∷ []) }
-    ensures places { OnOk result ((low mid high : ℕ) → ArePlaced low mid (places_of (map node_place children.old.items))
-        → IsPlaced mid high (place_of found) → ArePlaced low high (places_of (map node_place children.new.items))) }
+    ensures place { OnOk result (map node_place children.new.items ≡ map node_place children.old.items ++ place_of found ∷ []) }
 {
     children.push(Node::Element(found))
 }
