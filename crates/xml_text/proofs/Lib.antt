@@ -1,3 +1,4 @@
+mod Levels
 mod Loops
 mod PlaceLaws
 mod SaidLaws

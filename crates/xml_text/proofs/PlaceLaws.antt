@@ -40,3 +40,14 @@ pub attributes_more : (low mid high : ℕ) (found : List (Span × Span)) (a : Sp
 attributes_more low mid high [] a h k v = (between_wider mid low high high a.0 k h (omega arith), v, k.2)
 attributes_more low mid high (b ∷ found) a h k v =
     (between_wider low low mid high b.0 h.0 (omega arith) (omega (arith, k.0, k.1, k.2)), h.1, attributes_more b.0.end mid high found a h.2 k v)
+
+pub attributes_wider : (low most mid high : ℕ) (found : List (Span × Span)) → AttributesBetween low mid found → most ≤ low → mid ≤ high
+    → AttributesBetween most high found
+attributes_wider low most mid high [] h k l = omega (arith, h, k, l)
+attributes_wider low most mid high (a ∷ rest) h k l =
+    (between_wider low most mid high a.0 h.0 k l, h.1, attributes_longer a.0.end mid high rest h.2 l)
+
+-- children stand in order
+pub placed_in_order : (low high : ℕ) (ps : List Place) → ArePlaced low high (places_of ps) → low ≤ high
+placed_in_order low high [] h = h
+placed_in_order low high (p ∷ ps) h = spans low high p h.0

@@ -1,5 +1,5 @@
 -- What clauses see of the answers of the crate's calls.
-use Rattle.std.specs.Prelude.{ℕ, ◌≤◌, Bool, true, false, List, [], Option, Some, None}
+use Rattle.std.specs.Prelude.{ℕ, ◌+◌, Bool, true, false, List, [], Option, Some, None}
 use Rattle.std.specs.Borrow.{Bor}
 use Rattle.xml_text.specs.Answers.{Turn, More, Done}
 use Rattle.xml_text.specs.Said.{plain}
@@ -18,3 +18,8 @@ said_state said (Some rest) = More (said, rest.now)
 abbrev pub turn_of : {S : Type 0} → Bool → S → Turn S
 turn_of true s = Done s
 turn_of false s = More s
+
+-- how many bytes are left: at an end tag, of which `</` was read, those with it
+abbrev pub left_at : Bool → ℕ → ℕ
+left_at true n = n + 2
+left_at false n = n

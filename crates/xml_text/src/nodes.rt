@@ -2,7 +2,7 @@
 ghost use Rattle.std.specs.Prelude.{◌≡◌, ◌<◌, ◌≤◌, ◌+◌, ◌-◌, ◌++◌, ℕ, [], ◌∷◌, false, None, codes, length, map, string_bytes, IfOk, OnOk};
 ghost use Rattle.xml_text.specs.Words.{after};
 ghost use Rattle.xml_text.specs.Answers.{Gives};
-ghost use Rattle.xml_text.specs.Views.{turn_of};
+ghost use Rattle.xml_text.specs.Views.{turn_of, left_at};
 ghost use Rattle.xml_text.specs.Xml.{text, view, node_view, attribute_view};
 ghost use Rattle.xml_text.specs.Places.{IsBetween, IsPlaced, ArePlaced, AttributesBetween, place_of, places_of, node_place, text_place, attribute_place};
 ghost use Rattle.xml_text.specs.Reading.{cdata, characters, node_turn, nodes, element_by, element_of};
@@ -91,7 +91,7 @@ fn node_turn<'a>(
         (node_turn (element_of levels) (map node_view children.old.items, bytes.now)) }
     ensures shorter { IfOk result (λ x. length x.1.now < length bytes.now) }
     ensures places { IfOk result (λ x. (low : ℕ) → ArePlaced low (whole - length bytes.now) (places_of (map node_place children.old.items))
-        → ArePlaced low (whole - length x.1.now) (places_of (map node_place children.new.items))) }
+        → ArePlaced low (whole - left_at x.0 (length x.1.now)) (places_of (map node_place children.new.items))) }
 {
     let from = whole - bytes.len();
     if bytes.is_empty() {
@@ -129,7 +129,7 @@ fn nodes(alloc: Global, levels: u8, bytes: &str, whole: usize) -> Result<(Vec<No
     requires { length bytes.now ≤ whole }
     ensures nodes { Gives (λ x. (map node_view x.0.items, x.1.now)) result (nodes (element_of levels) bytes.now) }
     ensures shorter { IfOk result (λ x. length x.1.now < length bytes.now) }
-    ensures places { IfOk result (λ x. ArePlaced (whole - length bytes.now) (whole - length x.1.now) (places_of (map node_place x.0.items))) }
+    ensures places { IfOk result (λ x. ArePlaced (whole - length bytes.now) (whole - (length x.1.now + 2)) (places_of (map node_place x.0.items))) }
 {
     let mut children = Vec::new(alloc);
     let mut rest = bytes;
