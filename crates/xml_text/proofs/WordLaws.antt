@@ -1,7 +1,7 @@
 -- Laws of words at the front of a text, and of where it may be cut.
 use Rattle.std.proofs.Common.{◌≡◌, ℕ, zero, suc, ◌+◌, ◌<◌, ◌≤◌, Bool, true, false, eqb, List, [], ◌∷◌, ◌++◌, length, take, drop}
 use Rattle.std.proofs.Common.{get_or, Option, None, Some, option_map, Bor, MatchOption, IsUtf8, IsCharBoundary, refl, sym, ap, ◌∙◌, arith, take_at, drop_at, subst, take-append-drop, length-append, length-drop}
-use Rattle.std.proofs.Common.{eqb-true, not}
+use Rattle.std.proofs.Common.{cond, eqb-true, not}
 use Rattle.std.specs.List.{prefix_len, position_or_len}
 use Rattle.std.specs.Str.{bytes_eq}
 use Rattle.std.specs.Str.Pattern.{FindsText, FindsTextPrefix, LacksTextAt, SplitsAroundMatch, StripsPrefix}

@@ -49,7 +49,7 @@ pub element_by-returns-in-Some-clause-place : goal.element_by-returns-in-Some-cl
 element_by-returns-in-Some-clause-place t c =
     let from = c.args.from in
     let end = c.args.whole - length c.in-Some.rest.now in
-    let a = c.requires.from in
+    let a : from ≤ c.args.whole - length c.args.bytes.now = search rules in
     let b = c.in_ok-key.ensures.shorter in
     let d = c.in_ok-found.ensures.shorter in
     let e = c.in-Some.ensures.shorter in
@@ -67,7 +67,7 @@ element_by-returns-clause-place t c =
     let begin = c.args.whole - length c.in-Some-after.inner.now in
     let tag = c.args.whole - length c.in_ok-children.tag.now - 2 in
     let end = c.args.whole - length c.in_ok-rest.rest.now in
-    let a = c.requires.from in
+    let a : from ≤ c.args.whole - length c.args.bytes.now = search rules in
     let b = c.in_ok-key.ensures.shorter in
     let d = c.in_ok-found.ensures.shorter in
     let e = c.in-Some-after.ensures.shorter in
