@@ -1,5 +1,5 @@
 -- How deep an element may nest.
-use Rattle.std.proofs.Common.{◌≡◌, ℕ, zero, suc, ◌-◌, ◌<◌, List, Err, refl, ap, ◌∙◌, arith}
+use Rattle.std.proofs.Common.{◌≡◌, ℕ, zero, suc, ◌-◌, ◌<◌, List, Err, refl, ap, arith}
 use Rattle.xml_text.specs.declared.fault.Flaw.TheVariants.{TooDeep}
 use Rattle.xml_text.specs.Reading.{element_of, element_by}
 

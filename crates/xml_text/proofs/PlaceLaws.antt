@@ -1,5 +1,5 @@
 -- Laws of where the parts of a text stand.
-use Rattle.std.proofs.Common.{◌≡◌, ℕ, ◌≤◌, List, [], ◌∷◌, ◌++◌, arith}
+use Rattle.std.proofs.Common.{ℕ, ◌≤◌, List, [], ◌∷◌, ◌++◌, arith}
 use Rattle.xml_text.specs.declared.tree.Span.{Span}
 use Rattle.xml_text.specs.Places.{Place, element_place, text_place, places_of, IsBetween, AttributesBetween, end_of, IsPlaced, ArePlaced}
 

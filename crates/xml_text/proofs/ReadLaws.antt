@@ -1,5 +1,5 @@
 -- Laws of what a whole text says.
-use Rattle.std.proofs.Common.{◌≡◌, ℕ, Bool, true, false, not, List, Result, Ok, Err, Option, None, Some, IsUtf8, chars, refl, ap, ◌∙◌}
+use Rattle.std.proofs.Common.{◌≡◌, ℕ, true, false, not, List, Err, None, IsUtf8, chars, refl, ap, ◌∙◌}
 use Rattle.std.specs.List.{list_all}
 use Rattle.std.specs.Str.{is_utf8}
 use Rattle.std.specs.Result.{result_ok}
@@ -10,7 +10,6 @@ use Rattle.xml_text.specs.declared.fault.Fault.{Fault}
 use Rattle.xml_text.specs.declared.fault.Fault.TheVariants.{Memory, Flawed}
 use Rattle.xml_text.specs.Answers.{Fails}
 use Rattle.xml_text.specs.Said.{is_character}
-use Rattle.xml_text.specs.Xml.{Xml}
 use Rattle.xml_text.specs.Reading.{document, reading, xml_of}
 
 pub no_text : (bytes : List ℕ) → ¬ (IsUtf8 bytes) → reading bytes ≡ Err NotUtf8

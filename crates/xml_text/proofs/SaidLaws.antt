@@ -1,14 +1,14 @@
 -- Laws of what characters say.
-use Rattle.std.proofs.Common.{◌≡◌, ℕ, zero, suc, ◌+◌, ◌*◌, ◌<◌, ◌≤◌, min, Bool, true, false, cond, ◌||◌, ◌&&◌, eqb, leb, ltb, List, [], ◌∷◌, ◌++◌, length, take, drop}
-use Rattle.std.proofs.Common.{get_or, Option, None, Some, unwrap_or, refl, sym, ap, ◌∙◌, arith, subst, ltb-true, ltb-false, leb-true, leb-false, ne_eqb, one-add, not, true≢false, le-mul_of_pos_right, add-one, IsCharBoundary, length-drop, get_or-drop, add-zero, append_assoc, append-nil, drop-cons, lt-ltb, encode_utf8, ◌⊎◌, inl, inr}
+use Rattle.std.proofs.Common.{◌≡◌, ℕ, suc, ◌+◌, ◌*◌, ◌<◌, ◌≤◌, min, Bool, true, false, cond, ◌||◌, ◌&&◌, eqb, leb, ltb, List, [], ◌∷◌, ◌++◌, length, take, drop}
+use Rattle.std.proofs.Common.{get_or, Option, None, Some, unwrap_or, refl, sym, ap, ◌∙◌, arith, ltb-true, ltb-false, leb-true, leb-false, ne_eqb, one-add, not, true≢false, le-mul_of_pos_right, add-one, IsCharBoundary, length-drop, get_or-drop, add-zero, append_assoc, append-nil, drop-cons, lt-ltb, encode_utf8, ◌⊎◌, inl, inr}
 use Rattle.std.specs.Char.{digit_value}
-use Rattle.std.specs.List.{prefix_len, position_or_len, list_all}
-use Rattle.std.proofs.lemmas.Bool.{cond-true, cond-false, cond_both, false_from_ne_true}
+use Rattle.std.specs.List.{position_or_len, list_all}
+use Rattle.std.proofs.lemmas.Bool.{cond-true, cond-false, false_from_ne_true}
 use Rattle.std.proofs.lemmas.List.Sums.{position_or_len_is, prefix_len-le-length, prefix_len_stops}
 use Rattle.std.proofs.lemmas.Str.{encode_ascii}
 use Rattle.memchr.specs.Find.{IsFirstByte, is_byte, is_byte3}
 use Rattle.xml_text.specs.Words.{first_is}
-use Rattle.xml_text.specs.Said.{is_character, is_changed, meant, plain, number_from}
+use Rattle.xml_text.specs.Said.{is_character, is_changed, plain, number_from}
 
 -- the first byte that passes a test, or the end
 pub first_place : (p test : ℕ → Bool) (bs : List ℕ) (r : Option ℕ) → ((b : ℕ) → p b ≡ test b) → IsFirstByte test bs r → unwrap_or r (length bs) ≡ position_or_len p bs

@@ -1,4 +1,4 @@
-use Rattle.std.proofs.Common.{◌≡◌, ◌<◌, ◌≤◌, ◌+◌, ◌-◌, length, map, rules, arith}
+use Rattle.std.proofs.Common.{◌≤◌, ◌-◌, length, rules, arith}
 use Rattle.std.proofs.lemmas.Result.{err_from_is_err_and}
 use Rattle.xml_text.specs.Reading.{node_turn, nodes, element_of}
 use Rattle.xml_text.proofs.Loops.{begins_to_go, more, last, fails}

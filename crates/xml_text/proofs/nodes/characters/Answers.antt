@@ -1,4 +1,4 @@
-use Rattle.std.proofs.Common.{◌≡◌, ◌<◌, List, ℕ, length, ap, arith}
+use Rattle.std.proofs.Common.{List, ℕ, length, ap, arith}
 use Rattle.xml_text.proofs.WordLaws.{some_before}
 use Rattle.xml_text.proofs.nodes.characters.Goals as goal
 

@@ -1,4 +1,4 @@
-use Rattle.std.proofs.Common.{◌≡◌, List, ℕ, chars, sym, ap, ◌∙◌}
+use Rattle.std.proofs.Common.{◌≡◌, chars, sym, ap, ◌∙◌}
 use Rattle.std.specs.List.{list_all}
 use Rattle.std.specs.Result.{result_ok}
 use Rattle.xml_text.specs.Said.{is_character}

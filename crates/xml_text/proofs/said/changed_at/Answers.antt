@@ -1,4 +1,4 @@
-use Rattle.std.proofs.Common.{true, false, sym, ap, ◌∙◌}
+use Rattle.std.proofs.Common.{true, false, ◌∙◌}
 use Rattle.memchr.specs.Find.{is_byte, is_byte3}
 use Rattle.xml_text.specs.Said.{is_changed}
 use Rattle.xml_text.proofs.SaidLaws.{first_place, changed_text, changed_value}

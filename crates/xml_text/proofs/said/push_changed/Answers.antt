@@ -1,4 +1,4 @@
-use Rattle.std.proofs.Common.{◌≡◌, ◌+◌, ◌++◌, string_bytes, encode_utf8, ap, ◌∙◌, IsCharBoundary}
+use Rattle.std.proofs.Common.{◌++◌, string_bytes, encode_utf8, ap, ◌∙◌}
 use Rattle.std.proofs.lemmas.Str.{IsCharBoundary-after_ascii}
 use Rattle.xml_text.proofs.SaidLaws.{small_changed, said_pair, said_blank}
 use Rattle.xml_text.proofs.said.push_changed.Goals as goal

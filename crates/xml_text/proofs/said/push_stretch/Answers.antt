@@ -1,4 +1,4 @@
-use Rattle.std.proofs.Common.{◌≡◌, string_bytes, length, eqb-true, sym}
+use Rattle.std.proofs.Common.{eqb-true, sym}
 use Rattle.xml_text.proofs.SaidLaws.{said_all, said_more}
 use Rattle.xml_text.proofs.said.push_stretch.Goals as goal
 

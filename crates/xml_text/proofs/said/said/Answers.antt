@@ -1,4 +1,4 @@
-use Rattle.std.proofs.Common.{◌≡◌, List, ℕ, Ok, ap, ◌∙◌, rules, arith}
+use Rattle.std.proofs.Common.{List, ℕ, Ok, ap, rules}
 use Rattle.std.proofs.lemmas.Result.{err_from_is_err_and}
 use Rattle.xml_text.specs.Answers.{◌>>=◌}
 use Rattle.xml_text.specs.Said.{said_turn, said}

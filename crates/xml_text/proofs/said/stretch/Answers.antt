@@ -1,6 +1,6 @@
-use Rattle.std.proofs.Common.{◌≡◌, ◌<◌, ◌≤◌, ◌++◌, ◌-◌, length, take, drop, get_or, sym, ap, ◌∙◌, subst, arith, IsCharBoundary, IsUtf8}
+use Rattle.std.proofs.Common.{sym, ap, ◌∙◌, subst, IsCharBoundary}
 use Rattle.std.specs.List.{position_or_len}
-use Rattle.xml_text.specs.Said.{is_changed, plain}
+use Rattle.xml_text.specs.Said.{is_changed}
 use Rattle.xml_text.proofs.SaidLaws.{plain_front, changed_boundary, changed_there}
 use Rattle.xml_text.proofs.said.stretch.Goals as goal
 

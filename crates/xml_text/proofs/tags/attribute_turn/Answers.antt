@@ -1,4 +1,4 @@
-use Rattle.std.proofs.Common.{◌≡◌, ◌≤◌, ◌-◌, length, map, arith}
+use Rattle.std.proofs.Common.{◌-◌, length, arith}
 use Rattle.std.proofs.lemmas.List.{map-append}
 use Rattle.xml_text.specs.Places.{attribute_place}
 use Rattle.xml_text.proofs.PlaceLaws.{attributes_longer, attributes_more}
