@@ -16,7 +16,7 @@ use Rattle.map_model.proofs.GroupBodies.{group_of-with, body_with_layers-along, 
 use Rattle.map_model.proofs.TreeChanges.{layer_among-change_among, change_among-change_among, change_among-along, change_among-same}
 use Rattle.map_model.proofs.FirstChanges.{change_first-change_first, find-change_first, change_first-along, change_first-same}
 use Rattle.map_model.specs.Lens.{Lens, IsLawfulLens, AreApart, whole, inner, of_first, of_place, layers, group, siblings, of_layer, objects, layer_objects}
-use Rattle.map_model.specs.Lens.{of_object, of_tileset, next_ids, next_layer_id, next_object_id, name, visible, selection, tilesets, placing, put}
+use Rattle.map_model.specs.Lens.{of_object, of_tileset, next_ids, next_object_id, name, visible, selection, tilesets, placing, put}
 use Rattle.map_model.specs.Tilesets.{has_first_id}
 
 pub some-eq : {V : Type 0} (v w : V) → Some v ≡ Some w → v ≡ w
@@ -97,10 +97,6 @@ of_place-laws k p ps = record {
 pub layers-laws : IsLawfulLens layers
 layers-laws = whole-laws (λ d. d.map.layers) (λ ls d. record d { map = record d.map { layers = ls } }) (λ v d. refl) (λ d. refl) (λ v w d. refl)
 
-pub next_layer_id-laws : IsLawfulLens next_layer_id
-next_layer_id-laws = whole-laws (λ d. d.map.next_layer_id) (λ n d. record d { map = record d.map { next_layer_id = n } }) (λ v d. refl) (λ d. refl)
-    (λ v w d. refl)
-
 pub next_ids-laws : IsLawfulLens next_ids
 next_ids-laws = whole-laws (λ d. next_ids_of d.map) (λ n d. record d { map = with_next_ids n.layer n.object d.map }) (λ v d. refl) (λ d. refl)
     (λ v w d. refl)
@@ -120,9 +116,6 @@ of_tileset-laws first_id p stays ps =
 
 pub selection-laws : IsLawfulLens selection
 selection-laws = whole-laws (λ d. d.selection) with_selection (λ v d. refl) (λ d. refl) (λ v w d. refl)
-
-pub layers-next_layer_id : AreApart layers next_layer_id
-layers-next_layer_id = record { get-left = λ g d. refl; get-right = λ f d. refl; swapped = λ f g d. refl }
 
 pub siblings-next_ids : (parent : Option ℕ) → AreApart (siblings parent) next_ids
 siblings-next_ids None = record { get-left = λ g d. refl; get-right = λ f d. refl; swapped = λ f g d. refl }

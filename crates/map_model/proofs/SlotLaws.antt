@@ -6,11 +6,10 @@ use Rattle.map_model.specs.declared.next_ids.NextIds.{NextIds}
 use Rattle.map_model.specs.declared.place.LayerPlace.{LayerPlace}
 use Rattle.map_model.specs.declared.place.ObjectPlace.{ObjectPlace}
 use Rattle.map_model.specs.Document.{DocumentParts}
-use Rattle.map_model.specs.Lens.{Lens, IsLawfulLens, AreApart, layers, siblings, next_ids, next_layer_id, tilesets, layer_objects, next_object_id}
-use Rattle.map_model.specs.Slot.{IsLawfulSlot, slot_in, next_slot_in, raising_slot_in, layer_slot, new_layer_slot, next_layer_slot, tileset_slot, object_slot}
-use Rattle.map_model.specs.Slot.{next_object_slot}
-use Rattle.map_model.proofs.LensLaws.{layers-laws, siblings-laws, next_ids-laws, next_layer_id-laws, layers-next_layer_id, siblings-next_ids, tilesets-laws}
-use Rattle.map_model.proofs.LensLaws.{layer_objects-laws, next_object_id-laws, layer_objects-next_object_id}
+use Rattle.map_model.specs.Lens.{Lens, IsLawfulLens, AreApart, siblings, next_ids, tilesets, layer_objects, next_object_id}
+use Rattle.map_model.specs.Slot.{IsLawfulSlot, slot_in, next_slot_in, raising_slot_in, layer_slot, new_layer_slot, tileset_slot, object_slot, next_object_slot}
+use Rattle.map_model.proofs.LensLaws.{siblings-laws, next_ids-laws, siblings-next_ids, tilesets-laws, layer_objects-laws}
+use Rattle.map_model.proofs.LensLaws.{next_object_id-laws, layer_objects-next_object_id}
 use Rattle.map_model.proofs.Changes.{remove-insert, insert-remove, slice_get-insert, length-insert, slice_get-within, slice_get-Some, within-removed}
 
 -- ---- places in a list
@@ -133,9 +132,6 @@ next_slot_in-laws {X = X} p ids laws id-laws apart next raised = record {
 -- ---- slots of layers
 pub layer_slot-laws : (place : LayerPlace) → IsLawfulSlot (layer_slot place)
 layer_slot-laws place = slot_in-laws (siblings place.parent) (siblings-laws place.parent) place.at
-
-pub next_layer_slot-laws : (id : ℕ) → IsLawfulSlot (next_layer_slot id)
-next_layer_slot-laws id = next_slot_in-laws layers next_layer_id layers-laws next_layer_id-laws layers-next_layer_id id (id + 1)
 
 pub new_layer_slot-laws : (place : LayerPlace) (next raised : NextIds) → IsLawfulSlot (new_layer_slot place next raised)
 new_layer_slot-laws place next raised =

@@ -118,11 +118,7 @@ of_tileset first_id p = record {
   update = λ f. with_map (with_tileset first_id (p.update f));
 }
 
--- the next layer id
-abbrev pub next_layer_id : Lens DocumentParts ℕ
-next_layer_id = whole (λ d. d.map.next_layer_id) (λ n d. record d { map = record d.map { next_layer_id = n } })
-
--- both next ids
+-- the next ids
 abbrev pub next_ids : Lens DocumentParts NextIds
 next_ids = whole (λ d. next_ids_of d.map) (λ n d. record d { map = with_next_ids n.layer n.object d.map })
 

@@ -8,7 +8,7 @@ use Rattle.map_model.specs.declared.next_ids.NextIds.{NextIds}
 use Rattle.map_model.specs.declared.place.LayerPlace.{LayerPlace}
 use Rattle.map_model.specs.declared.place.ObjectPlace.{ObjectPlace}
 use Rattle.map_model.specs.Document.{DocumentParts}
-use Rattle.map_model.specs.Lens.{Lens, put, layers, siblings, next_ids, next_layer_id, tilesets, layer_objects, next_object_id}
+use Rattle.map_model.specs.Lens.{Lens, put, siblings, next_ids, tilesets, layer_objects, next_object_id}
 
 -- a place at which a thing can stand: the document with one there and without it, and when it is vacant and filled
 pub record Slot (X : Type 0) : Type 1 where
@@ -61,11 +61,7 @@ raising_slot_in p ids next raised k = record {
 abbrev pub layer_slot : LayerPlace → Slot Layer
 layer_slot place = slot_in (siblings place.parent) place.at
 
--- the place behind the last layer that stands in no group, of a layer with the next id
-abbrev pub next_layer_slot : ℕ → Slot Layer
-next_layer_slot id = next_slot_in layers next_layer_id id (id + 1)
-
--- the place of a layer among its siblings, of one that raises the next ids so
+-- the same of a layer that raises the next ids so
 abbrev pub new_layer_slot : LayerPlace → NextIds → NextIds → Slot Layer
 new_layer_slot place next raised = raising_slot_in (siblings place.parent) next_ids next raised place.at
 
