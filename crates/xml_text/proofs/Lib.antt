@@ -1,6 +1,0 @@
-mod Levels
-mod Loops
-mod PlaceLaws
-mod ReadLaws
-mod SaidLaws
-mod WordLaws
