@@ -1,0 +1,13 @@
+//! Maps in Tiled's XML as texts of JSON, and back.
+#![tactic(auto)]
+
+mod fault;
+mod reading;
+mod same_map;
+mod saving;
+
+pub use fault::Fault;
+pub use reading::{is_xml, json_of};
+pub use saving::tmx_of;
+pub use tmx_tree::Refusal;
+pub use xml_text::Flaw;
