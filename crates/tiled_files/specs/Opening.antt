@@ -1,0 +1,37 @@
+-- What is opened of the bytes of a file.
+use Rattle.std.specs.Prelude.{◌≡◌, ℕ, List, Bool, true, false, Result, Ok, Err, Option, Some, None, Vec}
+use Rattle.std.specs.Global.{Global}
+use Rattle.tiled_files.specs.declared.fault.FileFault.{FileFault}
+use Rattle.tiled_files.specs.declared.fault.FileFault.TheVariants.{Aside, Xml}
+use Rattle.tiled_maps.specs.Texts.{SetsAside, text_or}
+use Rattle.json_trees.specs.Texts.{IsTreeOf}
+use Rattle.serde_json.specs.Data.{Data}
+use Rattle.tmx_maps.specs.Maps.{tmx_data}
+use Rattle.tmx_maps.specs.declared.fault.Fault.TheVariants.{Memory}
+use Rattle.tiled_files.specs.Kinds.{is_xml}
+
+-- the JSON says what a map in XML says
+abbrev pub IsJsonOf : List ℕ → List ℕ → Type 0
+IsJsonOf bytes json = (d : Data) × (tmx_data bytes ≡ Some d) × IsTreeOf json d
+
+-- of JSON: what is set aside of it
+abbrev pub OpensJson : List ℕ → Result (Option (Vec ℕ Global)) FileFault → Type 0
+OpensJson bytes (Ok own) = SetsAside bytes (Ok own)
+OpensJson bytes (Err (Aside fault)) = SetsAside bytes (Err fault)
+OpensJson bytes (Err (Xml fault)) = ⊥
+
+-- of XML: what is set aside of the JSON that says the same, or this JSON itself
+abbrev pub OpensXml : List ℕ → Result (Option (Vec ℕ Global)) FileFault → Type 0
+OpensXml bytes (Ok None) = ⊥
+OpensXml bytes (Ok (Some text)) = (json : Vec ℕ Global) × (own : Option (Vec ℕ Global))
+    × IsJsonOf bytes json.items × SetsAside json.items (Ok own) × (text.items ≡ text_or json.items own)
+OpensXml bytes (Err (Aside fault)) = (json : Vec ℕ Global) × IsJsonOf bytes json.items × SetsAside json.items (Err fault)
+OpensXml bytes (Err (Xml fault)) = (fault ≡ Memory → ⊥) → tmx_data bytes ≡ None
+
+abbrev pub OpensBy : Bool → List ℕ → Result (Option (Vec ℕ Global)) FileFault → Type 0
+OpensBy false bytes opened = OpensJson bytes opened
+OpensBy true bytes opened = OpensXml bytes opened
+
+-- what `opened` answers for the bytes of a file, as they are JSON or XML
+abbrev pub Opens : List ℕ → Result (Option (Vec ℕ Global)) FileFault → Type 0
+Opens bytes opened = OpensBy (is_xml bytes) bytes opened
