@@ -14,6 +14,13 @@ use Rattle.tiled_files.specs.Kinds.{is_xml}
 abbrev pub IsJsonOf : List ℕ → List ℕ → Type 0
 IsJsonOf bytes json = (d : Data) × (tmx_data bytes ≡ Some d) × IsTreeOf json d
 
+-- what `json_in` answers: JSON for XML that is a map, and nothing for what is no XML
+abbrev pub HasJson : List ℕ → Result (Option (Vec ℕ Global)) FileFault → Type 0
+HasJson bytes (Ok None) = is_xml bytes ≡ false
+HasJson bytes (Ok (Some json)) = (is_xml bytes ≡ true) × IsJsonOf bytes json.items
+HasJson bytes (Err (Aside fault)) = ⊥
+HasJson bytes (Err (Xml fault)) = (is_xml bytes ≡ true) × ((fault ≡ Memory → ⊥) → tmx_data bytes ≡ None)
+
 -- of JSON: what is set aside of it
 abbrev pub OpensJson : List ℕ → Result (Option (Vec ℕ Global)) FileFault → Type 0
 OpensJson bytes (Ok own) = SetsAside bytes (Ok own)
@@ -23,9 +30,9 @@ OpensJson bytes (Err (Xml fault)) = ⊥
 -- of XML: what is set aside of the JSON that says the same, or this JSON itself
 abbrev pub OpensXml : List ℕ → Result (Option (Vec ℕ Global)) FileFault → Type 0
 OpensXml bytes (Ok None) = ⊥
-OpensXml bytes (Ok (Some text)) = (json : Vec ℕ Global) × (own : Option (Vec ℕ Global))
-    × IsJsonOf bytes json.items × SetsAside json.items (Ok own) × (text.items ≡ text_or json.items own)
-OpensXml bytes (Err (Aside fault)) = (json : Vec ℕ Global) × IsJsonOf bytes json.items × SetsAside json.items (Err fault)
+OpensXml bytes (Ok (Some text)) = (json : List ℕ) × (own : Option (Vec ℕ Global))
+    × IsJsonOf bytes json × SetsAside json (Ok own) × (text.items ≡ text_or json own)
+OpensXml bytes (Err (Aside fault)) = (json : List ℕ) × IsJsonOf bytes json × SetsAside json (Err fault)
 OpensXml bytes (Err (Xml fault)) = (fault ≡ Memory → ⊥) → tmx_data bytes ≡ None
 
 abbrev pub OpensBy : Bool → List ℕ → Result (Option (Vec ℕ Global)) FileFault → Type 0

@@ -3,6 +3,7 @@ ghost use Rattle.std.specs.Prelude.{◌≡◌};
 ghost use Rattle.tiled_files.specs.declared.fault.FileFault.TheVariants.{Aside, Xml};
 ghost use Rattle.tiled_files.specs.Faults.{is_memory};
 
+use crate::line_column::LineColumn;
 use crate::words::xml_words;
 
 /// Why no map is opened of a file, or saved as one.
@@ -34,10 +35,10 @@ impl FileFault {
         }
     }
 
-    /// The byte of the file at which it ceases to be XML.
-    pub fn place(self) -> Option<usize> {
+    /// The place at which a file with these bytes ceases to be XML.
+    pub fn place_in(self, bytes: &[u8]) -> Option<LineColumn> {
         match self {
-            FileFault::Xml(tmx_maps::Fault::NotXml(_, at)) => Some(at),
+            FileFault::Xml(tmx_maps::Fault::NotXml(_, at)) => Some(LineColumn::of_byte(bytes, at)),
             _ => None,
         }
     }

@@ -12,6 +12,6 @@ pub use fault::FileFault;
 pub use kind::{Kind, is_xml, kind_of, kind_of_bytes};
 pub use line_column::LineColumn;
 pub use map_layout::LaidText;
-pub use opening::opened;
+pub use opening::{json_in, opened};
 pub use saving::saved;
 pub use tiled_maps::LONGEST;

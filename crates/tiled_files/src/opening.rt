@@ -1,9 +1,9 @@
 // What is opened of a file.
 ghost use Rattle.std.specs.Prelude.{◌≡◌, Err, true};
-ghost use Rattle.tiled_files.specs.declared.fault.FileFault.TheVariants.{Aside};
-ghost use Rattle.tiled_files.specs.Opening.{Opens, OpensXml};
-ghost use Rattle.tiled_maps.specs.declared.fault.Fault.TheVariants as fault;
 ghost use Rattle.tiled_files.specs.Kinds.{is_xml};
+ghost use Rattle.tiled_files.specs.Opening.{HasJson, IsJsonOf, Opens, OpensXml};
+ghost use Rattle.tiled_files.specs.declared.fault.FileFault.TheVariants.{Aside};
+ghost use Rattle.tiled_maps.specs.declared.fault.Fault.TheVariants as fault;
 
 use crate::fault::FileFault;
 use crate::kind::is_xml;
@@ -11,14 +11,28 @@ use std::alloc::Global;
 use tiled_maps::set_aside;
 use tmx_maps::json_of;
 
-// The text of a map in XML.
-fn opened_xml(alloc: Global, bytes: &[u8]) -> Result<Option<Vec<u8>>, FileFault>
-    ensures { OpensXml bytes.now result }
+/// The JSON text that says what the bytes of a file say, if they are XML; or `None`, if they are none.
+pub fn json_in(alloc: Global, bytes: &[u8]) -> Result<Option<Vec<u8>>, FileFault>
+    ensures { HasJson bytes.now result }
 {
-    let json = json_of(alloc, bytes)?;
-    match set_aside(alloc, json.as_slice())? {
-        Some(own) => Ok(Some(own)),
-        None => Ok(Some(json)),
+    if !is_xml(bytes) {
+        return Ok(None);
+    }
+    match json_of(alloc, bytes) {
+        Ok(json) => Ok(Some(json)),
+        Err(fault) => Err(FileFault::Xml(fault)),
+    }
+}
+
+// The text of a map in XML, by the JSON that says the same.
+fn opened_json(alloc: Global, json: Vec<u8>) -> Result<Option<Vec<u8>>, FileFault>
+    ensures opened { (bytes : List ℕ) → IsJsonOf bytes json.items → OpensXml bytes result }
+    ensures json { (bytes : List ℕ) → IsJsonOf bytes json.items → result ≡ Err (Aside fault.NotJson) → ⊥ }
+{
+    match set_aside(alloc, json.as_slice()) {
+        Ok(Some(own)) => Ok(Some(own)),
+        Ok(None) => Ok(Some(json)),
+        Err(fault) => Err(FileFault::Aside(fault)),
     }
 }
 
@@ -32,9 +46,11 @@ pub fn opened(alloc: Global, bytes: &[u8]) -> Result<Option<Vec<u8>>, FileFault>
     ensures opened { Opens bytes.now result }
     ensures json { is_xml bytes.now ≡ true → result ≡ Err (Aside fault.NotJson) → ⊥ }
 {
-    if is_xml(bytes) {
-        opened_xml(alloc, bytes)
-    } else {
-        Ok(set_aside(alloc, bytes)?)
+    match json_in(alloc, bytes)? {
+        Some(json) => opened_json(alloc, json),
+        None => match set_aside(alloc, bytes) {
+            Ok(own) => Ok(own),
+            Err(fault) => Err(FileFault::Aside(fault)),
+        },
     }
 }

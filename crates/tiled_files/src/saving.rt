@@ -4,21 +4,20 @@ ghost use Rattle.tiled_files.specs.Kinds.{is_xml};
 
 use crate::fault::FileFault;
 use crate::kind::{Kind, is_xml};
+use crate::opening::json_in;
 use map_layout::{LaidText, Layout, LayoutFault, LineEnd, lay_out};
 use std::alloc::Global;
 use tiled_maps::put_back_like;
-use tmx_maps::{json_of, tmx_of};
+use tmx_maps::tmx_of;
 
 // The text in JSON in which what was set aside is put back, by a source in JSON or in XML.
 fn put_by(alloc: Global, bytes: &[u8], source: &[u8]) -> Result<LaidText, FileFault>
     ensures { PutsBy (is_xml source.now) bytes.now source.now result }
 {
-    if !is_xml(source) {
-        return Ok(put_back_like(alloc, bytes, source)?);
-    }
-    match json_of(alloc, source) {
-        Ok(json) => Ok(put_back_like(alloc, bytes, json.as_slice())?),
-        Err(tmx_maps::Fault::Memory) => Err(FileFault::Xml(tmx_maps::Fault::Memory)),
+    match json_in(alloc, source) {
+        Ok(None) => Ok(put_back_like(alloc, bytes, source)?),
+        Ok(Some(json)) => Ok(put_back_like(alloc, bytes, json.as_slice())?),
+        Err(fault) if fault.is_memory() => Err(fault),
         Err(_) => Ok(put_back_like(alloc, bytes, b"")?),
     }
 }
