@@ -1,0 +1,96 @@
+// The text of a map.
+use crate::anew::push_element;
+use crate::head::{Merge, push_source};
+use crate::layout::{Sheet, sheet};
+use crate::merge::push_merged;
+use crate::part::{Kind, part};
+use serde_json::Value;
+use std::alloc::{AllocError, Global};
+use xml_text::{Element, Node};
+
+/// As deep as elements are told.
+const MOST_LEVELS: u8 = 200;
+
+/// Which ids are told.
+#[derive(Clone, Copy, PartialEq, Eq)]
+pub enum Ids {
+    /// Those that the source has, and those that changed.
+    AsTheyStand,
+    /// All, also those that Tiled counts where a file does not say them.
+    All,
+}
+
+/// A text, its root, and the tree of its map.
+#[derive(Clone, Copy)]
+pub struct Source<'a> {
+    pub bytes: &'a [u8],
+    pub root: &'a Element,
+    pub tree: &'a Value,
+}
+
+/// What ends the lines of a text: what ends its first one.
+fn line_end(bytes: &[u8]) -> &'static [u8] {
+    match bytes.iter().position(|byte| *byte == b'\n') {
+        Some(at) => match bytes.get(..at) {
+            Some(line) => if line.last() == Some(&b'\r') { b"\r\n" } else { b"\n" },
+            None => b"\n",
+        },
+        None => b"\n",
+    }
+}
+
+/// The text of a map in Tiled's layout, with lines that end as those of a source.
+pub fn written(alloc: Global, map: &Value, source: &[u8]) -> Result<Vec<u8>, AllocError> {
+    let sheet = sheet(map, line_end(source), b" ");
+    let mut out = Vec::from_slice(alloc, b"<?xml version=\"1.0\" encoding=\"UTF-8\"?>")?;
+    out.extend_from_slice(sheet.line)?;
+    push_element(alloc, &sheet, &part(Kind::Map, map), 0, MOST_LEVELS, &mut out)?;
+    out.extend_from_slice(sheet.line)?;
+    Ok(out)
+}
+
+// What stands before the first child of the root.
+fn first_gap<'a>(source: &Source<'a>) -> Option<&'a [u8]> {
+    for node in &source.root.children {
+        if let Node::Element(element) = node {
+            return source.bytes.get(source.root.content.from..element.span.from);
+        }
+    }
+    None
+}
+
+// How the elements of a source are laid out: each on a line of its own, or all on one.
+fn laid_out_as<'a>(map: &'a Value, source: &Source<'a>) -> Sheet<'a> {
+    let Some(gap) = first_gap(source) else {
+        return sheet(map, line_end(source.bytes), b" ");
+    };
+    match gap.iter().rposition(|byte| *byte == b'\n') {
+        Some(at) => match gap.get(at.saturating_add(1)..) {
+            Some(indent) => sheet(map, line_end(source.bytes), indent),
+            None => sheet(map, line_end(source.bytes), b" "),
+        },
+        None => sheet(map, b"", b""),
+    }
+}
+
+/// The text of a map in the bytes of a source: what did not change stays.
+pub fn written_into(
+    alloc: Global,
+    map: &Value,
+    source: &Source<'_>,
+    ids: Ids,
+) -> Result<Vec<u8>, AllocError> {
+    let merge = Merge {
+        source: source.bytes,
+        old: laid_out_as(source.tree, source),
+        new: laid_out_as(map, source),
+        ids,
+    };
+    let root = source.root;
+    let mut out = Vec::new(alloc);
+    push_source(&merge, 0, root.span.from, &mut out)?;
+    let (old, new) = (part(Kind::Map, source.tree), part(Kind::Map, map));
+    push_merged(alloc, &merge, root, &old, &new, 0, MOST_LEVELS, &mut out)?;
+    push_source(&merge, root.span.end, source.bytes.len(), &mut out)?;
+    Ok(out)
+}
