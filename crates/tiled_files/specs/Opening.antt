@@ -4,15 +4,10 @@ use Rattle.std.specs.Global.{Global}
 use Rattle.tiled_files.specs.declared.fault.FileFault.{FileFault}
 use Rattle.tiled_files.specs.declared.fault.FileFault.TheVariants.{Aside, Xml}
 use Rattle.tiled_maps.specs.Texts.{SetsAside, text_or}
-use Rattle.json_trees.specs.Texts.{IsTreeOf}
-use Rattle.serde_json.specs.Data.{Data}
 use Rattle.tmx_maps.specs.Maps.{tmx_data}
+use Rattle.tmx_maps.specs.Texts.{IsJsonOf}
 use Rattle.tmx_maps.specs.declared.fault.Fault.TheVariants.{Memory}
 use Rattle.tiled_files.specs.Kinds.{is_xml}
-
--- the JSON says what a map in XML says
-abbrev pub IsJsonOf : List ℕ → List ℕ → Type 0
-IsJsonOf bytes json = (d : Data) × (tmx_data bytes ≡ Some d) × IsTreeOf json d
 
 -- what `json_in` answers: JSON for XML that is a map, and nothing for what is no XML
 abbrev pub HasJson : List ℕ → Result (Option (Vec ℕ Global)) FileFault → Type 0

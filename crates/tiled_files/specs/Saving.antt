@@ -9,10 +9,8 @@ use Rattle.tiled_files.specs.declared.kind.Kind.TheVariants.{Json, Tmx}
 use Rattle.tiled_maps.specs.Likeness.{PutsBackLike}
 use Rattle.tmx_maps.specs.declared.fault.Fault.TheVariants.{Memory}
 use Rattle.tmx_maps.specs.Maps.{tmx_data}
-use Rattle.json_trees.specs.Texts.{IsTreeOf}
-use Rattle.serde_json.specs.Data.{Data}
 use Rattle.tiled_files.specs.Kinds.{is_xml}
-use Rattle.tiled_files.specs.Opening.{IsJsonOf}
+use Rattle.tmx_maps.specs.Texts.{IsJsonOf, IsTmxOf, IsKept}
 
 -- ---- the source
 -- the JSON of a source in XML: the JSON that says the same, or no bytes, if it is no map
@@ -35,10 +33,6 @@ PutsBy is_xml bytes source (Ok laid) = (json : List ℕ) × IsSourceIn is_xml so
 PutsBy is_xml bytes source (Err (Aside fault)) = (json : List ℕ) × IsSourceIn is_xml source json × PutsBackLike bytes json (Err fault)
 PutsBy is_xml bytes source (Err (Xml fault)) = fault ≡ Memory
 
--- the text is XML that says what the JSON says; and it is the source, if that says the same
-abbrev pub IsTmxOf : List ℕ → List ℕ → List ℕ → Type 0
-IsTmxOf json source text = (d : Data) × IsTreeOf json d × (tmx_data text ≡ Some d) × (tmx_data source ≡ Some d → text ≡ source)
-
 -- ---- by kind
 -- as JSON, by a source in JSON: what `put_back_like` answers
 abbrev pub SavesJson : List ℕ → List ℕ → Result LaidText FileFault → Type 0
@@ -51,10 +45,11 @@ abbrev pub SavesXmlAsJson : List ℕ → List ℕ → Result LaidText FileFault 
 SavesXmlAsJson bytes source (Ok saved) = (laid : LaidText) × PutsBy true bytes source (Ok laid) × ((saved ≡ laid) ⊎ LaysOut laid.text.items (Ok saved.text))
 SavesXmlAsJson bytes source (Err fault) = PutsBy true bytes source (Err fault)
 
--- as XML: the XML of that, by the source, if it is XML
+-- as XML: XML that is the map of that; the source itself, if it is that map
 abbrev pub SavesTmx : Bool → List ℕ → List ℕ → Result LaidText FileFault → Type 0
 SavesTmx is_xml bytes source (Ok saved) =
-    (laid : LaidText) × PutsBy is_xml bytes source (Ok laid) × IsTmxOf laid.text.items (xml_in is_xml source) saved.text.items
+    (laid : LaidText) × PutsBy is_xml bytes source (Ok laid)
+    × IsTmxOf laid.text.items saved.text.items × IsKept laid.text.items (xml_in is_xml source) saved.text.items
 SavesTmx is_xml bytes source (Err (Aside fault)) = PutsBy is_xml bytes source (Err (Aside fault))
 SavesTmx is_xml bytes source (Err (Xml fault)) = (fault ≡ Memory) ⊎ ((laid : LaidText) × PutsBy is_xml bytes source (Ok laid))
 

@@ -1,9 +1,10 @@
 // What is opened of a file.
 ghost use Rattle.std.specs.Prelude.{◌≡◌, Err, true};
 ghost use Rattle.tiled_files.specs.Kinds.{is_xml};
-ghost use Rattle.tiled_files.specs.Opening.{HasJson, IsJsonOf, Opens, OpensXml};
+ghost use Rattle.tiled_files.specs.Opening.{HasJson, Opens, OpensXml};
 ghost use Rattle.tiled_files.specs.declared.fault.FileFault.TheVariants.{Aside};
 ghost use Rattle.tiled_maps.specs.declared.fault.Fault.TheVariants as fault;
+ghost use Rattle.tmx_maps.specs.Texts.{IsJsonOf};
 
 use crate::fault::FileFault;
 use crate::kind::is_xml;
