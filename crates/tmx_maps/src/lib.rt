@@ -2,9 +2,11 @@
 #![tactic(auto)]
 
 mod fault;
+mod place;
 mod reading;
 mod same_map;
 mod saving;
+mod usual;
 
 pub use fault::Fault;
 pub use reading::{is_xml, json_of};
