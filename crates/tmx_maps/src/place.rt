@@ -1,9 +1,8 @@
 // What an object in the tree of a map is, as far as it matters for what it may leave out.
 ghost use Rattle.std.specs.Prelude.{◌≡◌, map};
-ghost use Rattle.serde_json.specs.Find.{get_member};
-ghost use Rattle.serde_json.specs.View.{view as data_of, members_view};
+ghost use Rattle.serde_json.specs.View.{members_view};
 ghost use Rattle.tmx_tree.specs.Texts.{is_one_of};
-ghost use Rattle.tmx_maps.specs.SameMap.{text_in, has, map_place, property_place, layer_place, own_place, place_of, inner_place};
+ghost use Rattle.tmx_maps.specs.SameMap.{text_in, has, map_place, property_place, layer_place, own_place, place_of, value_place, inner_place};
 
 use serde_json::{Map, Value};
 

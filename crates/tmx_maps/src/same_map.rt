@@ -69,7 +69,7 @@ fn next_said<'a>(
 }
 
 #[cycle(same)]
-fn is_same_at(one_place: Place, one: &Value, other_place: Place, other: &Value) -> bool
+pub fn is_same_at(one_place: Place, one: &Value, other_place: Place, other: &Value) -> bool
     ensures { IsTrue result ↔ (plain one_place (data_of one.now) ≡ plain other_place (data_of other.now)) }
 {
     match one {

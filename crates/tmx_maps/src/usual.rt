@@ -1,8 +1,10 @@
 // What Tiled takes where a member is absent, and which members are left out.
-ghost use Rattle.std.specs.Prelude.{◌≡◌, ℕ, List, map, Some};
+ghost use Rattle.std.specs.Prelude.{◌≡◌, map, Some, bytes_eq, codes};
+ghost use Rattle.serde_json.specs.Data.{boolean};
+ghost use Rattle.tmx_tree.specs.Texts.{is_one_of};
 ghost use Rattle.serde_json.specs.Find.{to_float};
 ghost use Rattle.serde_json.specs.View.{view as data_of, number_view};
-ghost use Rattle.tmx_maps.specs.SameMap.{Pair, usual_texts, usual_words, is_pair_of, is_float_of, is_usual_float, is_usual, is_usual_word, is_note, is_own, is_value, is_left_here, is_left_out, text_of, zero_names, one_names};
+ghost use Rattle.tmx_maps.specs.SameMap.{usual_texts, usual_words, is_pair_of, is_float_of, is_usual_float, is_usual, is_usual_word, is_note, is_own, is_value, is_left_here, is_left_out, text_of, zero_names, one_names};
 
 use crate::place::{Place, is_one_of};
 use serde_json::{Number, Value};
