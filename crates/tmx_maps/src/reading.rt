@@ -1,9 +1,11 @@
 // A map in XML as a text of JSON.
 ghost use Rattle.std.specs.Prelude.{◌≡◌, Some, None, IfOk, IfErr};
 ghost use Rattle.serde_json.specs.View.{view as data_of};
-ghost use Rattle.json_trees.specs.Texts.{IsTreeOf};
 ghost use Rattle.tmx_maps.specs.declared.fault.Fault.TheVariants.{Memory};
+ghost use Rattle.serde_json.specs.Data.{depth};
+ghost use Rattle.serde_json.specs.Read.{max_depth};
 ghost use Rattle.tmx_maps.specs.Maps.{tmx_data};
+ghost use Rattle.tmx_maps.specs.Texts.{IsJsonOf};
 
 use crate::fault::Fault;
 use serde_json::Value;
@@ -32,7 +34,7 @@ pub fn tree_in(alloc: Global, bytes: &[u8]) -> Result<Value, Fault>
 ///
 /// `NotXml` and `NotAMap` say why there is none. The caller bounds how long the text may be.
 pub fn json_of(alloc: Global, bytes: &[u8]) -> Result<Vec<u8>, Fault>
-    ensures tree { IfOk result (λ text. (d : Data) × (tmx_data bytes.now ≡ Some d) × IsTreeOf text.items d) }
+    ensures tree { IfOk result (λ text. IsJsonOf bytes.now text.items) }
     ensures refused { IfErr result (λ fault. (fault ≡ Memory → ⊥) → tmx_data bytes.now ≡ None) }
 {
     let tree = tree_in(alloc, bytes)?;

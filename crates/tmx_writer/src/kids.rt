@@ -1,6 +1,6 @@
 // The elements in an element.
 use crate::members::{items_at, items_of, text_at};
-use crate::part::{Kind, Part, part};
+use crate::part::{Kind, Part, made_part};
 use crate::property::property_of;
 use serde_json::Value;
 use std::alloc::{AllocError, Global};
@@ -15,7 +15,7 @@ fn push_member<'a>(
     kids: &mut Kids<'a>,
 ) -> Result<(), AllocError> {
     match value.get(name) {
-        Some(member) => Ok(kids.push(part(kind, member))?),
+        Some(member) => Ok(kids.push(made_part(kind, member))?),
         None => Ok(()),
     }
 }
@@ -26,7 +26,7 @@ fn push_items<'a>(
     kids: &mut Kids<'a>,
 ) -> Result<(), AllocError> {
     for item in items {
-        kids.push(part(kind, item))?;
+        kids.push(made_part(kind, item))?;
     }
     Ok(())
 }
@@ -89,7 +89,7 @@ fn layer_kind(layer: &Value) -> Option<Kind> {
 fn push_layers<'a>(value: &'a Value, kids: &mut Kids<'a>) -> Result<(), AllocError> {
     for layer in items_at(value, "layers") {
         if let Some(kind) = layer_kind(layer) {
-            kids.push(part(kind, layer))?;
+            kids.push(made_part(kind, layer))?;
         }
     }
     Ok(())
@@ -99,7 +99,7 @@ fn push_picture<'a>(kind: Kind, value: &'a Value, kids: &mut Kids<'a>) -> Result
     if text_at(value, "image").is_empty() && text_at(value, "transparentcolor").is_empty() {
         return Ok(());
     }
-    Ok(kids.push(part(kind, value))?)
+    Ok(kids.push(made_part(kind, value))?)
 }
 
 fn push_tileset<'a>(value: &'a Value, kids: &mut Kids<'a>) -> Result<(), AllocError> {
@@ -132,7 +132,7 @@ fn push_shape<'a>(
         Some(shape) => if shape.as_bool() == Some(false) {
             Ok(())
         } else {
-            Ok(kids.push(part(kind, shape))?)
+            Ok(kids.push(made_part(kind, shape))?)
         },
         None => Ok(()),
     }
@@ -168,7 +168,7 @@ fn push_layer_kids<'a>(of: &Part<'a>, kids: &mut Kids<'a>) -> Result<(), AllocEr
     match of.kind {
         Kind::Group => push_layers(of.value, kids),
         Kind::ObjectLayer => push_items(Kind::Object, items_at(of.value, "objects"), kids),
-        Kind::Layer => Ok(kids.push(part(Kind::Data, of.value))?),
+        Kind::Layer => Ok(kids.push(made_part(Kind::Data, of.value))?),
         _ => Ok(()),
     }
 }

@@ -16,7 +16,7 @@ pub struct Sheet<'a> {
 }
 
 /// A map that is told so.
-pub fn sheet<'a>(map: &'a Value, line: &'a [u8], indent: &'a [u8]) -> Sheet<'a> {
+pub fn sheet_of<'a>(map: &'a Value, line: &'a [u8], indent: &'a [u8]) -> Sheet<'a> {
     let format = match note_of(map) {
         Some(note) => text_at(note, "format"),
         None => "",

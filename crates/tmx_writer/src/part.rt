@@ -52,7 +52,7 @@ pub struct Part<'a> {
 }
 
 /// A part that its value says alone.
-pub fn part(kind: Kind, value: &Value) -> Part<'_> {
+pub fn made_part(kind: Kind, value: &Value) -> Part<'_> {
     Part {
         kind,
         key: "",

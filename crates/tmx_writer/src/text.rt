@@ -1,9 +1,9 @@
 // The text of a map.
 use crate::anew::push_element;
 use crate::head::{Merge, push_source};
-use crate::layout::{Sheet, sheet};
+use crate::layout::{Sheet, sheet_of};
 use crate::merge::push_merged;
-use crate::part::{Kind, part};
+use crate::part::{Kind, made_part};
 use serde_json::Value;
 use std::alloc::{AllocError, Global};
 use xml_text::{Element, Node};
@@ -41,35 +41,38 @@ fn line_end(bytes: &[u8]) -> &'static [u8] {
 
 /// The text of a map in Tiled's layout, with lines that end as those of a source.
 pub fn written(alloc: Global, map: &Value, source: &[u8]) -> Result<Vec<u8>, AllocError> {
-    let sheet = sheet(map, line_end(source), b" ");
+    let sheet = sheet_of(map, line_end(source), b" ");
     let mut out = Vec::from_slice(alloc, b"<?xml version=\"1.0\" encoding=\"UTF-8\"?>")?;
     out.extend_from_slice(sheet.line)?;
-    push_element(alloc, &sheet, &part(Kind::Map, map), 0, MOST_LEVELS, &mut out)?;
+    push_element(alloc, &sheet, &made_part(Kind::Map, map), 0, MOST_LEVELS, &mut out)?;
     out.extend_from_slice(sheet.line)?;
     Ok(out)
 }
 
-// What stands before the first child of the root.
-fn first_gap<'a>(source: &Source<'a>) -> Option<&'a [u8]> {
+// What stands before the first child of the root; before one of none a line feed and a blank.
+fn first_gap<'a>(source: &Source<'a>) -> &'a [u8] {
     for node in &source.root.children {
         if let Node::Element(element) = node {
-            return source.bytes.get(source.root.content.from..element.span.from);
+            return match source.bytes.get(source.root.content.from..element.span.from) {
+                Some(gap) => gap,
+                None => b"",
+            };
         }
     }
-    None
+    b"\n "
+}
+
+// What stands behind the last line feed.
+fn behind_line(gap: &[u8]) -> Option<&[u8]> {
+    let at = gap.iter().rposition(|byte| *byte == b'\n')?;
+    gap.get(at.saturating_add(1)..)
 }
 
 // How the elements of a source are laid out: each on a line of its own, or all on one.
 fn laid_out_as<'a>(map: &'a Value, source: &Source<'a>) -> Sheet<'a> {
-    let Some(gap) = first_gap(source) else {
-        return sheet(map, line_end(source.bytes), b" ");
-    };
-    match gap.iter().rposition(|byte| *byte == b'\n') {
-        Some(at) => match gap.get(at.saturating_add(1)..) {
-            Some(indent) => sheet(map, line_end(source.bytes), indent),
-            None => sheet(map, line_end(source.bytes), b" "),
-        },
-        None => sheet(map, b"", b""),
+    match behind_line(first_gap(source)) {
+        Some(indent) => sheet_of(map, line_end(source.bytes), indent),
+        None => sheet_of(map, b"", b""),
     }
 }
 
@@ -89,7 +92,7 @@ pub fn written_into(
     let root = source.root;
     let mut out = Vec::new(alloc);
     push_source(&merge, 0, root.span.from, &mut out)?;
-    let (old, new) = (part(Kind::Map, source.tree), part(Kind::Map, map));
+    let (old, new) = (made_part(Kind::Map, source.tree), made_part(Kind::Map, map));
     push_merged(alloc, &merge, root, &old, &new, 0, MOST_LEVELS, &mut out)?;
     push_source(&merge, root.span.end, source.bytes.len(), &mut out)?;
     Ok(out)
