@@ -2,9 +2,7 @@
 use Rattle.std.specs.Prelude.{Bool, true, false, not}
 use Rattle.tiled_files.specs.declared.fault.FileFault.{FileFault}
 use Rattle.tiled_files.specs.declared.fault.FileFault.TheVariants.{Aside, Xml}
-use Rattle.tiled_maps.specs.declared.fault.Fault.{Fault as AsideFault}
 use Rattle.tiled_maps.specs.declared.fault.Fault.TheVariants as aside
-use Rattle.tmx_maps.specs.declared.fault.Fault.{Fault as XmlFault}
 use Rattle.tmx_maps.specs.declared.fault.Fault.TheVariants as xml
 
 abbrev pub is_memory : FileFault → Bool

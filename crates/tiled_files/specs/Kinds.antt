@@ -1,23 +1,32 @@
 -- Which of two kinds a file is of, and is to be of.
-use Rattle.std.specs.Prelude.{ℕ, ◌-◌, ◌==◌, List, [], ◌∷◌, drop, length, codes, Bool, if◌then◌else◌, unwrap_or}
+use Rattle.std.specs.Prelude.{ℕ, ◌-◌, ◌==◌, nat_le, List, [], ◌∷◌, drop, length, codes, slice_index, Bool, false, ◌&&◌, if◌then◌else◌}
 use Rattle.std.specs.Char.{is_ascii_whitespace}
 use Rattle.std.specs.List.{prefix_len}
 use Rattle.std.specs.Str.{bytes_eq, str_to_ascii_lowercase}
 use Rattle.tiled_files.specs.declared.kind.Kind.{Kind}
 use Rattle.tiled_files.specs.declared.kind.Kind.TheVariants.{Json, Tmx}
-use Rattle.xml_text.specs.Words.{after, first_is}
 
--- the bytes behind a byte order mark
+-- whether bytes begin with a byte order mark
+abbrev pub has_mark : List ℕ → Bool
+has_mark bytes =
+    nat_le 3 (length bytes) && ((slice_index bytes 0 == 239) && ((slice_index bytes 1 == 187) && (slice_index bytes 2 == 191)))
+
+-- the bytes behind it
 abbrev pub unmarked : List ℕ → List ℕ
-unmarked bytes = unwrap_or (after (239 ∷ 187 ∷ 191 ∷ []) bytes) bytes
+unmarked bytes = if has_mark bytes then drop 3 bytes else bytes
 
 -- the bytes behind the blanks at their front
 abbrev pub trimmed : List ℕ → List ℕ
 trimmed bytes = drop (prefix_len is_ascii_whitespace bytes) bytes
 
--- bytes are taken for XML by the first one that is no blank: `<`
+-- whether bytes begin with `<`
+abbrev pub begins_tag : List ℕ → Bool
+begins_tag [] = false
+begins_tag (b ∷ bytes) = b == 60
+
+-- bytes are taken for XML by the first one that is no blank
 abbrev pub is_xml : List ℕ → Bool
-is_xml bytes = first_is (λ b. b == 60) (trimmed (unmarked bytes))
+is_xml bytes = begins_tag (trimmed (unmarked bytes))
 
 abbrev pub kind_of_bytes : List ℕ → Kind
 kind_of_bytes bytes = if is_xml bytes then Tmx else Json

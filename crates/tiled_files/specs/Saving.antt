@@ -1,5 +1,5 @@
 -- What is saved as a file.
-use Rattle.std.specs.Prelude.{◌≡◌, ◌⊎◌, ℕ, List, [], Bool, true, false, Result, Ok, Err, Some, None}
+use Rattle.std.specs.Prelude.{◌≡◌, ◌⊎◌, ℕ, List, [], Bool, true, false, Result, Ok, Err, None}
 use Rattle.map_layout.specs.Laid.{LaysOut}
 use Rattle.map_layout.specs.declared.text.LaidText.{LaidText}
 use Rattle.tiled_files.specs.declared.fault.FileFault.{FileFault}

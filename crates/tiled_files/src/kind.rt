@@ -1,6 +1,6 @@
 // Which of two kinds a file is of, and is to be of.
 ghost use Rattle.std.specs.Prelude.{◌≡◌};
-ghost use Rattle.tiled_files.specs.Kinds.{is_tmx_name, is_xml, kind_of, kind_of_bytes, unmarked};
+ghost use Rattle.tiled_files.specs.Kinds.{begins_tag, has_mark, is_tmx_name, is_xml, kind_of, kind_of_bytes, trimmed, unmarked};
 
 /// What is in a file of a map.
 #[derive(Clone, Copy, Debug, PartialEq, Eq)]
@@ -11,13 +11,34 @@ pub enum Kind {
     Tmx,
 }
 
-// The bytes behind a byte order mark.
+// Whether bytes begin with a byte order mark.
+fn has_mark(bytes: &[u8]) -> bool
+    ensures { result ≡ has_mark bytes.now }
+{
+    bytes.len() >= 3 && bytes[0] == 239 && bytes[1] == 187 && bytes[2] == 191
+}
+
+// The bytes behind it.
 fn unmarked(bytes: &[u8]) -> &[u8]
     ensures { result.now ≡ unmarked bytes.now }
 {
-    match bytes.strip_prefix(b"\xef\xbb\xbf") {
-        Some(rest) => rest,
-        None => bytes,
+    if has_mark(bytes) { &bytes[3..] } else { bytes }
+}
+
+// The bytes behind the blanks at their front.
+fn trimmed(bytes: &[u8]) -> &[u8]
+    ensures { result.now ≡ trimmed bytes.now }
+{
+    bytes.trim_ascii_start()
+}
+
+// Whether bytes begin with `<`.
+fn begins_tag(bytes: &[u8]) -> bool
+    ensures { result ≡ begins_tag bytes.now }
+{
+    match bytes {
+        [first, ..] => *first == b'<',
+        [] => false,
     }
 }
 
@@ -25,10 +46,7 @@ fn unmarked(bytes: &[u8]) -> &[u8]
 pub fn is_xml(bytes: &[u8]) -> bool
     ensures { result ≡ is_xml bytes.now }
 {
-    match unmarked(bytes).trim_ascii_start() {
-        [first, ..] => *first == b'<',
-        [] => false,
-    }
+    begins_tag(trimmed(unmarked(bytes)))
 }
 
 /// The kind of a file that has these bytes.

@@ -1,5 +1,5 @@
 // What is opened of a file.
-ghost use Rattle.std.specs.Prelude.{◌≡◌, Err, true};
+ghost use Rattle.std.specs.Prelude.{◌≡◌, ℕ, List, Err, true};
 ghost use Rattle.tiled_files.specs.Kinds.{is_xml};
 ghost use Rattle.tiled_files.specs.Opening.{HasJson, Opens, OpensXml};
 ghost use Rattle.tiled_files.specs.declared.fault.FileFault.TheVariants.{Aside};

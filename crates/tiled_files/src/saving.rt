@@ -1,37 +1,56 @@
 // What is saved as a file.
-ghost use Rattle.tiled_files.specs.Saving.{PutsBy, Saves, SavesTmx, SavesXmlAsJson};
+ghost use Rattle.std.specs.Prelude.{◌≡◌, true};
+ghost use Rattle.tiled_files.specs.Saving.{xml_in, PutsBy, Saves, SavesJson, SavesTmx, SavesXmlAsJson};
 ghost use Rattle.tiled_files.specs.Kinds.{is_xml};
 
 use crate::fault::FileFault;
 use crate::kind::{Kind, is_xml};
 use crate::opening::json_in;
-use map_layout::{LaidText, Layout, LayoutFault, LineEnd, lay_out};
+use map_layout::{LaidText, Layout, LineEnd, lay_out};
 use std::alloc::Global;
 use tiled_maps::put_back_like;
 use tmx_maps::tmx_of;
 
-// The text in JSON in which what was set aside is put back, by a source in JSON or in XML.
+// The text in JSON in which what was set aside is put back, by a source in JSON.
+fn put_like(alloc: Global, bytes: &[u8], source: &[u8]) -> Result<LaidText, FileFault>
+    ensures { SavesJson bytes.now source.now result }
+{
+    match put_back_like(alloc, bytes, source) {
+        Ok(laid) => Ok(laid),
+        Err(fault) => Err(FileFault::Aside(fault)),
+    }
+}
+
+// The same by a source in JSON or in XML.
 fn put_by(alloc: Global, bytes: &[u8], source: &[u8]) -> Result<LaidText, FileFault>
     ensures { PutsBy (is_xml source.now) bytes.now source.now result }
 {
     match json_in(alloc, source) {
-        Ok(None) => Ok(put_back_like(alloc, bytes, source)?),
-        Ok(Some(json)) => Ok(put_back_like(alloc, bytes, json.as_slice())?),
+        Ok(None) => put_like(alloc, bytes, source),
+        Ok(Some(json)) => put_like(alloc, bytes, json.as_slice()),
         Err(fault) if fault.is_memory() => Err(fault),
-        Err(_) => Ok(put_back_like(alloc, bytes, b"")?),
+        Err(_) => put_like(alloc, bytes, b""),
     }
+}
+
+// A source, if it is XML.
+fn xml_in(source: &[u8]) -> &[u8]
+    ensures { result.now ≡ xml_in (is_xml source.now) source.now }
+{
+    if is_xml(source) { source } else { b"" }
 }
 
 fn saved_as_tmx(alloc: Global, bytes: &[u8], source: &[u8]) -> Result<LaidText, FileFault>
     ensures { SavesTmx (is_xml source.now) bytes.now source.now result }
 {
     let laid = put_by(alloc, bytes, source)?;
-    let given = if is_xml(source) { source } else { b"" };
-    let text = tmx_of(alloc, laid.text.as_slice(), given)?;
-    Ok(LaidText {
-        text,
-        fell_back: false,
-    })
+    match tmx_of(alloc, laid.text.as_slice(), xml_in(source)) {
+        Ok(text) => Ok(LaidText {
+            text,
+            fell_back: false,
+        }),
+        Err(fault) => Err(FileFault::Xml(fault)),
+    }
 }
 
 fn saved_as_json(alloc: Global, bytes: &[u8], source: &[u8]) -> Result<LaidText, FileFault>
@@ -62,6 +81,6 @@ pub fn saved(alloc: Global, bytes: &[u8], source: &[u8], kind: Kind) -> Result<L
     match kind {
         Kind::Tmx => saved_as_tmx(alloc, bytes, source),
         Kind::Json if is_xml(source) => saved_as_json(alloc, bytes, source),
-        Kind::Json => Ok(put_back_like(alloc, bytes, source)?),
+        Kind::Json => put_like(alloc, bytes, source),
     }
 }
