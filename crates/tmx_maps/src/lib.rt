@@ -15,3 +15,6 @@ pub use saving::tmx_of;
 pub use untold::where_untold;
 pub use tmx_tree::Refusal;
 pub use xml_text::Flaw;
+
+#[cfg(test)]
+mod tests;

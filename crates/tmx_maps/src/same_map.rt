@@ -8,10 +8,9 @@ ghost use Rattle.tmx_maps.specs.Walks.{IsNext};
 
 use crate::place::{Place, inner_place, place_of};
 use crate::usual::{float_of, is_float_of, is_left_out};
-use json_trees::is_same;
 use serde_json::{Map, Number, Value};
 use std::collections::btree_map::Iter;
-use std::num::nearest_i64_to_f64;
+use std::num::{f64_to_bits_with_nan, nearest_i64_to_f64};
 
 fn plain_float(x: f64) -> f64
     ensures { result ≡ plain_float x }
@@ -19,16 +18,17 @@ fn plain_float(x: f64) -> f64
     if is_float_of(0, x) { nearest_i64_to_f64(0) } else { x }
 }
 
-fn plain_number(number: &Number) -> Value
-    ensures { data_of result ≡ plain_number (number_view number.now) }
+// By their bits, which no two floats share.
+fn is_same_float(one: f64, other: f64) -> bool
+    ensures { IsTrue result ↔ (one ≡ other) }
 {
-    Value::from(plain_float(float_of(number)))
+    f64_to_bits_with_nan(one) == f64_to_bits_with_nan(other)
 }
 
 fn is_same_number(one: &Number, other: &Number) -> bool
     ensures { IsTrue result ↔ (plain_number (number_view one.now) ≡ plain_number (number_view other.now)) }
 {
-    is_same(&plain_number(one), &plain_number(other))
+    is_same_float(plain_float(float_of(one)), plain_float(float_of(other)))
 }
 
 fn color_digits(text: &[u8]) -> &[u8]
@@ -73,7 +73,10 @@ pub fn is_same_at(one_place: Place, one: &Value, other_place: Place, other: &Val
     ensures { IsTrue result ↔ (plain one_place (data_of one.now) ≡ plain other_place (data_of other.now)) }
 {
     match one {
-        Value::Null => other.is_null(),
+        Value::Null => match other {
+            Value::Null => true,
+            _ => false,
+        },
         Value::Bool(a) => match other {
             Value::Bool(b) => *a == *b,
             _ => false,

@@ -1,12 +1,12 @@
 // What Tiled takes where a member is absent, and which members are left out.
-ghost use Rattle.std.specs.Prelude.{◌≡◌, map, Some, bytes_eq, codes};
+ghost use Rattle.std.specs.Prelude.{◌≡◌, map, bytes_eq, codes};
 ghost use Rattle.serde_json.specs.Data.{boolean};
 ghost use Rattle.tmx_tree.specs.Texts.{is_one_of};
 ghost use Rattle.serde_json.specs.Find.{to_float};
 ghost use Rattle.serde_json.specs.View.{view as data_of, number_view};
 ghost use Rattle.tmx_maps.specs.SameMap.{usual_texts, usual_words, is_pair_of, is_float_of, is_usual_float, is_usual, is_usual_word, is_note, is_own, is_value, is_left_here, is_left_out, text_of, zero_names, one_names};
 
-use crate::place::{Place, is_one_of};
+use crate::place::{Place, is_one_of, text_of};
 use serde_json::{Number, Value};
 use std::num::nearest_i64_to_f64;
 
@@ -170,12 +170,9 @@ fn is_usual_word(name: &str, value: &Value) -> bool
 }
 
 fn is_string(value: &Value) -> bool
-    ensures { result ≡ bytes_eq (text_of (Some (data_of value.now))) (codes "string") }
+    ensures { result ≡ bytes_eq (text_of (data_of value.now)) (codes "string") }
 {
-    match value.as_str() {
-        Some(text) => text == "string",
-        None => false,
-    }
+    text_of(value) == "string"
 }
 
 fn is_own(name: &str) -> bool

@@ -54,9 +54,22 @@ fn value_of<'a>(told: &'a [Told], name: &str) -> Option<&'a [u8]> {
 }
 
 fn has_attribute(raw: &Element, name: &str) -> bool {
-    raw.attributes
-        .iter()
-        .any(|attribute| attribute.name.as_str() == name)
+    for attribute in &raw.attributes {
+        if attribute.name.as_str() == name {
+            return true;
+        }
+    }
+    false
+}
+
+/// Whether an element has an attribute with this value.
+pub fn says(raw: &Element, name: &str, value: &str) -> bool {
+    for attribute in &raw.attributes {
+        if attribute.name.as_str() == name {
+            return attribute.value.as_str() == value;
+        }
+    }
+    false
 }
 
 /// The attributes of an element as they were, and as they are to be.

@@ -130,7 +130,12 @@ fn next_named(olds: &[Part<'_>], name: &str, from: usize) -> Option<usize> {
 }
 
 fn has_cursor(cursors: &[Cursor], name: &str) -> bool {
-    cursors.iter().any(|cursor| cursor.name == name)
+    for cursor in cursors {
+        if cursor.name == name {
+            return true;
+        }
+    }
+    false
 }
 
 fn cursors_of(alloc: Global, olds: &[Part<'_>]) -> Result<Vec<Cursor>, AllocError> {
@@ -167,9 +172,12 @@ fn old_place(
 
 // Whether no old part is left.
 fn are_done(cursors: &[Cursor], olds: &[Part<'_>]) -> bool {
-    cursors
-        .iter()
-        .all(|cursor| next_named(olds, cursor.name, cursor.next).is_none())
+    for cursor in cursors {
+        if next_named(olds, cursor.name, cursor.next).is_some() {
+            return false;
+        }
+    }
+    true
 }
 
 // Of each piece the place of its old part: those of a name stand in one order. `None` where they are not as many.

@@ -30,9 +30,12 @@ fn is_same_value(old: Option<&Value>, new: Option<&Value>) -> bool {
 }
 
 fn has_same_members(names: &[&str], old: &Value, new: &Value) -> bool {
-    names
-        .iter()
-        .all(|name| is_same_value(old.get(*name), new.get(*name)))
+    for name in names {
+        if !is_same_value(old.get(*name), new.get(*name)) {
+            return false;
+        }
+    }
+    true
 }
 
 // Whether what is told beside the value is the same.
@@ -57,11 +60,16 @@ pub fn is_same_part(old: &Part<'_>, new: &Part<'_>) -> bool {
 }
 
 fn are_same_parts(olds: &[Part<'_>], news: &[Part<'_>]) -> bool {
-    olds.len() == news.len()
-        && olds
-            .iter()
-            .zip(news.iter())
-            .all(|(old, new)| is_same_part(old, new))
+    let mut others = news.iter();
+    for old in olds {
+        match others.next() {
+            Some(new) => if !is_same_part(old, new) {
+                return false;
+            },
+            None => return false,
+        }
+    }
+    others.next().is_none()
 }
 
 /// Whether the same stands between the tags of two parts.

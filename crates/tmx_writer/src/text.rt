@@ -2,7 +2,7 @@
 use crate::anew::push_element;
 use crate::head::{Merge, push_source};
 use crate::layout::{Sheet, sheet_of};
-use crate::merge::push_merged;
+use crate::merge::{Spot, push_merged};
 use crate::part::{Kind, made_part};
 use serde_json::Value;
 use std::alloc::{AllocError, Global};
@@ -30,13 +30,14 @@ pub struct Source<'a> {
 
 /// What ends the lines of a text: what ends its first one.
 fn line_end(bytes: &[u8]) -> &'static [u8] {
-    match bytes.iter().position(|byte| *byte == b'\n') {
-        Some(at) => match bytes.get(..at) {
-            Some(line) => if line.last() == Some(&b'\r') { b"\r\n" } else { b"\n" },
-            None => b"\n",
-        },
-        None => b"\n",
+    let mut last = 0;
+    for byte in bytes {
+        if *byte == b'\n' {
+            return if last == b'\r' { b"\r\n" } else { b"\n" };
+        }
+        last = *byte;
     }
+    b"\n"
 }
 
 /// The text of a map in Tiled's layout, with lines that end as those of a source.
@@ -64,8 +65,15 @@ fn first_gap<'a>(source: &Source<'a>) -> &'a [u8] {
 
 // What stands behind the last line feed.
 fn behind_line(gap: &[u8]) -> Option<&[u8]> {
-    let at = gap.iter().rposition(|byte| *byte == b'\n')?;
-    gap.get(at.saturating_add(1)..)
+    let mut found = None;
+    let mut at: usize = 0;
+    for byte in gap {
+        at = at.saturating_add(1);
+        if *byte == b'\n' {
+            found = Some(at);
+        }
+    }
+    gap.get(found?..)
 }
 
 // How the elements of a source are laid out: each on a line of its own, or all on one.
@@ -90,10 +98,15 @@ pub fn written_into(
         ids,
     };
     let root = source.root;
+    let spot = Spot {
+        raw: root,
+        old: made_part(Kind::Map, source.tree),
+        new: made_part(Kind::Map, map),
+        level: 0,
+    };
     let mut out = Vec::new(alloc);
     push_source(&merge, 0, root.span.from, &mut out)?;
-    let (old, new) = (made_part(Kind::Map, source.tree), made_part(Kind::Map, map));
-    push_merged(alloc, &merge, root, &old, &new, 0, MOST_LEVELS, &mut out)?;
+    push_merged(alloc, &merge, &spot, MOST_LEVELS, &mut out)?;
     push_source(&merge, root.span.end, source.bytes.len(), &mut out)?;
     Ok(out)
 }
