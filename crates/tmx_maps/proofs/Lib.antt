@@ -1,1 +1,1 @@
-mod Depths
+pub mod Depths

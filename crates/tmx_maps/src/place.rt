@@ -138,7 +138,11 @@ pub fn place_of(place: Place, members: &Map<String, Value>) -> Place
 fn value_place(place: Place) -> Place
     ensures { result ≡ value_place place }
 {
-    if place == Place::Color { Place::Color } else { Place::Value }
+    if place == Place::Color {
+        Place::Color
+    } else {
+        Place::Value
+    }
 }
 
 /// Where a member of this name stands, in an object that is this.
@@ -152,6 +156,10 @@ pub fn inner_place(place: Place, name: &str) -> Place
         } else {
             Place::Thing
         },
-        _ => if name == "text" { Place::Words } else { Place::Thing },
+        _ => if name == "text" {
+            Place::Words
+        } else {
+            Place::Thing
+        },
     }
 }

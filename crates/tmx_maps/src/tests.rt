@@ -16,7 +16,8 @@ tilewidth=\"16\" tileheight=\"16\" infinite=\"0\" nextlayerid=\"3\" nextobjectid
 </map>
 ";
 
-const JSON: &str = r##"{"width":2,"height":1,"tilewidth":16,"tileheight":16,"orientation":"orthogonal",
+const JSON: &str =
+    r##"{"width":2,"height":1,"tilewidth":16,"tileheight":16,"orientation":"orthogonal",
 "renderorder":"right-down","version":"1.10","type":"map","infinite":false,"nextlayerid":3,"nextobjectid":2,"tilesets":[],
 "roskevad_tmx":{"version":"1.8","format":"csv"},"layers":[
 {"type":"tilelayer","id":1,"name":"Ground","visible":true,"width":2,"height":1,"data":[1,2],"x":0,"y":0,"opacity":1},
@@ -92,8 +93,14 @@ fn tells_what_changed(rt: HostRuntime) -> Result<(), Fail> {
 fn says_what_it_cannot(rt: HostRuntime) -> Result<(), Fail> {
     let alloc = rt.alloc();
     let json = replaced(alloc, JSON, "\"y\":0.5", "\"y\":0.5,\"mine\":1")?;
-    assert_eq!(rt; tmx_of(alloc, json.as_bytes(), b"").err(), Some(Fault::NoTmx));
-    assert_eq!(rt; tmx_of(alloc, json.as_bytes(), MAP.as_bytes()).err(), Some(Fault::NoTmx));
+    assert_eq!(rt;
+        tmx_of(alloc, json.as_bytes(), b"").err(),
+        Some(Fault::NoTmx)
+    );
+    assert_eq!(rt;
+        tmx_of(alloc, json.as_bytes(), MAP.as_bytes()).err(),
+        Some(Fault::NoTmx)
+    );
     match where_untold(alloc, json.as_bytes()) {
         Ok(path) => assert_eq!(rt; path.as_slice(), b"layers[1].objects[0].mine".as_slice()),
         Err(_fault) => assert!(rt; false),

@@ -1,6 +1,6 @@
 // The attributes of an element.
 use crate::layout::Sheet;
-use crate::members::{is_far_at, is_true_at, note_of, noted, text_at, items_of};
+use crate::members::{is_far_at, is_true_at, items_of, note_of, noted, text_at};
 use crate::number::{push_number, push_real};
 use crate::part::{Kind, Part};
 use crate::property::{property_of, push_property};
@@ -64,7 +64,12 @@ fn push_unless(
     Ok(())
 }
 
-fn push_row(alloc: Global, row: &Row, value: &Value, told: &mut Vec<Told>) -> Result<(), AllocError> {
+fn push_row(
+    alloc: Global,
+    row: &Row,
+    value: &Value,
+    told: &mut Vec<Told>,
+) -> Result<(), AllocError> {
     let (name, how) = *row;
     let (is_real, usual, absent) = match how {
         How::Told(text) => (false, None, Some(text)),
@@ -126,7 +131,13 @@ fn push_some(
 
 // Pushes the version, which stands in the note where the editor has set its own.
 fn push_map(alloc: Global, value: &Value, told: &mut Vec<Told>) -> Result<(), AllocError> {
-    push_some(alloc, "version", noted(value, "version", "version"), None, told)?;
+    push_some(
+        alloc,
+        "version",
+        noted(value, "version", "version"),
+        None,
+        told,
+    )?;
     push_rows(alloc, &MAP_HEAD, value, told)?;
     let orientation = text_at(value, "orientation");
     if orientation == "hexagonal" {
@@ -135,7 +146,13 @@ fn push_map(alloc: Global, value: &Value, told: &mut Vec<Told>) -> Result<(), Al
     if orientation == "hexagonal" || orientation == "staggered" {
         push_rows(alloc, &STAGGER, value, told)?;
     }
-    push_pair(alloc, ["parallaxoriginx", "parallaxoriginy"], value, false, told)?;
+    push_pair(
+        alloc,
+        ["parallaxoriginx", "parallaxoriginy"],
+        value,
+        false,
+        told,
+    )?;
     push_rows(alloc, &MAP_END, value, told)
 }
 
@@ -143,7 +160,10 @@ fn push_map(alloc: Global, value: &Value, told: &mut Vec<Told>) -> Result<(), Al
 fn push_picture(alloc: Global, part: &Part<'_>, told: &mut Vec<Told>) -> Result<(), AllocError> {
     let value = part.value;
     let (width, height) = if part.kind == Kind::LayerPicture {
-        (noted(value, "width", "imagewidth"), noted(value, "height", "imageheight"))
+        (
+            noted(value, "width", "imagewidth"),
+            noted(value, "height", "imageheight"),
+        )
     } else {
         (value.get("imagewidth"), value.get("imageheight"))
     };
@@ -193,7 +213,8 @@ fn push_layer(
     }
     push_rows(alloc, &LAYER_LOOK, value, told)?;
     // The place of an image layer that says no offset is its offset, too.
-    let is_placed = part.kind == Kind::ImageLayer && (is_far_at(value, "x") || is_far_at(value, "y"));
+    let is_placed = part.kind == Kind::ImageLayer
+        && (is_far_at(value, "x") || is_far_at(value, "y"));
     push_pair(alloc, ["offsetx", "offsety"], value, is_placed, told)?;
     push_rows(alloc, &LAYER_END, value, told)?;
     if part.kind == Kind::ImageLayer {
@@ -283,10 +304,14 @@ pub fn attributes_of(
         Kind::TileOffset => push_rows(alloc, &PLACE, value, &mut told)?,
         Kind::Grid => push_rows(alloc, &GRID, value, &mut told)?,
         Kind::Turning => push_rows(alloc, &TURNING, value, &mut told)?,
-        Kind::Picture | Kind::TilePicture | Kind::LayerPicture => push_picture(alloc, part, &mut told)?,
+        Kind::Picture | Kind::TilePicture | Kind::LayerPicture => push_picture(
+            alloc, part, &mut told,
+        )?,
         Kind::Tile => push_rows(alloc, &TILE, value, &mut told)?,
         Kind::Frame => push_rows(alloc, &FRAME, value, &mut told)?,
-        Kind::Layer | Kind::ObjectLayer | Kind::ImageLayer | Kind::Group => push_layer(alloc, sheet, part, &mut told)?,
+        Kind::Layer | Kind::ObjectLayer | Kind::ImageLayer | Kind::Group => push_layer(
+            alloc, sheet, part, &mut told,
+        )?,
         Kind::Data => push_data(alloc, sheet, value, &mut told)?,
         Kind::Chunk => push_chunk(alloc, value, &mut told)?,
         Kind::Object => push_object(alloc, value, &mut told)?,

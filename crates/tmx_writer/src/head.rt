@@ -35,7 +35,12 @@ pub fn has_ids(merge: &Merge<'_>, part: &Part<'_>) -> bool {
         return false;
     }
     match part.kind {
-        Kind::Map | Kind::Layer | Kind::ObjectLayer | Kind::ImageLayer | Kind::Group | Kind::Object => true,
+        Kind::Map
+        | Kind::Layer
+        | Kind::ObjectLayer
+        | Kind::ImageLayer
+        | Kind::Group
+        | Kind::Object => true,
         _ => false,
     }
 }
@@ -117,7 +122,12 @@ fn push_attribute_of(
     }
     match now {
         Some(value) => {
-            push_source(merge, from, attribute.value_span.from.saturating_sub(1), out)?;
+            push_source(
+                merge,
+                from,
+                attribute.value_span.from.saturating_sub(1),
+                out,
+            )?;
             push_quoted(value, out)
         }
         None => Ok(()),

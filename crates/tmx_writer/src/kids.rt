@@ -20,11 +20,7 @@ fn push_member<'a>(
     }
 }
 
-fn push_items<'a>(
-    kind: Kind,
-    items: &'a [Value],
-    kids: &mut Kids<'a>,
-) -> Result<(), AllocError> {
+fn push_items<'a>(kind: Kind, items: &'a [Value], kids: &mut Kids<'a>) -> Result<(), AllocError> {
     for item in items {
         kids.push(made_part(kind, item))?;
     }
@@ -196,7 +192,9 @@ pub fn kids_of<'a>(alloc: Global, of: &Part<'a>) -> Result<Vec<Part<'a>>, AllocE
         Kind::Tileset => push_tileset(of.value, &mut kids)?,
         Kind::Tile => push_tile(of.value, &mut kids)?,
         Kind::Animation => push_items(Kind::Frame, items_of(of.value), &mut kids)?,
-        Kind::Layer | Kind::ObjectLayer | Kind::ImageLayer | Kind::Group => push_layer_kids(of, &mut kids)?,
+        Kind::Layer | Kind::ObjectLayer | Kind::ImageLayer | Kind::Group => push_layer_kids(
+            of, &mut kids,
+        )?,
         Kind::Data => push_chunks(of.value, &mut kids)?,
         Kind::Object => push_object(of.value, &mut kids)?,
         _ => {}

@@ -1,5 +1,7 @@
 // A part told in the bytes of a source: what did not change stays.
-use crate::anew::{Content, content_of, has_content, push_content, push_element, push_end, text_of};
+use crate::anew::{
+    Content, content_of, has_content, push_content, push_element, push_end, text_of,
+};
 use crate::attributes::attributes_of;
 use crate::escape::push_text;
 use crate::head::{Heads, Merge, has_ids, push_head, push_source, says};
@@ -169,8 +171,22 @@ fn push_at(
     let Some(new) = place_at(&kids.new_of, old) else {
         return Ok(());
     };
-    push_kid(alloc, merge, piece, spot_of(kids, piece, old, new, level), most, out)?;
-    push_news(alloc, merge, kids, new.saturating_add(1), [level, most], out)
+    push_kid(
+        alloc,
+        merge,
+        piece,
+        spot_of(kids, piece, old, new, level),
+        most,
+        out,
+    )?;
+    push_news(
+        alloc,
+        merge,
+        kids,
+        new.saturating_add(1),
+        [level, most],
+        out,
+    )
 }
 
 // Pushes the children in the order of the source, and the new ones each behind its neighbour.

@@ -49,7 +49,11 @@ fn push_in_place(spelled: &[u8], number: u64, out: &mut Vec<u8>) -> Result<(), A
             is_told = true;
         }
     }
-    if is_told { Ok(()) } else { push_whole(number, out) }
+    if is_told {
+        Ok(())
+    } else {
+        push_whole(number, out)
+    }
 }
 
 fn push_spelled(

@@ -1,6 +1,6 @@
 // Which children of an element of a source are which of what is told anew.
 use crate::kids::kids_of;
-use crate::members::{whole_at, text_at};
+use crate::members::{text_at, whole_at};
 use crate::number::push_whole;
 use crate::part::{Kind, Part, element_name};
 use serde_json::Value;
@@ -73,8 +73,12 @@ fn key_of(alloc: Global, part: &Part<'_>, at: usize) -> Result<Vec<u8>, AllocErr
         Kind::Property => key.extend_from_slice(text_at(part.value, "name").as_bytes())?,
         Kind::Member => key.extend_from_slice(part.key.as_bytes())?,
         Kind::Tileset => push_number(part.value, "firstgid", &mut key)?,
-        Kind::Layer | Kind::ObjectLayer | Kind::ImageLayer | Kind::Group | Kind::Object | Kind::Tile =>
-            push_number(part.value, "id", &mut key)?,
+        Kind::Layer
+        | Kind::ObjectLayer
+        | Kind::ImageLayer
+        | Kind::Group
+        | Kind::Object
+        | Kind::Tile => push_number(part.value, "id", &mut key)?,
         Kind::Chunk => {
             push_number(part.value, "x", &mut key)?;
             key.push(b',')?;
@@ -150,11 +154,7 @@ fn cursors_of(alloc: Global, olds: &[Part<'_>]) -> Result<Vec<Cursor>, AllocErro
 }
 
 // The place of the old part that a piece of the source is; the second is whether it is one too many.
-fn old_place(
-    cursors: &mut Vec<Cursor>,
-    olds: &[Part<'_>],
-    name: &str,
-) -> (Option<usize>, bool) {
+fn old_place(cursors: &mut Vec<Cursor>, olds: &[Part<'_>], name: &str) -> (Option<usize>, bool) {
     for cursor in cursors.iter_mut() {
         if cursor.name == name {
             let place = next_named(olds, name, cursor.next);
@@ -195,7 +195,11 @@ fn old_places(
         }
         places.push(place)?;
     }
-    Ok(if are_done(&cursors, olds) { Some(places) } else { None })
+    Ok(if are_done(&cursors, olds) {
+        Some(places)
+    } else {
+        None
+    })
 }
 
 fn name_said(element: &Element) -> &str {

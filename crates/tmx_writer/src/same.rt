@@ -53,8 +53,11 @@ pub fn is_same_part(old: &Part<'_>, new: &Part<'_>) -> bool {
     }
     match old.kind {
         Kind::Data => has_same_members(&CELL_NAMES, old.value, new.value),
-        Kind::Picture | Kind::TilePicture | Kind::LayerPicture =>
-            has_same_members(&PICTURE_NAMES, old.value, new.value),
+        Kind::Picture | Kind::TilePicture | Kind::LayerPicture => has_same_members(
+            &PICTURE_NAMES,
+            old.value,
+            new.value,
+        ),
         _ => is_same(old.value, new.value) && is_same_beside(old, new),
     }
 }
@@ -73,11 +76,7 @@ fn are_same_parts(olds: &[Part<'_>], news: &[Part<'_>]) -> bool {
 }
 
 /// Whether the same stands between the tags of two parts.
-pub fn is_same_content(
-    alloc: Global,
-    old: &Part<'_>,
-    new: &Part<'_>,
-) -> Result<bool, AllocError> {
+pub fn is_same_content(alloc: Global, old: &Part<'_>, new: &Part<'_>) -> Result<bool, AllocError> {
     let content = content_of(old);
     if content != content_of(new) {
         return Ok(false);

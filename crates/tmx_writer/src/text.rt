@@ -45,7 +45,14 @@ pub fn written(alloc: Global, map: &Value, source: &[u8]) -> Result<Vec<u8>, All
     let sheet = sheet_of(map, line_end(source), b" ");
     let mut out = Vec::from_slice(alloc, b"<?xml version=\"1.0\" encoding=\"UTF-8\"?>")?;
     out.extend_from_slice(sheet.line)?;
-    push_element(alloc, &sheet, &made_part(Kind::Map, map), 0, MOST_LEVELS, &mut out)?;
+    push_element(
+        alloc,
+        &sheet,
+        &made_part(Kind::Map, map),
+        0,
+        MOST_LEVELS,
+        &mut out,
+    )?;
     out.extend_from_slice(sheet.line)?;
     Ok(out)
 }
@@ -54,7 +61,10 @@ pub fn written(alloc: Global, map: &Value, source: &[u8]) -> Result<Vec<u8>, All
 fn first_gap<'a>(source: &Source<'a>) -> &'a [u8] {
     for node in &source.root.children {
         if let Node::Element(element) = node {
-            return match source.bytes.get(source.root.content.from..element.span.from) {
+            return match source
+                .bytes
+                .get(source.root.content.from..element.span.from)
+            {
                 Some(gap) => gap,
                 None => b"",
             };
