@@ -1,7 +1,7 @@
 // The text of a map.
 use crate::anew::push_element;
 use crate::head::{Merge, push_source};
-use crate::layout::{Sheet, sheet_of};
+use crate::layout::sheet_of;
 use crate::merge::{Spot, push_merged};
 use crate::part::{Kind, made_part};
 use serde_json::Value;
@@ -86,11 +86,18 @@ fn behind_line(gap: &[u8]) -> Option<&[u8]> {
     gap.get(found?..)
 }
 
-// How the elements of a source are laid out: each on a line of its own, or all on one.
-fn laid_out_as<'a>(map: &'a Value, source: &Source<'a>) -> Sheet<'a> {
-    match behind_line(first_gap(source)) {
-        Some(indent) => sheet_of(map, line_end(source.bytes), indent),
-        None => sheet_of(map, b"", b""),
+fn indent_of(gap: &[u8]) -> &[u8] {
+    match behind_line(gap) {
+        Some(indent) => indent,
+        None => gap,
+    }
+}
+
+// What ends a line of a source whose first child has this before it: nothing where all stands on one.
+fn line_of(gap: &[u8], bytes: &[u8]) -> &'static [u8] {
+    match behind_line(gap) {
+        Some(_) => line_end(bytes),
+        None => b"",
     }
 }
 
@@ -101,10 +108,12 @@ pub fn written_into(
     source: &Source<'_>,
     ids: Ids,
 ) -> Result<Vec<u8>, AllocError> {
+    let gap = first_gap(source);
+    let line = line_of(gap, source.bytes);
     let merge = Merge {
         source: source.bytes,
-        old: laid_out_as(source.tree, source),
-        new: laid_out_as(map, source),
+        old: sheet_of(source.tree, line, indent_of(gap)),
+        new: sheet_of(map, line, indent_of(gap)),
         ids,
     };
     let root = source.root;
