@@ -149,7 +149,7 @@ is_usual k null = false
 is_usual k (boolean b) = if b then is_one_of true_names k else is_one_of false_names k
 is_usual k (number n) = is_usual_float k (to_float n)
 is_usual k (string s) = is_pair_of usual_texts k s
-is_usual k (array ds) = has_no_items ds && bytes_eq k (codes "properties")
+is_usual k (array ds) = has_no_items ds && is_one_of (codes "properties" ∷ codes "tiles" ∷ codes "wangsets" ∷ []) k
 is_usual k (object ms) = false
 
 abbrev pub is_usual_word : List ℕ → Data → Bool

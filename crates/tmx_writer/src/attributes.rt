@@ -1,13 +1,13 @@
 // The attributes of an element.
 use crate::layout::Sheet;
-use crate::members::{is_far_at, is_true_at, items_of, note_of, noted, text_at};
+use crate::members::{is_far_at, is_true_at, items_at, items_of, note_of, noted, text_at};
 use crate::number::{push_number, push_real};
 use crate::part::{Kind, Part};
 use crate::property::{property_of, push_property};
 use crate::tables::{
     EXPORT, FILE_TILESET, FRAME, GRID, HEXAGON, How, IMAGE_LAYER, INSTANCE_LOOK, LAYER_END,
     LAYER_HEAD, LAYER_LOOK, MAP_END, MAP_HEAD, OBJECT, OBJECT_LAYER, OWN_LOOK, PLACE, Row, SIZE,
-    STAGGER, TILE, TILESET, TURNING, WORDS,
+    STAGGER, TILE, TILESET, TURNING, WANG_COLOR, WANG_SET, WANG_TILE, WORDS,
 };
 use serde_json::Value;
 use std::alloc::{AllocError, Global};
@@ -265,6 +265,23 @@ fn push_corners(alloc: Global, value: &Value, told: &mut Vec<Told>) -> Result<()
     Ok(())
 }
 
+// Pushes a tile of a wang set, and the numbers of its colors.
+fn push_wang_tile(alloc: Global, value: &Value, told: &mut Vec<Told>) -> Result<(), AllocError> {
+    push_rows(alloc, &WANG_TILE, value, told)?;
+    let mut out = Vec::new(alloc);
+    for color in items_at(value, "wangid") {
+        if !out.is_empty() {
+            out.push(b',')?;
+        }
+        out.extend_from_slice(&told_value(alloc, color, false)?)?;
+    }
+    told.push(Told {
+        name: "wangid",
+        value: out,
+    })?;
+    Ok(())
+}
+
 fn push_object(alloc: Global, value: &Value, told: &mut Vec<Told>) -> Result<(), AllocError> {
     push_rows(alloc, &OBJECT, value, told)?;
     if text_at(value, "template").is_empty() {
@@ -317,7 +334,10 @@ pub fn attributes_of(
         Kind::Object => push_object(alloc, value, &mut told)?,
         Kind::Polygon | Kind::Polyline => push_corners(alloc, value, &mut told)?,
         Kind::Words => push_rows(alloc, &WORDS, value, &mut told)?,
-        Kind::Settings | Kind::Properties | Kind::Animation => {}
+        Kind::WangSet => push_rows(alloc, &WANG_SET, value, &mut told)?,
+        Kind::WangColor => push_rows(alloc, &WANG_COLOR, value, &mut told)?,
+        Kind::WangTile => push_wang_tile(alloc, value, &mut told)?,
+        Kind::Settings | Kind::Properties | Kind::Animation | Kind::WangSets => {}
         Kind::Ellipse | Kind::Point | Kind::Capsule => {}
     }
     Ok(told)

@@ -107,7 +107,17 @@ fn push_tileset<'a>(value: &'a Value, kids: &mut Kids<'a>) -> Result<(), AllocEr
     push_member(Kind::Turning, value, "transformations", kids)?;
     push_properties(value, kids)?;
     push_picture(Kind::Picture, value, kids)?;
-    push_items(Kind::Tile, items_at(value, "tiles"), kids)
+    push_items(Kind::Tile, items_at(value, "tiles"), kids)?;
+    if items_at(value, "wangsets").is_empty() {
+        return Ok(());
+    }
+    push_member(Kind::WangSets, value, "wangsets", kids)
+}
+
+fn push_wang_set<'a>(value: &'a Value, kids: &mut Kids<'a>) -> Result<(), AllocError> {
+    push_items(Kind::WangColor, items_at(value, "colors"), kids)?;
+    push_items(Kind::WangTile, items_at(value, "wangtiles"), kids)?;
+    push_properties(value, kids)
 }
 
 fn push_tile<'a>(value: &'a Value, kids: &mut Kids<'a>) -> Result<(), AllocError> {
@@ -192,6 +202,9 @@ pub fn kids_of<'a>(alloc: Global, of: &Part<'a>) -> Result<Vec<Part<'a>>, AllocE
         Kind::Tileset => push_tileset(of.value, &mut kids)?,
         Kind::Tile => push_tile(of.value, &mut kids)?,
         Kind::Animation => push_items(Kind::Frame, items_of(of.value), &mut kids)?,
+        Kind::WangSets => push_items(Kind::WangSet, items_of(of.value), &mut kids)?,
+        Kind::WangSet => push_wang_set(of.value, &mut kids)?,
+        Kind::WangColor => push_properties(of.value, &mut kids)?,
         Kind::Layer | Kind::ObjectLayer | Kind::ImageLayer | Kind::Group => push_layer_kids(
             of, &mut kids,
         )?,

@@ -84,7 +84,9 @@ fn key_of(alloc: Global, part: &Part<'_>, at: usize) -> Result<Vec<u8>, AllocErr
             key.push(b',')?;
             push_number(part.value, "y", &mut key)?;
         }
-        Kind::Frame => push_whole(at as u64, &mut key)?,
+        Kind::Frame | Kind::WangSet | Kind::WangColor | Kind::WangTile => push_whole(
+            at as u64, &mut key,
+        )?,
         _ => {}
     }
     Ok(key)
