@@ -1,27 +1,26 @@
 -- When two trees are the same map: if they are one tree once what Tiled takes as said is left out of both.
-use Rattle.std.specs.Prelude.{ℕ, ℤ, pos, negsuc, List, [], ◌∷◌, ◌==◌, ◌&&◌, ◌||◌, Bool, true, false, not, codes, length, take, drop, slice_index, ◌≡◌, Float, Option, Some, None, option_map, unwrap_or, is_some, if◌then◌else◌}
+use Rattle.std.specs.Prelude.{ℕ, ℤ, pos, negsuc, List, [], ◌∷◌, ◌==◌, ◌&&◌, ◌||◌, Bool, true, false, not, codes, length, take, drop, slice_index, ◌≡◌, Float, Option, Some, None, unwrap_or, is_some, if◌then◌else◌}
 use Rattle.std.specs.Ordering.{int_eq}
 use Rattle.std.specs.Str.{bytes_eq}
 use Rattle.std.specs.Float.{binary64}
 use Rattle.std.specs.Float.Ieee.{of_int, eq}
-use Rattle.serde_json.specs.Data.{Num, Data, null, boolean, number, string, array, object, Items, no_items, item, Members, no_members, member}
-use Rattle.serde_json.specs.Find.{get_member, to_float, of_float}
+use Rattle.serde_json.specs.Data.{Num, float, Data, null, boolean, number, string, array, object, Items, no_items, item, Members, no_members, member}
+use Rattle.serde_json.specs.Find.{get_member, as_str, to_float}
 use Rattle.tmx_tree.specs.Texts.{is_one_of}
 use Rattle.tmx_maps.specs.declared.place.Place.{Place}
 use Rattle.tmx_maps.specs.declared.place.Place.TheVariants.{Thing, Straight, Staggered, Chunked, Image, Instance, Property, Color, NoColor, Words, Value}
 
 -- ---- what an object is, by its members
-abbrev pub text_of : Option Data → List ℕ
-text_of None = []
-text_of (Some null) = []
-text_of (Some (boolean b)) = []
-text_of (Some (number n)) = []
-text_of (Some (string s)) = s
-text_of (Some (array ds)) = []
-text_of (Some (object ms)) = []
+-- a text; of anything else none
+abbrev pub text_of : Data → List ℕ
+text_of d = unwrap_or (as_str d) []
+
+abbrev pub text_at : Option Data → List ℕ
+text_at None = []
+text_at (Some d) = text_of d
 
 abbrev pub text_in : List ℕ → Members → List ℕ
-text_in k ms = text_of (get_member k ms)
+text_in k ms = text_at (get_member k ms)
 
 abbrev pub has : List ℕ → Members → Bool
 has k ms = is_some (get_member k ms)
@@ -150,7 +149,7 @@ is_usual k null = false
 is_usual k (boolean b) = if b then is_one_of true_names k else is_one_of false_names k
 is_usual k (number n) = is_usual_float k (to_float n)
 is_usual k (string s) = is_pair_of usual_texts k s
-is_usual k (array ds) = has_no_items ds && bytes_eq k (codes "properties")
+is_usual k (array ds) = has_no_items ds && is_one_of (codes "properties" ∷ codes "tiles" ∷ codes "wangsets" ∷ []) k
 is_usual k (object ms) = false
 
 abbrev pub is_usual_word : List ℕ → Data → Bool
@@ -177,7 +176,7 @@ is_left_here Staggered k d = bytes_eq k (codes "hexsidelength") || is_usual k d
 is_left_here Chunked k d = is_one_of (codes "startx" ∷ codes "starty" ∷ codes "width" ∷ codes "height" ∷ []) k || is_usual k d
 is_left_here Image k d = is_one_of (codes "imagewidth" ∷ codes "imageheight" ∷ []) k || is_usual k d
 is_left_here Instance k d = not (is_own k) && is_usual k d
-is_left_here Property k d = (bytes_eq k (codes "type") && bytes_eq (text_of (Some d)) (codes "string")) || is_usual k d
+is_left_here Property k d = (bytes_eq k (codes "type") && bytes_eq (text_of d) (codes "string")) || is_usual k d
 is_left_here Color k d = is_usual k d
 is_left_here NoColor k d = bytes_eq k (codes "type") || is_usual k d
 is_left_here Words k d = is_usual_word k d || is_usual k d
@@ -204,8 +203,8 @@ is_left_out p k d = not (is_value p) && (is_note k || is_left_here p k d)
 abbrev pub plain_float : Float → Float
 plain_float x = if is_float_of (pos 0) x then of_int binary64 (pos 0) else x
 
-abbrev pub plain_number : Num → Data
-plain_number n = unwrap_or (option_map number (of_float (plain_float (to_float n)))) null
+abbrev pub plain_number : Num → Num
+plain_number n = float (plain_float (to_float n))
 
 -- a color without the `ff` of one that is not transparent, and without its hash
 abbrev pub color_digits : List ℕ → List ℕ
@@ -230,7 +229,7 @@ abbrev mutual
   pub plain : Place → Data → Data
   plain p null = null
   plain p (boolean b) = boolean b
-  plain p (number n) = plain_number n
+  plain p (number n) = number (plain_number n)
   plain p (string s) = string (plain_text p s)
   plain p (array ds) = array (plain_items p ds)
   plain p (object ms) = object (plain_members (place_of p ms) ms)

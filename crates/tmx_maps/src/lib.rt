@@ -12,6 +12,9 @@ mod usual;
 pub use fault::Fault;
 pub use reading::{is_xml, json_of};
 pub use saving::tmx_of;
-pub use untold::where_untold;
 pub use tmx_tree::Refusal;
+pub use untold::where_untold;
 pub use xml_text::Flaw;
+
+#[cfg(test)]
+mod tests;

@@ -1,9 +1,10 @@
 // What an object in the tree of a map is, as far as it matters for what it may leave out.
 ghost use Rattle.std.specs.Prelude.{◌≡◌, map};
-ghost use Rattle.serde_json.specs.View.{members_view};
+ghost use Rattle.serde_json.specs.View.{view as data_of, members_view};
 ghost use Rattle.tmx_tree.specs.Texts.{is_one_of};
-ghost use Rattle.tmx_maps.specs.SameMap.{text_in, has, map_place, property_place, layer_place, own_place, place_of, value_place, inner_place};
+ghost use Rattle.tmx_maps.specs.SameMap.{text_of, text_in, has, map_place, property_place, layer_place, own_place, place_of, value_place, inner_place};
 
+use json_members::found;
 use serde_json::{Map, Value};
 
 /// What an object in the tree of a map is.
@@ -43,14 +44,21 @@ pub fn is_one_of(names: &[&str], text: &str) -> bool
     false
 }
 
+/// A text; of anything else none.
+pub fn text_of(value: &Value) -> &str
+    ensures { result.now ≡ text_of (data_of value.now) }
+{
+    match value.as_str() {
+        Some(text) => text,
+        None => "",
+    }
+}
+
 fn text_in<'a>(name: &str, members: &'a Map<String, Value>) -> &'a str
     ensures { result.now ≡ text_in name.now (members_view members.now.entries) }
 {
-    match members.get(name) {
-        Some(value) => match value.as_str() {
-            Some(text) => text,
-            None => "",
-        },
+    match found(members, name) {
+        Some(value) => text_of(value),
         None => "",
     }
 }
@@ -58,7 +66,10 @@ fn text_in<'a>(name: &str, members: &'a Map<String, Value>) -> &'a str
 fn has(name: &str, members: &Map<String, Value>) -> bool
     ensures { result ≡ has name.now (members_view members.now.entries) }
 {
-    members.get(name).is_some()
+    match found(members, name) {
+        Some(_) => true,
+        None => false,
+    }
 }
 
 fn map_place(members: &Map<String, Value>) -> Place
@@ -127,7 +138,11 @@ pub fn place_of(place: Place, members: &Map<String, Value>) -> Place
 fn value_place(place: Place) -> Place
     ensures { result ≡ value_place place }
 {
-    if place == Place::Color { Place::Color } else { Place::Value }
+    if place == Place::Color {
+        Place::Color
+    } else {
+        Place::Value
+    }
 }
 
 /// Where a member of this name stands, in an object that is this.
@@ -141,6 +156,10 @@ pub fn inner_place(place: Place, name: &str) -> Place
         } else {
             Place::Thing
         },
-        _ => if name == "text" { Place::Words } else { Place::Thing },
+        _ => if name == "text" {
+            Place::Words
+        } else {
+            Place::Thing
+        },
     }
 }

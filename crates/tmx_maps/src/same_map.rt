@@ -8,27 +8,31 @@ ghost use Rattle.tmx_maps.specs.Walks.{IsNext};
 
 use crate::place::{Place, inner_place, place_of};
 use crate::usual::{float_of, is_float_of, is_left_out};
-use json_trees::is_same;
 use serde_json::{Map, Number, Value};
 use std::collections::btree_map::Iter;
-use std::num::nearest_i64_to_f64;
+use std::num::{f64_to_bits_with_nan, nearest_i64_to_f64};
 
 fn plain_float(x: f64) -> f64
     ensures { result ≡ plain_float x }
 {
-    if is_float_of(0, x) { nearest_i64_to_f64(0) } else { x }
+    if is_float_of(0, x) {
+        nearest_i64_to_f64(0)
+    } else {
+        x
+    }
 }
 
-fn plain_number(number: &Number) -> Value
-    ensures { data_of result ≡ plain_number (number_view number.now) }
+// By their bits, which no two floats share.
+fn is_same_float(one: f64, other: f64) -> bool
+    ensures { IsTrue result ↔ (one ≡ other) }
 {
-    Value::from(plain_float(float_of(number)))
+    f64_to_bits_with_nan(one) == f64_to_bits_with_nan(other)
 }
 
 fn is_same_number(one: &Number, other: &Number) -> bool
     ensures { IsTrue result ↔ (plain_number (number_view one.now) ≡ plain_number (number_view other.now)) }
 {
-    is_same(&plain_number(one), &plain_number(other))
+    is_same_float(plain_float(float_of(one)), plain_float(float_of(other)))
 }
 
 fn color_digits(text: &[u8]) -> &[u8]
@@ -60,7 +64,7 @@ fn next_said<'a>(
 ) -> Option<(&'a String, &'a Value)>
     ensures { IsNext place members.old result members.new }
 {
-    for (key, value) in members {
+    while let Some((key, value)) = members.next() {
         if !is_left_out(place, key.as_str(), value) {
             return Some((key, value));
         }
@@ -73,7 +77,10 @@ pub fn is_same_at(one_place: Place, one: &Value, other_place: Place, other: &Val
     ensures { IsTrue result ↔ (plain one_place (data_of one.now) ≡ plain other_place (data_of other.now)) }
 {
     match one {
-        Value::Null => other.is_null(),
+        Value::Null => match other {
+            Value::Null => true,
+            _ => false,
+        },
         Value::Bool(a) => match other {
             Value::Bool(b) => *a == *b,
             _ => false,
@@ -83,7 +90,8 @@ pub fn is_same_at(one_place: Place, one: &Value, other_place: Place, other: &Val
             _ => false,
         },
         Value::String(a) => match other {
-            Value::String(b) => plain_text(one_place, a.as_str()) == plain_text(other_place, b.as_str()),
+            Value::String(b) => plain_text(one_place, a.as_str())
+                == plain_text(other_place, b.as_str()),
             _ => false,
         },
         Value::Array(a) => match other {
@@ -91,14 +99,24 @@ pub fn is_same_at(one_place: Place, one: &Value, other_place: Place, other: &Val
             _ => false,
         },
         Value::Object(a) => match other {
-            Value::Object(b) => are_same_members(place_of(one_place, a), a, place_of(other_place, b), b),
+            Value::Object(b) => are_same_members(
+                place_of(one_place, a),
+                a,
+                place_of(other_place, b),
+                b,
+            ),
             _ => false,
         },
     }
 }
 
 #[cycle(same)]
-fn are_same_items(one_place: Place, one: &Vec<Value>, other_place: Place, other: &Vec<Value>) -> bool
+fn are_same_items(
+    one_place: Place,
+    one: &Vec<Value>,
+    other_place: Place,
+    other: &Vec<Value>,
+) -> bool
     ensures { IsTrue result ↔ (plain_items one_place (items_view one.now.items) ≡ plain_items other_place (items_view other.now.items)) }
 {
     let mut others = other.iter();
@@ -114,7 +132,12 @@ fn are_same_items(one_place: Place, one: &Vec<Value>, other_place: Place, other:
 }
 
 #[cycle(same)]
-fn are_same_members(one_place: Place, one: &Map<String, Value>, other_place: Place, other: &Map<String, Value>) -> bool
+fn are_same_members(
+    one_place: Place,
+    one: &Map<String, Value>,
+    other_place: Place,
+    other: &Map<String, Value>,
+) -> bool
     ensures { IsTrue result ↔ (plain_members one_place (members_view one.now.entries) ≡ plain_members other_place (members_view other.now.entries)) }
 {
     let mut others = other.iter();
@@ -124,7 +147,12 @@ fn are_same_members(one_place: Place, one: &Map<String, Value>, other_place: Pla
         }
         match next_said(other_place, &mut others) {
             Some((name, next)) => if key.as_str() != name.as_str()
-                || !is_same_at(inner_place(one_place, key.as_str()), member, inner_place(other_place, name.as_str()), next)
+                || !is_same_at(
+                    inner_place(one_place, key.as_str()),
+                    member,
+                    inner_place(other_place, name.as_str()),
+                    next,
+                )
             {
                 return false;
             },

@@ -1,10 +1,6 @@
 // A map's text of JSON as XML.
-ghost use Rattle.std.specs.Prelude.{◌≡◌, option_map, Some, None, Err, IfOk, IfErr, IfSome, IsTrue, IsUtf8};
-ghost use Rattle.serde_json.specs.Read.{read};
+ghost use Rattle.std.specs.Prelude.{◌≡◌, option_map, Some, IfOk, IfSome, IsTrue};
 ghost use Rattle.serde_json.specs.View.{view as data_of};
-ghost use Rattle.xml_text.specs.Reading.{xml_of};
-ghost use Rattle.xml_text.specs.Xml.{view};
-ghost use Rattle.tmx_maps.specs.declared.fault.Fault.TheVariants.{Memory, NotJson};
 ghost use Rattle.tmx_maps.specs.Maps.{tmx_data};
 ghost use Rattle.tmx_maps.specs.SameMap.{IsSameMap};
 ghost use Rattle.tmx_maps.specs.Texts.{IsTmxOf, IsKept, IsTold};
@@ -61,9 +57,17 @@ fn told_in(
 ) -> Result<Option<Vec<u8>>, Fault>
     ensures { IfOk result (λ text. IfSome text (λ t. IsTold (data_of map.now) t.items)) }
 {
-    let source = Source { bytes, root: &read.root, tree: &read.tree };
+    let source = Source {
+        bytes,
+        root: &read.root,
+        tree: &read.tree,
+    };
     let text = written_into(alloc, map, &source, ids)?;
-    Ok(if is_told(alloc, map, &text)? { Some(text) } else { None })
+    if is_told(alloc, map, &text)? {
+        Ok(Some(text))
+    } else {
+        Ok(None)
+    }
 }
 
 // The map told in the bytes of its source, also with all its ids.
@@ -116,7 +120,6 @@ fn told_over(alloc: Global, map: &Value, source: &[u8], read: &Read) -> Result<V
 pub fn tmx_of(alloc: Global, json: &[u8], source: &[u8]) -> Result<Vec<u8>, Fault>
     ensures answer { IfOk result (λ text. IsTmxOf json.now text.items) }
     ensures kept { IfOk result (λ text. IsKept json.now source.now text.items) }
-    ensures json { result ≡ Err NotJson → IsUtf8 json.now → read json.now ≡ None }
 {
     let Some(map) = read_tree(alloc, json)? else {
         return Err(Fault::NotJson);

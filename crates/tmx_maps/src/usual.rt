@@ -1,12 +1,12 @@
 // What Tiled takes where a member is absent, and which members are left out.
-ghost use Rattle.std.specs.Prelude.{◌≡◌, map, Some, bytes_eq, codes};
+ghost use Rattle.std.specs.Prelude.{◌≡◌, map, bytes_eq, codes};
 ghost use Rattle.serde_json.specs.Data.{boolean};
 ghost use Rattle.tmx_tree.specs.Texts.{is_one_of};
 ghost use Rattle.serde_json.specs.Find.{to_float};
-ghost use Rattle.serde_json.specs.View.{view as data_of, number_view};
-ghost use Rattle.tmx_maps.specs.SameMap.{usual_texts, usual_words, is_pair_of, is_float_of, is_usual_float, is_usual, is_usual_word, is_note, is_own, is_value, is_left_here, is_left_out, text_of, zero_names, one_names};
+ghost use Rattle.serde_json.specs.View.{view as data_of, number_view, items_view};
+ghost use Rattle.tmx_maps.specs.SameMap.{usual_texts, usual_words, is_pair_of, is_float_of, is_usual_float, has_no_items, is_usual, is_usual_word, is_note, is_own, is_value, is_left_here, is_left_out, text_of, zero_names, one_names};
 
-use crate::place::{Place, is_one_of};
+use crate::place::{Place, is_one_of, text_of};
 use serde_json::{Number, Value};
 use std::num::nearest_i64_to_f64;
 
@@ -147,6 +147,15 @@ fn is_usual_flag(name: &str, is_set: bool) -> bool
     }
 }
 
+fn has_no_items(items: &Vec<Value>) -> bool
+    ensures { result ≡ has_no_items (items_view items.now.items) }
+{
+    match items.first() {
+        Some(_) => false,
+        None => true,
+    }
+}
+
 fn is_usual(name: &str, value: &Value) -> bool
     ensures { result ≡ is_usual name.now (data_of value.now) }
 {
@@ -155,7 +164,8 @@ fn is_usual(name: &str, value: &Value) -> bool
         Value::Bool(is_set) => is_usual_flag(name, *is_set),
         Value::Number(number) => is_usual_float(name, float_of(number)),
         Value::String(text) => is_usual_text(name, text.as_str()),
-        Value::Array(items) => items.is_empty() && name == "properties",
+        Value::Array(items) => has_no_items(items)
+            && is_one_of(&["properties", "tiles", "wangsets"], name),
     }
 }
 
@@ -170,12 +180,9 @@ fn is_usual_word(name: &str, value: &Value) -> bool
 }
 
 fn is_string(value: &Value) -> bool
-    ensures { result ≡ bytes_eq (text_of (Some (data_of value.now))) (codes "string") }
+    ensures { result ≡ bytes_eq (text_of (data_of value.now)) (codes "string") }
 {
-    match value.as_str() {
-        Some(text) => text == "string",
-        None => false,
-    }
+    text_of(value) == "string"
 }
 
 fn is_own(name: &str) -> bool
@@ -189,9 +196,11 @@ fn is_left_here(place: Place, name: &str, value: &Value) -> bool
 {
     match place {
         Place::Thing | Place::Color => is_usual(name, value),
-        Place::Straight => is_one_of(&["hexsidelength", "staggeraxis", "staggerindex"], name) || is_usual(name, value),
+        Place::Straight => is_one_of(&["hexsidelength", "staggeraxis", "staggerindex"], name)
+            || is_usual(name, value),
         Place::Staggered => name == "hexsidelength" || is_usual(name, value),
-        Place::Chunked => is_one_of(&["startx", "starty", "width", "height"], name) || is_usual(name, value),
+        Place::Chunked => is_one_of(&["startx", "starty", "width", "height"], name)
+            || is_usual(name, value),
         Place::Image => is_one_of(&["imagewidth", "imageheight"], name) || is_usual(name, value),
         Place::Instance => !is_own(name) && is_usual(name, value),
         Place::Property => name == "type" && is_string(value) || is_usual(name, value),

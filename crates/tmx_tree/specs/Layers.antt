@@ -12,14 +12,17 @@ use Rattle.tmx_tree.specs.declared.fault.Refusal.{Refusal}
 use Rattle.tmx_tree.specs.declared.fault.Refusal.TheVariants.{DrawOrder, Chunks, NoChunks}
 use Rattle.tmx_tree.specs.declared.layers.Counted.{Counted}
 use Rattle.tmx_tree.specs.declared.layers.Layers.{Layers}
+use Rattle.tmx_tree.specs.declared.bounds.Stretch.{Stretch}
+use Rattle.tmx_tree.specs.declared.tile_layer.ChunkList as code
 use Rattle.tmx_tree.specs.Answers.{◌>>=◌}
 use Rattle.tmx_tree.specs.Numbers.{whole_of}
 use Rattle.tmx_tree.specs.Rows.{whole_data, with_rows}
-use Rattle.tmx_tree.specs.Tables.{layer_rows, size_rows, place_rows, image_layer_rows, object_layer_rows}
+use Rattle.tmx_tree.specs.Tables.{with_layer_rows, size_rows, place_rows, image_layer_rows, object_layer_rows}
 use Rattle.tmx_tree.specs.Elements.{Attributes, attribute, attributes_of, kids_of, is_named, first_named, text_in}
 use Rattle.tmx_tree.specs.Texts.{is_one_of, one_of}
 use Rattle.tmx_tree.specs.Properties.{text_at, unless_empty, own_properties, with_note, is_blank}
 use Rattle.tmx_tree.specs.Cells.{form_of, cell_count, cells_in, padded, array_of}
+use Rattle.tmx_tree.specs.Bounds.{with_chunk_cells, with_bounds}
 use Rattle.tmx_tree.specs.Objects.{said_id, id_or_next, id_member, real_at, put_pair, with_objects}
 
 -- ---- what all layers have
@@ -34,9 +37,9 @@ with_offset kind attrs ms =
     Ok (put_pair (codes "offsetx") (codes "offsety") a b ms)
 
 -- a layer of a kind with an id, as far as all layers are alike
-abbrev pub layer_members : List ℕ → Attributes → Children → ℤ → Result Members Refusal
+unfoldable pub layer_members : List ℕ → Attributes → Children → ℤ → Result Members Refusal
 layer_members kind attrs kids id = do
-  a ← with_rows layer_rows attrs (put (codes "type") (string kind) (id_member id))
+  a ← with_layer_rows attrs (put (codes "type") (string kind) (id_member id))
   b ← with_offset kind attrs a
   own_properties kids b
 
@@ -44,18 +47,24 @@ layer_members kind attrs kids id = do
 abbrev pub order_said : Attributes → List ℕ
 order_said attrs = unwrap_or (attribute (codes "draworder") attrs) (codes "topdown")
 
-abbrev pub draw_order : Attributes → Result (List ℕ) Refusal
+unfoldable pub draw_order : Attributes → Result (List ℕ) Refusal
 draw_order attrs = if is_one_of (codes "topdown" ∷ codes "index" ∷ []) (order_said attrs) then Ok (order_said attrs) else Err DrawOrder
 
-abbrev pub object_layer_members : Attributes → Children → ℤ → Result Members Refusal
+abbrev pub with_draw_order : Attributes → Members → Result Members Refusal
+with_draw_order attrs ms = draw_order attrs >>= λ order. Ok (put (codes "draworder") (string order) ms)
+
+-- as far as all layers are alike
+unfoldable pub object_group : Attributes → Children → ℤ → Result Members Refusal
+object_group attrs kids id = layer_members (codes "objectgroup") attrs kids id
+
+unfoldable pub object_layer_members : Attributes → Children → ℤ → Result Members Refusal
 object_layer_members attrs kids id = do
-  a ← layer_members (codes "objectgroup") attrs kids id
+  a ← object_group attrs kids id
   b ← with_rows object_layer_rows attrs a
-  order ← draw_order attrs
-  Ok (put (codes "draworder") (string order) b)
+  with_draw_order attrs b
 
 -- an object layer, and the next object's id
-abbrev pub object_layer : Attributes → Children → ℤ → ℕ → Result (Data × ℕ) Refusal
+unfoldable pub object_layer : Attributes → Children → ℤ → ℕ → Result (Data × ℕ) Refusal
 object_layer attrs kids id next = do
   ms ← object_layer_members attrs kids id
   found ← with_objects kids ([], next)
@@ -83,7 +92,7 @@ with_image (Some x) ms =
     (put (codes "image") (string (text_at (codes "source") (attributes_of x)))
     (put_some (codes "transparentcolor") (transparent (text_at (codes "trans") (attributes_of x))) ms))
 
-abbrev pub image_layer : Attributes → Children → ℤ → Result Data Refusal
+unfoldable pub image_layer : Attributes → Children → ℤ → Result Data Refusal
 image_layer attrs kids id = do
   a ← layer_members (codes "imagelayer") attrs kids id
   b ← with_rows image_layer_rows attrs a
@@ -122,21 +131,32 @@ with_finite form attrs o ms = do
   cells ← finite_cells form n o
   Ok (put (codes "data") cells sized)
 
--- a layer of an infinite map: its chunks
-abbrev pub chunk_of : Form → Xml → Result Data Refusal
-chunk_of form x = do
-  placed ← with_rows place_rows (attributes_of x) no_members
-  sized ← with_rows size_rows (attributes_of x) placed
-  n ← cell_count (attributes_of x)
-  cells ← cells_in form n (kids_of x)
-  Ok (object (put (codes "data") cells sized))
+-- a layer of an infinite map: its chunks, and the stretch of their cells
+abbrev pub ChunkList : Type 0
+ChunkList = List Data × Option Stretch
 
-abbrev pub with_chunk : Form → Xml → List Data → Result (List Data) Refusal
-with_chunk form x found = if is_named (codes "chunk") x then (chunk_of form x >>= λ d. Ok (found ++ d ∷ [])) else Ok found
+abbrev pub chunk_members : Attributes → Result Members Refusal
+chunk_members attrs = with_rows place_rows attrs no_members >>= λ placed. with_rows size_rows attrs placed
 
-abbrev pub with_chunks : Form → Children → List Data → Result (List Data) Refusal
-with_chunks form no_children found = Ok found
-with_chunks form (child x xs) found = with_chunk form x found >>= λ more. with_chunks form xs more
+abbrev pub chunk_cells : Form → Xml → Result Data Refusal
+chunk_cells form x = cell_count (attributes_of x) >>= λ n. cells_in form n (kids_of x)
+
+abbrev pub with_another_chunk : Form → Xml → ChunkList → Result ChunkList Refusal
+with_another_chunk form x chunks = do
+  ms ← chunk_members (attributes_of x)
+  cells ← chunk_cells form x
+  Ok (chunks.0 ++ object (put (codes "data") cells ms) ∷ [], with_chunk_cells (attributes_of x) cells chunks.1)
+
+abbrev pub with_chunk : Form → Xml → ChunkList → Result ChunkList Refusal
+with_chunk form x chunks = if is_named (codes "chunk") x then with_another_chunk form x chunks else Ok chunks
+
+abbrev pub with_chunks : Form → Children → ChunkList → Result ChunkList Refusal
+with_chunks form no_children chunks = Ok chunks
+with_chunks form (child x xs) chunks = with_chunk form x chunks >>= λ more. with_chunks form xs more
+
+-- the code's own record
+abbrev pub chunks_view : code.ChunkList → ChunkList
+chunks_view c = (map view c.found.items, c.around)
 
 -- whether cells stand in no chunk
 abbrev pub is_element : Xml → Bool
@@ -150,12 +170,15 @@ has_elements (child x xs) = is_element x || has_elements xs
 abbrev pub has_loose_cells : Children → Bool
 has_loose_cells kids = not (has_chunk kids) && (not (is_blank (text_in kids)) || has_elements kids)
 
+abbrev pub put_chunks : ChunkList → Members → Members
+put_chunks chunks ms = with_bounds chunks.1 (put (codes "chunks") (array_of chunks.0) ms)
+
 -- its own width and height, which JSON does not have, are noted
 abbrev pub with_all_chunks : Form → Attributes → Children → Members → Result Members Refusal
 with_all_chunks form attrs kids ms = do
   note ← with_rows size_rows attrs no_members
-  found ← with_chunks form kids []
-  Ok (with_note note (put (codes "chunks") (array_of found) ms))
+  found ← with_chunks form kids ([], None)
+  Ok (with_note note (put_chunks found ms))
 
 abbrev pub with_infinite : Form → Attributes → Children → Members → Result Members Refusal
 with_infinite form attrs kids ms =
@@ -165,7 +188,7 @@ abbrev pub with_cells : Bool → Form → Attributes → Children → Members �
 with_cells false form attrs kids ms = with_finite form attrs (first_named (codes "data") kids) ms
 with_cells true form attrs kids ms = with_infinite form attrs (data_kids (first_named (codes "data") kids)) ms
 
-abbrev pub tile_layer : Bool → Attributes → Children → ℤ → Result Data Refusal
+unfoldable pub tile_layer : Bool → Attributes → Children → ℤ → Result Data Refusal
 tile_layer infinite attrs kids id = do
   own ← layer_members (codes "tilelayer") attrs kids id
   form ← data_form (first_named (codes "data") kids)

@@ -6,8 +6,10 @@ pub mod Rows
 pub mod Tables
 pub mod Properties
 pub mod Cells
+pub mod Bounds
 pub mod Corners
 pub mod Objects
 pub mod Layers
+pub mod Wangs
 pub mod Tilesets
 pub mod Maps

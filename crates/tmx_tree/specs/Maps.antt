@@ -14,7 +14,7 @@ use Rattle.tmx_tree.specs.declared.fault.Fault.TheVariants.{Memory, Refused}
 use Rattle.tmx_tree.specs.Answers.{◌>>=◌}
 use Rattle.tmx_tree.specs.Numbers.{whole_of, unsigned_of}
 use Rattle.tmx_tree.specs.Rows.{whole_data, with_rows, is_whole_data}
-use Rattle.tmx_tree.specs.Tables.{map_rows, hexagonal_rows}
+use Rattle.tmx_tree.specs.Tables.{with_map_rows, hexagonal_rows}
 use Rattle.tmx_tree.specs.Elements.{Attributes, attribute, attributes_of, kids_of, is_named, first_named}
 use Rattle.tmx_tree.specs.Texts.{is_one_of, one_of}
 use Rattle.tmx_tree.specs.Properties.{text_at, unless_empty, own_properties, are_none, with_note}
@@ -39,13 +39,14 @@ with_order attrs ms =
     put (codes "renderorder")
     (string (one_of (codes "right-up" ∷ codes "left-down" ∷ codes "left-up" ∷ []) (codes "right-down") (text_at (codes "renderorder") attrs))) ms
 
--- where rows or columns are shifted
-abbrev pub with_stagger : Attributes → Members → Members
-with_stagger attrs ms =
-    if is_one_of (codes "staggered" ∷ codes "hexagonal" ∷ []) (orientation attrs) then
+-- which rows or columns are shifted
+abbrev pub with_shift : Attributes → Members → Members
+with_shift attrs ms =
     put (codes "staggeraxis") (string (one_of (codes "x" ∷ []) (codes "y") (text_at (codes "staggeraxis") attrs)))
     (put (codes "staggerindex") (string (one_of (codes "even" ∷ []) (codes "odd") (text_at (codes "staggerindex") attrs))) ms)
-    else ms
+
+abbrev pub with_stagger : Attributes → Members → Members
+with_stagger attrs ms = if is_one_of (codes "staggered" ∷ codes "hexagonal" ∷ []) (orientation attrs) then with_shift attrs ms else ms
 
 abbrev pub with_hexagons : Attributes → Members → Result Members Refusal
 with_hexagons attrs ms = if bytes_eq (orientation attrs) (codes "hexagonal") then with_rows hexagonal_rows attrs ms else Ok ms
@@ -54,11 +55,11 @@ abbrev pub map_type : Members
 map_type = member (codes "type") (string (codes "map")) no_members
 
 -- all that its own attributes say, but for the next ids
-abbrev pub own_members : Attributes → Result Members Refusal
+unfoldable pub own_members : Attributes → Result Members Refusal
 own_members attrs = do
   a ← with_orientation attrs (with_order attrs (with_stagger attrs map_type))
   b ← with_hexagons attrs a
-  c ← with_rows map_rows attrs b
+  c ← with_map_rows attrs b
   with_pair (codes "parallaxoriginx") (codes "parallaxoriginy") attrs c
 
 -- ---- the settings of the editor
@@ -105,7 +106,7 @@ next_said k attrs = max (unwrap_or (option_and_then unsigned_of (attribute k att
 abbrev pub is_infinite : Attributes → Bool
 is_infinite attrs = not (is_whole_data (pos 0) (Some (unwrap_or (option_and_then whole_of (attribute (codes "infinite") attrs)) (pos 0))))
 
-abbrev pub layers_of : Attributes → Children → Result Found Refusal
+unfoldable pub layers_of : Attributes → Children → Result Found Refusal
 layers_of attrs kids = with_layers (is_infinite attrs) kids (layers_found [] (next_said (codes "nextlayerid") attrs) (next_said (codes "nextobjectid") attrs))
 
 abbrev pub put_layers : Found → Members → Members
@@ -118,9 +119,12 @@ abbrev pub format_of : List ℕ → List ℕ → List ℕ
 format_of encoding packing =
     if bytes_eq encoding [] then codes "xml" else (if bytes_eq packing [] then encoding else encoding ++ codes "-" ++ packing)
 
+abbrev pub format_data : Attributes → Data
+format_data attrs = string (format_of (text_at (codes "encoding") attrs) (text_at (codes "compression") attrs))
+
 abbrev pub format_in : Option Xml → Option Data
 format_in None = None
-format_in (Some x) = Some (string (format_of (text_at (codes "encoding") (attributes_of x)) (text_at (codes "compression") (attributes_of x))))
+format_in (Some x) = Some (format_data (attributes_of x))
 
 abbrev pub or_else : Option Data → Option Data → Option Data
 or_else None other = other
@@ -140,7 +144,7 @@ abbrev mutual
 abbrev pub version_of : Attributes → Option Data
 version_of attrs = option_map string (attribute (codes "version") attrs)
 
-abbrev pub map_note : Attributes → Children → Members
+unfoldable pub map_note : Attributes → Children → Members
 map_note attrs kids =
     put_some (codes "version") (version_of attrs) (put_some (codes "format") (first_format kids) no_members)
 

@@ -63,13 +63,19 @@ text_if ks s = if is_one_of ks s then Some (string s) else None
 abbrev pub text_unless : List (List ℕ) → List ℕ → Option Data
 text_unless ks s = if is_one_of ks s then None else Some (string s)
 
+-- where it stands in its rectangle
+abbrev pub with_alignment : Attributes → Members → Members
+with_alignment attrs ms =
+    put_some (codes "halign") (text_if (codes "center" ∷ codes "right" ∷ codes "justify" ∷ []) (text_at (codes "halign") attrs))
+    (put_some (codes "valign") (text_if (codes "center" ∷ codes "bottom" ∷ []) (text_at (codes "valign") attrs)) ms)
+
+abbrev pub with_font : Attributes → Members → Members
+with_font attrs ms =
+    put_some (codes "fontfamily") (text_unless ([] ∷ codes "sans-serif" ∷ []) (text_at (codes "fontfamily") attrs))
+    (put_some (codes "color") (text_unless ([] ∷ codes "#000000" ∷ codes "#ff000000" ∷ []) (text_at (codes "color") attrs)) ms)
+
 abbrev pub with_words : Attributes → List ℕ → Members → Members
-with_words attrs content ms =
-    put (codes "text") (string content)
-    (put_some (codes "fontfamily") (text_unless ([] ∷ codes "sans-serif" ∷ []) (text_at (codes "fontfamily") attrs))
-    (put_some (codes "color") (text_unless ([] ∷ codes "#000000" ∷ codes "#ff000000" ∷ []) (text_at (codes "color") attrs))
-    (put_some (codes "halign") (text_if (codes "center" ∷ codes "right" ∷ codes "justify" ∷ []) (text_at (codes "halign") attrs))
-    (put_some (codes "valign") (text_if (codes "center" ∷ codes "bottom" ∷ []) (text_at (codes "valign") attrs)) ms))))
+with_words attrs content ms = put (codes "text") (string content) (with_font attrs (with_alignment attrs ms))
 
 abbrev pub text_of : Xml → Result Members Refusal
 text_of x = with_rows text_rows (attributes_of x) no_members >>= λ ms. Ok (with_words (attributes_of x) (text_in (kids_of x)) ms)
@@ -114,12 +120,12 @@ put_size w h ms = if is_positive w && is_positive h then put (codes "width") (nu
 abbrev pub with_size : Attributes → Members → Result Members Refusal
 with_size attrs ms = real_at (codes "width") attrs >>= λ w. real_at (codes "height") attrs >>= λ h. Ok (put_size w h ms)
 
-abbrev pub with_own : Attributes → Members → Result Members Refusal
+unfoldable pub with_own : Attributes → Members → Result Members Refusal
 with_own attrs ms =
     if is_instance attrs then (with_rows instance_rows attrs ms >>= λ more. with_size attrs more) else with_rows own_object_rows attrs ms
 
 -- all of an object but its id
-abbrev pub object_members : Xml → Members → Result Members Refusal
+unfoldable pub object_members : Xml → Members → Result Members Refusal
 object_members x ms = do
   a ← with_rows object_rows (attributes_of x) ms
   b ← with_own (attributes_of x) a

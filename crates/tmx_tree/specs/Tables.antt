@@ -1,8 +1,12 @@
 -- The tables: the attributes of each kind of element that are members of the same name, how each is read, and when it is a member.
-use Rattle.std.specs.Prelude.{pos, negsuc, List, [], ◌∷◌, codes, true, false}
+use Rattle.std.specs.Prelude.{pos, negsuc, List, [], ◌∷◌, codes, true, false, Result}
+use Rattle.serde_json.specs.Data.{Members}
+use Rattle.tmx_tree.specs.declared.fault.Refusal.{Refusal}
 use Rattle.tmx_tree.specs.declared.row.Kind.TheVariants.{Text, Whole, Unsigned, Real, Flag}
 use Rattle.tmx_tree.specs.declared.row.Shown.TheVariants.{Always, Given, Read, Unusual}
-use Rattle.tmx_tree.specs.Rows.{Named, row}
+use Rattle.tmx_tree.specs.Answers.{◌>>=◌}
+use Rattle.tmx_tree.specs.Elements.{Attributes}
+use Rattle.tmx_tree.specs.Rows.{Named, row, with_rows}
 
 -- a map
 unfoldable pub map_rows : List Named
@@ -11,13 +15,20 @@ map_rows =
     ∷ row (codes "tiledversion") Text Given
     ∷ row (codes "class") Text Unusual
     ∷ row (codes "compressionlevel") (Whole (negsuc 0)) Always
-    ∷ row (codes "width") (Whole (pos 0)) Always
+    ∷ row (codes "backgroundcolor") Text Unusual
+    ∷ []
+
+unfoldable pub map_size_rows : List Named
+map_size_rows =
+    row (codes "width") (Whole (pos 0)) Always
     ∷ row (codes "height") (Whole (pos 0)) Always
     ∷ row (codes "tilewidth") (Whole (pos 0)) Always
     ∷ row (codes "tileheight") (Whole (pos 0)) Always
     ∷ row (codes "infinite") (Flag false) Always
-    ∷ row (codes "backgroundcolor") Text Unusual
     ∷ []
+
+unfoldable pub with_map_rows : Attributes → Members → Result Members Refusal
+with_map_rows attrs ms = with_rows map_rows attrs ms >>= λ more. with_rows map_size_rows attrs more
 
 -- a hexagonal map, besides
 unfoldable pub hexagonal_rows : List Named
@@ -32,12 +43,19 @@ layer_rows =
     ∷ row (codes "y") (Whole (pos 0)) Always
     ∷ row (codes "visible") (Flag true) Always
     ∷ row (codes "locked") (Flag false) Unusual
-    ∷ row (codes "opacity") (Real (pos 1)) Always
+    ∷ []
+
+unfoldable pub look_rows : List Named
+look_rows =
+    row (codes "opacity") (Real (pos 1)) Always
     ∷ row (codes "tintcolor") Text Unusual
     ∷ row (codes "parallaxx") (Real (pos 1)) Unusual
     ∷ row (codes "parallaxy") (Real (pos 1)) Unusual
     ∷ row (codes "mode") Text Unusual
     ∷ []
+
+unfoldable pub with_layer_rows : Attributes → Members → Result Members Refusal
+with_layer_rows attrs ms = with_rows layer_rows attrs ms >>= λ more. with_rows look_rows attrs more
 
 -- a tile layer of a finite map, or a chunk, besides
 unfoldable pub size_rows : List Named
@@ -103,16 +121,23 @@ tileset_rows =
     row (codes "firstgid") Unsigned Always
     ∷ row (codes "name") Text Always
     ∷ row (codes "class") Text Unusual
-    ∷ row (codes "tilewidth") (Whole (pos 0)) Always
-    ∷ row (codes "tileheight") (Whole (pos 0)) Always
-    ∷ row (codes "spacing") (Whole (pos 0)) Always
-    ∷ row (codes "margin") (Whole (pos 0)) Always
     ∷ row (codes "tilecount") (Whole (pos 0)) Always
     ∷ row (codes "columns") (Whole (pos 0)) Always
     ∷ row (codes "backgroundcolor") Text Unusual
+    ∷ []
+
+unfoldable pub tileset_size_rows : List Named
+tileset_size_rows =
+    row (codes "tilewidth") (Whole (pos 0)) Always
+    ∷ row (codes "tileheight") (Whole (pos 0)) Always
+    ∷ row (codes "spacing") (Whole (pos 0)) Always
+    ∷ row (codes "margin") (Whole (pos 0)) Always
     ∷ row (codes "tilerendersize") Text Unusual
     ∷ row (codes "fillmode") Text Unusual
     ∷ []
+
+unfoldable pub with_tileset_rows : Attributes → Members → Result Members Refusal
+with_tileset_rows attrs ms = with_rows tileset_rows attrs ms >>= λ more. with_rows tileset_size_rows attrs more
 
 -- how its tiles may be turned
 unfoldable pub turning_rows : List Named
@@ -130,12 +155,38 @@ tile_rows =
     ∷ row (codes "type") Text Unusual
     ∷ row (codes "class") Text Unusual
     ∷ row (codes "probability") (Real (pos 1)) Unusual
-    ∷ row (codes "x") (Whole (pos 0)) Given
+    ∷ []
+
+-- the part of its picture that it is
+unfoldable pub part_rows : List Named
+part_rows =
+    row (codes "x") (Whole (pos 0)) Given
     ∷ row (codes "y") (Whole (pos 0)) Given
     ∷ row (codes "width") (Whole (pos 0)) Given
     ∷ row (codes "height") (Whole (pos 0)) Given
     ∷ []
 
+unfoldable pub with_tile_rows : Attributes → Members → Result Members Refusal
+with_tile_rows attrs ms = with_rows tile_rows attrs ms >>= λ more. with_rows part_rows attrs more
+
 -- a frame of its animation
 unfoldable pub frame_rows : List Named
 frame_rows = row (codes "tileid") (Whole (pos 0)) Always ∷ row (codes "duration") (Whole (pos 0)) Always ∷ []
+
+-- a wang set of it, besides its type
+unfoldable pub wang_set_rows : List Named
+wang_set_rows = row (codes "name") Text Always ∷ row (codes "class") Text Unusual ∷ row (codes "tile") (Whole (pos 0)) Always ∷ []
+
+-- a color of that
+unfoldable pub wang_color_rows : List Named
+wang_color_rows =
+    row (codes "name") Text Always
+    ∷ row (codes "class") Text Unusual
+    ∷ row (codes "color") Text Always
+    ∷ row (codes "tile") (Whole (pos 0)) Always
+    ∷ row (codes "probability") (Real (pos 0)) Always
+    ∷ []
+
+-- a tile of that, besides its colors
+unfoldable pub wang_tile_rows : List Named
+wang_tile_rows = row (codes "tileid") (Whole (pos 0)) Always ∷ []

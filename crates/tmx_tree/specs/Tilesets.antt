@@ -11,13 +11,14 @@ use Rattle.tmx_tree.specs.declared.fault.Refusal.TheVariants.{OldTileset}
 use Rattle.tmx_tree.specs.Answers.{◌>>=◌}
 use Rattle.tmx_tree.specs.Numbers.{whole_of}
 use Rattle.tmx_tree.specs.Rows.{whole_data, is_whole_data, with_rows}
-use Rattle.tmx_tree.specs.Tables.{tileset_rows, turning_rows, tile_rows, frame_rows}
-use Rattle.tmx_tree.specs.Cells.{side, array_of}
+use Rattle.tmx_tree.specs.Tables.{with_tileset_rows, turning_rows, with_tile_rows, frame_rows}
+use Rattle.tmx_tree.specs.Cells.{side, whole_at, array_of}
 use Rattle.tmx_tree.specs.Elements.{Attributes, attribute, attributes_of, kids_of, is_named, first_named}
 use Rattle.tmx_tree.specs.Texts.{one_of}
 use Rattle.tmx_tree.specs.Properties.{text_at, unless_none, own_properties}
 use Rattle.tmx_tree.specs.Objects.{said_id, text_unless}
 use Rattle.tmx_tree.specs.Layers.{transparent, object_layer}
+use Rattle.tmx_tree.specs.Wangs.{wang_sets}
 
 -- ---- a file of its own: the id of its first tile, and the file
 abbrev pub external : Attributes → Data
@@ -25,9 +26,6 @@ external attrs =
     object (put (codes "firstgid") (number (unsigned (side (codes "firstgid") attrs))) (put (codes "source") (string (text_at (codes "source") attrs)) no_members))
 
 -- ---- its picture, or that of a tile
-abbrev pub whole_at : List ℕ → Attributes → ℤ
-whole_at k attrs = unwrap_or (option_and_then whole_of (attribute k attrs)) (pos 0)
-
 abbrev pub unless_zero : ℤ → Option Data
 unless_zero z = if is_whole_data (pos 0) (Some z) then None else Some (whole_data z)
 
@@ -101,21 +99,27 @@ abbrev pub with_frames : Children → List Data → Result (List Data) Refusal
 with_frames no_children found = Ok found
 with_frames (child x xs) found = with_frame x found >>= λ more. with_frames xs more
 
-abbrev pub animation : Option Xml → Result (List Data) Refusal
+unfoldable pub animation : Option Xml → Result (List Data) Refusal
 animation None = Ok []
 animation (Some x) = with_frames (kids_of x) []
 
-abbrev pub collision : Option Xml → Members → Result Members Refusal
+unfoldable pub collision : Option Xml → Members → Result Members Refusal
 collision None ms = Ok ms
 collision (Some x) ms =
     object_layer (attributes_of x) (kids_of x) (said_id (attributes_of x)) 1 >>= λ layer. Ok (put (codes "objectgroup") layer.0 ms)
 
-abbrev pub tile_members : Xml → Result Members Refusal
+abbrev pub with_frames_in : Xml → Members → Result Members Refusal
+with_frames_in x ms = animation (first_named (codes "animation") (kids_of x)) >>= λ frames. Ok (put_some (codes "animation") (unless_none frames) ms)
+
+abbrev pub with_solid : Xml → Members → Result Members Refusal
+with_solid x ms = collision (first_named (codes "objectgroup") (kids_of x)) (with_picture (first_named (codes "image") (kids_of x)) ms)
+
+unfoldable pub tile_members : Xml → Result Members Refusal
 tile_members x = do
-  rows ← with_rows tile_rows (attributes_of x) no_members
-  frames ← animation (first_named (codes "animation") (kids_of x))
-  solid ← collision (first_named (codes "objectgroup") (kids_of x)) (with_picture (first_named (codes "image") (kids_of x)) rows)
-  own_properties (kids_of x) (put_some (codes "animation") (unless_none frames) solid)
+  rows ← with_tile_rows (attributes_of x) no_members
+  moving ← with_frames_in x rows
+  solid ← with_solid x moving
+  own_properties (kids_of x) solid
 
 abbrev pub is_alone : Members → Bool
 is_alone no_members = false
@@ -134,24 +138,35 @@ with_tiles no_children found = Ok found
 with_tiles (child x xs) found = with_tile x found >>= λ more. with_tiles xs more
 
 -- ---- in the map itself
--- wang sets and terrains are not read, nor is a tileset that does not say how many tiles it has
+-- terrains are not read, nor is a tileset that does not say how many tiles it has
 abbrev pub is_old : Xml → Bool
 is_old x =
-    is_some (first_named (codes "wangsets") (kids_of x)) || (is_some (first_named (codes "terraintypes") (kids_of x))
-    || not (is_some (attribute (codes "tilecount") (attributes_of x)) && is_some (attribute (codes "columns") (attributes_of x))))
+    is_some (first_named (codes "terraintypes") (kids_of x))
+    || not (is_some (attribute (codes "tilecount") (attributes_of x)) && is_some (attribute (codes "columns") (attributes_of x)))
+
+abbrev pub with_places : Xml → Members → Members
+with_places x ms = put_some (codes "tileoffset") (offset_in x) (put_some (codes "grid") (grid_in x) ms)
+
+abbrev pub alignment : Xml → Option Data
+alignment x = text_unless ([] ∷ codes "unspecified" ∷ []) (text_at (codes "objectalignment") (attributes_of x))
 
 abbrev pub with_drawing : Xml → Members → Members
 with_drawing x ms =
-    put_some (codes "objectalignment") (text_unless ([] ∷ codes "unspecified" ∷ []) (text_at (codes "objectalignment") (attributes_of x)))
-    (put_some (codes "tileoffset") (offset_in x) (put_some (codes "grid") (grid_in x)
-    (with_picture (first_named (codes "image") (kids_of x)) ms)))
+    put_some (codes "objectalignment") (alignment x) (with_places x (with_picture (first_named (codes "image") (kids_of x)) ms))
 
-abbrev pub embedded : Xml → Result Data Refusal
+-- its tiles and its wang sets
+unfoldable pub with_lists : Children → Members → Result Members Refusal
+with_lists kids ms = do
+  tiles ← with_tiles kids []
+  sets ← wang_sets (first_named (codes "wangsets") kids)
+  Ok (put_some (codes "wangsets") (unless_none sets) (put_some (codes "tiles") (unless_none tiles) ms))
+
+unfoldable pub embedded : Xml → Result Data Refusal
 embedded x = do
-  rows ← with_rows tileset_rows (attributes_of x) no_members
+  rows ← with_tileset_rows (attributes_of x) no_members
   turned ← turning_in (first_named (codes "transformations") (kids_of x))
-  tiles ← with_tiles (kids_of x) []
-  ms ← own_properties (kids_of x) (put_some (codes "tiles") (unless_none tiles) (put_some (codes "transformations") turned (with_drawing x rows)))
+  full ← with_lists (kids_of x) (put_some (codes "transformations") turned (with_drawing x rows))
+  ms ← own_properties (kids_of x) full
   Ok (object ms)
 
 abbrev pub tileset_of : Xml → Result Data Refusal

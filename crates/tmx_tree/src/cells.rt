@@ -6,11 +6,11 @@ ghost use Rattle.xml_text.specs.Xml.{attribute_view, node_view, view, children_o
 ghost use Rattle.tmx_tree.specs.Answers.{GivesBy};
 ghost use Rattle.tmx_tree.specs.Elements.{text_in};
 ghost use Rattle.std.specs.Str.{trim};
-ghost use Rattle.tmx_tree.specs.Cells.{form_of, is_space, cell, csv_from, if_fine, csv_cells, counted, element_cell, with_tile, with_tiles, padded, side, cell_count, cells_in};
+ghost use Rattle.tmx_tree.specs.Cells.{form_of, is_space, cell, csv_from, if_fine, csv_cells, counted, element_cell, with_tile, with_tiles, padded, side, whole_at, cell_count, cells_in};
 
 use crate::element::{attribute_value, attributes, named, text_in};
 use crate::fault::{Fault, Refusal};
-use crate::number::{is_digit, unsigned_of};
+use crate::number::{is_digit, unsigned_of, whole_of};
 use crate::property::is_blank;
 use crate::texts::is_one_of;
 use serde_json::Value;
@@ -80,8 +80,8 @@ fn push_csv(text: &[u8], found: &mut Vec<Value>) -> Result<bool, AllocError>
     Ok(true)
 }
 
-// The cells of a text; none if it is blank.
-fn csv_cells(alloc: Global, text: &str) -> Result<Option<Vec<Value>>, AllocError>
+/// The numbers of a text with commas in between; none if it is blank.
+pub fn csv_cells(alloc: Global, text: &str) -> Result<Option<Vec<Value>>, AllocError>
     ensures { IfOk result (λ o. option_map (λ v. map data_of v.items) o ≡ csv_cells text.now) }
 {
     let mut found = Vec::new(alloc);
@@ -172,6 +172,16 @@ pub fn side(attributes: &Vec<Attribute>, name: &str) -> u32
 {
     match attribute_value(attributes, name) {
         Some(text) => unsigned_of(text).unwrap_or(0),
+        None => 0,
+    }
+}
+
+/// A number that an attribute says, 0 where it says none; it may have a sign.
+pub fn whole_at(attributes: &Vec<Attribute>, name: &str) -> i32
+    ensures { result ≡ whole_at name.now (map attribute_view attributes.now.items) }
+{
+    match attribute_value(attributes, name) {
+        Some(text) => whole_of(text).unwrap_or(0),
         None => 0,
     }
 }

@@ -1,15 +1,15 @@
 // In which format a map's first tile layer is.
 ghost use Rattle.std.specs.Prelude.{◌≡◌, map, option_map, string_bytes, IfOk};
 ghost use Rattle.serde_json.specs.View.{view as data_of};
-ghost use Rattle.xml_text.specs.Xml.{node_view, view};
+ghost use Rattle.xml_text.specs.Xml.{attribute_view, node_view, view};
 ghost use Rattle.tmx_tree.specs.Elements.{kids_of};
-ghost use Rattle.tmx_tree.specs.Maps.{format_of, format_in, first_format, own_format};
+ghost use Rattle.tmx_tree.specs.Maps.{format_of, format_data, format_in, first_format, own_format};
 
 use crate::element::{attributes, children, first_named};
 use crate::plain_value::text_at;
 use serde_json::Value;
 use std::alloc::{AllocError, Global};
-use xml_text::{Element, Node};
+use xml_text::{Attribute, Element, Node};
 
 fn format_of(alloc: Global, encoding: &str, packing: &str) -> Result<String, AllocError>
     ensures { IfOk result (λ text. string_bytes text ≡ format_of encoding.now packing.now) }
@@ -25,18 +25,24 @@ fn format_of(alloc: Global, encoding: &str, packing: &str) -> Result<String, All
     Ok(format)
 }
 
-fn format_in(alloc: Global, data: Option<&Element>) -> Result<Option<Value>, AllocError>
-    ensures { IfOk result (λ o. option_map data_of o ≡ format_in (option_map (λ e. view e.now) data.entry)) }
+fn format_data(alloc: Global, attributes: &Vec<Attribute>) -> Result<Value, AllocError>
+    ensures { IfOk result (λ v. data_of v ≡ format_data (map attribute_view attributes.now.items)) }
 {
-    let Some(data) = data else {
-        return Ok(None);
-    };
     let format = format_of(
         alloc,
-        text_at(attributes(data), "encoding"),
-        text_at(attributes(data), "compression"),
+        text_at(attributes, "encoding"),
+        text_at(attributes, "compression"),
     )?;
-    Ok(Some(Value::String(format)))
+    Ok(Value::String(format))
+}
+
+fn format_in(alloc: Global, element: Option<&Element>) -> Result<Option<Value>, AllocError>
+    ensures { IfOk result (λ o. option_map data_of o ≡ format_in (option_map (λ e. view e.now) element.entry)) }
+{
+    match element {
+        Some(element) => Ok(Some(format_data(alloc, attributes(element))?)),
+        None => Ok(None),
+    }
 }
 
 /// The format of the first tile layer in a map or a group that has data.

@@ -1,6 +1,7 @@
 //! A map in Tiled's XML, as the tree that Tiled's JSON has of it.
 #![tactic(auto)]
 
+mod bounds;
 mod cells;
 mod corners;
 mod element;
@@ -21,6 +22,7 @@ mod tile_layer;
 mod tiles;
 mod tileset;
 mod tilesets;
+mod wangs;
 
 pub use fault::{Fault, Refusal};
 pub use map::tree;

@@ -5,7 +5,7 @@ ghost use Rattle.xml_text.specs.Xml.{attribute_view, view};
 ghost use Rattle.tmx_tree.specs.Answers.{GivesBy, Leaves};
 ghost use Rattle.tmx_tree.specs.Elements.{attributes_of, kids_of};
 ghost use Rattle.tmx_tree.specs.Layers.{layers_view};
-ghost use Rattle.tmx_tree.specs.Maps.{with_orientation, with_order, with_stagger, with_hexagons, map_type, own_members, next_said, is_infinite, layers_of, put_layers, version_of, map_note, map_members, within, tree_of, tmx_tree, IsRefused};
+ghost use Rattle.tmx_tree.specs.Maps.{with_orientation, with_order, with_shift, with_stagger, with_hexagons, map_type, own_members, next_said, is_infinite, layers_of, put_layers, version_of, map_note, map_members, within, tree_of, tmx_tree, IsRefused};
 
 use crate::element::{attribute_value, attributes, children, has_name};
 use crate::fault::{Fault, Refusal};
@@ -45,6 +45,20 @@ fn put_order(
     put_text(alloc, members, "renderorder", order)
 }
 
+fn put_shift(
+    alloc: Global,
+    attributes: &Vec<Attribute>,
+    members: &mut Map<String, Value>,
+) -> Result<(), AllocError>
+    ensures { OnOk result (members_view members.new.entries
+        ≡ with_shift (map attribute_view attributes.now.items) (members_view members.old.entries)) }
+{
+    let index = one_of(&["even"], "odd", text_at(attributes, "staggerindex"));
+    put_text(alloc, members, "staggerindex", index)?;
+    let axis = one_of(&["x"], "y", text_at(attributes, "staggeraxis"));
+    put_text(alloc, members, "staggeraxis", axis)
+}
+
 fn put_stagger(
     alloc: Global,
     attributes: &Vec<Attribute>,
@@ -53,16 +67,14 @@ fn put_stagger(
     ensures { OnOk result (members_view members.new.entries
         ≡ with_stagger (map attribute_view attributes.now.items) (members_view members.old.entries)) }
 {
-    if !is_one_of(
+    if is_one_of(
         &["staggered", "hexagonal"],
         text_at(attributes, "orientation"),
     ) {
-        return Ok(());
+        put_shift(alloc, attributes, members)
+    } else {
+        Ok(())
     }
-    let index = one_of(&["even"], "odd", text_at(attributes, "staggerindex"));
-    put_text(alloc, members, "staggerindex", index)?;
-    let axis = one_of(&["x"], "y", text_at(attributes, "staggeraxis"));
-    put_text(alloc, members, "staggeraxis", axis)
 }
 
 fn put_orientation(
@@ -107,6 +119,7 @@ fn map_type(alloc: Global) -> Result<Map<String, Value>, AllocError>
     Ok(members)
 }
 
+#[tactic(auto, unfolding(crate::specs::Maps::own_members))]
 fn own_members(alloc: Global, attributes: &Vec<Attribute>) -> Result<Map<String, Value>, Fault>
     ensures { GivesBy (λ m. members_view m.entries) result (own_members (map attribute_view attributes.now.items)) }
 {
@@ -145,6 +158,7 @@ fn is_infinite(attributes: &Vec<Attribute>) -> bool
     }
 }
 
+#[tactic(auto, unfolding(crate::specs::Maps::layers_of))]
 fn layers_of(alloc: Global, element: &Element) -> Result<Layers, Fault>
     ensures { GivesBy layers_view result
         (layers_of (attributes_of (view element.now)) (kids_of (view element.now))) }
@@ -191,6 +205,7 @@ fn version_of(alloc: Global, attributes: &Vec<Attribute>) -> Result<Option<Value
 }
 
 // What is noted of a map.
+#[tactic(auto, unfolding(crate::specs::Maps::map_note))]
 fn map_note(alloc: Global, element: &Element) -> Result<Map<String, Value>, AllocError>
     ensures { IfOk result (λ m. members_view m.entries
         ≡ map_note (attributes_of (view element.now)) (kids_of (view element.now))) }

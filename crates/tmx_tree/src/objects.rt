@@ -3,7 +3,7 @@ ghost use Rattle.std.specs.Prelude.{◌≡◌, ◌≤◌, map, option_map, OnOk,
 ghost use Rattle.serde_json.specs.View.{view as data_of, number_view, members_view};
 ghost use Rattle.xml_text.specs.Xml.{attribute_view, node_view, view, children_of};
 ghost use Rattle.tmx_tree.specs.Answers.{GivesBy, Leaves};
-ghost use Rattle.tmx_tree.specs.Objects.{said_id, id_or_next, least_behind, real_at, is_zero, put_pair, with_pair, text_if, text_unless, with_words, text_of, is_flat, shape_name, with_corners, with_shape, with_part, with_parts, is_instance, is_positive, put_size, with_size, with_own, object_members, id_member, with_object, with_objects, id_view};
+ghost use Rattle.tmx_tree.specs.Objects.{said_id, id_or_next, least_behind, real_at, is_zero, put_pair, with_pair, text_if, text_unless, with_alignment, with_font, with_words, text_of, is_flat, shape_name, with_corners, with_shape, with_part, with_parts, is_instance, is_positive, put_size, with_size, with_own, object_members, id_member, with_object, with_objects, id_view};
 
 use crate::corners::corners;
 use crate::element::{attribute_value, attributes, children, is_named, named, text_in};
@@ -141,15 +141,14 @@ pub fn text_unless(alloc: Global, names: &[&str], text: &str) -> Result<Option<V
     Ok(Some(Value::String(String::from_str(alloc, text)?)))
 }
 
-// Puts how a text looks, and what it says, among the members.
-fn put_words(
+// Puts where a text stands in its rectangle among the members.
+fn put_alignment(
     alloc: Global,
     attributes: &Vec<Attribute>,
-    content: &str,
     members: &mut Map<String, Value>,
 ) -> Result<(), AllocError>
     ensures { OnOk result (members_view members.new.entries
-        ≡ with_words (map attribute_view attributes.now.items) content.now (members_view members.old.entries)) }
+        ≡ with_alignment (map attribute_view attributes.now.items) (members_view members.old.entries)) }
 {
     let valign = text_if(alloc, &["center", "bottom"], text_at(attributes, "valign"))?;
     put_some(alloc, members, "valign", valign)?;
@@ -158,7 +157,18 @@ fn put_words(
         &["center", "right", "justify"],
         text_at(attributes, "halign"),
     )?;
-    put_some(alloc, members, "halign", halign)?;
+    put_some(alloc, members, "halign", halign)
+}
+
+// Puts the font and the color of a text among the members.
+fn put_font(
+    alloc: Global,
+    attributes: &Vec<Attribute>,
+    members: &mut Map<String, Value>,
+) -> Result<(), AllocError>
+    ensures { OnOk result (members_view members.new.entries
+        ≡ with_font (map attribute_view attributes.now.items) (members_view members.old.entries)) }
+{
     let color = text_unless(
         alloc,
         &["", "#000000", "#ff000000"],
@@ -170,7 +180,21 @@ fn put_words(
         &["", "sans-serif"],
         text_at(attributes, "fontfamily"),
     )?;
-    put_some(alloc, members, "fontfamily", family)?;
+    put_some(alloc, members, "fontfamily", family)
+}
+
+// Puts how a text looks, and what it says, among the members.
+fn put_words(
+    alloc: Global,
+    attributes: &Vec<Attribute>,
+    content: &str,
+    members: &mut Map<String, Value>,
+) -> Result<(), AllocError>
+    ensures { OnOk result (members_view members.new.entries
+        ≡ with_words (map attribute_view attributes.now.items) content.now (members_view members.old.entries)) }
+{
+    put_alignment(alloc, attributes, members)?;
+    put_font(alloc, attributes, members)?;
     put_text(alloc, members, "text", content)
 }
 
@@ -307,6 +331,7 @@ fn put_size(
     Ok(())
 }
 
+#[tactic(auto, unfolding(crate::specs::Objects::with_own))]
 fn put_own(
     alloc: Global,
     attributes: &Vec<Attribute>,
@@ -324,6 +349,7 @@ fn put_own(
 }
 
 /// Puts all that an object says but its id among its members.
+#[tactic(auto, unfolding(crate::specs::Objects::object_members))]
 pub fn put_object(
     alloc: Global,
     element: &Element,

@@ -4,8 +4,10 @@ ghost use Rattle.serde_json.specs.View.{members_view};
 ghost use Rattle.xml_text.specs.Xml.{attribute_view};
 ghost use Rattle.tmx_tree.specs.Answers.{Leaves};
 ghost use Rattle.tmx_tree.specs.Rows.{with_rows};
-ghost use Rattle.tmx_tree.specs.Tables.{map_rows, hexagonal_rows, layer_rows, size_rows, place_rows, image_layer_rows, object_layer_rows, object_rows, own_object_rows};
-ghost use Rattle.tmx_tree.specs.Tables.{instance_rows, text_rows, tileset_rows, turning_rows, tile_rows, frame_rows};
+ghost use Rattle.tmx_tree.specs.Tables.{map_rows, map_size_rows, with_map_rows, hexagonal_rows, layer_rows, look_rows, with_layer_rows, size_rows, place_rows, image_layer_rows};
+ghost use Rattle.tmx_tree.specs.Tables.{object_layer_rows, object_rows, own_object_rows, instance_rows, text_rows};
+ghost use Rattle.tmx_tree.specs.Tables.{tileset_rows, tileset_size_rows, with_tileset_rows, turning_rows, tile_rows, part_rows, with_tile_rows, frame_rows};
+ghost use Rattle.tmx_tree.specs.Tables.{wang_set_rows, wang_color_rows, wang_tile_rows};
 
 use crate::fault::Fault;
 use crate::row::{Kind, Row, Shown, put_rows};
@@ -21,9 +23,8 @@ const fn row(name: &'static str, kind: Kind, shown: Shown) -> Row
     Row { name, kind, shown }
 }
 
-/// Puts those of a map.
 #[tactic(auto, unfolding(crate::specs::Tables::map_rows))]
-pub fn put_map_rows(
+fn put_own_map_rows(
     alloc: Global,
     attributes: &Vec<Attribute>,
     members: &mut Map<String, Value>,
@@ -38,16 +39,48 @@ pub fn put_map_rows(
             row("tiledversion", Kind::Text, Shown::Given),
             row("class", Kind::Text, Shown::Unusual),
             row("compressionlevel", Kind::Whole(-1), Shown::Always),
-            row("width", Kind::Whole(0), Shown::Always),
-            row("height", Kind::Whole(0), Shown::Always),
-            row("tilewidth", Kind::Whole(0), Shown::Always),
-            row("tileheight", Kind::Whole(0), Shown::Always),
-            row("infinite", Kind::Flag(false), Shown::Always),
             row("backgroundcolor", Kind::Text, Shown::Unusual),
         ],
         attributes,
         members,
     )
+}
+
+#[tactic(auto, unfolding(crate::specs::Tables::map_size_rows))]
+fn put_map_size_rows(
+    alloc: Global,
+    attributes: &Vec<Attribute>,
+    members: &mut Map<String, Value>,
+) -> Result<(), Fault>
+    ensures { Leaves result (members_view members.new.entries)
+        (with_rows map_size_rows (map attribute_view attributes.now.items) (members_view members.old.entries)) }
+{
+    put_rows(
+        alloc,
+        &[
+            row("width", Kind::Whole(0), Shown::Always),
+            row("height", Kind::Whole(0), Shown::Always),
+            row("tilewidth", Kind::Whole(0), Shown::Always),
+            row("tileheight", Kind::Whole(0), Shown::Always),
+            row("infinite", Kind::Flag(false), Shown::Always),
+        ],
+        attributes,
+        members,
+    )
+}
+
+/// Puts those of a map.
+#[tactic(auto, unfolding(crate::specs::Tables::with_map_rows))]
+pub fn put_map_rows(
+    alloc: Global,
+    attributes: &Vec<Attribute>,
+    members: &mut Map<String, Value>,
+) -> Result<(), Fault>
+    ensures { Leaves result (members_view members.new.entries)
+        (with_map_rows (map attribute_view attributes.now.items) (members_view members.old.entries)) }
+{
+    put_own_map_rows(alloc, attributes, members)?;
+    put_map_size_rows(alloc, attributes, members)
 }
 
 /// Puts those of a hexagonal map.
@@ -68,9 +101,8 @@ pub fn put_hexagonal_rows(
     )
 }
 
-/// Puts those of a layer of any kind.
 #[tactic(auto, unfolding(crate::specs::Tables::layer_rows))]
-pub fn put_layer_rows(
+fn put_own_layer_rows(
     alloc: Global,
     attributes: &Vec<Attribute>,
     members: &mut Map<String, Value>,
@@ -87,6 +119,24 @@ pub fn put_layer_rows(
             row("y", Kind::Whole(0), Shown::Always),
             row("visible", Kind::Flag(true), Shown::Always),
             row("locked", Kind::Flag(false), Shown::Unusual),
+        ],
+        attributes,
+        members,
+    )
+}
+
+#[tactic(auto, unfolding(crate::specs::Tables::look_rows))]
+fn put_look_rows(
+    alloc: Global,
+    attributes: &Vec<Attribute>,
+    members: &mut Map<String, Value>,
+) -> Result<(), Fault>
+    ensures { Leaves result (members_view members.new.entries)
+        (with_rows look_rows (map attribute_view attributes.now.items) (members_view members.old.entries)) }
+{
+    put_rows(
+        alloc,
+        &[
             row("opacity", Kind::Real(1), Shown::Always),
             row("tintcolor", Kind::Text, Shown::Unusual),
             row("parallaxx", Kind::Real(1), Shown::Unusual),
@@ -96,6 +146,20 @@ pub fn put_layer_rows(
         attributes,
         members,
     )
+}
+
+/// Puts those of a layer of any kind.
+#[tactic(auto, unfolding(crate::specs::Tables::with_layer_rows))]
+pub fn put_layer_rows(
+    alloc: Global,
+    attributes: &Vec<Attribute>,
+    members: &mut Map<String, Value>,
+) -> Result<(), Fault>
+    ensures { Leaves result (members_view members.new.entries)
+        (with_layer_rows (map attribute_view attributes.now.items) (members_view members.old.entries)) }
+{
+    put_own_layer_rows(alloc, attributes, members)?;
+    put_look_rows(alloc, attributes, members)
 }
 
 /// Puts those of a thing with a size.
@@ -278,9 +342,8 @@ pub fn put_text_rows(
     )
 }
 
-/// Puts those of a tileset that stands in the map.
 #[tactic(auto, unfolding(crate::specs::Tables::tileset_rows))]
-pub fn put_tileset_rows(
+fn put_own_tileset_rows(
     alloc: Global,
     attributes: &Vec<Attribute>,
     members: &mut Map<String, Value>,
@@ -294,19 +357,51 @@ pub fn put_tileset_rows(
             row("firstgid", Kind::Unsigned, Shown::Always),
             row("name", Kind::Text, Shown::Always),
             row("class", Kind::Text, Shown::Unusual),
+            row("tilecount", Kind::Whole(0), Shown::Always),
+            row("columns", Kind::Whole(0), Shown::Always),
+            row("backgroundcolor", Kind::Text, Shown::Unusual),
+        ],
+        attributes,
+        members,
+    )
+}
+
+#[tactic(auto, unfolding(crate::specs::Tables::tileset_size_rows))]
+fn put_tileset_size_rows(
+    alloc: Global,
+    attributes: &Vec<Attribute>,
+    members: &mut Map<String, Value>,
+) -> Result<(), Fault>
+    ensures { Leaves result (members_view members.new.entries)
+        (with_rows tileset_size_rows (map attribute_view attributes.now.items) (members_view members.old.entries)) }
+{
+    put_rows(
+        alloc,
+        &[
             row("tilewidth", Kind::Whole(0), Shown::Always),
             row("tileheight", Kind::Whole(0), Shown::Always),
             row("spacing", Kind::Whole(0), Shown::Always),
             row("margin", Kind::Whole(0), Shown::Always),
-            row("tilecount", Kind::Whole(0), Shown::Always),
-            row("columns", Kind::Whole(0), Shown::Always),
-            row("backgroundcolor", Kind::Text, Shown::Unusual),
             row("tilerendersize", Kind::Text, Shown::Unusual),
             row("fillmode", Kind::Text, Shown::Unusual),
         ],
         attributes,
         members,
     )
+}
+
+/// Puts those of a tileset that stands in the map itself.
+#[tactic(auto, unfolding(crate::specs::Tables::with_tileset_rows))]
+pub fn put_tileset_rows(
+    alloc: Global,
+    attributes: &Vec<Attribute>,
+    members: &mut Map<String, Value>,
+) -> Result<(), Fault>
+    ensures { Leaves result (members_view members.new.entries)
+        (with_tileset_rows (map attribute_view attributes.now.items) (members_view members.old.entries)) }
+{
+    put_own_tileset_rows(alloc, attributes, members)?;
+    put_tileset_size_rows(alloc, attributes, members)
 }
 
 /// Puts those of how tiles may be turned.
@@ -332,9 +427,8 @@ pub fn put_turning_rows(
     )
 }
 
-/// Puts those of a tile.
 #[tactic(auto, unfolding(crate::specs::Tables::tile_rows))]
-pub fn put_tile_rows(
+fn put_own_tile_rows(
     alloc: Global,
     attributes: &Vec<Attribute>,
     members: &mut Map<String, Value>,
@@ -349,6 +443,24 @@ pub fn put_tile_rows(
             row("type", Kind::Text, Shown::Unusual),
             row("class", Kind::Text, Shown::Unusual),
             row("probability", Kind::Real(1), Shown::Unusual),
+        ],
+        attributes,
+        members,
+    )
+}
+
+#[tactic(auto, unfolding(crate::specs::Tables::part_rows))]
+fn put_part_rows(
+    alloc: Global,
+    attributes: &Vec<Attribute>,
+    members: &mut Map<String, Value>,
+) -> Result<(), Fault>
+    ensures { Leaves result (members_view members.new.entries)
+        (with_rows part_rows (map attribute_view attributes.now.items) (members_view members.old.entries)) }
+{
+    put_rows(
+        alloc,
+        &[
             row("x", Kind::Whole(0), Shown::Given),
             row("y", Kind::Whole(0), Shown::Given),
             row("width", Kind::Whole(0), Shown::Given),
@@ -357,6 +469,20 @@ pub fn put_tile_rows(
         attributes,
         members,
     )
+}
+
+/// Puts those of a tile.
+#[tactic(auto, unfolding(crate::specs::Tables::with_tile_rows))]
+pub fn put_tile_rows(
+    alloc: Global,
+    attributes: &Vec<Attribute>,
+    members: &mut Map<String, Value>,
+) -> Result<(), Fault>
+    ensures { Leaves result (members_view members.new.entries)
+        (with_tile_rows (map attribute_view attributes.now.items) (members_view members.old.entries)) }
+{
+    put_own_tile_rows(alloc, attributes, members)?;
+    put_part_rows(alloc, attributes, members)
 }
 
 /// Puts those of a frame of an animation.
@@ -375,6 +501,70 @@ pub fn put_frame_rows(
             row("tileid", Kind::Whole(0), Shown::Always),
             row("duration", Kind::Whole(0), Shown::Always),
         ],
+        attributes,
+        members,
+    )
+}
+
+/// Puts those of a wang set.
+#[tactic(auto, unfolding(crate::specs::Tables::wang_set_rows))]
+pub fn put_wang_set_rows(
+    alloc: Global,
+    attributes: &Vec<Attribute>,
+    members: &mut Map<String, Value>,
+) -> Result<(), Fault>
+    ensures { Leaves result (members_view members.new.entries)
+        (with_rows wang_set_rows (map attribute_view attributes.now.items) (members_view members.old.entries)) }
+{
+    put_rows(
+        alloc,
+        &[
+            row("name", Kind::Text, Shown::Always),
+            row("class", Kind::Text, Shown::Unusual),
+            row("tile", Kind::Whole(0), Shown::Always),
+        ],
+        attributes,
+        members,
+    )
+}
+
+/// Puts those of a color of a wang set.
+#[tactic(auto, unfolding(crate::specs::Tables::wang_color_rows))]
+pub fn put_wang_color_rows(
+    alloc: Global,
+    attributes: &Vec<Attribute>,
+    members: &mut Map<String, Value>,
+) -> Result<(), Fault>
+    ensures { Leaves result (members_view members.new.entries)
+        (with_rows wang_color_rows (map attribute_view attributes.now.items) (members_view members.old.entries)) }
+{
+    put_rows(
+        alloc,
+        &[
+            row("name", Kind::Text, Shown::Always),
+            row("class", Kind::Text, Shown::Unusual),
+            row("color", Kind::Text, Shown::Always),
+            row("tile", Kind::Whole(0), Shown::Always),
+            row("probability", Kind::Real(0), Shown::Always),
+        ],
+        attributes,
+        members,
+    )
+}
+
+/// Puts those of a tile of a wang set.
+#[tactic(auto, unfolding(crate::specs::Tables::wang_tile_rows))]
+pub fn put_wang_tile_rows(
+    alloc: Global,
+    attributes: &Vec<Attribute>,
+    members: &mut Map<String, Value>,
+) -> Result<(), Fault>
+    ensures { Leaves result (members_view members.new.entries)
+        (with_rows wang_tile_rows (map attribute_view attributes.now.items) (members_view members.old.entries)) }
+{
+    put_rows(
+        alloc,
+        &[row("tileid", Kind::Whole(0), Shown::Always)],
         attributes,
         members,
     )

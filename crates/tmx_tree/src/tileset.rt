@@ -4,13 +4,13 @@ ghost use Rattle.serde_json.specs.View.{view as data_of, members_view};
 ghost use Rattle.xml_text.specs.Xml.{attribute_view, node_view, view, children_of};
 ghost use Rattle.tmx_tree.specs.Answers.{GivesBy, Leaves};
 ghost use Rattle.tmx_tree.specs.Elements.{attributes_of, kids_of};
-ghost use Rattle.tmx_tree.specs.Tilesets.{whole_at, unless_zero, picture, with_picture, point, are_zero, offset_of, grid_orientation, is_own_grid, grid_data, grid_of, is_set, is_turning, turning, turning_in};
-ghost use Rattle.tmx_tree.specs.Tilesets.{is_old, with_drawing, embedded, offset_in, grid_in};
+ghost use Rattle.tmx_tree.specs.Tilesets.{unless_zero, picture, with_picture, point, are_zero, offset_of, grid_orientation, is_own_grid, grid_data, grid_of, is_set, is_turning, turning, turning_in};
+ghost use Rattle.tmx_tree.specs.Tilesets.{is_old, with_places, alignment, with_drawing, with_lists, embedded, offset_in, grid_in};
 
+use crate::cells::whole_at;
 use crate::element::{attribute_value, attributes, children, first_named};
 use crate::fault::Fault;
 use crate::layers::transparent;
-use crate::number::whole_of;
 use crate::objects::text_unless;
 use crate::plain_value::text_at;
 use crate::properties::{put_properties, unless_none};
@@ -19,18 +19,10 @@ use crate::row::put_some;
 use crate::tables::{put_tileset_rows, put_turning_rows};
 use crate::texts::one_of;
 use crate::tiles::push_tiles;
+use crate::wangs::wang_sets;
 use serde_json::{Map, Value};
 use std::alloc::{AllocError, Global};
-use xml_text::{Attribute, Element};
-
-fn whole_at(attributes: &Vec<Attribute>, name: &str) -> i32
-    ensures { result ≡ whole_at name.now (map attribute_view attributes.now.items) }
-{
-    match attribute_value(attributes, name) {
-        Some(text) => whole_of(text).unwrap_or(0),
-        None => 0,
-    }
-}
+use xml_text::{Attribute, Element, Node};
 
 fn unless_zero(number: i32) -> Option<Value>
     ensures { option_map data_of result ≡ unless_zero number }
@@ -191,14 +183,37 @@ fn turning_in(alloc: Global, element: Option<&Element>) -> Result<Option<Value>,
     }
 }
 
-/// Whether a tileset has wang sets or terrains, or does not say how many tiles it has.
+/// Whether a tileset has terrains, or does not say how many tiles it has.
 pub fn is_old(element: &Element) -> bool
     ensures { result ≡ is_old (view element.now) }
 {
-    first_named(children(element), "wangsets").is_some()
-        || first_named(children(element), "terraintypes").is_some()
+    first_named(children(element), "terraintypes").is_some()
         || !(attribute_value(attributes(element), "tilecount").is_some()
             && attribute_value(attributes(element), "columns").is_some())
+}
+
+fn put_places(
+    alloc: Global,
+    element: &Element,
+    members: &mut Map<String, Value>,
+) -> Result<(), AllocError>
+    ensures { OnOk result (members_view members.new.entries
+        ≡ with_places (view element.now) (members_view members.old.entries)) }
+{
+    let grid = grid_in(alloc, element)?;
+    put_some(alloc, members, "grid", grid)?;
+    let offset = offset_in(alloc, element)?;
+    put_some(alloc, members, "tileoffset", offset)
+}
+
+fn alignment(alloc: Global, element: &Element) -> Result<Option<Value>, AllocError>
+    ensures { IfOk result (λ o. option_map data_of o ≡ alignment (view element.now)) }
+{
+    text_unless(
+        alloc,
+        &["", "unspecified"],
+        text_at(attributes(element), "objectalignment"),
+    )
 }
 
 fn put_drawing(
@@ -210,19 +225,30 @@ fn put_drawing(
         ≡ with_drawing (view element.now) (members_view members.old.entries)) }
 {
     put_picture(alloc, first_named(children(element), "image"), members)?;
-    let grid = grid_in(alloc, element)?;
-    put_some(alloc, members, "grid", grid)?;
-    let offset = offset_in(alloc, element)?;
-    put_some(alloc, members, "tileoffset", offset)?;
-    let alignment = text_unless(
-        alloc,
-        &["", "unspecified"],
-        text_at(attributes(element), "objectalignment"),
-    )?;
+    put_places(alloc, element, members)?;
+    let alignment = alignment(alloc, element)?;
     put_some(alloc, members, "objectalignment", alignment)
 }
 
+#[tactic(auto, unfolding(crate::specs::Tilesets::with_lists))]
+fn put_lists(
+    alloc: Global,
+    nodes: &Vec<Node>,
+    members: &mut Map<String, Value>,
+) -> Result<(), Fault>
+    ensures { Leaves result (members_view members.new.entries)
+        (with_lists (children_of (map node_view nodes.now.items)) (members_view members.old.entries)) }
+{
+    let mut tiles = Vec::new(alloc);
+    push_tiles(alloc, nodes, &mut tiles)?;
+    let sets = wang_sets(alloc, first_named(nodes, "wangsets"))?;
+    put_some(alloc, members, "tiles", unless_none(tiles))?;
+    put_some(alloc, members, "wangsets", unless_none(sets))?;
+    Ok(())
+}
+
 /// A tileset that stands in the map itself.
+#[tactic(auto, unfolding(crate::specs::Tilesets::embedded))]
 pub fn embedded(alloc: Global, element: &Element) -> Result<Value, Fault>
     ensures { GivesBy data_of result (embedded (view element.now)) }
 {
@@ -231,9 +257,7 @@ pub fn embedded(alloc: Global, element: &Element) -> Result<Value, Fault>
     put_drawing(alloc, element, &mut members)?;
     let turned = turning_in(alloc, first_named(children(element), "transformations"))?;
     put_some(alloc, &mut members, "transformations", turned)?;
-    let mut tiles = Vec::new(alloc);
-    push_tiles(alloc, children(element), &mut tiles)?;
-    put_some(alloc, &mut members, "tiles", unless_none(tiles))?;
+    put_lists(alloc, children(element), &mut members)?;
     put_properties(alloc, children(element), &mut members)?;
     Ok(Value::from(members))
 }

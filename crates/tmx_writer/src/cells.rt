@@ -36,7 +36,11 @@ fn push_csv(
         column = column.saturating_add(1);
         is_first = false;
     }
-    if is_first { Ok(()) } else { out.extend_from_slice(sheet.line) }
+    if is_first {
+        Ok(())
+    } else {
+        out.extend_from_slice(sheet.line)
+    }
 }
 
 /// Pushes a cell as an element.
@@ -59,7 +63,11 @@ fn push_elements(
         push_line(sheet, level.saturating_add(1), out)?;
         push_element(cell, out)?;
     }
-    if cells.is_empty() { Ok(()) } else { push_line(sheet, level, out) }
+    if cells.is_empty() {
+        Ok(())
+    } else {
+        push_line(sheet, level, out)
+    }
 }
 
 fn push_packed(sheet: &Sheet<'_>, text: &str, out: &mut Vec<u8>) -> Result<(), AllocError> {

@@ -16,9 +16,6 @@ fn escape_of(byte: u8, is_value: bool) -> &'static [u8] {
 }
 
 fn push_escaped(text: &[u8], is_value: bool, out: &mut Vec<u8>) -> Result<(), AllocError> {
-    if text.iter().all(|byte| escape_of(*byte, is_value).is_empty()) {
-        return out.extend_from_slice(text);
-    }
     for byte in text {
         let escape = escape_of(*byte, is_value);
         if escape.is_empty() {

@@ -35,7 +35,12 @@ pub fn has_ids(merge: &Merge<'_>, part: &Part<'_>) -> bool {
         return false;
     }
     match part.kind {
-        Kind::Map | Kind::Layer | Kind::ObjectLayer | Kind::ImageLayer | Kind::Group | Kind::Object => true,
+        Kind::Map
+        | Kind::Layer
+        | Kind::ObjectLayer
+        | Kind::ImageLayer
+        | Kind::Group
+        | Kind::Object => true,
         _ => false,
     }
 }
@@ -54,9 +59,22 @@ fn value_of<'a>(told: &'a [Told], name: &str) -> Option<&'a [u8]> {
 }
 
 fn has_attribute(raw: &Element, name: &str) -> bool {
-    raw.attributes
-        .iter()
-        .any(|attribute| attribute.name.as_str() == name)
+    for attribute in &raw.attributes {
+        if attribute.name.as_str() == name {
+            return true;
+        }
+    }
+    false
+}
+
+/// Whether an element has an attribute with this value.
+pub fn says(raw: &Element, name: &str, value: &str) -> bool {
+    for attribute in &raw.attributes {
+        if attribute.name.as_str() == name {
+            return attribute.value.as_str() == value;
+        }
+    }
+    false
 }
 
 /// The attributes of an element as they were, and as they are to be.
@@ -104,7 +122,12 @@ fn push_attribute_of(
     }
     match now {
         Some(value) => {
-            push_source(merge, from, attribute.value_span.from.saturating_sub(1), out)?;
+            push_source(
+                merge,
+                from,
+                attribute.value_span.from.saturating_sub(1),
+                out,
+            )?;
             push_quoted(value, out)
         }
         None => Ok(()),

@@ -1,9 +1,10 @@
 // A part told in the bytes of a source: what did not change stays.
-use crate::anew::{Content, content_of, has_content, push_content, push_element, push_end};
+use crate::anew::{
+    Content, content_of, has_content, push_content, push_element, push_end, text_of,
+};
 use crate::attributes::attributes_of;
 use crate::escape::push_text;
-use crate::anew::text_of;
-use crate::head::{Heads, Merge, has_ids, push_head, push_source};
+use crate::head::{Heads, Merge, has_ids, push_head, push_source, says};
 use crate::layout::{Sheet, push_line};
 use crate::members::text_at;
 use crate::merged_cells::push_merged_cells;
@@ -13,21 +14,26 @@ use crate::same::{is_same_content, is_same_part};
 use std::alloc::{AllocError, Global};
 use xml_text::Element;
 
+/// An element of the source, the part that it was, and the one that it is to be, on a level.
+#[derive(Clone, Copy)]
+pub struct Spot<'a> {
+    pub raw: &'a Element,
+    pub old: Part<'a>,
+    pub new: Part<'a>,
+    pub level: u8,
+}
+
 // The source with cells that are numbers told as this element has them.
-fn told_as_in<'a>(merge: &Merge<'a>, raw: &Element, old: &Part<'_>) -> Merge<'a> {
-    if old.kind != Kind::Data || text_at(old.value, "encoding") == "base64" {
+fn told_as_in<'a>(merge: &Merge<'a>, spot: &Spot<'_>) -> Merge<'a> {
+    if spot.old.kind != Kind::Data || text_at(spot.old.value, "encoding") == "base64" {
         return *merge;
     }
-    let is_csv = raw
-        .attributes
-        .iter()
-        .any(|attribute| attribute.name.as_str() == "encoding" && attribute.value.as_str() == "csv");
     Merge {
         source: merge.source,
         old: merge.old,
         new: Sheet {
             map: merge.new.map,
-            is_by_elements: !is_csv,
+            is_by_elements: !says(spot.raw, "encoding", "csv"),
             line: merge.new.line,
             indent: merge.new.indent,
         },
@@ -39,18 +45,16 @@ fn told_as_in<'a>(merge: &Merge<'a>, raw: &Element, old: &Part<'_>) -> Merge<'a>
 fn push_start(
     alloc: Global,
     merge: &Merge<'_>,
-    raw: &Element,
-    old: &Part<'_>,
-    new: &Part<'_>,
+    spot: &Spot<'_>,
     out: &mut Vec<u8>,
 ) -> Result<usize, AllocError> {
-    let was = attributes_of(alloc, &merge.old, old)?;
-    let now = attributes_of(alloc, &merge.new, new)?;
+    let was = attributes_of(alloc, &merge.old, &spot.old)?;
+    let now = attributes_of(alloc, &merge.new, &spot.new)?;
     let heads = Heads {
-        raw,
+        raw: spot.raw,
         old: &was,
         new: &now,
-        has_ids: has_ids(merge, new),
+        has_ids: has_ids(merge, &spot.new),
     };
     push_head(merge, &heads, out)
 }
@@ -73,10 +77,13 @@ fn push_gap(
     level: u8,
     out: &mut Vec<u8>,
 ) -> Result<(), AllocError> {
-    match kids.pieces.iter().find(|piece| is_blank(gap_of(merge, piece))) {
-        Some(piece) => out.extend_from_slice(gap_of(merge, piece)),
-        None => push_line(&merge.new, level.saturating_add(1), out),
+    for piece in &kids.pieces {
+        let gap = gap_of(merge, piece);
+        if is_blank(gap) {
+            return out.extend_from_slice(gap);
+        }
     }
+    push_line(&merge.new, level.saturating_add(1), out)
 }
 
 // Pushes the new children from a place on, up to one that the source has.
@@ -85,10 +92,10 @@ fn push_news(
     merge: &Merge<'_>,
     kids: &Kids<'_>,
     from: usize,
-    level: u8,
-    most: u8,
+    levels: [u8; 2],
     out: &mut Vec<u8>,
 ) -> Result<(), AllocError> {
+    let [level, most] = levels;
     let Some(news) = kids.news.get(from..) else {
         return Ok(());
     };
@@ -104,29 +111,82 @@ fn push_news(
     Ok(())
 }
 
-// Pushes a child of the source as the new part at a place.
+// A child of the source with the parts at two places, on the level of its owner.
+fn spot_of<'a>(
+    kids: &Kids<'a>,
+    piece: &Piece<'a>,
+    old: usize,
+    new: usize,
+    level: u8,
+) -> Option<Spot<'a>> {
+    Some(Spot {
+        raw: piece.element,
+        old: *kids.olds.get(old)?,
+        new: *kids.news.get(new)?,
+        level: level.saturating_add(1),
+    })
+}
+
+// Pushes a child of the source, with what stands before it.
 #[cycle(merging)]
 fn push_kid(
     alloc: Global,
     merge: &Merge<'_>,
-    kids: &Kids<'_>,
     piece: &Piece<'_>,
-    places: [usize; 2],
-    level: u8,
+    spot: Option<Spot<'_>>,
     most: u8,
     out: &mut Vec<u8>,
 ) -> Result<(), AllocError> {
-    let [old, new] = places;
-    let (Some(old), Some(new)) = (kids.olds.get(old), kids.news.get(new)) else {
-        return Ok(());
-    };
-    out.extend_from_slice(gap_of(merge, piece))?;
-    push_merged(alloc, merge, piece.element, old, new, level.saturating_add(1), most, out)
+    match spot {
+        Some(spot) => {
+            out.extend_from_slice(gap_of(merge, piece))?;
+            push_merged(alloc, merge, &spot, most, out)
+        }
+        None => Ok(()),
+    }
 }
 
 // Pushes a child of the source that is no part of the map, as it stands.
 fn push_other(merge: &Merge<'_>, piece: &Piece<'_>, out: &mut Vec<u8>) -> Result<(), AllocError> {
     push_source(merge, piece.from, piece.element.span.end, out)
+}
+
+// Pushes the child at a place of the source, and the new ones behind it.
+#[cycle(merging)]
+fn push_at(
+    alloc: Global,
+    merge: &Merge<'_>,
+    kids: &Kids<'_>,
+    at: usize,
+    level: u8,
+    most: u8,
+    out: &mut Vec<u8>,
+) -> Result<(), AllocError> {
+    let Some(piece) = kids.pieces.get(at) else {
+        return Ok(());
+    };
+    let Some(old) = place_at(&kids.old_of, at) else {
+        return push_other(merge, piece, out);
+    };
+    let Some(new) = place_at(&kids.new_of, old) else {
+        return Ok(());
+    };
+    push_kid(
+        alloc,
+        merge,
+        piece,
+        spot_of(kids, piece, old, new, level),
+        most,
+        out,
+    )?;
+    push_news(
+        alloc,
+        merge,
+        kids,
+        new.saturating_add(1),
+        [level, most],
+        out,
+    )
 }
 
 // Pushes the children in the order of the source, and the new ones each behind its neighbour.
@@ -139,39 +199,11 @@ fn push_in_order(
     most: u8,
     out: &mut Vec<u8>,
 ) -> Result<(), AllocError> {
-    push_news(alloc, merge, kids, 0, level, most, out)?;
-    for (at, piece) in kids.pieces.iter().enumerate() {
-        let Some(old) = place_at(&kids.old_of, at) else {
-            push_other(merge, piece, out)?;
-            continue;
-        };
-        let Some(new) = place_at(&kids.new_of, old) else {
-            continue;
-        };
-        push_kid(alloc, merge, kids, piece, [old, new], level, most, out)?;
-        push_news(alloc, merge, kids, new.saturating_add(1), level, most, out)?;
+    push_news(alloc, merge, kids, 0, [level, most], out)?;
+    for at in 0..kids.pieces.len() {
+        push_at(alloc, merge, kids, at, level, most, out)?;
     }
     Ok(())
-}
-
-// Pushes the child at a place of the new order.
-#[cycle(merging)]
-fn push_moved(
-    alloc: Global,
-    merge: &Merge<'_>,
-    kids: &Kids<'_>,
-    new: usize,
-    level: u8,
-    most: u8,
-    out: &mut Vec<u8>,
-) -> Result<(), AllocError> {
-    let Some(at) = place_at(&kids.piece_of, new) else {
-        return Ok(());
-    };
-    match (kids.pieces.get(at), place_at(&kids.old_of, at)) {
-        (Some(piece), Some(old)) => push_kid(alloc, merge, kids, piece, [old, new], level, most, out),
-        _ => Ok(()),
-    }
 }
 
 // Pushes the children in their new order, and then those that are no parts of the map.
@@ -184,16 +216,15 @@ fn push_reordered(
     most: u8,
     out: &mut Vec<u8>,
 ) -> Result<(), AllocError> {
-    push_news(alloc, merge, kids, 0, level, most, out)?;
+    push_news(alloc, merge, kids, 0, [level, most], out)?;
     for new in 0..kids.news.len() {
-        if place_at(&kids.piece_of, new).is_some() {
-            push_moved(alloc, merge, kids, new, level, most, out)?;
-            push_news(alloc, merge, kids, new.saturating_add(1), level, most, out)?;
+        if let Some(at) = place_at(&kids.piece_of, new) {
+            push_at(alloc, merge, kids, at, level, most, out)?;
         }
     }
-    for (at, piece) in kids.pieces.iter().enumerate() {
+    for at in 0..kids.pieces.len() {
         if place_at(&kids.old_of, at).is_none() {
-            push_other(merge, piece, out)?;
+            push_at(alloc, merge, kids, at, level, most, out)?;
         }
     }
     Ok(())
@@ -202,18 +233,17 @@ fn push_reordered(
 // Pushes what stands behind the last child.
 fn push_last(
     merge: &Merge<'_>,
-    raw: &Element,
+    spot: &Spot<'_>,
     kids: &Kids<'_>,
-    level: u8,
     out: &mut Vec<u8>,
 ) -> Result<(), AllocError> {
     let from = match kids.pieces.last() {
         Some(piece) => piece.element.span.end,
-        None => raw.content.from,
+        None => spot.raw.content.from,
     };
-    match merge.source.get(from..raw.content.end) {
+    match merge.source.get(from..spot.raw.content.end) {
         Some(rest) => if kids.pieces.is_empty() && is_blank(rest) {
-            push_line(&merge.new, level, out)
+            push_line(&merge.new, spot.level, out)
         } else {
             out.extend_from_slice(rest)
         },
@@ -225,26 +255,23 @@ fn push_last(
 fn push_kids(
     alloc: Global,
     merge: &Merge<'_>,
-    raw: &Element,
-    old: &Part<'_>,
-    new: &Part<'_>,
-    level: u8,
+    spot: &Spot<'_>,
     most: u8,
     out: &mut Vec<u8>,
 ) -> Result<(), AllocError> {
-    let Some(kids) = matched(alloc, raw, old, new)? else {
-        return push_content(alloc, &merge.new, new, level, most, out);
+    let Some(kids) = matched(alloc, spot.raw, &spot.old, &spot.new)? else {
+        return push_content(alloc, &merge.new, &spot.new, spot.level, most, out);
     };
     let before = out.len();
     if are_in_order(&kids.new_of) {
-        push_in_order(alloc, merge, &kids, level, most, out)?;
+        push_in_order(alloc, merge, &kids, spot.level, most, out)?;
     } else {
-        push_reordered(alloc, merge, &kids, level, most, out)?;
+        push_reordered(alloc, merge, &kids, spot.level, most, out)?;
     }
     if out.len() == before {
         return Ok(());
     }
-    push_last(merge, raw, &kids, level, out)
+    push_last(merge, spot, &kids, out)
 }
 
 // Pushes what stands between the tags of an element of a source that has some.
@@ -252,25 +279,21 @@ fn push_kids(
 fn push_inner(
     alloc: Global,
     merge: &Merge<'_>,
-    raw: &Element,
-    old: &Part<'_>,
-    new: &Part<'_>,
-    level: u8,
+    spot: &Spot<'_>,
     most: u8,
     out: &mut Vec<u8>,
 ) -> Result<(), AllocError> {
-    let content = content_of(new);
-    if content != content_of(old) {
-        return if has_content(alloc, new)? {
-            push_content(alloc, &merge.new, new, level, most, out)
-        } else {
-            Ok(())
-        };
+    let content = content_of(&spot.new);
+    if content != content_of(&spot.old) {
+        if !has_content(alloc, &spot.new)? {
+            return Ok(());
+        }
+        return push_content(alloc, &merge.new, &spot.new, spot.level, most, out);
     }
     match content {
-        Content::Cells => push_merged_cells(merge, raw, old, new, level, out),
-        Content::Text => push_text(text_of(new).as_bytes(), out),
-        Content::Elements => push_kids(alloc, merge, raw, old, new, level, most, out),
+        Content::Cells => push_merged_cells(merge, spot.raw, &spot.old, &spot.new, spot.level, out),
+        Content::Text => push_text(text_of(&spot.new).as_bytes(), out),
+        Content::Elements => push_kids(alloc, merge, spot, most, out),
     }
 }
 
@@ -279,49 +302,45 @@ fn push_inner(
 fn push_rest(
     alloc: Global,
     merge: &Merge<'_>,
-    raw: &Element,
-    old: &Part<'_>,
-    new: &Part<'_>,
+    spot: &Spot<'_>,
     head: usize,
-    levels: [u8; 2],
+    most: u8,
     out: &mut Vec<u8>,
 ) -> Result<(), AllocError> {
-    let [level, most] = levels;
-    if !has_ids(merge, new) && is_same_content(alloc, old, new)? {
+    let raw = spot.raw;
+    let is_same = is_same_content(alloc, &spot.old, &spot.new)?;
+    if is_same && !has_ids(merge, &spot.new) {
         return push_source(merge, head, raw.span.end, out);
     }
     if raw.content.from < raw.span.end {
         push_source(merge, head, raw.content.from, out)?;
-        push_inner(alloc, merge, raw, old, new, level, most, out)?;
+        push_inner(alloc, merge, spot, most, out)?;
         return push_source(merge, raw.content.end, raw.span.end, out);
     }
-    if !has_content(alloc, new)? || is_same_content(alloc, old, new)? {
+    if is_same || !has_content(alloc, &spot.new)? {
         return push_source(merge, head, raw.span.end, out);
     }
     out.push(b'>')?;
-    push_content(alloc, &merge.new, new, level, most, out)?;
-    push_end(new, out)
+    push_content(alloc, &merge.new, &spot.new, spot.level, most, out)?;
+    push_end(&spot.new, out)
 }
 
-/// Pushes a part in the bytes of an element of the source, whose part was the old one.
+/// Pushes a part in the bytes of its element of the source.
 #[cycle(merging)]
 pub fn push_merged(
     alloc: Global,
     merge: &Merge<'_>,
-    raw: &Element,
-    old: &Part<'_>,
-    new: &Part<'_>,
-    level: u8,
+    spot: &Spot<'_>,
     most: u8,
     out: &mut Vec<u8>,
 ) -> Result<(), AllocError> {
-    if !has_ids(merge, new) && is_same_part(old, new) {
-        return push_source(merge, raw.span.from, raw.span.end, out);
+    if !has_ids(merge, &spot.new) && is_same_part(&spot.old, &spot.new) {
+        return push_source(merge, spot.raw.span.from, spot.raw.span.end, out);
     }
-    if most == 0 || old.kind != new.kind {
-        return push_element(alloc, &merge.new, new, level, most, out);
+    if most == 0 || spot.old.kind != spot.new.kind {
+        return push_element(alloc, &merge.new, &spot.new, spot.level, most, out);
     }
-    let merge = told_as_in(merge, raw, old);
-    let head = push_start(alloc, &merge, raw, old, new, out)?;
-    push_rest(alloc, &merge, raw, old, new, head, [level, most - 1], out)
+    let merge = told_as_in(merge, spot);
+    let head = push_start(alloc, &merge, spot, out)?;
+    push_rest(alloc, &merge, spot, head, most - 1, out)
 }

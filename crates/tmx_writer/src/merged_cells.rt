@@ -12,11 +12,12 @@ use xml_text::{Element, Node};
 // The text of an element that holds nothing else, and no reference.
 fn plain_content<'a>(merge: &Merge<'a>, raw: &Element) -> Option<&'a [u8]> {
     let content = merge.source.get(raw.content.from..raw.content.end)?;
-    if content.iter().any(|byte| *byte == b'<' || *byte == b'&') {
-        None
-    } else {
-        Some(content)
+    for byte in content {
+        if *byte == b'<' || *byte == b'&' {
+            return None;
+        }
     }
+    Some(content)
 }
 
 // Pushes a packed text between the blanks that stand around the source's.
@@ -48,7 +49,11 @@ fn push_in_place(spelled: &[u8], number: u64, out: &mut Vec<u8>) -> Result<(), A
             is_told = true;
         }
     }
-    if is_told { Ok(()) } else { push_whole(number, out) }
+    if is_told {
+        Ok(())
+    } else {
+        push_whole(number, out)
+    }
 }
 
 fn push_spelled(
@@ -86,11 +91,13 @@ fn push_csv(
 }
 
 fn count_of(content: &[u8]) -> usize {
-    content
-        .iter()
-        .filter(|byte| **byte == b',')
-        .count()
-        .saturating_add(1)
+    let mut count: usize = 1;
+    for byte in content {
+        if *byte == b',' {
+            count = count.saturating_add(1);
+        }
+    }
+    count
 }
 
 fn is_tile(node: &Node) -> Option<&Element> {
@@ -132,11 +139,13 @@ fn push_elements(
 
 // Whether as many cells stand in an element as its layer has, each as an element.
 fn has_all_elements(raw: &Element, count: usize) -> bool {
-    raw.children
-        .iter()
-        .filter(|node| is_tile(node).is_some())
-        .count()
-        == count
+    let mut found: usize = 0;
+    for node in &raw.children {
+        if is_tile(node).is_some() {
+            found = found.saturating_add(1);
+        }
+    }
+    found == count
 }
 
 // Pushes numbers in those of the source, if it has just as many, and says whether it has.

@@ -1,6 +1,6 @@
 // Which children of an element of a source are which of what is told anew.
 use crate::kids::kids_of;
-use crate::members::{whole_at, text_at};
+use crate::members::{text_at, whole_at};
 use crate::number::push_whole;
 use crate::part::{Kind, Part, element_name};
 use serde_json::Value;
@@ -65,24 +65,37 @@ fn push_number(value: &Value, name: &str, out: &mut Vec<u8>) -> Result<(), Alloc
     }
 }
 
-// What tells a part from its siblings of the same name.
-fn key_of(alloc: Global, part: &Part<'_>, at: usize) -> Result<Vec<u8>, AllocError> {
-    let mut key = Vec::from_slice(alloc, element_name(part.kind).as_bytes())?;
-    key.push(b' ')?;
+fn push_corner(value: &Value, out: &mut Vec<u8>) -> Result<(), AllocError> {
+    push_number(value, "x", out)?;
+    out.push(b',')?;
+    push_number(value, "y", out)
+}
+
+// Pushes what tells a part from its siblings of the same name.
+fn push_key(part: &Part<'_>, at: usize, out: &mut Vec<u8>) -> Result<(), AllocError> {
+    out.extend_from_slice(element_name(part.kind).as_bytes())?;
+    out.push(b' ')?;
     match part.kind {
-        Kind::Property => key.extend_from_slice(text_at(part.value, "name").as_bytes())?,
-        Kind::Member => key.extend_from_slice(part.key.as_bytes())?,
-        Kind::Tileset => push_number(part.value, "firstgid", &mut key)?,
-        Kind::Layer | Kind::ObjectLayer | Kind::ImageLayer | Kind::Group | Kind::Object | Kind::Tile =>
-            push_number(part.value, "id", &mut key)?,
-        Kind::Chunk => {
-            push_number(part.value, "x", &mut key)?;
-            key.push(b',')?;
-            push_number(part.value, "y", &mut key)?;
-        }
-        Kind::Frame => push_whole(at as u64, &mut key)?,
-        _ => {}
+        Kind::Property => out.extend_from_slice(text_at(part.value, "name").as_bytes()),
+        Kind::Member => out.extend_from_slice(part.key.as_bytes()),
+        Kind::Tileset => push_number(part.value, "firstgid", out),
+        Kind::Layer
+        | Kind::ObjectLayer
+        | Kind::ImageLayer
+        | Kind::Group
+        | Kind::Object
+        | Kind::Tile => push_number(part.value, "id", out),
+        Kind::Chunk => push_corner(part.value, out),
+        Kind::Frame | Kind::WangSet | Kind::WangColor | Kind::WangTile => push_whole(
+            at as u64, out,
+        ),
+        _ => Ok(()),
     }
+}
+
+fn key_of(alloc: Global, part: &Part<'_>, at: usize) -> Result<Vec<u8>, AllocError> {
+    let mut key = Vec::new(alloc);
+    push_key(part, at, &mut key)?;
     Ok(key)
 }
 
@@ -130,7 +143,12 @@ fn next_named(olds: &[Part<'_>], name: &str, from: usize) -> Option<usize> {
 }
 
 fn has_cursor(cursors: &[Cursor], name: &str) -> bool {
-    cursors.iter().any(|cursor| cursor.name == name)
+    for cursor in cursors {
+        if cursor.name == name {
+            return true;
+        }
+    }
+    false
 }
 
 fn cursors_of(alloc: Global, olds: &[Part<'_>]) -> Result<Vec<Cursor>, AllocError> {
@@ -145,11 +163,7 @@ fn cursors_of(alloc: Global, olds: &[Part<'_>]) -> Result<Vec<Cursor>, AllocErro
 }
 
 // The place of the old part that a piece of the source is; the second is whether it is one too many.
-fn old_place(
-    cursors: &mut Vec<Cursor>,
-    olds: &[Part<'_>],
-    name: &str,
-) -> (Option<usize>, bool) {
+fn old_place(cursors: &mut Vec<Cursor>, olds: &[Part<'_>], name: &str) -> (Option<usize>, bool) {
     for cursor in cursors.iter_mut() {
         if cursor.name == name {
             let place = next_named(olds, name, cursor.next);
@@ -167,9 +181,12 @@ fn old_place(
 
 // Whether no old part is left.
 fn are_done(cursors: &[Cursor], olds: &[Part<'_>]) -> bool {
-    cursors
-        .iter()
-        .all(|cursor| next_named(olds, cursor.name, cursor.next).is_none())
+    for cursor in cursors {
+        if next_named(olds, cursor.name, cursor.next).is_some() {
+            return false;
+        }
+    }
+    true
 }
 
 // Of each piece the place of its old part: those of a name stand in one order. `None` where they are not as many.
@@ -187,7 +204,11 @@ fn old_places(
         }
         places.push(place)?;
     }
-    Ok(if are_done(&cursors, olds) { Some(places) } else { None })
+    Ok(if are_done(&cursors, olds) {
+        Some(places)
+    } else {
+        None
+    })
 }
 
 fn name_said(element: &Element) -> &str {

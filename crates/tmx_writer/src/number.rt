@@ -34,8 +34,15 @@ fn take(decimal: &mut Decimal, is_behind: &mut bool, byte: u8) -> Result<(), All
 }
 
 fn without_zeros(digits: &mut Vec<u8>) {
-    let zeros = digits.iter().rev().take_while(|byte| **byte == b'0').count();
-    digits.truncate(digits.len().saturating_sub(zeros));
+    let mut length = 0;
+    let mut at: usize = 0;
+    for byte in digits.iter() {
+        at = at.saturating_add(1);
+        if *byte != b'0' {
+            length = at;
+        }
+    }
+    digits.truncate(length);
 }
 
 fn decimal_of(alloc: Global, x: f64) -> Result<Decimal, AllocError> {
@@ -138,7 +145,7 @@ fn float_of(number: &Number) -> f64 {
 fn push_float(alloc: Global, x: f64, few: usize, out: &mut Vec<u8>) -> Result<(), AllocError> {
     let decimal = decimal_of(alloc, x)?;
     if decimal.digits.is_empty() {
-        return out.push(b'0').map_err(AllocError::from);
+        return out.extend_from_slice(b"0");
     }
     if decimal.is_negative {
         out.push(b'-')?;

@@ -28,7 +28,11 @@ fn shown_kind(value: &Value) -> &'static str {
 }
 
 fn kind_or_shown<'a>(kind: &'a str, value: &Value) -> &'a str {
-    if kind.is_empty() { shown_kind(value) } else { kind }
+    if kind.is_empty() {
+        shown_kind(value)
+    } else {
+        kind
+    }
 }
 
 fn own_property(value: &Value) -> Property<'_> {
@@ -76,18 +80,26 @@ pub fn is_text_between(property: &Property<'_>) -> bool {
     }
 }
 
+fn push_value(alloc: Global, property: &Property<'_>, out: &mut Vec<u8>) -> Result<(), AllocError> {
+    match property.value {
+        Value::Bool(is_set) => out.extend_from_slice(if *is_set {
+            b"true".as_slice()
+        } else {
+            b"false".as_slice()
+        }),
+        Value::Number(number) => if property.kind == "float" || number.is_f64() {
+            push_shortest(alloc, number, out)
+        } else {
+            push_number(alloc, number, out)
+        },
+        Value::String(text) => out.extend_from_slice(text.as_bytes()),
+        Value::Null | Value::Array(_) | Value::Object(_) => Ok(()),
+    }
+}
+
 fn value_text(alloc: Global, property: &Property<'_>) -> Result<Vec<u8>, AllocError> {
     let mut out = Vec::new(alloc);
-    match property.value {
-        Value::Bool(is_set) => out.extend_from_slice(if *is_set { b"true".as_slice() } else { b"false".as_slice() })?,
-        Value::Number(number) => if property.kind == "float" || number.is_f64() {
-            push_shortest(alloc, number, &mut out)?;
-        } else {
-            push_number(alloc, number, &mut out)?;
-        },
-        Value::String(text) => out.extend_from_slice(text.as_bytes())?,
-        Value::Null | Value::Array(_) | Value::Object(_) => {}
-    }
+    push_value(alloc, property, &mut out)?;
     Ok(out)
 }
 

@@ -30,9 +30,12 @@ fn is_same_value(old: Option<&Value>, new: Option<&Value>) -> bool {
 }
 
 fn has_same_members(names: &[&str], old: &Value, new: &Value) -> bool {
-    names
-        .iter()
-        .all(|name| is_same_value(old.get(*name), new.get(*name)))
+    for name in names {
+        if !is_same_value(old.get(*name), new.get(*name)) {
+            return false;
+        }
+    }
+    true
 }
 
 // Whether what is told beside the value is the same.
@@ -50,26 +53,30 @@ pub fn is_same_part(old: &Part<'_>, new: &Part<'_>) -> bool {
     }
     match old.kind {
         Kind::Data => has_same_members(&CELL_NAMES, old.value, new.value),
-        Kind::Picture | Kind::TilePicture | Kind::LayerPicture =>
-            has_same_members(&PICTURE_NAMES, old.value, new.value),
+        Kind::Picture | Kind::TilePicture | Kind::LayerPicture => has_same_members(
+            &PICTURE_NAMES,
+            old.value,
+            new.value,
+        ),
         _ => is_same(old.value, new.value) && is_same_beside(old, new),
     }
 }
 
 fn are_same_parts(olds: &[Part<'_>], news: &[Part<'_>]) -> bool {
-    olds.len() == news.len()
-        && olds
-            .iter()
-            .zip(news.iter())
-            .all(|(old, new)| is_same_part(old, new))
+    let mut others = news.iter();
+    for old in olds {
+        match others.next() {
+            Some(new) => if !is_same_part(old, new) {
+                return false;
+            },
+            None => return false,
+        }
+    }
+    others.next().is_none()
 }
 
 /// Whether the same stands between the tags of two parts.
-pub fn is_same_content(
-    alloc: Global,
-    old: &Part<'_>,
-    new: &Part<'_>,
-) -> Result<bool, AllocError> {
+pub fn is_same_content(alloc: Global, old: &Part<'_>, new: &Part<'_>) -> Result<bool, AllocError> {
     let content = content_of(old);
     if content != content_of(new) {
         return Ok(false);

@@ -1,8 +1,8 @@
 // The text of a map.
 use crate::anew::push_element;
 use crate::head::{Merge, push_source};
-use crate::layout::{Sheet, sheet_of};
-use crate::merge::push_merged;
+use crate::layout::sheet_of;
+use crate::merge::{Spot, push_merged};
 use crate::part::{Kind, made_part};
 use serde_json::Value;
 use std::alloc::{AllocError, Global};
@@ -30,13 +30,14 @@ pub struct Source<'a> {
 
 /// What ends the lines of a text: what ends its first one.
 fn line_end(bytes: &[u8]) -> &'static [u8] {
-    match bytes.iter().position(|byte| *byte == b'\n') {
-        Some(at) => match bytes.get(..at) {
-            Some(line) => if line.last() == Some(&b'\r') { b"\r\n" } else { b"\n" },
-            None => b"\n",
-        },
-        None => b"\n",
+    let mut last = 0;
+    for byte in bytes {
+        if *byte == b'\n' {
+            return if last == b'\r' { b"\r\n" } else { b"\n" };
+        }
+        last = *byte;
     }
+    b"\n"
 }
 
 /// The text of a map in Tiled's layout, with lines that end as those of a source.
@@ -44,7 +45,14 @@ pub fn written(alloc: Global, map: &Value, source: &[u8]) -> Result<Vec<u8>, All
     let sheet = sheet_of(map, line_end(source), b" ");
     let mut out = Vec::from_slice(alloc, b"<?xml version=\"1.0\" encoding=\"UTF-8\"?>")?;
     out.extend_from_slice(sheet.line)?;
-    push_element(alloc, &sheet, &made_part(Kind::Map, map), 0, MOST_LEVELS, &mut out)?;
+    push_element(
+        alloc,
+        &sheet,
+        &made_part(Kind::Map, map),
+        0,
+        MOST_LEVELS,
+        &mut out,
+    )?;
     out.extend_from_slice(sheet.line)?;
     Ok(out)
 }
@@ -53,7 +61,10 @@ pub fn written(alloc: Global, map: &Value, source: &[u8]) -> Result<Vec<u8>, All
 fn first_gap<'a>(source: &Source<'a>) -> &'a [u8] {
     for node in &source.root.children {
         if let Node::Element(element) = node {
-            return match source.bytes.get(source.root.content.from..element.span.from) {
+            return match source
+                .bytes
+                .get(source.root.content.from..element.span.from)
+            {
                 Some(gap) => gap,
                 None => b"",
             };
@@ -64,15 +75,29 @@ fn first_gap<'a>(source: &Source<'a>) -> &'a [u8] {
 
 // What stands behind the last line feed.
 fn behind_line(gap: &[u8]) -> Option<&[u8]> {
-    let at = gap.iter().rposition(|byte| *byte == b'\n')?;
-    gap.get(at.saturating_add(1)..)
+    let mut found = None;
+    let mut at: usize = 0;
+    for byte in gap {
+        at = at.saturating_add(1);
+        if *byte == b'\n' {
+            found = Some(at);
+        }
+    }
+    gap.get(found?..)
 }
 
-// How the elements of a source are laid out: each on a line of its own, or all on one.
-fn laid_out_as<'a>(map: &'a Value, source: &Source<'a>) -> Sheet<'a> {
-    match behind_line(first_gap(source)) {
-        Some(indent) => sheet_of(map, line_end(source.bytes), indent),
-        None => sheet_of(map, b"", b""),
+fn indent_of(gap: &[u8]) -> &[u8] {
+    match behind_line(gap) {
+        Some(indent) => indent,
+        None => gap,
+    }
+}
+
+// What ends a line of a source whose first child has this before it: nothing where all stands on one.
+fn line_of(gap: &[u8], bytes: &[u8]) -> &'static [u8] {
+    match behind_line(gap) {
+        Some(_) => line_end(bytes),
+        None => b"",
     }
 }
 
@@ -83,17 +108,24 @@ pub fn written_into(
     source: &Source<'_>,
     ids: Ids,
 ) -> Result<Vec<u8>, AllocError> {
+    let gap = first_gap(source);
+    let line = line_of(gap, source.bytes);
     let merge = Merge {
         source: source.bytes,
-        old: laid_out_as(source.tree, source),
-        new: laid_out_as(map, source),
+        old: sheet_of(source.tree, line, indent_of(gap)),
+        new: sheet_of(map, line, indent_of(gap)),
         ids,
     };
     let root = source.root;
+    let spot = Spot {
+        raw: root,
+        old: made_part(Kind::Map, source.tree),
+        new: made_part(Kind::Map, map),
+        level: 0,
+    };
     let mut out = Vec::new(alloc);
     push_source(&merge, 0, root.span.from, &mut out)?;
-    let (old, new) = (made_part(Kind::Map, source.tree), made_part(Kind::Map, map));
-    push_merged(alloc, &merge, root, &old, &new, 0, MOST_LEVELS, &mut out)?;
+    push_merged(alloc, &merge, &spot, MOST_LEVELS, &mut out)?;
     push_source(&merge, root.span.end, source.bytes.len(), &mut out)?;
     Ok(out)
 }
