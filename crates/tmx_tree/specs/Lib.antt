@@ -1,0 +1,13 @@
+pub mod Answers
+pub mod Numbers
+pub mod Elements
+pub mod Texts
+pub mod Rows
+pub mod Tables
+pub mod Properties
+pub mod Cells
+pub mod Corners
+pub mod Objects
+pub mod Layers
+pub mod Tilesets
+pub mod Maps
