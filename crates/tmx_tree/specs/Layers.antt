@@ -34,7 +34,7 @@ with_offset kind attrs ms =
     Ok (put_pair (codes "offsetx") (codes "offsety") a b ms)
 
 -- a layer of a kind with an id, as far as all layers are alike
-abbrev pub layer_members : List ℕ → Attributes → Children → ℤ → Result Members Refusal
+unfoldable pub layer_members : List ℕ → Attributes → Children → ℤ → Result Members Refusal
 layer_members kind attrs kids id = do
   a ← with_layer_rows attrs (put (codes "type") (string kind) (id_member id))
   b ← with_offset kind attrs a
@@ -44,18 +44,24 @@ layer_members kind attrs kids id = do
 abbrev pub order_said : Attributes → List ℕ
 order_said attrs = unwrap_or (attribute (codes "draworder") attrs) (codes "topdown")
 
-abbrev pub draw_order : Attributes → Result (List ℕ) Refusal
+unfoldable pub draw_order : Attributes → Result (List ℕ) Refusal
 draw_order attrs = if is_one_of (codes "topdown" ∷ codes "index" ∷ []) (order_said attrs) then Ok (order_said attrs) else Err DrawOrder
 
-abbrev pub object_layer_members : Attributes → Children → ℤ → Result Members Refusal
+abbrev pub with_draw_order : Attributes → Members → Result Members Refusal
+with_draw_order attrs ms = draw_order attrs >>= λ order. Ok (put (codes "draworder") (string order) ms)
+
+-- as far as all layers are alike
+unfoldable pub object_group : Attributes → Children → ℤ → Result Members Refusal
+object_group attrs kids id = layer_members (codes "objectgroup") attrs kids id
+
+unfoldable pub object_layer_members : Attributes → Children → ℤ → Result Members Refusal
 object_layer_members attrs kids id = do
-  a ← layer_members (codes "objectgroup") attrs kids id
+  a ← object_group attrs kids id
   b ← with_rows object_layer_rows attrs a
-  order ← draw_order attrs
-  Ok (put (codes "draworder") (string order) b)
+  with_draw_order attrs b
 
 -- an object layer, and the next object's id
-abbrev pub object_layer : Attributes → Children → ℤ → ℕ → Result (Data × ℕ) Refusal
+unfoldable pub object_layer : Attributes → Children → ℤ → ℕ → Result (Data × ℕ) Refusal
 object_layer attrs kids id next = do
   ms ← object_layer_members attrs kids id
   found ← with_objects kids ([], next)
@@ -83,7 +89,7 @@ with_image (Some x) ms =
     (put (codes "image") (string (text_at (codes "source") (attributes_of x)))
     (put_some (codes "transparentcolor") (transparent (text_at (codes "trans") (attributes_of x))) ms))
 
-abbrev pub image_layer : Attributes → Children → ℤ → Result Data Refusal
+unfoldable pub image_layer : Attributes → Children → ℤ → Result Data Refusal
 image_layer attrs kids id = do
   a ← layer_members (codes "imagelayer") attrs kids id
   b ← with_rows image_layer_rows attrs a
@@ -165,7 +171,7 @@ abbrev pub with_cells : Bool → Form → Attributes → Children → Members �
 with_cells false form attrs kids ms = with_finite form attrs (first_named (codes "data") kids) ms
 with_cells true form attrs kids ms = with_infinite form attrs (data_kids (first_named (codes "data") kids)) ms
 
-abbrev pub tile_layer : Bool → Attributes → Children → ℤ → Result Data Refusal
+unfoldable pub tile_layer : Bool → Attributes → Children → ℤ → Result Data Refusal
 tile_layer infinite attrs kids id = do
   own ← layer_members (codes "tilelayer") attrs kids id
   form ← data_form (first_named (codes "data") kids)

@@ -55,7 +55,7 @@ abbrev pub map_type : Members
 map_type = member (codes "type") (string (codes "map")) no_members
 
 -- all that its own attributes say, but for the next ids
-abbrev pub own_members : Attributes → Result Members Refusal
+unfoldable pub own_members : Attributes → Result Members Refusal
 own_members attrs = do
   a ← with_orientation attrs (with_order attrs (with_stagger attrs map_type))
   b ← with_hexagons attrs a
@@ -106,7 +106,7 @@ next_said k attrs = max (unwrap_or (option_and_then unsigned_of (attribute k att
 abbrev pub is_infinite : Attributes → Bool
 is_infinite attrs = not (is_whole_data (pos 0) (Some (unwrap_or (option_and_then whole_of (attribute (codes "infinite") attrs)) (pos 0))))
 
-abbrev pub layers_of : Attributes → Children → Result Found Refusal
+unfoldable pub layers_of : Attributes → Children → Result Found Refusal
 layers_of attrs kids = with_layers (is_infinite attrs) kids (layers_found [] (next_said (codes "nextlayerid") attrs) (next_said (codes "nextobjectid") attrs))
 
 abbrev pub put_layers : Found → Members → Members
@@ -144,7 +144,7 @@ abbrev mutual
 abbrev pub version_of : Attributes → Option Data
 version_of attrs = option_map string (attribute (codes "version") attrs)
 
-abbrev pub map_note : Attributes → Children → Members
+unfoldable pub map_note : Attributes → Children → Members
 map_note attrs kids =
     put_some (codes "version") (version_of attrs) (put_some (codes "format") (first_format kids) no_members)
 

@@ -120,12 +120,12 @@ put_size w h ms = if is_positive w && is_positive h then put (codes "width") (nu
 abbrev pub with_size : Attributes → Members → Result Members Refusal
 with_size attrs ms = real_at (codes "width") attrs >>= λ w. real_at (codes "height") attrs >>= λ h. Ok (put_size w h ms)
 
-abbrev pub with_own : Attributes → Members → Result Members Refusal
+unfoldable pub with_own : Attributes → Members → Result Members Refusal
 with_own attrs ms =
     if is_instance attrs then (with_rows instance_rows attrs ms >>= λ more. with_size attrs more) else with_rows own_object_rows attrs ms
 
 -- all of an object but its id
-abbrev pub object_members : Xml → Members → Result Members Refusal
+unfoldable pub object_members : Xml → Members → Result Members Refusal
 object_members x ms = do
   a ← with_rows object_rows (attributes_of x) ms
   b ← with_own (attributes_of x) a

@@ -171,12 +171,15 @@ abbrev pub value_of : Xml → Result (Typed × Members) Refusal
 value_of x = value_in (attributes_of x) (kids_of x) (class_in (kids_of x) (no_members, no_members))
 
 -- a property, as an object
-abbrev pub property_of : Xml → Result Data Refusal
+unfoldable pub property_of : Xml → Result Data Refusal
 property_of x = value_of x >>= λ v. Ok (object (with_note v.1 (named_value (attributes_of x) v.0)))
 
 -- ---- all of an owner
+abbrev pub with_property_of : Xml → List Data → Result (List Data) Refusal
+with_property_of x found = property_of x >>= λ d. Ok (found ++ d ∷ [])
+
 abbrev pub with_property : Xml → List Data → Result (List Data) Refusal
-with_property x found = if is_named (codes "property") x then (property_of x >>= λ d. Ok (found ++ d ∷ [])) else Ok found
+with_property x found = if is_named (codes "property") x then with_property_of x found else Ok found
 
 abbrev pub with_properties : Children → List Data → Result (List Data) Refusal
 with_properties no_children found = Ok found

@@ -27,7 +27,7 @@ map_size_rows =
     ∷ row (codes "infinite") (Flag false) Always
     ∷ []
 
-abbrev pub with_map_rows : Attributes → Members → Result Members Refusal
+unfoldable pub with_map_rows : Attributes → Members → Result Members Refusal
 with_map_rows attrs ms = with_rows map_rows attrs ms >>= λ more. with_rows map_size_rows attrs more
 
 -- a hexagonal map, besides
@@ -54,7 +54,7 @@ look_rows =
     ∷ row (codes "mode") Text Unusual
     ∷ []
 
-abbrev pub with_layer_rows : Attributes → Members → Result Members Refusal
+unfoldable pub with_layer_rows : Attributes → Members → Result Members Refusal
 with_layer_rows attrs ms = with_rows layer_rows attrs ms >>= λ more. with_rows look_rows attrs more
 
 -- a tile layer of a finite map, or a chunk, besides
@@ -136,7 +136,7 @@ tileset_size_rows =
     ∷ row (codes "fillmode") Text Unusual
     ∷ []
 
-abbrev pub with_tileset_rows : Attributes → Members → Result Members Refusal
+unfoldable pub with_tileset_rows : Attributes → Members → Result Members Refusal
 with_tileset_rows attrs ms = with_rows tileset_rows attrs ms >>= λ more. with_rows tileset_size_rows attrs more
 
 -- how its tiles may be turned
@@ -166,7 +166,7 @@ part_rows =
     ∷ row (codes "height") (Whole (pos 0)) Given
     ∷ []
 
-abbrev pub with_tile_rows : Attributes → Members → Result Members Refusal
+unfoldable pub with_tile_rows : Attributes → Members → Result Members Refusal
 with_tile_rows attrs ms = with_rows tile_rows attrs ms >>= λ more. with_rows part_rows attrs more
 
 -- a frame of its animation

@@ -101,21 +101,27 @@ abbrev pub with_frames : Children → List Data → Result (List Data) Refusal
 with_frames no_children found = Ok found
 with_frames (child x xs) found = with_frame x found >>= λ more. with_frames xs more
 
-abbrev pub animation : Option Xml → Result (List Data) Refusal
+unfoldable pub animation : Option Xml → Result (List Data) Refusal
 animation None = Ok []
 animation (Some x) = with_frames (kids_of x) []
 
-abbrev pub collision : Option Xml → Members → Result Members Refusal
+unfoldable pub collision : Option Xml → Members → Result Members Refusal
 collision None ms = Ok ms
 collision (Some x) ms =
     object_layer (attributes_of x) (kids_of x) (said_id (attributes_of x)) 1 >>= λ layer. Ok (put (codes "objectgroup") layer.0 ms)
 
-abbrev pub tile_members : Xml → Result Members Refusal
+abbrev pub with_frames_in : Xml → Members → Result Members Refusal
+with_frames_in x ms = animation (first_named (codes "animation") (kids_of x)) >>= λ frames. Ok (put_some (codes "animation") (unless_none frames) ms)
+
+abbrev pub with_solid : Xml → Members → Result Members Refusal
+with_solid x ms = collision (first_named (codes "objectgroup") (kids_of x)) (with_picture (first_named (codes "image") (kids_of x)) ms)
+
+unfoldable pub tile_members : Xml → Result Members Refusal
 tile_members x = do
   rows ← with_tile_rows (attributes_of x) no_members
-  frames ← animation (first_named (codes "animation") (kids_of x))
-  solid ← collision (first_named (codes "objectgroup") (kids_of x)) (with_picture (first_named (codes "image") (kids_of x)) rows)
-  own_properties (kids_of x) (put_some (codes "animation") (unless_none frames) solid)
+  moving ← with_frames_in x rows
+  solid ← with_solid x moving
+  own_properties (kids_of x) solid
 
 abbrev pub is_alone : Members → Bool
 is_alone no_members = false
@@ -150,7 +156,7 @@ abbrev pub with_drawing : Xml → Members → Members
 with_drawing x ms =
     put_some (codes "objectalignment") (alignment x) (with_places x (with_picture (first_named (codes "image") (kids_of x)) ms))
 
-abbrev pub embedded : Xml → Result Data Refusal
+unfoldable pub embedded : Xml → Result Data Refusal
 embedded x = do
   rows ← with_tileset_rows (attributes_of x) no_members
   turned ← turning_in (first_named (codes "transformations") (kids_of x))

@@ -4,7 +4,7 @@ ghost use Rattle.serde_json.specs.View.{view as data_of, members_view};
 ghost use Rattle.xml_text.specs.Xml.{attribute_view, node_view, view, children_of};
 ghost use Rattle.tmx_tree.specs.Answers.{GivesBy, Leaves};
 ghost use Rattle.tmx_tree.specs.Elements.{name_of, attributes_of, kids_of};
-ghost use Rattle.tmx_tree.specs.Layers.{is_placed, with_offset, layer_members, order_said, draw_order, object_layer_members, object_layer, image_note, transparent, with_image, image_layer};
+ghost use Rattle.tmx_tree.specs.Layers.{is_placed, with_offset, layer_members, order_said, draw_order, with_draw_order, object_group, object_layer_members, object_layer, image_note, transparent, with_image, image_layer};
 ghost use Rattle.tmx_tree.specs.Layers.{is_plain, plain_layer, with_layers, with_layer, layer_view, layers_view, side_member, starts_with_hash, with_plain, with_group};
 
 use crate::element::{attribute_value, attributes, children, first_named};
@@ -53,6 +53,7 @@ fn put_offset(
 }
 
 /// The members that a layer of any kind has.
+#[tactic(auto, unfolding(crate::specs::Layers::layer_members))]
 pub fn layer_members(
     alloc: Global,
     kind: &str,
@@ -79,6 +80,7 @@ fn order_said(attributes: &Vec<Attribute>) -> &str
     }
 }
 
+#[tactic(auto, unfolding(crate::specs::Layers::draw_order))]
 fn draw_order(attributes: &Vec<Attribute>) -> Result<&str, Fault>
     ensures { GivesBy (λ order. order.now) result (draw_order (map attribute_view attributes.now.items)) }
 {
@@ -90,6 +92,28 @@ fn draw_order(attributes: &Vec<Attribute>) -> Result<&str, Fault>
     }
 }
 
+fn put_draw_order(
+    alloc: Global,
+    attributes: &Vec<Attribute>,
+    members: &mut Map<String, Value>,
+) -> Result<(), Fault>
+    ensures { Leaves result (members_view members.new.entries)
+        (with_draw_order (map attribute_view attributes.now.items) (members_view members.old.entries)) }
+{
+    let order = draw_order(attributes)?;
+    put_text(alloc, members, "draworder", order)?;
+    Ok(())
+}
+
+#[tactic(auto, unfolding(crate::specs::Layers::object_group))]
+fn object_group(alloc: Global, element: &Element, id: i64) -> Result<Map<String, Value>, Fault>
+    ensures { GivesBy (λ m. members_view m.entries) result
+        (object_group (attributes_of (view element.now)) (kids_of (view element.now)) id) }
+{
+    layer_members(alloc, "objectgroup", element, id)
+}
+
+#[tactic(auto, unfolding(crate::specs::Layers::object_layer_members))]
 fn object_layer_members(
     alloc: Global,
     element: &Element,
@@ -98,10 +122,9 @@ fn object_layer_members(
     ensures { GivesBy (λ m. members_view m.entries) result
         (object_layer_members (attributes_of (view element.now)) (kids_of (view element.now)) id) }
 {
-    let mut members = layer_members(alloc, "objectgroup", element, id)?;
+    let mut members = object_group(alloc, element, id)?;
     put_object_layer_rows(alloc, attributes(element), &mut members)?;
-    let order = draw_order(attributes(element))?;
-    put_text(alloc, &mut members, "draworder", order)?;
+    put_draw_order(alloc, attributes(element), &mut members)?;
     Ok(members)
 }
 
@@ -113,6 +136,7 @@ pub struct Counted {
 }
 
 /// An object layer, and the next object's id.
+#[tactic(auto, unfolding(crate::specs::Layers::object_layer))]
 pub fn object_layer(alloc: Global, element: &Element, id: i64, next: u32) -> Result<Counted, Fault>
     ensures { GivesBy layer_view result
         (object_layer (attributes_of (view element.now)) (kids_of (view element.now)) id next) }
@@ -198,6 +222,7 @@ fn put_image(
     put_notes(alloc, members, note)
 }
 
+#[tactic(auto, unfolding(crate::specs::Layers::image_layer))]
 fn image_layer(alloc: Global, element: &Element, id: i64) -> Result<Value, Fault>
     ensures { GivesBy data_of result
         (image_layer (attributes_of (view element.now)) (kids_of (view element.now)) id) }

@@ -119,6 +119,7 @@ fn map_type(alloc: Global) -> Result<Map<String, Value>, AllocError>
     Ok(members)
 }
 
+#[tactic(auto, unfolding(crate::specs::Maps::own_members))]
 fn own_members(alloc: Global, attributes: &Vec<Attribute>) -> Result<Map<String, Value>, Fault>
     ensures { GivesBy (λ m. members_view m.entries) result (own_members (map attribute_view attributes.now.items)) }
 {
@@ -157,6 +158,7 @@ fn is_infinite(attributes: &Vec<Attribute>) -> bool
     }
 }
 
+#[tactic(auto, unfolding(crate::specs::Maps::layers_of))]
 fn layers_of(alloc: Global, element: &Element) -> Result<Layers, Fault>
     ensures { GivesBy layers_view result
         (layers_of (attributes_of (view element.now)) (kids_of (view element.now))) }
@@ -203,6 +205,7 @@ fn version_of(alloc: Global, attributes: &Vec<Attribute>) -> Result<Option<Value
 }
 
 // What is noted of a map.
+#[tactic(auto, unfolding(crate::specs::Maps::map_note))]
 fn map_note(alloc: Global, element: &Element) -> Result<Map<String, Value>, AllocError>
     ensures { IfOk result (λ m. members_view m.entries
         ≡ map_note (attributes_of (view element.now)) (kids_of (view element.now))) }

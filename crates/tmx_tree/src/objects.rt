@@ -331,6 +331,7 @@ fn put_size(
     Ok(())
 }
 
+#[tactic(auto, unfolding(crate::specs::Objects::with_own))]
 fn put_own(
     alloc: Global,
     attributes: &Vec<Attribute>,
@@ -348,6 +349,7 @@ fn put_own(
 }
 
 /// Puts all that an object says but its id among its members.
+#[tactic(auto, unfolding(crate::specs::Objects::object_members))]
 pub fn put_object(
     alloc: Global,
     element: &Element,

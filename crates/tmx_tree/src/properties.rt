@@ -3,7 +3,7 @@ ghost use Rattle.std.specs.Prelude.{◌≡◌, map, option_map, OnOk};
 ghost use Rattle.serde_json.specs.View.{view as data_of, members_view};
 ghost use Rattle.xml_text.specs.Xml.{node_view, view, children_of};
 ghost use Rattle.tmx_tree.specs.Answers.{Leaves};
-ghost use Rattle.tmx_tree.specs.Properties.{with_property, with_properties, with_properties_of, properties_in, own_properties, has_none, unless_none};
+ghost use Rattle.tmx_tree.specs.Properties.{with_property_of, with_property, with_properties, with_properties_of, properties_in, own_properties, has_none, unless_none};
 
 use crate::element::{children, named};
 use crate::fault::Fault;
@@ -11,18 +11,23 @@ use crate::property::property_of;
 use crate::row::put_some;
 use serde_json::{Map, Value};
 use std::alloc::Global;
-use xml_text::Node;
+use xml_text::{Element, Node};
+
+fn push_property_of(alloc: Global, element: &Element, found: &mut Vec<Value>) -> Result<(), Fault>
+    ensures { Leaves result (map data_of found.new.items)
+        (with_property_of (view element.now) (map data_of found.old.items)) }
+{
+    let value = property_of(alloc, element)?;
+    found.push(value)?;
+    Ok(())
+}
 
 fn push_property(alloc: Global, node: &Node, found: &mut Vec<Value>) -> Result<(), Fault>
     ensures { Leaves result (map data_of found.new.items)
         (with_property (node_view node.now) (map data_of found.old.items)) }
 {
     match named(node, "property") {
-        Some(element) => {
-            let value = property_of(alloc, element)?;
-            found.push(value)?;
-            Ok(())
-        }
+        Some(element) => push_property_of(alloc, element, found),
         None => Ok(()),
     }
 }

@@ -295,6 +295,7 @@ fn class_member(alloc: Global, node: &Node, found: &mut Class) -> Result<(), Fau
 }
 
 /// A property, as an object.
+#[tactic(auto, unfolding(crate::specs::Properties::property_of))]
 pub fn property_of(alloc: Global, element: &Element) -> Result<Value, Fault>
     ensures { GivesBy data_of result (property_of (view element.now)) }
 {

@@ -69,6 +69,7 @@ fn put_map_size_rows(
 }
 
 /// Puts those of a map.
+#[tactic(auto, unfolding(crate::specs::Tables::with_map_rows))]
 pub fn put_map_rows(
     alloc: Global,
     attributes: &Vec<Attribute>,
@@ -147,6 +148,7 @@ fn put_look_rows(
 }
 
 /// Puts those of a layer of any kind.
+#[tactic(auto, unfolding(crate::specs::Tables::with_layer_rows))]
 pub fn put_layer_rows(
     alloc: Global,
     attributes: &Vec<Attribute>,
@@ -388,6 +390,7 @@ fn put_tileset_size_rows(
 }
 
 /// Puts those of a tileset that stands in the map itself.
+#[tactic(auto, unfolding(crate::specs::Tables::with_tileset_rows))]
 pub fn put_tileset_rows(
     alloc: Global,
     attributes: &Vec<Attribute>,
@@ -468,6 +471,7 @@ fn put_part_rows(
 }
 
 /// Puts those of a tile.
+#[tactic(auto, unfolding(crate::specs::Tables::with_tile_rows))]
 pub fn put_tile_rows(
     alloc: Global,
     attributes: &Vec<Attribute>,

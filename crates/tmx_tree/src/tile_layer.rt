@@ -212,6 +212,7 @@ fn put_cells(
 }
 
 /// A tile layer.
+#[tactic(auto, unfolding(crate::specs::Layers::tile_layer))]
 pub fn tile_layer(alloc: Global, infinite: bool, element: &Element, id: i64) -> Result<Value, Fault>
     ensures { GivesBy data_of result
         (tile_layer infinite (attributes_of (view element.now)) (kids_of (view element.now)) id) }

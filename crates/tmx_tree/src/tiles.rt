@@ -3,7 +3,7 @@ ghost use Rattle.std.specs.Prelude.{◌≡◌, map, option_map, OnOk};
 ghost use Rattle.serde_json.specs.View.{view as data_of, members_view};
 ghost use Rattle.xml_text.specs.Xml.{node_view, view, children_of};
 ghost use Rattle.tmx_tree.specs.Answers.{GivesBy, Leaves};
-ghost use Rattle.tmx_tree.specs.Tilesets.{with_frame, with_frames, animation, collision, tile_members, is_alone, with_tile_entry, with_tile, with_tiles};
+ghost use Rattle.tmx_tree.specs.Tilesets.{with_frame, with_frames, animation, collision, with_frames_in, with_solid, tile_members, is_alone, with_tile_entry, with_tile, with_tiles};
 
 use crate::element::{attributes, children, first_named, named};
 use crate::fault::Fault;
@@ -42,6 +42,7 @@ fn push_frames(alloc: Global, nodes: &Vec<Node>, found: &mut Vec<Value>) -> Resu
     Ok(())
 }
 
+#[tactic(auto, unfolding(crate::specs::Tilesets::animation))]
 fn animation(alloc: Global, element: Option<&Element>) -> Result<Vec<Value>, Fault>
     ensures { GivesBy (λ v. map data_of v.items) result (animation (option_map (λ e. view e.now) element.entry)) }
 {
@@ -55,6 +56,7 @@ fn animation(alloc: Global, element: Option<&Element>) -> Result<Vec<Value>, Fau
     }
 }
 
+#[tactic(auto, unfolding(crate::specs::Tilesets::collision))]
 fn put_collision(
     alloc: Global,
     element: Option<&Element>,
@@ -74,19 +76,44 @@ fn put_collision(
     }
 }
 
+fn put_frames(
+    alloc: Global,
+    element: &Element,
+    members: &mut Map<String, Value>,
+) -> Result<(), Fault>
+    ensures { Leaves result (members_view members.new.entries)
+        (with_frames_in (view element.now) (members_view members.old.entries)) }
+{
+    let frames = animation(alloc, first_named(children(element), "animation"))?;
+    put_some(alloc, members, "animation", unless_none(frames))?;
+    Ok(())
+}
+
+// Puts a tile's picture and what is solid of it among its members.
+fn put_solid(
+    alloc: Global,
+    element: &Element,
+    members: &mut Map<String, Value>,
+) -> Result<(), Fault>
+    ensures { Leaves result (members_view members.new.entries)
+        (with_solid (view element.now) (members_view members.old.entries)) }
+{
+    put_picture(alloc, first_named(children(element), "image"), members)?;
+    put_collision(
+        alloc,
+        first_named(children(element), "objectgroup"),
+        members,
+    )
+}
+
+#[tactic(auto, unfolding(crate::specs::Tilesets::tile_members))]
 fn tile_members(alloc: Global, element: &Element) -> Result<Map<String, Value>, Fault>
     ensures { GivesBy (λ m. members_view m.entries) result (tile_members (view element.now)) }
 {
     let mut members = Map::new(alloc);
     put_tile_rows(alloc, attributes(element), &mut members)?;
-    let frames = animation(alloc, first_named(children(element), "animation"))?;
-    put_picture(alloc, first_named(children(element), "image"), &mut members)?;
-    put_collision(
-        alloc,
-        first_named(children(element), "objectgroup"),
-        &mut members,
-    )?;
-    put_some(alloc, &mut members, "animation", unless_none(frames))?;
+    put_frames(alloc, element, &mut members)?;
+    put_solid(alloc, element, &mut members)?;
     put_properties(alloc, children(element), &mut members)?;
     Ok(members)
 }

@@ -240,6 +240,7 @@ fn put_drawing(
 }
 
 /// A tileset that stands in the map itself.
+#[tactic(auto, unfolding(crate::specs::Tilesets::embedded))]
 pub fn embedded(alloc: Global, element: &Element) -> Result<Value, Fault>
     ensures { GivesBy data_of result (embedded (view element.now)) }
 {
