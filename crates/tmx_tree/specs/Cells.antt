@@ -1,5 +1,5 @@
 -- The cells of a layer or a chunk: as an array of numbers, or as a text in base64.
-use Rattle.std.specs.Prelude.{ℕ, ◌+◌, ◌-◌, ◌*◌, ◌%◌, ◌^◌, ◌==◌, ◌||◌, List, [], ◌∷◌, ◌++◌, length, replicate, Bool, nat_le, codes, Option, Some, None, option_and_then, unwrap_or, Result, Ok, Err}
+use Rattle.std.specs.Prelude.{ℕ, ◌+◌, ◌-◌, ◌*◌, ◌%◌, ◌^◌, ◌==◌, ◌||◌, ℤ, pos, List, [], ◌∷◌, ◌++◌, length, replicate, Bool, nat_le, codes, Option, Some, None, option_and_then, unwrap_or, Result, Ok, Err}
 use Rattle.std.specs.Prelude.{if◌then◌else◌}
 use Rattle.std.specs.Str.{bytes_eq, trim}
 use Rattle.serde_json.specs.Data.{unsigned, Data, number, string, array, Members, put}
@@ -11,7 +11,7 @@ use Rattle.tmx_tree.specs.declared.cells.Form.TheVariants.{Elements, Csv, Base64
 use Rattle.tmx_tree.specs.declared.fault.Refusal.{Refusal}
 use Rattle.tmx_tree.specs.declared.fault.Refusal.TheVariants.{Encoding, Cells}
 use Rattle.tmx_tree.specs.Answers.{◌>>=◌}
-use Rattle.tmx_tree.specs.Numbers.{is_digit, with_digit, unsigned_of}
+use Rattle.tmx_tree.specs.Numbers.{is_digit, with_digit, unsigned_of, whole_of}
 use Rattle.tmx_tree.specs.Elements.{Attributes, attribute, attributes_of, kids_of, is_named, text_in}
 use Rattle.tmx_tree.specs.Texts.{is_one_of}
 use Rattle.tmx_tree.specs.Properties.{text_at, is_blank}
@@ -71,6 +71,9 @@ padded n ds = if nat_le (length ds) n then Ok (ds ++ replicate (n - length ds) (
 -- ---- all of them
 abbrev pub side : List ℕ → Attributes → ℕ
 side k attrs = unwrap_or (option_and_then unsigned_of (attribute k attrs)) 0
+
+abbrev pub whole_at : List ℕ → Attributes → ℤ
+whole_at k attrs = unwrap_or (option_and_then whole_of (attribute k attrs)) (pos 0)
 
 -- width times height, as far as a layer may have cells
 abbrev pub cell_count : Attributes → Result ℕ Refusal

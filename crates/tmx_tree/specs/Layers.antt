@@ -12,6 +12,8 @@ use Rattle.tmx_tree.specs.declared.fault.Refusal.{Refusal}
 use Rattle.tmx_tree.specs.declared.fault.Refusal.TheVariants.{DrawOrder, Chunks, NoChunks}
 use Rattle.tmx_tree.specs.declared.layers.Counted.{Counted}
 use Rattle.tmx_tree.specs.declared.layers.Layers.{Layers}
+use Rattle.tmx_tree.specs.declared.bounds.Stretch.{Stretch}
+use Rattle.tmx_tree.specs.declared.tile_layer.ChunkList as code
 use Rattle.tmx_tree.specs.Answers.{◌>>=◌}
 use Rattle.tmx_tree.specs.Numbers.{whole_of}
 use Rattle.tmx_tree.specs.Rows.{whole_data, with_rows}
@@ -20,6 +22,7 @@ use Rattle.tmx_tree.specs.Elements.{Attributes, attribute, attributes_of, kids_o
 use Rattle.tmx_tree.specs.Texts.{is_one_of, one_of}
 use Rattle.tmx_tree.specs.Properties.{text_at, unless_empty, own_properties, with_note, is_blank}
 use Rattle.tmx_tree.specs.Cells.{form_of, cell_count, cells_in, padded, array_of}
+use Rattle.tmx_tree.specs.Bounds.{with_chunk_cells, with_bounds}
 use Rattle.tmx_tree.specs.Objects.{said_id, id_or_next, id_member, real_at, put_pair, with_objects}
 
 -- ---- what all layers have
@@ -128,21 +131,32 @@ with_finite form attrs o ms = do
   cells ← finite_cells form n o
   Ok (put (codes "data") cells sized)
 
--- a layer of an infinite map: its chunks
-abbrev pub chunk_of : Form → Xml → Result Data Refusal
-chunk_of form x = do
-  placed ← with_rows place_rows (attributes_of x) no_members
-  sized ← with_rows size_rows (attributes_of x) placed
-  n ← cell_count (attributes_of x)
-  cells ← cells_in form n (kids_of x)
-  Ok (object (put (codes "data") cells sized))
+-- a layer of an infinite map: its chunks, and the stretch of their cells
+abbrev pub ChunkList : Type 0
+ChunkList = List Data × Option Stretch
 
-abbrev pub with_chunk : Form → Xml → List Data → Result (List Data) Refusal
-with_chunk form x found = if is_named (codes "chunk") x then (chunk_of form x >>= λ d. Ok (found ++ d ∷ [])) else Ok found
+abbrev pub chunk_members : Attributes → Result Members Refusal
+chunk_members attrs = with_rows place_rows attrs no_members >>= λ placed. with_rows size_rows attrs placed
 
-abbrev pub with_chunks : Form → Children → List Data → Result (List Data) Refusal
-with_chunks form no_children found = Ok found
-with_chunks form (child x xs) found = with_chunk form x found >>= λ more. with_chunks form xs more
+abbrev pub chunk_cells : Form → Xml → Result Data Refusal
+chunk_cells form x = cell_count (attributes_of x) >>= λ n. cells_in form n (kids_of x)
+
+abbrev pub with_another_chunk : Form → Xml → ChunkList → Result ChunkList Refusal
+with_another_chunk form x chunks = do
+  ms ← chunk_members (attributes_of x)
+  cells ← chunk_cells form x
+  Ok (chunks.0 ++ object (put (codes "data") cells ms) ∷ [], with_chunk_cells (attributes_of x) cells chunks.1)
+
+abbrev pub with_chunk : Form → Xml → ChunkList → Result ChunkList Refusal
+with_chunk form x chunks = if is_named (codes "chunk") x then with_another_chunk form x chunks else Ok chunks
+
+abbrev pub with_chunks : Form → Children → ChunkList → Result ChunkList Refusal
+with_chunks form no_children chunks = Ok chunks
+with_chunks form (child x xs) chunks = with_chunk form x chunks >>= λ more. with_chunks form xs more
+
+-- the code's own record
+abbrev pub chunks_view : code.ChunkList → ChunkList
+chunks_view c = (map view c.found.items, c.around)
 
 -- whether cells stand in no chunk
 abbrev pub is_element : Xml → Bool
@@ -156,12 +170,15 @@ has_elements (child x xs) = is_element x || has_elements xs
 abbrev pub has_loose_cells : Children → Bool
 has_loose_cells kids = not (has_chunk kids) && (not (is_blank (text_in kids)) || has_elements kids)
 
+abbrev pub put_chunks : ChunkList → Members → Members
+put_chunks chunks ms = with_bounds chunks.1 (put (codes "chunks") (array_of chunks.0) ms)
+
 -- its own width and height, which JSON does not have, are noted
 abbrev pub with_all_chunks : Form → Attributes → Children → Members → Result Members Refusal
 with_all_chunks form attrs kids ms = do
   note ← with_rows size_rows attrs no_members
-  found ← with_chunks form kids []
-  Ok (with_note note (put (codes "chunks") (array_of found) ms))
+  found ← with_chunks form kids ([], None)
+  Ok (with_note note (put_chunks found ms))
 
 abbrev pub with_infinite : Form → Attributes → Children → Members → Result Members Refusal
 with_infinite form attrs kids ms =

@@ -6,6 +6,7 @@ pub mod Rows
 pub mod Tables
 pub mod Properties
 pub mod Cells
+pub mod Bounds
 pub mod Corners
 pub mod Objects
 pub mod Layers

@@ -12,7 +12,7 @@ use Rattle.tmx_tree.specs.Answers.{◌>>=◌}
 use Rattle.tmx_tree.specs.Numbers.{whole_of}
 use Rattle.tmx_tree.specs.Rows.{whole_data, is_whole_data, with_rows}
 use Rattle.tmx_tree.specs.Tables.{with_tileset_rows, turning_rows, with_tile_rows, frame_rows}
-use Rattle.tmx_tree.specs.Cells.{side, array_of}
+use Rattle.tmx_tree.specs.Cells.{side, whole_at, array_of}
 use Rattle.tmx_tree.specs.Elements.{Attributes, attribute, attributes_of, kids_of, is_named, first_named}
 use Rattle.tmx_tree.specs.Texts.{one_of}
 use Rattle.tmx_tree.specs.Properties.{text_at, unless_none, own_properties}
@@ -25,9 +25,6 @@ external attrs =
     object (put (codes "firstgid") (number (unsigned (side (codes "firstgid") attrs))) (put (codes "source") (string (text_at (codes "source") attrs)) no_members))
 
 -- ---- its picture, or that of a tile
-abbrev pub whole_at : List ℕ → Attributes → ℤ
-whole_at k attrs = unwrap_or (option_and_then whole_of (attribute k attrs)) (pos 0)
-
 abbrev pub unless_zero : ℤ → Option Data
 unless_zero z = if is_whole_data (pos 0) (Some z) then None else Some (whole_data z)
 

@@ -6,11 +6,11 @@ ghost use Rattle.xml_text.specs.Xml.{attribute_view, node_view, view, children_o
 ghost use Rattle.tmx_tree.specs.Answers.{GivesBy};
 ghost use Rattle.tmx_tree.specs.Elements.{text_in};
 ghost use Rattle.std.specs.Str.{trim};
-ghost use Rattle.tmx_tree.specs.Cells.{form_of, is_space, cell, csv_from, if_fine, csv_cells, counted, element_cell, with_tile, with_tiles, padded, side, cell_count, cells_in};
+ghost use Rattle.tmx_tree.specs.Cells.{form_of, is_space, cell, csv_from, if_fine, csv_cells, counted, element_cell, with_tile, with_tiles, padded, side, whole_at, cell_count, cells_in};
 
 use crate::element::{attribute_value, attributes, named, text_in};
 use crate::fault::{Fault, Refusal};
-use crate::number::{is_digit, unsigned_of};
+use crate::number::{is_digit, unsigned_of, whole_of};
 use crate::property::is_blank;
 use crate::texts::is_one_of;
 use serde_json::Value;
@@ -172,6 +172,16 @@ pub fn side(attributes: &Vec<Attribute>, name: &str) -> u32
 {
     match attribute_value(attributes, name) {
         Some(text) => unsigned_of(text).unwrap_or(0),
+        None => 0,
+    }
+}
+
+/// A number that an attribute says, 0 where it says none; it may have a sign.
+pub fn whole_at(attributes: &Vec<Attribute>, name: &str) -> i32
+    ensures { result ≡ whole_at name.now (map attribute_view attributes.now.items) }
+{
+    match attribute_value(attributes, name) {
+        Some(text) => whole_of(text).unwrap_or(0),
         None => 0,
     }
 }

@@ -1,6 +1,7 @@
 //! A map in Tiled's XML, as the tree that Tiled's JSON has of it.
 #![tactic(auto)]
 
+mod bounds;
 mod cells;
 mod corners;
 mod element;

@@ -107,7 +107,8 @@ fn usual(alloc: Global, kind: Kind) -> Value
     }
 }
 
-fn is_whole_data(number: i32, value: &Value) -> bool
+/// Whether a value is this whole number.
+pub fn is_whole_data(number: i32, value: &Value) -> bool
     ensures { result ≡ is_whole_data number (option_and_then as_integer (as_number (data_of value.now))) }
 {
     match value.as_number() {

@@ -4,8 +4,9 @@ ghost use Rattle.serde_json.specs.View.{view as data_of, members_view};
 ghost use Rattle.xml_text.specs.Xml.{attribute_view, node_view, view, children_of};
 ghost use Rattle.tmx_tree.specs.Answers.{GivesBy, Gives, Leaves};
 ghost use Rattle.tmx_tree.specs.Elements.{attributes_of, kids_of};
-ghost use Rattle.tmx_tree.specs.Layers.{data_text, data_form, with_form, has_chunk, finite_cells, with_finite, chunk_of, with_chunk, with_chunks, is_element, has_elements, has_loose_cells, with_infinite, with_cells, tile_layer};
+ghost use Rattle.tmx_tree.specs.Layers.{data_text, data_form, with_form, has_chunk, finite_cells, with_finite, chunk_members, chunk_cells, with_another_chunk, with_chunk, with_chunks, chunks_view, put_chunks, is_element, has_elements, has_loose_cells, with_infinite, with_cells, tile_layer};
 
+use crate::bounds::{Stretch, put_bounds, with_chunk_cells};
 use crate::cells::{Form, cell_count, cells_in, form_of, padded};
 use crate::element::{attributes, children, first_named, named, text_in};
 use crate::fault::{Fault, Refusal};
@@ -98,28 +99,53 @@ fn put_finite(
     Ok(())
 }
 
-fn chunk_of(alloc: Global, form: Form, element: &Element) -> Result<Value, Fault>
-    ensures { GivesBy data_of result (chunk_of form (view element.now)) }
-{
-    let mut members = Map::new(alloc);
-    put_place_rows(alloc, attributes(element), &mut members)?;
-    put_size_rows(alloc, attributes(element), &mut members)?;
-    let count = cell_count(attributes(element))?;
-    let cells = cells_in(alloc, form, count, children(element))?;
-    serde_json::put(&mut members, alloc, "data", cells)?;
-    Ok(Value::from(members))
+/// The chunks found, and the stretch of their cells.
+#[derive(Drop)]
+struct ChunkList {
+    found: Vec<Value>,
+    around: Option<Stretch>,
 }
 
-fn push_chunk(alloc: Global, form: Form, node: &Node, found: &mut Vec<Value>) -> Result<(), Fault>
-    ensures { Leaves result (map data_of found.new.items)
-        (with_chunk form (node_view node.now) (map data_of found.old.items)) }
+fn chunk_members(alloc: Global, attributes: &Vec<Attribute>) -> Result<Map<String, Value>, Fault>
+    ensures { GivesBy (λ m. members_view m.entries) result (chunk_members (map attribute_view attributes.now.items)) }
+{
+    let mut members = Map::new(alloc);
+    put_place_rows(alloc, attributes, &mut members)?;
+    put_size_rows(alloc, attributes, &mut members)?;
+    Ok(members)
+}
+
+fn chunk_cells(alloc: Global, form: Form, element: &Element) -> Result<Value, Fault>
+    ensures { GivesBy data_of result (chunk_cells form (view element.now)) }
+{
+    let count = cell_count(attributes(element))?;
+    cells_in(alloc, form, count, children(element))
+}
+
+fn push_another_chunk(
+    alloc: Global,
+    form: Form,
+    element: &Element,
+    chunks: &mut ChunkList,
+) -> Result<(), Fault>
+    ensures { Leaves result (chunks_view chunks.new)
+        (with_another_chunk form (view element.now) (chunks_view chunks.old)) }
+{
+    let mut members = chunk_members(alloc, attributes(element))?;
+    let cells = chunk_cells(alloc, form, element)?;
+    let around = with_chunk_cells(attributes(element), &cells, chunks.around);
+    serde_json::put(&mut members, alloc, "data", cells)?;
+    chunks.found.push(Value::from(members))?;
+    chunks.around = around;
+    Ok(())
+}
+
+fn push_chunk(alloc: Global, form: Form, node: &Node, chunks: &mut ChunkList) -> Result<(), Fault>
+    ensures { Leaves result (chunks_view chunks.new)
+        (with_chunk form (node_view node.now) (chunks_view chunks.old)) }
 {
     match named(node, "chunk") {
-        Some(element) => {
-            let chunk = chunk_of(alloc, form, element)?;
-            found.push(chunk)?;
-            Ok(())
-        }
+        Some(element) => push_another_chunk(alloc, form, element, chunks),
         None => Ok(()),
     }
 }
@@ -128,15 +154,28 @@ fn push_chunks(
     alloc: Global,
     form: Form,
     nodes: &Vec<Node>,
-    found: &mut Vec<Value>,
+    chunks: &mut ChunkList,
 ) -> Result<(), Fault>
-    ensures { Leaves result (map data_of found.new.items)
-        (with_chunks form (children_of (map node_view nodes.now.items)) (map data_of found.old.items)) }
+    ensures { Leaves result (chunks_view chunks.new)
+        (with_chunks form (children_of (map node_view nodes.now.items)) (chunks_view chunks.old)) }
 {
     for node in nodes {
-        push_chunk(alloc, form, node, found)?;
+        push_chunk(alloc, form, node, chunks)?;
     }
     Ok(())
+}
+
+fn put_chunks(
+    alloc: Global,
+    chunks: ChunkList,
+    members: &mut Map<String, Value>,
+) -> Result<(), AllocError>
+    ensures { OnOk result (members_view members.new.entries
+        ≡ put_chunks (chunks_view chunks) (members_view members.old.entries)) }
+{
+    let ChunkList { found, around } = chunks;
+    serde_json::put(members, alloc, "chunks", Value::from(found))?;
+    put_bounds(alloc, around, members)
 }
 
 fn is_element(node: &Node) -> bool
@@ -184,9 +223,12 @@ fn put_infinite(
     }
     let mut note = Map::new(alloc);
     put_size_rows(alloc, attributes, &mut note)?;
-    let mut chunks = Vec::new(alloc);
+    let mut chunks = ChunkList {
+        found: Vec::new(alloc),
+        around: None,
+    };
     push_chunks(alloc, form, nodes, &mut chunks)?;
-    serde_json::put(members, alloc, "chunks", Value::from(chunks))?;
+    put_chunks(alloc, chunks, members)?;
     put_notes(alloc, members, note)?;
     Ok(())
 }

@@ -4,13 +4,13 @@ ghost use Rattle.serde_json.specs.View.{view as data_of, members_view};
 ghost use Rattle.xml_text.specs.Xml.{attribute_view, node_view, view, children_of};
 ghost use Rattle.tmx_tree.specs.Answers.{GivesBy, Leaves};
 ghost use Rattle.tmx_tree.specs.Elements.{attributes_of, kids_of};
-ghost use Rattle.tmx_tree.specs.Tilesets.{whole_at, unless_zero, picture, with_picture, point, are_zero, offset_of, grid_orientation, is_own_grid, grid_data, grid_of, is_set, is_turning, turning, turning_in};
+ghost use Rattle.tmx_tree.specs.Tilesets.{unless_zero, picture, with_picture, point, are_zero, offset_of, grid_orientation, is_own_grid, grid_data, grid_of, is_set, is_turning, turning, turning_in};
 ghost use Rattle.tmx_tree.specs.Tilesets.{is_old, with_places, alignment, with_drawing, embedded, offset_in, grid_in};
 
+use crate::cells::whole_at;
 use crate::element::{attribute_value, attributes, children, first_named};
 use crate::fault::Fault;
 use crate::layers::transparent;
-use crate::number::whole_of;
 use crate::objects::text_unless;
 use crate::plain_value::text_at;
 use crate::properties::{put_properties, unless_none};
@@ -22,15 +22,6 @@ use crate::tiles::push_tiles;
 use serde_json::{Map, Value};
 use std::alloc::{AllocError, Global};
 use xml_text::{Attribute, Element};
-
-fn whole_at(attributes: &Vec<Attribute>, name: &str) -> i32
-    ensures { result ≡ whole_at name.now (map attribute_view attributes.now.items) }
-{
-    match attribute_value(attributes, name) {
-        Some(text) => whole_of(text).unwrap_or(0),
-        None => 0,
-    }
-}
 
 fn unless_zero(number: i32) -> Option<Value>
     ensures { option_map data_of result ≡ unless_zero number }
