@@ -10,5 +10,6 @@ pub mod Bounds
 pub mod Corners
 pub mod Objects
 pub mod Layers
+pub mod Wangs
 pub mod Tilesets
 pub mod Maps

@@ -172,3 +172,21 @@ with_tile_rows attrs ms = with_rows tile_rows attrs ms >>= λ more. with_rows pa
 -- a frame of its animation
 unfoldable pub frame_rows : List Named
 frame_rows = row (codes "tileid") (Whole (pos 0)) Always ∷ row (codes "duration") (Whole (pos 0)) Always ∷ []
+
+-- a wang set of it, besides its type
+unfoldable pub wang_set_rows : List Named
+wang_set_rows = row (codes "name") Text Always ∷ row (codes "class") Text Unusual ∷ row (codes "tile") (Whole (pos 0)) Always ∷ []
+
+-- a color of that
+unfoldable pub wang_color_rows : List Named
+wang_color_rows =
+    row (codes "name") Text Always
+    ∷ row (codes "class") Text Unusual
+    ∷ row (codes "color") Text Always
+    ∷ row (codes "tile") (Whole (pos 0)) Always
+    ∷ row (codes "probability") (Real (pos 0)) Always
+    ∷ []
+
+-- a tile of that, besides its colors
+unfoldable pub wang_tile_rows : List Named
+wang_tile_rows = row (codes "tileid") (Whole (pos 0)) Always ∷ []

@@ -18,6 +18,7 @@ use Rattle.tmx_tree.specs.Texts.{one_of}
 use Rattle.tmx_tree.specs.Properties.{text_at, unless_none, own_properties}
 use Rattle.tmx_tree.specs.Objects.{said_id, text_unless}
 use Rattle.tmx_tree.specs.Layers.{transparent, object_layer}
+use Rattle.tmx_tree.specs.Wangs.{wang_sets}
 
 -- ---- a file of its own: the id of its first tile, and the file
 abbrev pub external : Attributes → Data
@@ -137,11 +138,11 @@ with_tiles no_children found = Ok found
 with_tiles (child x xs) found = with_tile x found >>= λ more. with_tiles xs more
 
 -- ---- in the map itself
--- wang sets and terrains are not read, nor is a tileset that does not say how many tiles it has
+-- terrains are not read, nor is a tileset that does not say how many tiles it has
 abbrev pub is_old : Xml → Bool
 is_old x =
-    is_some (first_named (codes "wangsets") (kids_of x)) || (is_some (first_named (codes "terraintypes") (kids_of x))
-    || not (is_some (attribute (codes "tilecount") (attributes_of x)) && is_some (attribute (codes "columns") (attributes_of x))))
+    is_some (first_named (codes "terraintypes") (kids_of x))
+    || not (is_some (attribute (codes "tilecount") (attributes_of x)) && is_some (attribute (codes "columns") (attributes_of x)))
 
 abbrev pub with_places : Xml → Members → Members
 with_places x ms = put_some (codes "tileoffset") (offset_in x) (put_some (codes "grid") (grid_in x) ms)
@@ -153,12 +154,19 @@ abbrev pub with_drawing : Xml → Members → Members
 with_drawing x ms =
     put_some (codes "objectalignment") (alignment x) (with_places x (with_picture (first_named (codes "image") (kids_of x)) ms))
 
+-- its tiles and its wang sets
+unfoldable pub with_lists : Children → Members → Result Members Refusal
+with_lists kids ms = do
+  tiles ← with_tiles kids []
+  sets ← wang_sets (first_named (codes "wangsets") kids)
+  Ok (put_some (codes "wangsets") (unless_none sets) (put_some (codes "tiles") (unless_none tiles) ms))
+
 unfoldable pub embedded : Xml → Result Data Refusal
 embedded x = do
   rows ← with_tileset_rows (attributes_of x) no_members
   turned ← turning_in (first_named (codes "transformations") (kids_of x))
-  tiles ← with_tiles (kids_of x) []
-  ms ← own_properties (kids_of x) (put_some (codes "tiles") (unless_none tiles) (put_some (codes "transformations") turned (with_drawing x rows)))
+  full ← with_lists (kids_of x) (put_some (codes "transformations") turned (with_drawing x rows))
+  ms ← own_properties (kids_of x) full
   Ok (object ms)
 
 abbrev pub tileset_of : Xml → Result Data Refusal

@@ -80,8 +80,8 @@ fn push_csv(text: &[u8], found: &mut Vec<Value>) -> Result<bool, AllocError>
     Ok(true)
 }
 
-// The cells of a text; none if it is blank.
-fn csv_cells(alloc: Global, text: &str) -> Result<Option<Vec<Value>>, AllocError>
+/// The numbers of a text with commas in between; none if it is blank.
+pub fn csv_cells(alloc: Global, text: &str) -> Result<Option<Vec<Value>>, AllocError>
     ensures { IfOk result (λ o. option_map (λ v. map data_of v.items) o ≡ csv_cells text.now) }
 {
     let mut found = Vec::new(alloc);

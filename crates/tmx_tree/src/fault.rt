@@ -29,7 +29,7 @@ pub enum Refusal {
     PropertyType,
     /// No id is left for a layer or an object that has none.
     NoIdLeft,
-    /// A tileset in the map itself has wang sets or terrains, or does not say how many tiles it has.
+    /// A tileset in the map itself has terrains or wang sets of before Tiled 1.5, or does not say how many tiles it has.
     OldTileset,
     /// Groups or classes nest too deep for a tree.
     TooDeep,

@@ -22,6 +22,7 @@ mod tile_layer;
 mod tiles;
 mod tileset;
 mod tilesets;
+mod wangs;
 
 pub use fault::{Fault, Refusal};
 pub use map::tree;

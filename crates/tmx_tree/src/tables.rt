@@ -7,6 +7,7 @@ ghost use Rattle.tmx_tree.specs.Rows.{with_rows};
 ghost use Rattle.tmx_tree.specs.Tables.{map_rows, map_size_rows, with_map_rows, hexagonal_rows, layer_rows, look_rows, with_layer_rows, size_rows, place_rows, image_layer_rows};
 ghost use Rattle.tmx_tree.specs.Tables.{object_layer_rows, object_rows, own_object_rows, instance_rows, text_rows};
 ghost use Rattle.tmx_tree.specs.Tables.{tileset_rows, tileset_size_rows, with_tileset_rows, turning_rows, tile_rows, part_rows, with_tile_rows, frame_rows};
+ghost use Rattle.tmx_tree.specs.Tables.{wang_set_rows, wang_color_rows, wang_tile_rows};
 
 use crate::fault::Fault;
 use crate::row::{Kind, Row, Shown, put_rows};
@@ -500,6 +501,70 @@ pub fn put_frame_rows(
             row("tileid", Kind::Whole(0), Shown::Always),
             row("duration", Kind::Whole(0), Shown::Always),
         ],
+        attributes,
+        members,
+    )
+}
+
+/// Puts those of a wang set.
+#[tactic(auto, unfolding(crate::specs::Tables::wang_set_rows))]
+pub fn put_wang_set_rows(
+    alloc: Global,
+    attributes: &Vec<Attribute>,
+    members: &mut Map<String, Value>,
+) -> Result<(), Fault>
+    ensures { Leaves result (members_view members.new.entries)
+        (with_rows wang_set_rows (map attribute_view attributes.now.items) (members_view members.old.entries)) }
+{
+    put_rows(
+        alloc,
+        &[
+            row("name", Kind::Text, Shown::Always),
+            row("class", Kind::Text, Shown::Unusual),
+            row("tile", Kind::Whole(0), Shown::Always),
+        ],
+        attributes,
+        members,
+    )
+}
+
+/// Puts those of a color of a wang set.
+#[tactic(auto, unfolding(crate::specs::Tables::wang_color_rows))]
+pub fn put_wang_color_rows(
+    alloc: Global,
+    attributes: &Vec<Attribute>,
+    members: &mut Map<String, Value>,
+) -> Result<(), Fault>
+    ensures { Leaves result (members_view members.new.entries)
+        (with_rows wang_color_rows (map attribute_view attributes.now.items) (members_view members.old.entries)) }
+{
+    put_rows(
+        alloc,
+        &[
+            row("name", Kind::Text, Shown::Always),
+            row("class", Kind::Text, Shown::Unusual),
+            row("color", Kind::Text, Shown::Always),
+            row("tile", Kind::Whole(0), Shown::Always),
+            row("probability", Kind::Real(0), Shown::Always),
+        ],
+        attributes,
+        members,
+    )
+}
+
+/// Puts those of a tile of a wang set.
+#[tactic(auto, unfolding(crate::specs::Tables::wang_tile_rows))]
+pub fn put_wang_tile_rows(
+    alloc: Global,
+    attributes: &Vec<Attribute>,
+    members: &mut Map<String, Value>,
+) -> Result<(), Fault>
+    ensures { Leaves result (members_view members.new.entries)
+        (with_rows wang_tile_rows (map attribute_view attributes.now.items) (members_view members.old.entries)) }
+{
+    put_rows(
+        alloc,
+        &[row("tileid", Kind::Whole(0), Shown::Always)],
         attributes,
         members,
     )

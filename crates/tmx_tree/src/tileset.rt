@@ -5,7 +5,7 @@ ghost use Rattle.xml_text.specs.Xml.{attribute_view, node_view, view, children_o
 ghost use Rattle.tmx_tree.specs.Answers.{GivesBy, Leaves};
 ghost use Rattle.tmx_tree.specs.Elements.{attributes_of, kids_of};
 ghost use Rattle.tmx_tree.specs.Tilesets.{unless_zero, picture, with_picture, point, are_zero, offset_of, grid_orientation, is_own_grid, grid_data, grid_of, is_set, is_turning, turning, turning_in};
-ghost use Rattle.tmx_tree.specs.Tilesets.{is_old, with_places, alignment, with_drawing, embedded, offset_in, grid_in};
+ghost use Rattle.tmx_tree.specs.Tilesets.{is_old, with_places, alignment, with_drawing, with_lists, embedded, offset_in, grid_in};
 
 use crate::cells::whole_at;
 use crate::element::{attribute_value, attributes, children, first_named};
@@ -19,9 +19,10 @@ use crate::row::put_some;
 use crate::tables::{put_tileset_rows, put_turning_rows};
 use crate::texts::one_of;
 use crate::tiles::push_tiles;
+use crate::wangs::wang_sets;
 use serde_json::{Map, Value};
 use std::alloc::{AllocError, Global};
-use xml_text::{Attribute, Element};
+use xml_text::{Attribute, Element, Node};
 
 fn unless_zero(number: i32) -> Option<Value>
     ensures { option_map data_of result ≡ unless_zero number }
@@ -182,12 +183,11 @@ fn turning_in(alloc: Global, element: Option<&Element>) -> Result<Option<Value>,
     }
 }
 
-/// Whether a tileset has wang sets or terrains, or does not say how many tiles it has.
+/// Whether a tileset has terrains, or does not say how many tiles it has.
 pub fn is_old(element: &Element) -> bool
     ensures { result ≡ is_old (view element.now) }
 {
-    first_named(children(element), "wangsets").is_some()
-        || first_named(children(element), "terraintypes").is_some()
+    first_named(children(element), "terraintypes").is_some()
         || !(attribute_value(attributes(element), "tilecount").is_some()
             && attribute_value(attributes(element), "columns").is_some())
 }
@@ -230,6 +230,23 @@ fn put_drawing(
     put_some(alloc, members, "objectalignment", alignment)
 }
 
+#[tactic(auto, unfolding(crate::specs::Tilesets::with_lists))]
+fn put_lists(
+    alloc: Global,
+    nodes: &Vec<Node>,
+    members: &mut Map<String, Value>,
+) -> Result<(), Fault>
+    ensures { Leaves result (members_view members.new.entries)
+        (with_lists (children_of (map node_view nodes.now.items)) (members_view members.old.entries)) }
+{
+    let mut tiles = Vec::new(alloc);
+    push_tiles(alloc, nodes, &mut tiles)?;
+    let sets = wang_sets(alloc, first_named(nodes, "wangsets"))?;
+    put_some(alloc, members, "tiles", unless_none(tiles))?;
+    put_some(alloc, members, "wangsets", unless_none(sets))?;
+    Ok(())
+}
+
 /// A tileset that stands in the map itself.
 #[tactic(auto, unfolding(crate::specs::Tilesets::embedded))]
 pub fn embedded(alloc: Global, element: &Element) -> Result<Value, Fault>
@@ -240,9 +257,7 @@ pub fn embedded(alloc: Global, element: &Element) -> Result<Value, Fault>
     put_drawing(alloc, element, &mut members)?;
     let turned = turning_in(alloc, first_named(children(element), "transformations"))?;
     put_some(alloc, &mut members, "transformations", turned)?;
-    let mut tiles = Vec::new(alloc);
-    push_tiles(alloc, children(element), &mut tiles)?;
-    put_some(alloc, &mut members, "tiles", unless_none(tiles))?;
+    put_lists(alloc, children(element), &mut members)?;
     put_properties(alloc, children(element), &mut members)?;
     Ok(Value::from(members))
 }
