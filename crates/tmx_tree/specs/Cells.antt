@@ -1,5 +1,6 @@
 -- The cells of a layer or a chunk: as an array of numbers, or as a text in base64.
-use Rattle.std.specs.Prelude.{ℕ, ◌+◌, ◌-◌, ◌*◌, ◌%◌, ◌^◌, ◌==◌, ◌||◌, ℤ, pos, List, [], ◌∷◌, ◌++◌, length, replicate, Bool, nat_le, codes, Option, Some, None, option_and_then, unwrap_or, Result, Ok, Err}
+use Rattle.std.specs.Prelude.{ℕ, ◌+◌, ◌-◌, ◌*◌, ◌%◌, ◌^◌, ◌==◌, ◌||◌, ℤ, pos, List, [], ◌∷◌, ◌++◌, length, replicate, Bool, nat_le, codes, Option, Some, None}
+use Rattle.std.specs.Prelude.{option_and_then, unwrap_or, Result, Ok, Err}
 use Rattle.std.specs.Prelude.{if◌then◌else◌}
 use Rattle.std.specs.Str.{bytes_eq, trim}
 use Rattle.serde_json.specs.Data.{unsigned, Data, number, string, array, Members, put}

@@ -1,5 +1,6 @@
 -- Layers of a map or a group.
-use Rattle.std.specs.Prelude.{ℕ, map, ◌==◌, ◌&&◌, ◌||◌, not, ℤ, pos, List, [], ◌∷◌, ◌++◌, Bool, true, false, codes, Option, Some, None, option_and_then, option_map, is_some, is_none, slice_index}
+use Rattle.std.specs.Prelude.{ℕ, map, ◌==◌, ◌&&◌, ◌||◌, not, ℤ, pos, List, [], ◌∷◌, ◌++◌, Bool, true, false, codes, Option, Some, None, option_and_then}
+use Rattle.std.specs.Prelude.{option_map, is_some, is_none, slice_index}
 use Rattle.std.specs.Prelude.{unwrap_or, Result, Ok, Err, if◌then◌else◌}
 use Rattle.std.specs.Str.{bytes_eq}
 use Rattle.serde_json.specs.Data.{Data, string, array, object, Members, no_members, member, put}

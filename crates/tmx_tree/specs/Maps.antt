@@ -1,5 +1,6 @@
 -- A map in XML, as the tree that Tiled's JSON has of it.
-use Rattle.std.specs.Prelude.{ℕ, ◌==◌, ◌&&◌, ◌||◌, not, max, ℤ, pos, negsuc, List, [], ◌∷◌, ◌++◌, Bool, true, false, nat_le, codes, Option, Some, None, option_and_then, option_map}
+use Rattle.std.specs.Prelude.{ℕ, ◌==◌, ◌&&◌, ◌||◌, not, max, ℤ, pos, negsuc, List, [], ◌∷◌, ◌++◌, Bool, true, false, nat_le, codes, Option, Some, None}
+use Rattle.std.specs.Prelude.{option_and_then, option_map}
 use Rattle.std.specs.Prelude.{unwrap_or, Result, Ok, Err, if◌then◌else◌}
 use Rattle.std.specs.Result.{result_ok}
 use Rattle.std.specs.Str.{bytes_eq}
