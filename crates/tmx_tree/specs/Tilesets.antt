@@ -1,5 +1,5 @@
 -- The tilesets of a map: files of their own, or in the map itself.
-use Rattle.std.specs.Prelude.{ℕ, ◌==◌, ◌&&◌, ◌||◌, not, ℤ, pos, List, [], ◌∷◌, ◌++◌, Bool, true, false, codes, Option, Some, None, option_and_then, unwrap_or}
+use Rattle.std.specs.Prelude.{ℕ, ◌&&◌, ◌||◌, not, ℤ, pos, List, [], ◌∷◌, ◌++◌, Bool, true, false, codes, Option, Some, None, option_and_then}
 use Rattle.std.specs.Prelude.{Result, Ok, Err, is_some}
 use Rattle.std.specs.Prelude.{if◌then◌else◌}
 use Rattle.std.specs.Ordering.{int_eq}
@@ -10,11 +10,10 @@ use Rattle.xml_text.specs.Xml.{Xml, Children, no_children, child}
 use Rattle.tmx_tree.specs.declared.fault.Refusal.{Refusal}
 use Rattle.tmx_tree.specs.declared.fault.Refusal.TheVariants.{OldTileset}
 use Rattle.tmx_tree.specs.Answers.{◌>>=◌}
-use Rattle.tmx_tree.specs.Numbers.{whole_of}
 use Rattle.tmx_tree.specs.Rows.{whole_data, is_whole_data, with_rows}
 use Rattle.tmx_tree.specs.Tables.{with_tileset_rows, turning_rows, with_tile_rows, frame_rows}
-use Rattle.tmx_tree.specs.Cells.{side, whole_at, array_of}
-use Rattle.tmx_tree.specs.Elements.{Attributes, attribute, attributes_of, kids_of, is_named, first_named}
+use Rattle.tmx_tree.specs.Cells.{side, whole_at}
+use Rattle.tmx_tree.specs.Elements.{Attributes, attributes_of, kids_of, is_named, first_named}
 use Rattle.tmx_tree.specs.Texts.{one_of}
 use Rattle.tmx_tree.specs.Properties.{text_at, unless_none, own_properties}
 use Rattle.tmx_tree.specs.Objects.{said_id, text_unless}
