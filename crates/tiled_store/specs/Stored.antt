@@ -86,10 +86,13 @@ abbrev pub PutsBy : Bool → List ℕ → List ℕ → List ℕ → List ℕ →
 PutsBy false name source bytes file = file ≡ bytes
 PutsBy true name source bytes file = PutsFor name source bytes file
 
--- what was set aside in a text is not put back: the text would nest too deep, or be too long; or it has no XML
+-- what was set aside in a text is not put back as JSON: the text would nest too deep, or be too long
+abbrev pub IsNotPutJson : List ℕ → Type 0
+IsNotPutJson bytes = PutsBack bytes (Err fault.TooDeep) ⊎ ((text : Vec ℕ Global) × PutsBack bytes (Ok (Some text)) × (LONGEST < length text.items))
+
+-- it is not put back as a file of a kind; as XML also if it has none
 abbrev pub IsNotPutAs : Kind → List ℕ → List ℕ → Type 0
-IsNotPutAs Json source bytes =
-    PutsBack bytes (Err fault.TooDeep) ⊎ ((text : Vec ℕ Global) × PutsBack bytes (Ok (Some text)) × (LONGEST < length text.items))
+IsNotPutAs Json source bytes = IsNotPutJson bytes
 IsNotPutAs Tmx source bytes = ((why : FileFault) × (is_memory why ≡ false) × Saves Tmx bytes source (Err why))
     ⊎ ((laid : LaidText) × Saves Tmx bytes source (Ok laid) × (LONGEST < length laid.text.items))
 

@@ -4,7 +4,7 @@ ghost use Rattle.map_store.specs.Files.{HasFailed};
 ghost use Rattle.map_store.specs.Storing.{Loads, Stores};
 ghost use Rattle.tiled_files.specs.declared.kind.Kind.TheVariants.{Json, Tmx};
 ghost use Rattle.tiled_maps.specs.Texts.{text_or};
-ghost use Rattle.tiled_store.specs.Stored.{AsksForSource, AtMostOnce, Gives, GivesFor, IsNotPut, IsNotPutAs, IsRefused, IsSourceBy, IsSourceOf, LoadsFrom, PutsAs, PutsBy, PutsFor, PutsLike, PutsPlain, StoresTo};
+ghost use Rattle.tiled_store.specs.Stored.{AsksForSource, AtMostOnce, Gives, GivesFor, IsNotPut, IsNotPutAs, IsNotPutJson, IsRefused, IsSourceBy, IsSourceOf, LoadsFrom, PutsAs, PutsBy, PutsFor, PutsLike, PutsPlain, StoresTo};
 
 use crate::fault_report::FaultReport;
 use map_store::{MapStore, StoreCall, StoreFault, StoreLog};
@@ -171,7 +171,7 @@ impl<S: MapStore, Q: MapStore, T: FaultReport> TiledStore<S, Q, T> {
         bytes: &[u8],
     ) -> Result<Option<Vec<u8>>, StoreFault>
         ensures puts { IfOk result (λ own. PutsPlain bytes.now (text_or bytes.now own)) }
-        ensures refused { (source : List ℕ) → IsErrOf result StoreFault.Device → IsNotPutAs Json source bytes.now }
+        ensures refused { IsErrOf result StoreFault.Device → IsNotPutJson bytes.now }
         ensures found { IsErrOf result StoreFault.Missing → ⊥ }
     {
         match put_back(alloc, bytes) {
@@ -193,7 +193,7 @@ impl<S: MapStore, Q: MapStore, T: FaultReport> TiledStore<S, Q, T> {
         source: &[u8],
     ) -> Result<Option<Vec<u8>>, StoreFault>
         ensures puts { IfOk result (λ own. PutsAs Json source.now bytes.now (text_or bytes.now own)) }
-        ensures refused { IsErrOf result StoreFault.Device → IsNotPutAs Json source.now bytes.now }
+        ensures refused { IsErrOf result StoreFault.Device → IsNotPutJson bytes.now }
         ensures found { IsErrOf result StoreFault.Missing → ⊥ }
     {
         if let Some(text) = self.put_like(alloc, name, bytes, source) {
