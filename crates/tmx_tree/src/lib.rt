@@ -1,0 +1,29 @@
+//! A map in Tiled's XML, as the tree that Tiled's JSON has of it.
+#![tactic(auto)]
+
+mod bounds;
+mod cells;
+mod corners;
+mod element;
+mod fault;
+mod format;
+mod layers;
+mod map;
+mod number;
+mod objects;
+mod plain_value;
+mod properties;
+mod property;
+mod row;
+mod settings;
+mod tables;
+mod texts;
+mod tile_layer;
+mod tiles;
+mod tileset;
+mod tilesets;
+mod wangs;
+
+pub use fault::{Fault, Refusal};
+pub use map::tree;
+pub use property::NOTE_NAME;
