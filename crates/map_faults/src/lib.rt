@@ -4,7 +4,6 @@
 mod faults;
 mod json_fault;
 mod lexemes;
-mod line_column;
 mod members;
 mod offsets;
 mod output;
@@ -15,9 +14,9 @@ mod told;
 
 pub use faults::{ToldFault, map_fault};
 pub use json_fault::place_of_fault;
-pub use line_column::LineColumn;
 pub use members::Members;
 pub use output::Output;
 pub use place::Place;
 pub use shown::{is_shown_plain, write_short};
+pub use tiled_files::LineColumn;
 pub use told::{TOO_LONG, why_refused};

@@ -7,7 +7,7 @@ use std::alloc::Global;
 use std::fmt::{Display, Formatter, Write};
 use std::rt::Files;
 use std::{fmt, fs};
-use tiled_maps::Fault;
+use tiled_files::{FileFault, LineColumn};
 use tiled_store::FaultReport;
 
 /// The most characters of a session line that are shown.
@@ -100,10 +100,17 @@ impl<'a, R: Eprint> FolderFaults<'a, R> {
 }
 
 impl<'a, R: Eprint> FaultReport for FolderFaults<'a, R> {
-    fn refused(&self, name: &str, fault: Fault) {
+    fn refused(&self, name: &str, bytes: &[u8], fault: FileFault) {
         let folder = self.folder;
         let reason = fault.words();
-        let _ = eprintln!(self.rt; "tile_editor: {folder}/{name}: {reason}");
+        let _ = match fault.place_in(bytes) {
+            Some(LineColumn { line, column }) => {
+                eprintln!(self.rt;
+                    "tile_editor: {folder}/{name}: {reason}: line {line}, column {column}"
+                )
+            }
+            None => eprintln!(self.rt; "tile_editor: {folder}/{name}: {reason}"),
+        };
     }
 
     fn too_long(&self, name: &str) {

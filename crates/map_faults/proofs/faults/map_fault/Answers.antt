@@ -3,7 +3,8 @@ use Rattle.map_faults.specs.Faults.{TellsFault, TellsNotGiven, TellsOfText}
 use Rattle.map_faults.specs.declared.faults.ToldFault.{ToldFault}
 use Rattle.tiled_maps.specs.declared.fault.Fault.TheVariants.{NotJson}
 use Rattle.tiled_maps.specs.declared.text.TheConstants.{LONGEST}
-use Rattle.tiled_maps.specs.Texts.{SetsAside}
+use Rattle.tiled_files.specs.Opening.{Opens}
+use Rattle.tiled_files.specs.declared.fault.FileFault.TheVariants.{Aside}
 use Rattle.tiled_store.specs.Stored.{IsRefused}
 use Rattle.map_faults.proofs.faults.map_fault.Goals as goal
 
@@ -16,12 +17,12 @@ refused bytes (Err e) why not = tt
 pub returns-in-Ok-Some : goal.returns-in-Ok-Some
 returns-in-Ok-Some c =
     let text = c.in-Ok-Some.text in
-    let own : SetsAside c.args.bytes.now (Ok (Some text)) = search rules in
+    let own : Opens c.args.bytes.now (Ok (Some text)) = search rules in
     let long : LONGEST < length text.items = search rules in
     refused c.args.bytes.now c.not_aside.result (inr (text, own, long)) c.not_aside.ensures
 
 -- what is told of a file that is no JSON
-unset : {E : Type 0} → (bytes : List ℕ) (told : Result (Option ToldFault) E) → SetsAside bytes (Err NotJson) → IfOk told (TellsOfText bytes)
+unset : {E : Type 0} → (bytes : List ℕ) (told : Result (Option ToldFault) E) → Opens bytes (Err (Aside NotJson)) → IfOk told (TellsOfText bytes)
     → IfOk told (TellsFault bytes)
 unset bytes (Ok told) none tells = inl (bytes, inr (refl, none), tells)
 unset bytes (Err e) none tells = tt
@@ -29,5 +30,5 @@ unset bytes (Err e) none tells = tt
 pub returns-in-Err-NotJson : goal.returns-in-Err-NotJson
 returns-in-Err-NotJson c =
     let is = c.in-Err-NotJson in
-    let none : SetsAside c.args.bytes.now (Err NotJson) = subst (SetsAside c.args.bytes.now) (is.is ∙ ap (λ f. Err f) is.field-0-is) c.set_aside.ensures in
+    let none : Opens c.args.bytes.now (Err (Aside NotJson)) = subst (Opens c.args.bytes.now) (is.is ∙ ap (λ f. Err f) is.field-0-is) c.opened.ensures.opened in
     unset c.args.bytes.now c.fault_of_text-in-Err-NotJson.result none c.fault_of_text-in-Err-NotJson.ensures

@@ -1,0 +1,17 @@
+//! Files of maps, in JSON and in XML: what is opened of one, and what is saved as one.
+#![tactic(auto)]
+
+mod fault;
+mod kind;
+mod line_column;
+mod opening;
+mod saving;
+mod words;
+
+pub use fault::FileFault;
+pub use kind::{Kind, is_xml, kind_of, kind_of_bytes};
+pub use line_column::LineColumn;
+pub use map_layout::LaidText;
+pub use opening::{json_in, opened};
+pub use saving::saved;
+pub use tiled_maps::LONGEST;
