@@ -302,9 +302,11 @@ export class Document {
   outline(): Members;
   /**
    * The map as the bytes of a file, in its own layout, or in one that is named: "tiled", "rows" or
-   * "compact"; it counts as saved then. Throws RangeError, Refused (20).
+   * "compact"; of the kind that it was opened from or saved as last, or of one that is named:
+   * "json", or "tmx", which is XML and has no such layout. It counts as saved then. Throws
+   * RangeError, Refused (20).
    */
-  saveBytes(options?: { layout?: Layout }): Promise<Uint8Array>;
+  saveBytes(options?: { layout?: Layout; kind?: FileKind }): Promise<Uint8Array>;
   /** Closes it. Throws Refused (13). */
   close(): void;
   /** Closes it, and drops unsaved changes. */

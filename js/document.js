@@ -2,6 +2,7 @@
 // A document of an editor, in the words of its caller.
 import { Closed, Refused, refusedCall } from "./faults.js";
 import * as json from "./json_values.js";
+import { kindNamed } from "./file_kinds.js";
 import { layoutOf } from "./layouts.js";
 import { MAX_COORDINATE, MAX_OPEN_MACROS } from "./limits.js";
 import { savedMap } from "./map_files.js";
@@ -705,8 +706,8 @@ export class Document extends WithOwnMembers {
   // ---- its file
 
   async saveBytes(options) {
-    const { layout } = words.options(options, { layout: null });
-    const said = layoutOf(layout);
+    const { layout, kind } = words.options(options, { layout: null, kind: null });
+    const said = { layout: layoutOf(layout), kind: kindNamed(kind) };
     this._enter();
     return savedMap(this.#editor, "saveBytes()", said);
   }

@@ -29,6 +29,9 @@ const ASIDE_FAULTS = new Map([
   [NONE - 10, "its layers have more than 16,777,216 cells"],
   [NONE - 11, "made finite, it would not come back as it was"],
   [NONE - 12, "it has more than 200,000 fractions"],
+  [NONE - 13, "it begins as XML, and is none that is read"],
+  [NONE - 14, "it is no map that is read"],
+  [NONE - 15, "it has what XML can't say: save it as JSON, or undo that"],
 ]);
 // The longest text that is made, as in the program.
 const TOO_LONG = `set aside or put back, it would be longer than ${MAX_FILE_BYTES.toLocaleString("en-US")} bytes`;
@@ -257,6 +260,17 @@ export class Module {
    */
   laidOutLike(text, source) {
     return this.putBackLike(text, source) ?? text;
+  }
+
+  /**
+   * The text of a map in which what was set aside is put back, as a file of the kind of this number, by its source: the
+   * text, null where there is none; and why not, in words, else null. Throws NoMemory.
+   */
+  putBackAs(text, source, kind) {
+    const { put_back_as: call } = this.#calls;
+    const [size, sourceSize] = [text.length, source.length];
+    const came = this.#made([text, source], size + sourceSize, (at, to, room) => call(at, size, at + size, sourceSize, kind, to, room));
+    return { text: came.text, why: came.text === null ? ASIDE_FAULTS.get(came.size) ?? TOO_LONG : null };
   }
 
   /** The same; null where it can't be laid out. */

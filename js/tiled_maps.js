@@ -4,6 +4,8 @@
 // The name under which it stands, in the map, in layers and objects, and the one under which a layer notes how it was packed.
 const RESERVED = "roskevad";
 const PACKED = "roskevad_packed";
+// The name under which it notes what JSON can't say of a map in XML.
+const XML_NOTE = "roskevad_tmx";
 // The names of an object's place, with what it was moved by, and of its size.
 const MOVED = [["x", "movedx"], ["y", "movedy"], ["width", null], ["height", null]];
 const HALF = 2 ** 32;
@@ -78,6 +80,7 @@ function restoredMembers(members, note) {
       put(members, name, exact);
     }
   }
+  delete members[XML_NOTE];
   const notes = members[RESERVED] ?? null;
   if (Array.isArray(notes)) {
     return numberOf(notes, members);

@@ -280,11 +280,12 @@ DOCUMENT = Kind('Document', 'A map, its selection and its steps. A call makes th
          'named; it counts as saved then. A file whose bytes are not those that it has read or saved last is refused, unless it is to `force` them.',
          'save FILE', raises={'value': 'document.save()', 'refused 20': 'after("begin A") and document.save("/dev/shm/none/a.tmj")',
                  'refused 51': 'document.save("/dev/null/a.tmj")'}, only='python'),
-    Call('save_bytes', '; layout=None', 'The map as the bytes of a file, in its own layout, or in one that is named: "tiled", "rows" or "compact"; '
-         'it counts as saved then.', 'save FILE', 'bytes!',
+    Call('save_bytes', '; layout=None, kind=None', 'The map as the bytes of a file, in its own layout, or in one that is named: "tiled", "rows" or '
+         '"compact"; of the kind that it was opened from or saved as last, or of one that is named: "json", or "tmx", which is XML and has no such '
+         'layout. It counts as saved then.', 'save FILE', 'bytes!',
          {'value': ('document.save_bytes(layout="xml")', 'await document.saveBytes({ layout: "xml" })'),
           'refused 20': ('after("begin A") and document.save_bytes()', 'after("begin A") && await document.saveBytes()')},
-         written=('document.save_bytes(layout=None)', 'await document.saveBytes({ layout })')),
+         written=('document.save_bytes(layout=None, kind=None)', 'await document.saveBytes({ layout, kind })'), types={'kind': 'FileKind'}),
     Call('close', '', 'Closes it.', 'close DOC', '', {'refused 13': 'document.close()'}),
     Call('discard', '', 'Closes it, and drops unsaved changes.', 'discard DOC'),
     to_json('document', 'members', 'What JSON has of it: `document.outline()`.'),
@@ -645,8 +646,9 @@ LINE_CALLS = [
          raises={'refused': 'await editor.openMap("town", "{}")'}),
     Call('save_map', '; all_maps=False', 'The active map as bytes; it counts as saved then.', gives='bytes', only='python',
          raises={'refused 10': 'after("use -") and editor.save_map()'}),
-    Call('save_map', '', 'The active map as bytes; it counts as saved then.', gives='bytes!', only='javascript',
-         raises={'refused 10': 'after("use -") && await editor.saveMap()'}),
+    Call('save_map', '; kind=None', 'The active map as bytes, of the kind that is named; it counts as saved then.', gives='bytes!', only='javascript',
+         raises={'refused 10': 'after("use -") && await editor.saveMap()', 'value': 'await editor.saveMap({ kind: "xml" })'},
+         types={'kind': 'FileKind'}),
     value('origin', 'place', 'Where the corner of the active map lies that was infinite.', only='python'),
     Call('origin', '', 'Where the corner of the active map lies that was infinite.', gives='place', only='javascript'),
     Call('open_file', 'path, name=None', 'Opens a document with the map of a file.', gives='str', only='python',

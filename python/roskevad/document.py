@@ -8,7 +8,7 @@ from typing import TYPE_CHECKING, Any, Callable, ContextManager, Iterator, Named
 
 from . import json_values, logs, words
 from .faults import Closed, Refused, refused_call
-from .kinds import Layout, Rows, SelectionMode
+from .kinds import FileKind, Layout, Rows, SelectionMode
 from .library import LAYER_ROW, LayerRow, MapSizes, SelectionRun
 from .limits import MAX_COORDINATE, MAX_OPEN_MACROS
 from .own_members import OTHERS, Owner, OwnMembers, set_member, set_or_remove
@@ -758,11 +758,12 @@ class Document:
         self._path = path
         logs.info('%s: saved to %s', self._name, path)
 
-    def save_bytes(self, layout: Optional[Layout] = None) -> bytes:
-        """The map as the bytes of a file, in a layout as `save` has it; it counts as saved then. Raises ValueError for a layout that there
-        is not; Refused: 20 while a macro is open."""
-        said = words.layout(layout)
-        return self._do(lambda: self._editor._saved_bytes('save_bytes()', said))
+    def save_bytes(self, layout: Optional[Layout] = None, kind: Optional[FileKind] = None) -> bytes:
+        """The map as the bytes of a file, in a layout as `save` has it; it counts as saved then. `kind` is json or tmx, which is XML; without
+        it that of the file that was opened or saved last. Raises ValueError for a layout or a kind that there is not, and for a layout of
+        XML; Refused: 20 while a macro is open, 51 where the map has what XML can't say."""
+        said, of_kind = words.layout(layout), words.file_kind(kind)
+        return self._do(lambda: self._editor._saved_bytes('save_bytes()', said, of_kind))
 
     def close(self) -> None:
         """Closes it. Raises Refused: 13 where it has unsaved changes."""

@@ -16,11 +16,15 @@ def exported(source, folder, name):
     """The bytes of a map as Tiled exports it to JSON into a folder, or None where Tiled does not load
     it. Paths of tilesets are those from there."""
     goal = Path(folder) / name
-    env = {**os.environ, 'QT_QPA_PLATFORM': 'offscreen', 'HOME': str(folder)}
-    subprocess.run(
-        ['tiled', '--export-map', 'json', source, goal], env=env, capture_output=True, timeout=120
-    )
+    export('json', source, goal)
     return goal.read_bytes() if goal.exists() else None
+
+
+def export(form, source, goal):
+    """Has Tiled export a map in a form of its own. Paths of tilesets are those from there."""
+    env = {**os.environ, 'QT_QPA_PLATFORM': 'offscreen', 'HOME': str(goal.parent)}
+    words = ['tiled', '--export-map', form, source, goal]
+    subprocess.run(words, env=env, capture_output=True, timeout=120)
 
 
 def unlike_exports(source, saved):

@@ -118,6 +118,7 @@ int main(void)
     sum += roskevad_editor_set_aside(line, sizeof line - 1, room, sizeof room);
     sum += roskevad_editor_put_back(ROSKEVAD_NULL, 0, ROSKEVAD_NULL, 0);
     sum += roskevad_editor_put_back_like(line, sizeof line - 1, ROSKEVAD_NULL, 0, room, sizeof room);
+    sum += roskevad_editor_put_back_as(line, sizeof line - 1, ROSKEVAD_NULL, 0, ROSKEVAD_FILE_JSON + ROSKEVAD_FILE_TMX, room, sizeof room);
     sum += roskevad_editor_lay_out(line, sizeof line - 1, ROSKEVAD_LAYOUT_TILED, room, sizeof room);
     sum += ROSKEVAD_LAYOUT_ROWS + ROSKEVAD_LAYOUT_MINIMIZED + ROSKEVAD_LAYOUT_COMPACT;
     sum += roskevad_editor_map_fault(line, sizeof line - 1, room, sizeof room);

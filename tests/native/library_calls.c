@@ -581,6 +581,29 @@ static size_t put_back_like_none(const void *given, size_t length, void *text, s
     return roskevad_editor_put_back_like(given, length, NULL, 0, text, room);
 }
 
+#define TMX_HEAD "<map orientation=\"orthogonal\" width=\"1\" height=\"1\" tilewidth=\"16\" tileheight=\"16\""
+#define TMX "<?xml version=\"1.0\"?>\n<!-- a map --> " TMX_HEAD " />\n"
+
+static size_t put_back_like_tmx(const void *given, size_t length, void *text, size_t room)
+{
+    return roskevad_editor_put_back_like(given, length, TMX, sizeof TMX - 1, text, room);
+}
+
+static size_t put_back_as_tmx(const void *given, size_t length, void *text, size_t room)
+{
+    return roskevad_editor_put_back_as(given, length, TMX, sizeof TMX - 1, ROSKEVAD_FILE_TMX, text, room);
+}
+
+static size_t put_back_as_json(const void *given, size_t length, void *text, size_t room)
+{
+    return roskevad_editor_put_back_as(given, length, TMX, sizeof TMX - 1, ROSKEVAD_FILE_JSON, text, room);
+}
+
+static size_t put_back_as_none(const void *given, size_t length, void *text, size_t room)
+{
+    return roskevad_editor_put_back_as(given, length, TMX, sizeof TMX - 1, ROSKEVAD_FILE_TMX + 1, text, room);
+}
+
 static size_t laid_out_as_tiled(const void *given, size_t length, void *text, size_t room)
 {
     return roskevad_editor_lay_out(given, length, ROSKEVAD_LAYOUT_TILED, text, room);
@@ -614,6 +637,22 @@ static void check_layouts(void)
     check_made(laid_out_compact, "{ \"b\":[1, \"\\/\"] }", "{\"b\":[1,\"/\"]}");
     check_unmade(laid_out_in_no_layout, "{}", ROSKEVAD_TOO_GREAT);
     check_unmade(laid_out_as_tiled, "{", ROSKEVAD_NOT_JSON);
+}
+
+/* A map in XML: its JSON, and its very bytes again; the same as JSON, and what is no such map. */
+static void check_tmx(void)
+{
+    static char json[4096], back[4096];
+    const size_t size = roskevad_editor_set_aside(TMX, sizeof TMX - 1, json, sizeof json);
+    WANT(size < sizeof json && json[0] == '{');
+    WANT(put_back_like_tmx(json, size, back, sizeof back) == sizeof TMX - 1 && memcmp(back, TMX, sizeof TMX - 1) == 0);
+    WANT(put_back_as_tmx(json, size, back, sizeof back) == sizeof TMX - 1 && memcmp(back, TMX, sizeof TMX - 1) == 0);
+    WANT(!ROSKEVAD_IS_FAULT(put_back_as_json(json, size, back, sizeof back)) && memcmp(back, "{ \"compressionlevel\":-1,\n", 25) == 0);
+    WANT(put_back_as_none(json, size, back, sizeof back) == ROSKEVAD_TOO_GREAT);
+    check_unmade(put_back_as_tmx, "{\"a\":1", ROSKEVAD_NOT_JSON);
+    check_unmade(put_back_as_tmx, "{\"a\":1}", ROSKEVAD_NO_TMX);
+    check_unmade(roskevad_editor_set_aside, " <map>", ROSKEVAD_NOT_XML);
+    check_unmade(roskevad_editor_set_aside, "<tileset/>", ROSKEVAD_NOT_A_TMX);
 }
 
 #define CHUNK(more) "{\"data\":[1],\"height\":1,\"width\":1,\"x\":0,\"y\":0" more "}"
@@ -739,6 +778,7 @@ static void run_random(size_t lines)
     check_edges(&editor);
     check_asides();
     check_layouts();
+    check_tmx();
     check_map_faults();
     check_word_faults();
     check_word_faults_for();
