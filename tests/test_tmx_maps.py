@@ -17,6 +17,7 @@ from pathlib import Path
 from lib import tiled_package
 from lib.asides import OPTION
 from lib.cases import CORES, Case, check_each, fail_with, in_processes, passed, see, unlike
+from lib.compressions import with_cells
 from lib.places import EXAMPLE_MAPS, IN_MEMORY, MAP_REPORT, TILE_EDITOR, TOP
 from lib.random_tmx import some_map
 from lib.xml_edits import ALL as EDITS
@@ -31,6 +32,8 @@ SEED, RANDOM_MAPS, EDITS_OF_MAP, DAMAGED, DAMAGED_OF_RUN, SECONDS = 20261201, 10
 # The bytes of memory that an opening of a damaged map may take.
 MEMORY = 512 * 2**20
 NOTE = 'roskevad_tmx'
+# Where the chunks of a layer lie, which Tiled counts by blocks of its own.
+BOUNDS = ('startx', 'starty', 'width', 'height')
 # Tiled without a window knows no classes, and drops their members.
 CLASSES = b'type="class"'
 NO_TMX = "it has what XML can't say: save it as JSON, or undo that"
@@ -125,7 +128,8 @@ def without_notes(value):
     if not isinstance(value, dict):
         return float(f'{value:.15g}') if isinstance(value, float) else value
     told = {name: without_notes(each) for name, each in value.items() if name not in (NOTE, 'tiledversion', 'version')}
-    if 'chunks' in told and all(isinstance(chunk['data'], list) for chunk in told['chunks']):
+    if 'chunks' in told:
+        told = {name: each for name, each in told.items() if name not in BOUNDS}
         told['chunks'] = {
             (chunk['x'] + at % chunk['width'], chunk['y'] + at // chunk['width']): cell
             for chunk in told['chunks'] for at, cell in enumerate(chunk['data']) if cell
@@ -152,7 +156,7 @@ def fault_of_edits(case):
         came = tiled_package.exported(edited, path.parent, f'edited_{path.stem}.tmj')
         if came is None:
             return f'{edit.__name__}: Tiled does not load it'
-        fault = unlike(without_notes(wanted), without_notes(json.loads(came)))
+        fault = unlike(without_notes(with_cells(wanted)), without_notes(with_cells(json.loads(came))))
         if fault:
             return f'{edit.__name__}: {fault}'
     return None

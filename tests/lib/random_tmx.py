@@ -42,7 +42,7 @@ class RandomMap:
 
     def number(self):
         chosen = self.chosen
-        odd = chosen.choice((1e-7, 1e7, 123456.5, 1234567.25, 0.1, 1 / 3, 1e15))
+        odd = chosen.choice((1e-7, 1e7, 123456.5, 1234567.25, 0.1, 1 / 3, 5e8))
         some = (chosen.randrange(-50, 500), round(chosen.uniform(-50, 500), chosen.randrange(1, 5)), chosen.uniform(-1e3, 1e3), odd)
         return repr(chosen.choice(some))
 

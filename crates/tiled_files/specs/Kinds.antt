@@ -25,14 +25,14 @@ begins_tag [] = false
 begins_tag (b ∷ bytes) = b == 60
 
 -- bytes are taken for XML by the first one that is no blank
-abbrev pub is_xml : List ℕ → Bool
+unfoldable pub is_xml : List ℕ → Bool
 is_xml bytes = begins_tag (trimmed (unmarked bytes))
 
 abbrev pub kind_of_bytes : List ℕ → Kind
 kind_of_bytes bytes = if is_xml bytes then Tmx else Json
 
 -- whether a name ends in `.tmx`, in small letters or large ones
-abbrev pub is_tmx_name : List ℕ → Bool
+unfoldable pub is_tmx_name : List ℕ → Bool
 is_tmx_name name = bytes_eq (str_to_ascii_lowercase (drop (length name - 4) name)) (codes ".tmx")
 
 abbrev pub kind_of_name : List ℕ → Kind

@@ -43,6 +43,7 @@ fn begins_tag(bytes: &[u8]) -> bool
 }
 
 /// Whether bytes are taken for XML: the first one, behind a byte order mark and blanks, is `<`.
+#[tactic(auto, unfolding(crate::specs::Kinds::is_xml))]
 pub fn is_xml(bytes: &[u8]) -> bool
     ensures { result ≡ is_xml bytes.now }
 {
@@ -57,6 +58,7 @@ pub fn kind_of_bytes(bytes: &[u8]) -> Kind
 }
 
 // Whether a name ends in `.tmx`, in small letters or large ones.
+#[tactic(auto, unfolding(crate::specs::Kinds::is_tmx_name))]
 fn is_tmx_name(name: &str) -> bool
     ensures { result ≡ is_tmx_name name.now }
 {

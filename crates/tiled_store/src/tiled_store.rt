@@ -9,14 +9,17 @@ ghost use Rattle.tiled_store.specs.Stored.{AsksForSource, AtMostOnce, Gives, Giv
 use crate::fault_report::FaultReport;
 use map_store::{MapStore, StoreCall, StoreFault, StoreLog};
 use std::alloc::Global;
-use tiled_files::{FileFault, Kind, LONGEST, kind_of, kind_of_bytes, opened, saved};
+use tiled_files::{FileFault, Kind, LONGEST, is_xml, kind_of, opened, saved};
 use tiled_maps::{Fault, needs_nothing, put_back};
 
 // Whether a text surely is loaded as it is: by one look at its bytes, and without its tree.
 fn stays(bytes: &[u8]) -> bool
     ensures { result ≡ true → GivesFor bytes.now bytes.now }
 {
-    kind_of_bytes(bytes) == Kind::Json && needs_nothing(bytes)
+    if is_xml(bytes) {
+        return false;
+    }
+    needs_nothing(bytes)
 }
 
 /// The files of another store. A load sets the fractions of a map aside and makes an infinite map finite; one in XML becomes JSON. A

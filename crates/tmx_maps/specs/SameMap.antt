@@ -1,5 +1,6 @@
 -- When two trees are the same map: if they are one tree once what Tiled takes as said is left out of both.
-use Rattle.std.specs.Prelude.{ℕ, ℤ, pos, negsuc, List, [], ◌∷◌, ◌==◌, ◌&&◌, ◌||◌, Bool, true, false, not, codes, length, take, drop, slice_index, ◌≡◌, Float, Option, Some, None, unwrap_or, is_some, if◌then◌else◌}
+use Rattle.std.specs.Prelude.{ℕ, ℤ, pos, negsuc, List, [], ◌∷◌, ◌==◌, ◌&&◌, ◌||◌, Bool, true, false, not, codes, length, take, drop, slice_index, ◌≡◌}
+use Rattle.std.specs.Prelude.{Float, Option, Some, None, unwrap_or, is_some, if◌then◌else◌}
 use Rattle.std.specs.Ordering.{int_eq}
 use Rattle.std.specs.Str.{bytes_eq}
 use Rattle.std.specs.Float.{binary64}
@@ -149,7 +150,7 @@ is_usual k null = false
 is_usual k (boolean b) = if b then is_one_of true_names k else is_one_of false_names k
 is_usual k (number n) = is_usual_float k (to_float n)
 is_usual k (string s) = is_pair_of usual_texts k s
-is_usual k (array ds) = has_no_items ds && bytes_eq k (codes "properties")
+is_usual k (array ds) = has_no_items ds && is_one_of (codes "properties" ∷ codes "tiles" ∷ codes "wangsets" ∷ []) k
 is_usual k (object ms) = false
 
 abbrev pub is_usual_word : List ℕ → Data → Bool

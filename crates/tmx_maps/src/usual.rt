@@ -164,7 +164,8 @@ fn is_usual(name: &str, value: &Value) -> bool
         Value::Bool(is_set) => is_usual_flag(name, *is_set),
         Value::Number(number) => is_usual_float(name, float_of(number)),
         Value::String(text) => is_usual_text(name, text.as_str()),
-        Value::Array(items) => has_no_items(items) && name == "properties",
+        Value::Array(items) => has_no_items(items)
+            && is_one_of(&["properties", "tiles", "wangsets"], name),
     }
 }
 
