@@ -8,13 +8,10 @@ staggered or hexagonal map, whose rows overlap, its cells alone, from an even ro
 A map that is refused is named on standard error, and the exit status is 1.
 """
 import sys
-from pathlib import Path
 from typing import Iterator
 
-TOP = Path(__file__).resolve().parent.parent
-sys.path.insert(0, str(TOP / 'python'))
-
-from roskevad import Document, Editor, Error  # noqa: E402
+from edit_maps import edit_maps
+from roskevad import Document
 
 Cell = tuple[int, int]
 
@@ -61,22 +58,16 @@ def crop(document: Document) -> None:
             document.resize(right - left, bottom - top, -left, -top)
 
 
+def cropped(document: Document) -> str:
+    """Crops a map, and tells how large it is then."""
+    crop(document)
+    return f'{document.width} by {document.height}'
+
+
 def main() -> int:
     if not sys.argv[1:]:
         sys.exit('usage: python3 examples/crop.py MAP ..')
-    status = 0
-    with Editor() as editor:
-        for path in sys.argv[1:]:
-            try:
-                with editor.open(path) as document:
-                    crop(document)
-                    if not document.status.clean:
-                        document.save()
-                        print(f'{path}: {document.width} by {document.height}')
-            except Error as fault:
-                print(f'{path} stays as it is: {fault}', file=sys.stderr)
-                status = 1
-    return status
+    return edit_maps(sys.argv[1:], cropped)
 
 
 if __name__ == '__main__':

@@ -10,40 +10,26 @@ error, and the exit status is 1.
 """
 import sys
 from itertools import accumulate
-from pathlib import Path
 
-TOP = Path(__file__).resolve().parent.parent
-sys.path.insert(0, str(TOP / 'python'))
-
-from roskevad import Document, Editor, Error  # noqa: E402
+from edit_maps import edit_maps
+from roskevad import Document
 
 
-def make_room(document: Document, tiles: int) -> None:
-    """Gives tilesets first ids that leave room for so many tiles, as one step."""
+def make_room(document: Document, tiles: int) -> str:
+    """Gives tilesets first ids that leave room for so many tiles, as one step; and tells them."""
     tilesets = sorted(document.tilesets, key=int)
     firsts = accumulate(map(int, tilesets), lambda before, first: max(first, before + tiles))
     changes = [(tileset, first) for tileset, first in zip(tilesets, firsts) if tileset.first_id != first]
     with document.macro('Make Room'):
         for tileset, first in reversed(changes):
             document.tilesets.renumber(tileset, first)
+    return ' '.join(['first ids', *(str(int(each)) for each in document.tilesets)])
 
 
 def main() -> int:
     if len(sys.argv) < 3 or not sys.argv[1].isdecimal():
         sys.exit('usage: python3 examples/make_room.py TILES MAP ..')
-    status, tiles = 0, int(sys.argv[1])
-    with Editor() as editor:
-        for path in sys.argv[2:]:
-            try:
-                with editor.open(path) as document:
-                    make_room(document, tiles)
-                    if not document.status.clean:
-                        document.save()
-                        print(f'{path}: first ids', *map(int, document.tilesets))
-            except Error as fault:
-                print(f'{path} stays as it is: {fault}', file=sys.stderr)
-                status = 1
-    return status
+    return edit_maps(sys.argv[2:], lambda document: make_room(document, int(sys.argv[1])))
 
 
 if __name__ == '__main__':

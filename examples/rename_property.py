@@ -7,13 +7,10 @@ Its place, its type, its value and all else of it stay, whatever they are, and t
 all of it is done. It stays as it is, and the exit status is 1, where it is refused, and where something has a property NEW already.
 """
 import sys
-from pathlib import Path
 from typing import Any, Iterator
 
-TOP = Path(__file__).resolve().parent.parent
-sys.path.insert(0, str(TOP / 'python'))
-
-from roskevad import Document, Editor, Error, Properties  # noqa: E402
+from edit_maps import edit_maps, maps_in
+from roskevad import Document, Properties
 
 # A property as a file has it: its name, its value, perhaps its type, and more.
 Listed = list[dict[str, Any]]
@@ -54,19 +51,7 @@ def rename(document: Document, old: str, new: str) -> int:
 def main() -> int:
     if len(sys.argv) != 4:
         sys.exit('usage: python3 examples/rename_property.py FOLDER OLD NEW')
-    status = 0
-    with Editor() as editor:
-        for path in sorted(Path(sys.argv[1]).glob('*.tmj')):
-            try:
-                with editor.open(path) as document:
-                    count = rename(document, *sys.argv[2:])
-                    if count:
-                        document.save()
-                        print(f'{path.name}: {count} renamed')
-            except (Error, ValueError) as fault:
-                print(f'{path.name} stays as it is: {fault}', file=sys.stderr)
-                status = 1
-    return status
+    return edit_maps(maps_in(sys.argv[1]), lambda document: f'{rename(document, *sys.argv[2:])} renamed')
 
 
 if __name__ == '__main__':

@@ -10,10 +10,8 @@ standard error with the place of its fault; the others are changed all the same,
 import sys
 from pathlib import Path
 
-TOP = Path(__file__).resolve().parent.parent
-sys.path.insert(0, str(TOP / 'python'))
-
-from roskevad import Document, Editor, Error, Tileset  # noqa: E402
+from edit_maps import edit_maps, maps_in
+from roskevad import Document, Tileset
 
 
 def is_named(tileset: Tileset, name: str) -> bool:
@@ -47,20 +45,8 @@ def replace(document: Document, name: str, old: int, new: int) -> int:
 def main() -> int:
     if len(sys.argv) != 5 or not all(word.isdigit() for word in sys.argv[3:]):
         sys.exit('usage: python3 examples/replace_tiles.py FOLDER TILESET OLD NEW')
-    folder, name, old, new = Path(sys.argv[1]), sys.argv[2], *map(int, sys.argv[3:])
-    status = 0
-    with Editor() as editor:
-        for path in sorted(folder.glob('*.tmj')):
-            try:
-                with editor.open(path) as document:
-                    count = replace(document, name, old, new)
-                    if not document.status.clean:
-                        document.save()
-                        print(f'{path.name}: {count} replaced')
-            except (Error, ValueError) as fault:
-                print(f'{path.name} stays as it is: {fault}', file=sys.stderr)
-                status = 1
-    return status
+    name, old, new = sys.argv[2], *map(int, sys.argv[3:])
+    return edit_maps(maps_in(sys.argv[1]), lambda document: f'{replace(document, name, old, new)} replaced')
 
 
 if __name__ == '__main__':

@@ -2,8 +2,8 @@
 """Compares both packages with the one table of their calls, tools/calls.py: the names of calls and
 values and of their arguments; what each raises, by an expression that must raise it in Python and in
 JavaScript; what their texts say of that; that each call of a closed document raises Closed; and the
-tables of docs/python.md and docs/javascript.md and the declarations js/document.d.ts, which
-`tools/reference` writes. No call of a release is gone."""
+tables of docs/calls.md and the declarations js/document.d.ts, which `tools/reference` writes. No
+call of a release is gone."""
 import importlib.machinery
 import importlib.util
 import inspect

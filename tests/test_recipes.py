@@ -1,5 +1,5 @@
 # SPDX-License-Identifier: MIT OR Apache-2.0
-"""Runs some of the programs of docs/javascript.md on maps that are made here, and compares what they do with what their text says. That
+"""Runs some of the programs of docs/recipes.md on maps that are made here, and compares what they do with what their text says. That
 all programs of the pages end with status 0, test_docs.py sees."""
 import json
 import subprocess
@@ -18,7 +18,7 @@ FLOOR, WALL = 2, 7
 
 def recipe(words):
     """The one program of the page that has these words, and the words that run it."""
-    (found,) = [program for program in Page(TOP / 'docs' / 'javascript.md').programs() if words in program[1]]
+    (found,) = [program for program in Page(TOP / 'docs' / 'recipes.md').programs() if words in program[1]]
     return found
 
 

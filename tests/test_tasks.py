@@ -1,12 +1,11 @@
 # SPDX-License-Identifier: MIT OR Apache-2.0
-"""Tries what docs/python.md and docs/javascript.md say of tasks and threads: which edits of other tasks come into a macro, that a
-map is opened and saved in another thread while the loop goes on, what falls between the call of `open` or `saveBytes` and the end of
-its promise, and that a worker makes its own editor."""
+"""Tries what docs/packages.md says of tasks and threads: which edits of other tasks come into a macro, that a map is opened and saved
+in another thread while the loop goes on, what falls between the call of `open` or `saveBytes` and the end of its promise, and that a
+worker makes its own editor."""
 import json
 import subprocess
 import sys
 import tempfile
-from pathlib import Path
 
 from lib.cases import Case, check_each, unlike
 from lib.places import TOP
@@ -133,9 +132,8 @@ def test_javascript():
     )
 
 
-def test_what_the_pages_say():
-    """Both say it of threads or workers and of tasks, and of what stays."""
-    for page, words in (('python', ('## Several threads', '`asyncio`', '## What stays')), ('javascript', ('## Tasks and workers', '## What stays'))):
-        text = Path(TOP / 'docs' / f'{page}.md').read_text()
-        missing = [each for each in words if each not in text]
-        assert not missing, f'docs/{page}.md has no {missing}'
+def test_what_the_page_says():
+    """It says it of threads, tasks and workers, and of what stays."""
+    text = (TOP / 'docs' / 'packages.md').read_text()
+    missing = [each for each in ('## Threads, tasks and workers', '`asyncio`', 'A worker', '## What stays') if each not in text]
+    assert not missing, f'docs/packages.md has no {missing}'

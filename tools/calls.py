@@ -1,8 +1,8 @@
 # SPDX-License-Identifier: MIT OR Apache-2.0
 """The calls of both packages, for Python and for JavaScript: the one table that says them.
 
-`tools/reference` writes from it the tables of docs/python.md and docs/javascript.md, and the declarations js/document.d.ts.
-tests/test_calls.py compares both packages with it: the names, the arguments, and what is raised, by a trial of each.
+`tools/reference` writes from it the tables of docs/calls.md, and the declarations js/document.d.ts. tests/test_calls.py compares both
+packages with it: the names, the arguments, and what is raised, by a trial of each.
 
 Names are as Python spells them; JavaScript has them in camel case. Of the arguments, those behind a `;` are options: named ones in
 Python, and the members of one object, the last argument, in JavaScript. `work` is a function, which JavaScript takes where Python
@@ -157,6 +157,11 @@ def member_calls(owner: Tuple[str, str], whom: str, but: str, refused: Dict[str,
     ]
 
 
+#: What `watch` does in Python, and `on` in JavaScript.
+TOLD_OF_CHANGES = ('Has a function called behind each line that changes the map, its selection or how the document stands, with what the line '
+                   'did{change}. It may read, and not edit.{ended}')
+
+
 def to_json(kind: str, gives: str, does: str) -> Call:
     """What `JSON.stringify` calls of a thing, which JavaScript alone has."""
     return Call('to_json', '', does, gives=gives, only='javascript', written=('', f'{kind}.toJSON()'), renamed='toJSON')
@@ -264,10 +269,8 @@ DOCUMENT = Kind('Document', 'A map, its selection and its steps. A call makes th
          written=('with document.macro(text, action=None, keep_empty=False):', 'document.macro(text, work, { action, keepEmpty })')),
     Call('stroke', 'work', 'Merges the stamps and erases in it, as those of a brush.', 'stamp+ LAYER X Y WIDTH TILES', 'work',
          {'type': ('', 'document.stroke(async () => 0)')}, written=('with document.stroke():', 'document.stroke(work)')),
-    Call('watch', 'callback', 'Has a function called behind each line that changes the map, its selection or how the document stands, with what '
-         'the line did. It may read, and not edit.', gives='end of a watch', raises={'type': 'document.watch(5)'}, only='python'),
-    Call('on', 'name, callback', 'Has a function called behind each line that changes the map, its selection or how the document stands, with what '
-         'the line did; `name` is "change". It may read, and not edit. Gives a function that ends it.', gives='end of a watch',
+    Call('watch', 'callback', TOLD_OF_CHANGES, gives='end of a watch', raises={'type': 'document.watch(5)'}, only='python'),
+    Call('on', 'name, callback', TOLD_OF_CHANGES, gives='end of a watch',
          raises={'type': 'document.on("change", 5)', 'value': 'document.on("click", () => 0)'}, only='javascript', types={'name': '"change"'}),
     Call('map', '', 'The whole map as its file has it, but finite, and with its cells unpacked: a copy.', 'show', 'members'),
     Call('outline', '', 'The same without the cells: a copy.', gives='members'),
@@ -382,9 +385,9 @@ OBJECTS = Kind('Objects', 'The objects of a layer, or of all layers, as they are
     Call('get', 'key', 'The object with an id, or the first of a name.', gives='MapObject',
          raises={'key': ('document.objects["key"]', 'document.objects.get("key")')}, written=('objects[key]', 'objects.get(key)'), renamed='get',
          types={'key': 'ObjectLike'}),
-    Call('get', 'key, default=None', 'The same; the default where there is none.', gives='MapObject?', only='python',
+    Call('get', 'key, default=None', 'The same; {default} where there is none.', gives='MapObject?', only='python',
          written=('objects.get(key, default=None)', '')),
-    Call('find', 'key', 'The same; {None} where there is none.', gives='MapObject?', only='javascript', types={'key': 'ObjectLike'}),
+    Call('find', 'key', 'The same; {default} where there is none.', gives='MapObject?', only='javascript', types={'key': 'ObjectLike'}),
     Call('has', 'key', 'Whether there is one with an id, or of a name.', gives='bool', written=('key in objects', 'objects.has(key)'),
          types={'key': 'ObjectLike'}),
     value('size', 'int', 'How many there are.', written=('len(objects)', 'objects.size')),
@@ -444,26 +447,28 @@ OBJECT = Kind('MapObject', 'An object, by its id. Where it was removed, a call r
     to_json('object', 'members', 'What JSON has of it: `object.members`.'),
 ])
 
-OWN_MEMBERS = Kind('OwnMembers', 'All that the map says of an object, a layer or a tileset, or the own members of the map, when it was asked for: a dict. '
-                   'What is set in it or taken out of it is an edit.', [
+OWN_MEMBERS = Kind('OwnMembers', 'All that the map says of an object, a layer or a tileset, or the own members of the map, when it was asked for. In '
+                   'Python it is a dict, and what is set in it or taken out of it is an edit; in JavaScript it is a plain object, and calls of its '
+                   'owner, a document, a layer, an object or a tileset, set members and take them out.', [
     Call('get', 'key', 'The member of a name.', gives='Any', raises={'key': ('document.objects[1].members["point"]', '')},
-         written=('members[key]', ''), only='python'),
+         written=('members[key]', 'owner.members[key]'), only='python'),
     Call('set', 'key, value; merge=False', 'Sets an own member, or adds one.', 'member set OWNER KEY JSON', '',
          {'type': ('document.objects[1].members.set("a", {1})', ''), 'value': ('document.layers[1].members.set("a b", 1)', ''),
           'refused 41': ('document.layers[2].members.set("objects", [])', ''),
           'refused 63': ('document.objects[1].members.set("x", "left")', ''), 'refused 68': ('document.members.set("nextlayerid", 1)', '')},
-         written=('members[key] = value, members.set(key, value, merge=False)', ''), only='python'),
+         written=('members[key] = value, members.set(key, value, merge=False)', 'owner.setMember(key, value, { merge })'), only='python'),
     Call('put', 'members; merge=False', 'Sets some own members at once, as one step.', 'member put OWNER JSON', '',
          {'type': ('document.objects[1].members.put({1: 2})', ''), 'value': ('document.members.put({"a": float("inf")})', ''),
           'refused 41': ('document.objects[1].members.put({"x": 1, "id": 7})', ''),
-          'refused 63': ('document.layers[1].members.put({"visible": 1})', '')}, only='python'),
+          'refused 63': ('document.layers[1].members.put({"visible": 1})', '')},
+         written=('members.put(members, merge=False)', 'owner.setMembers(members, { merge })'), only='python'),
     Call('update', 'others, more', 'The same, as a dict takes what is new.', 'member put OWNER JSON', '',
          {'type': ('document.objects[1].members.update(a=print)', ''), 'refused 63': ('document.objects[1].members.update(x="left")', '')},
          written=('members.update(members, **more)', ''), only='python'),
-    Call('delete', 'key', 'Takes an own member out.', 'member remove OWNER KEY', '',
+    Call('delete', 'key', 'Takes an own member out; in JavaScript it gives whether there was one.', 'member remove OWNER KEY', '',
          {'key': ('document.objects[1].members.pop("point")', ''), 'refused 41': ('document.objects[1].members.pop("id")', ''),
           'refused 62': ('document.members.pop("tilewidth")', '')},
-         written=('del members[key]', ''), only='python'),
+         written=('del members[key]', 'owner.removeMember(key)'), only='python'),
 ], only='python')
 
 PROPERTIES = Kind('Properties', 'The properties of a map, a layer or an object, as they are at each call: {mapping}. A value that is '
@@ -500,9 +505,9 @@ TILESETS = Kind('Tilesets', 'The tilesets, as they are at each call. A loop goes
     Call('get', 'key', 'The tileset with a first id, or the first with a source, or, where the map has it in itself, a name.', gives='Tileset',
          raises={'key': ('document.tilesets["a.tsj"]', 'document.tilesets.get("a.tsj")')},
          written=('tilesets[key]', 'tilesets.get(key)'), renamed='get', types={'key': 'TilesetLike'}),
-    Call('get', 'key, default=None', 'The same; the default where there is none.', gives='Tileset?', only='python',
+    Call('get', 'key, default=None', 'The same; {default} where there is none.', gives='Tileset?', only='python',
          written=('tilesets.get(key, default=None)', '')),
-    Call('find', 'key', 'The same; {None} where there is none.', gives='Tileset?', only='javascript', types={'key': 'TilesetLike'}),
+    Call('find', 'key', 'The same; {default} where there is none.', gives='Tileset?', only='javascript', types={'key': 'TilesetLike'}),
     Call('has', 'key', 'Whether there is such a one.', gives='bool', written=('key in tilesets', 'tilesets.has(key)'),
          types={'key': 'TilesetLike'}),
     value('first', 'Tileset?', 'The first in order; {None} where there is none.'),

@@ -60,6 +60,8 @@ COMMANDS = (
 # The words of the commands that run a program of a page, which follows them.
 IN_PYTHON = (sys.executable, '-c')
 IN_NODE = ('node', '--input-type=module', '--eval')
+# The function of a program that another block of the page may have a body for, and where it ends.
+EDIT = {IN_PYTHON: r'^def edit\(.*?\n(?=\S)', IN_NODE: r'^function edit\(.*?^}\n'}
 NEW_MAP = 'new town 4 3 16 16 town.tsj'
 
 
@@ -160,13 +162,22 @@ class Page:
 
     def programs(self):
         """The indented blocks that are programs in Python or in JavaScript, each behind the words of
-        the command that runs it."""
+        the command that runs it. A block that is a function `edit` stands for the last program that
+        has one, with this function in its place."""
+        whole = {}
         for block in re.findall(r'(?:^    .*\n|^\n)+', self.text, re.MULTILINE):
             lines = [line[4:] for line in block.strip('\n').split('\n')]
-            if lines[0].startswith('import {'):
-                yield IN_NODE, '\n'.join(lines)
+            program = '\n'.join(lines)
+            if lines[0].startswith(('def edit(', 'function edit(')):
+                command = IN_PYTHON if lines[0].startswith('def ') else IN_NODE
+                found = re.search(EDIT[command], whole[command], re.DOTALL | re.MULTILINE)
+                front, back = whole[command][: found.start()], whole[command][found.end() :]
+                yield command, f'{front}{program}\n\n{back}'
             elif lines[0].startswith(('from ', 'import ')):
-                yield IN_PYTHON, '\n'.join(lines)
+                command = IN_NODE if lines[0].startswith('import {') else IN_PYTHON
+                if re.search(EDIT[command], program, re.DOTALL | re.MULTILINE):
+                    whole[command] = program
+                yield command, program
 
     def transcripts(self):
         """The transcripts of the page."""

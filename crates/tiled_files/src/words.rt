@@ -42,7 +42,7 @@ fn refusal_words(refusal: Refusal) -> &'static str {
         Refusal::PropertyType => "a property has a type that Tiled does not know",
         Refusal::NoIdLeft => "no id is left for a layer or an object without one",
         Refusal::OldTileset =>
-            "a tileset in the map has terrains, wang sets of before Tiled 1.5, or no count of tiles",
+            "a tileset in the map has terrains or old wang sets, or no count of tiles",
         Refusal::TooDeep => "groups or classes nest too deep",
     }
 }

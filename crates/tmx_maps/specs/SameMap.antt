@@ -1,5 +1,6 @@
 -- When two trees are the same map: if they are one tree once what Tiled takes as said is left out of both.
-use Rattle.std.specs.Prelude.{ℕ, ℤ, pos, negsuc, List, [], ◌∷◌, ◌==◌, ◌&&◌, ◌||◌, Bool, true, false, not, codes, length, take, drop, slice_index, ◌≡◌, Float, Option, Some, None, unwrap_or, is_some, if◌then◌else◌}
+use Rattle.std.specs.Prelude.{ℕ, ℤ, pos, negsuc, List, [], ◌∷◌, ◌==◌, ◌&&◌, ◌||◌, Bool, true, false, not, codes, length, take, drop, slice_index, ◌≡◌}
+use Rattle.std.specs.Prelude.{Float, Option, Some, None, unwrap_or, is_some, if◌then◌else◌}
 use Rattle.std.specs.Ordering.{int_eq}
 use Rattle.std.specs.Str.{bytes_eq}
 use Rattle.std.specs.Float.{binary64}

@@ -1,6 +1,8 @@
 -- Laws of what characters say.
 use Rattle.std.proofs.Common.{◌≡◌, ℕ, suc, ◌+◌, ◌*◌, ◌<◌, ◌≤◌, min, Bool, true, false, cond, ◌||◌, ◌&&◌, eqb, leb, ltb, List, [], ◌∷◌, ◌++◌, length, take, drop}
-use Rattle.std.proofs.Common.{get_or, Option, None, Some, unwrap_or, refl, sym, ap, ◌∙◌, arith, ltb-true, ltb-false, leb-true, leb-false, ne_eqb, one-add, not, true≢false, le-mul_of_pos_right, add-one, IsCharBoundary, length-drop, get_or-drop, add-zero, append_assoc, append-nil, drop-cons, lt-ltb, encode_utf8, ◌⊎◌, inl, inr}
+use Rattle.std.proofs.Common.{get_or, Option, None, Some, unwrap_or, refl, sym, ap, ◌∙◌, arith, ltb-true, ltb-false, leb-true, leb-false, ne_eqb}
+use Rattle.std.proofs.Common.{one-add, not, true≢false, le-mul_of_pos_right, add-one, IsCharBoundary, length-drop, get_or-drop, add-zero}
+use Rattle.std.proofs.Common.{append_assoc, append-nil, drop-cons, lt-ltb, encode_utf8, ◌⊎◌, inl, inr}
 use Rattle.std.specs.Char.{digit_value}
 use Rattle.std.specs.List.{position_or_len, list_all}
 use Rattle.std.proofs.lemmas.Bool.{cond-true, cond-false, false_from_ne_true}
@@ -11,12 +13,15 @@ use Rattle.xml_text.specs.Words.{first_is}
 use Rattle.xml_text.specs.Said.{is_character, is_changed, plain, number_from}
 
 -- the first byte that passes a test, or the end
-pub first_place : (p test : ℕ → Bool) (bs : List ℕ) (r : Option ℕ) → ((b : ℕ) → p b ≡ test b) → IsFirstByte test bs r → unwrap_or r (length bs) ≡ position_or_len p bs
+pub first_place : (p test : ℕ → Bool) (bs : List ℕ) (r : Option ℕ) → ((b : ℕ) → p b ≡ test b) → IsFirstByte test bs r
+    → unwrap_or r (length bs) ≡ position_or_len p bs
 first_place p test bs None same h =
-    sym (position_or_len_is p bs (length bs) 0 (omega arith) (λ k l. same (get_or bs k 0) ∙ false_from_ne_true _ (h k (omega arith) l)) (λ l. absurd (omega (arith, l))))
+    sym (position_or_len_is p bs (length bs) 0 (omega arith)
+    (λ k l. same (get_or bs k 0) ∙ false_from_ne_true _ (h k (omega arith) l)) (λ l. absurd (omega (arith, l))))
 first_place p test bs (Some n) same h =
     let low = h.0.high in
-    sym (position_or_len_is p bs n 0 (omega (arith, low)) (λ k l. same (get_or bs k 0) ∙ false_from_ne_true _ (h.0.before k (omega arith) l)) (λ _. same (get_or bs n 0) ∙ h.1))
+    sym (position_or_len_is p bs n 0 (omega (arith, low))
+    (λ k l. same (get_or bs k 0) ∙ false_from_ne_true _ (h.0.before k (omega arith) l)) (λ _. same (get_or bs n 0) ∙ h.1))
 
 pub changed_text : (b : ℕ) → is_changed false b ≡ is_byte 13 b
 changed_text b = elim (eqb b 13) as (λ v. (v || (false && (eqb b 9 || eqb b 10))) ≡ v) [ true ↦ refl | false ↦ refl ]
@@ -34,7 +39,8 @@ grows base x (d ∷ digits) l =
     omega (arith, more, rest)
 
 -- a number past all characters stays there
-pub capped : (base x : ℕ) (digits : List ℕ) → 1 ≤ base → min 0x110000 (number_from base (min 0x110000 x) digits) ≡ min 0x110000 (number_from base x digits)
+pub capped : (base x : ℕ) (digits : List ℕ) → 1 ≤ base
+    → min 0x110000 (number_from base (min 0x110000 x) digits) ≡ min 0x110000 (number_from base x digits)
 capped base x digits l = by (ltb 0x110000 x) refl
   where
     by : (b : Bool) → ltb 0x110000 x ≡ b → min 0x110000 (number_from base (min 0x110000 x) digits) ≡ min 0x110000 (number_from base x digits)
@@ -97,7 +103,8 @@ plain_front v (b ∷ bs) = by (is_changed v b) refl (plain_front v bs)
   where
     by : (t : Bool) → is_changed v b ≡ t
         → plain v bs ≡ take (position_or_len (is_changed v) bs) bs ++ plain v (drop (position_or_len (is_changed v) bs) bs)
-        → plain v (b ∷ bs) ≡ take (position_or_len (is_changed v) (b ∷ bs)) (b ∷ bs) ++ plain v (drop (position_or_len (is_changed v) (b ∷ bs)) (b ∷ bs))
+        → plain v (b ∷ bs)
+        ≡ take (position_or_len (is_changed v) (b ∷ bs)) (b ∷ bs) ++ plain v (drop (position_or_len (is_changed v) (b ∷ bs)) (b ∷ bs))
     by true e later =
         let n : position_or_len (is_changed v) (b ∷ bs) ≡ 0 = ap (λ t. cond (not t) (1 + position_or_len (is_changed v) bs) 0) e in
         sym (ap (λ n. take n (b ∷ bs) ++ plain v (drop n (b ∷ bs))) n)
@@ -121,7 +128,8 @@ plain_changed v [] l h = absurd (omega (arith, l))
 plain_changed v (b ∷ bs) l h = ap (λ c. cond (eqb b 13 && first_is (λ c. eqb c 10) bs) (plain v bs) (c ∷ plain v bs)) (cond-true _ _ _ h)
 
 -- the byte at that place
-changed_at : (v : Bool) (bs : List ℕ) → position_or_len (is_changed v) bs < length bs → is_changed v (get_or bs (position_or_len (is_changed v) bs) 0) ≡ true
+changed_at : (v : Bool) (bs : List ℕ) → position_or_len (is_changed v) bs < length bs
+    → is_changed v (get_or bs (position_or_len (is_changed v) bs) 0) ≡ true
 changed_at v bs l = not_false _ (prefix_len_stops (λ b. not (is_changed v b)) bs 0 l)
   where
     not_false : (t : Bool) → not t ≡ false → t ≡ true
@@ -160,7 +168,8 @@ said_blank v out new text rest b l h is test so pushed =
     plain_changed v text l h
     ∙ ap (λ r. cond (eqb (get_or text 0 0) 13 && first_is (λ c. eqb c 10) r) (plain v r) (cond v 32 10 ∷ plain v r)) (sym is)
     ∙ cond-false _ _ _ (sym test ∙ so) in
-    ap (λ n. n ++ plain v rest) (pushed ∙ ap (λ c. out ++ c) (one v)) ∙ append_assoc out (cond v 32 10 ∷ []) (plain v rest) ∙ ap (λ p. out ++ p) (sym same)
+    ap (λ n. n ++ plain v rest) (pushed ∙ ap (λ c. out ++ c) (one v)) ∙ append_assoc out (cond v 32 10 ∷ []) (plain v rest)
+    ∙ ap (λ p. out ++ p) (sym same)
   where
     one : (v : Bool) → encode_utf8 (cond v 32 10) ≡ cond v 32 10 ∷ []
     one true = encode_ascii 32 (omega arith)

@@ -1,6 +1,7 @@
 -- Laws of words at the front of a text, and of where it may be cut.
 use Rattle.std.proofs.Common.{◌≡◌, ℕ, zero, suc, ◌+◌, ◌<◌, ◌≤◌, Bool, true, false, eqb, List, [], ◌∷◌, ◌++◌, length, take, drop}
-use Rattle.std.proofs.Common.{get_or, Option, None, Some, option_map, Bor, MatchOption, IsUtf8, IsCharBoundary, refl, sym, ap, ◌∙◌, arith, take_at, drop_at, subst, take-append-drop, length-append, length-drop}
+use Rattle.std.proofs.Common.{get_or, Option, None, Some, option_map, Bor, MatchOption, IsUtf8, IsCharBoundary, refl, sym, ap, ◌∙◌, arith, take_at}
+use Rattle.std.proofs.Common.{drop_at, subst, take-append-drop, length-append, length-drop}
 use Rattle.std.proofs.Common.{cond, eqb-true, not}
 use Rattle.std.specs.List.{prefix_len, position_or_len}
 use Rattle.std.specs.Str.{bytes_eq}
@@ -30,7 +31,8 @@ unfolding after
 after_lacks word bytes h = cond-false _ _ _ (not_here word bytes h)
 
 -- what std strips
-pub stripped : (word bytes : List ℕ) (r : Option (Bor (List ℕ))) → MatchOption r (FindsTextPrefix word bytes None) (λ x. StripsPrefix (FindsTextPrefix word) bytes x.now)
+pub stripped : (word bytes : List ℕ) (r : Option (Bor (List ℕ)))
+    → MatchOption r (FindsTextPrefix word bytes None) (λ x. StripsPrefix (FindsTextPrefix word) bytes x.now)
     → option_map (λ (x : Bor (List ℕ)). x.now) r ≡ after word bytes
 stripped word bytes None h = sym (after_lacks word bytes h)
 stripped word bytes (Some x) h = sym (after_found word bytes x.now (h.1.1 ∙ ap (λ rest. word ++ rest) (sym h.2)))

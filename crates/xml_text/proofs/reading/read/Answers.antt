@@ -20,7 +20,8 @@ returns-then-not-has_characters-clause-exact c =
 pub returns-then-not-has_characters-clause-refused : goal.returns-then-not-has_characters-clause-refused
 returns-then-not-has_characters-clause-refused c = λ other.
     let same = c.in-Ok.ensures.cases in
-    refused _ _ (controls _ same.1 (ap (λ bs. list_all is_character (chars bs)) (sym same.0) ∙ sym c.has_characters.ensures ∙ c.if-not-has_characters.true)) other
+    refused _ _ (controls _ same.1
+    (ap (λ bs. list_all is_character (chars bs)) (sym same.0) ∙ sym c.has_characters.ensures ∙ c.if-not-has_characters.true)) other
 
 pub returns-in-Ok-document-clause-exact : goal.returns-in-Ok-document-clause-exact
 returns-in-Ok-document-clause-exact c =

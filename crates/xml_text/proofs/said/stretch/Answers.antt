@@ -5,7 +5,8 @@ use Rattle.xml_text.proofs.SaidLaws.{plain_front, changed_boundary, changed_ther
 use Rattle.xml_text.proofs.said.stretch.Goals as goal
 
 pub split_at-requires : goal.split_at-requires
-split_at-requires c = subst (IsCharBoundary c.args.text.now) (sym (c.changed_at.ensures ∙ ap (position_or_len (is_changed c.args.is_value)) c.as_bytes.ensures.value))
+split_at-requires c =
+    subst (IsCharBoundary c.args.text.now) (sym (c.changed_at.ensures ∙ ap (position_or_len (is_changed c.args.is_value)) c.as_bytes.ensures.value))
     (changed_boundary c.args.is_value c.args.text.now)
 
 pub returns-clause-said : goal.returns-clause-said
