@@ -1,4 +1,4 @@
-use Rattle.std.proofs.Common.{rules, ◌<◌, ℕ, List, length, IfOk, Result, Ok, Err, Option, Some, inl, inr, refl, ap, subst, ◌∙◌}
+use Rattle.std.proofs.Common.{rules, ◌<◌, ℕ, List, length, IfOk, Result, Ok, Err, Option, Some, inl, inr, refl}
 use Rattle.map_faults.specs.Faults.{TellsFault, TellsNotGiven, TellsOfText}
 use Rattle.map_faults.specs.declared.faults.ToldFault.{ToldFault}
 use Rattle.tiled_maps.specs.declared.fault.Fault.TheVariants.{NotJson}
@@ -27,8 +27,8 @@ unset : {E : Type 0} → (bytes : List ℕ) (told : Result (Option ToldFault) E)
 unset bytes (Ok told) none tells = inl (bytes, inr (refl, none), tells)
 unset bytes (Err e) none tells = tt
 
-pub returns-in-Err-NotJson : goal.returns-in-Err-NotJson
-returns-in-Err-NotJson c =
-    let is = c.in-Err-NotJson in
-    let none : Opens c.args.bytes.now (Err (Aside NotJson)) = subst (Opens c.args.bytes.now) (is.is ∙ ap (λ f. Err f) is.field-0-is) c.opened.ensures.opened in
-    unset c.args.bytes.now c.fault_of_text-in-Err-NotJson.result none c.fault_of_text-in-Err-NotJson.ensures
+pub returns-in-Err-Aside-NotJson : goal.returns-in-Err-Aside-NotJson
+returns-in-Err-Aside-NotJson c =
+    let text = c.fault_of_text-in-Err-Aside-NotJson in
+    let none : Opens c.args.bytes.now (Err (Aside NotJson)) = search rules in
+    unset c.args.bytes.now text.result none text.ensures
