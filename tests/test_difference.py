@@ -2,6 +2,8 @@
 """Tries what the Python package tells of two maps that differ: its words for each kind of change, and its statuses, which are those of
 diff(1). For 150 pairs of maps with random edits the lines that lead from the one to the other are done by the program: its file has what
 the other one has. Two maps are told to be the same if their files have the same, and only then. What no line can say is told so."""
+import base64
+import contextlib
 import json
 import random
 import struct
@@ -12,6 +14,8 @@ import zlib
 from pathlib import Path
 
 from lib.cases import CORES, Case, check_each, see, unlike
+from lib.maps import packed
+from lib.merges import layers_of
 from lib.places import TOP
 from lib.sessions import ALL_EDITS, ALL_MAPS
 
@@ -21,7 +25,9 @@ from roskevad import Editor, Error  # noqa: E402
 
 MAPS = TOP / 'examples' / 'maps'
 SEED, PAIRS = 20261130, 150
-ONE_OF_FILES = ('town.tmj', 'house.tmj', 'groups.tmj', 'objects.tmj', 'infinite.tmj', 'layers.tmj', 'properties.tmj', 'two_tilesets.tmj')
+ONE_OF_FILES = (
+    'town.tmj', 'house.tmj', 'groups.tmj', 'objects.tmj', 'infinite.tmj', 'layers.tmj', 'properties.tmj', 'two_tilesets.tmj', 'zlib.tmj', 'base64.tmj',
+)
 
 
 def two(editor, file='town.tmj'):
@@ -29,8 +35,12 @@ def two(editor, file='town.tmj'):
 
 
 def tree_of(data):
-    """What a file has, as a text in which true is not 1."""
-    return json.dumps(json.loads(data, parse_float=lambda text: int(float(text)) if float(text).is_integer() else float(text)), sort_keys=True)
+    """What a file has, unpacked, as a text in which true is not 1."""
+    tree = json.loads(data, parse_float=lambda text: int(float(text)) if float(text).is_integer() else float(text))
+    for layer, _ in layers_of(tree):
+        if layer.get('compression'):
+            layer['data'] = zlib.decompress(base64.b64decode(layer['data'])).hex()
+    return json.dumps(tree, sort_keys=True)
 
 
 # ---- words
@@ -137,15 +147,86 @@ def test_first_ids_that_are_counted_anew():
         see(['tileset', 'stamp', 'tileset'], [line.split(' ')[0] for line in found.lines or ()])
 
 
-def test_what_no_line_says():
-    """A layer that was removed can't come back below others, and its objects with it."""
+def test_layers_that_come_back():
+    """Each in one line, at its place and with all in it; one in a group that comes back is in that line."""
     with Editor() as editor:
         one, other = two(editor)
         one.layers['Things'].remove()
+        one.layers['Green'].remove()
+        one.layers['Inn'].remove()
         found = one.difference(other)
-        see((None, ['layer 15 "Things": added, an object layer']), (found.lines, [str(each) for each in found.left[:1]]))
+        see([f'layer put {place} {{"' for place in ('2 0', '0 2', '0 4')], [line[:line.index('{') + 2] for line in found.lines])
+        see([4, 3, 1], [line.count('"type":"tilelayer"') + line.count('"objects":[{') + line.count('"layers":[{') for line in found.lines])
+        editor.run_lines(['use one', *found.lines])
+        see([], [*one.difference(other)])
+        done(editor)
+
+
+def test_layers_too_large_for_a_line():
+    """They are added empty, and then what they hold; and what is longer yet on its own."""
+    with Editor() as editor:
+        one, other = (editor.new(name, 300, 200, 16, 16, 'a.tsj') for name in ('one', 'other'))
+        group = other.layers.add('group', 'Group')
+        group.layers.add('tile', 'Ground').write(0, 0, [[x * y % 5 for x in range(300)] for y in range(200)])
+        things = group.layers.add('object', 'Things').objects
+        for x in range(900):
+            things.add(f'a rather long name of a thing {x}', x, 0)
+        inner = group.layers.add('image', 'Sky')
+        for at in range(2):
+            inner.properties.set(f'long {at}', 'a' * 40_000)
+        found = one.difference(other)
+        assert found.lines, found.left
+        see([*['layer'] * 4, 'member', *['object'] * 900, 'stamp'], [line.split(' ')[0] for line in found.lines][:906])
+        see([True, True], [max(map(len, found.lines)) <= 65_535, len(found.lines) < 960])
+        done(editor)
+
+
+@contextlib.contextmanager
+def one_and_other(one, other):
+    with Editor() as editor:
+        yield editor.open(one, 'one'), editor.open(other, 'other')
+        done(editor)
+
+
+def done(editor):
+    for document in editor.documents.values():
+        document.mark_clean()
+
+
+def with_a_layer(file, **members):
+    """A map as a file, and as it is with one layer more."""
+    with Editor() as editor:
+        document = editor.open(MAPS / file)
+        before = document.save_bytes()
+        document.layers.put({'type': 'tilelayer', 'id': 90, 'name': 'New', **members}).write(1, 1, [[2]])
+        return before, document.save_bytes()
+
+
+def test_formats_of_new_layers():
+    """A save gives a new layer the format of the others: where it has that one in the other map, no line says so, and else a line does, if it
+    can."""
+    rows = [('numbers', 'town.tmj', {}, 0), ('base64', 'base64.tmj', {}, 0), ('zlib', 'zlib.tmj', {}, 0), ('chunks', 'infinite.tmj', {}, 0),
+            ('base64 beside numbers', 'town.tmj', {'encoding': 'base64'}, 1), ('base64 beside zlib', 'zlib.tmj', {'encoding': 'base64'}, 1)]
+
+    def fault_of(case):
+        file, members, count = case.given
+        with one_and_other(*with_a_layer(file, **members)) as (one, other):
+            lines = one.difference(other).lines
+            return unlike((1, case.wanted), lines and (len(lines), sum('encoding' in line for line in lines)))
+
+    check_each([Case(name, given, given[2]) for name, *given in rows], fault_of)
+
+
+def test_what_no_line_says():
+    """That a map is infinite, or that zlib has packed a new layer where it has not packed the others."""
+    tree = json.loads(with_a_layer('base64.tmj')[0])
+    layer = json.loads(with_a_layer('zlib.tmj')[1])['layers'][-1]
+    tree['layers'].append({**layer, 'id': 90})
+    tree['nextlayerid'] = 91
+    with one_and_other(json.dumps({**tree, 'layers': tree['layers'][:-1]}).encode(), json.dumps(tree).encode()) as (one, other):
+        found = one.difference(other)
+        see((None, True), (found.lines, found.left[0].words.startswith('what is of the file itself')))
         see(True, other.difference(one).lines is not None)
-        one.mark_clean()
 
 
 def test_a_move_that_is_past_a_limit():
@@ -263,7 +344,7 @@ def test_infinite_maps_that_grew():
 
 
 def test_lines_by_the_program():
-    """Most pairs have lines: those that have none bring back a layer."""
+    """Nearly all pairs have lines: those that have none have other chunks of an infinite map."""
     check_each([Case(f'pair {seed}', seed, None) for seed in range(SEED, SEED + PAIRS)], fault_of_pair, CORES)
     some = [pair(seed) for seed in range(SEED, SEED + 20)]
     have = sum(lines is not None for _, _, _, lines, _ in some)
@@ -370,10 +451,11 @@ def test_command():
         town = editor.open(MAPS / 'town.tmj')
         town.properties['author'] = 'me'
         town.save('one.tmj')
-        town.layers['Things'].remove()
-        town.save('less.tmj')
+        tree = town.map()
+        tree['layers'][0].update(encoding='base64', data=packed(tree['layers'][0]['data']))
+        Path(folder, 'packed.tmj').write_text(json.dumps(tree))
         Path(folder, 'broken.tmj').write_text('{')
-        one, less, same, broken = (str(Path(folder, name)) for name in ('one.tmj', 'less.tmj', MAPS / 'town.tmj', 'broken.tmj'))
+        one, other, same, broken = (str(Path(folder, name)) for name in ('one.tmj', 'packed.tmj', MAPS / 'town.tmj', 'broken.tmj'))
         told = 'map: property author: "the Roskevad project" -> "me"\n'
         lines = '# all edits, all maps\nprop put map {"name":"author","type":"string","value":"me"}\n'
         rows = [
@@ -391,7 +473,7 @@ def test_command():
             ('no map', (broken, one), '60 not JSON'), ('one map', (one,), 'usage: '),
             ('two ways', ('--json', '--lines', one, one), 'not allowed'), ('a text of two', ('--text', one, one), 'wanted are two maps'),
             ('a picture that has no place', ('--png', f'{folder}/no/a.png', one, one), 'No such file'),
-            ('no lines', ('--lines', less, one), 'no lines can say all of this:'),
+            ('no lines', ('--lines', other, one), 'no lines can say all of this:'),
         ]
         check_each([Case(*row) for row in trouble], lambda case: fault_of_trouble(case.wanted, *command(*case.given)))
 

@@ -185,7 +185,7 @@ def test_one_object_in_two_layers():
 
 
 def test_a_removal_that_is_reverted():
-    """What was removed comes back, the layer by a new id, since no line brings it back below others; and what means an object of it."""
+    """What was removed comes back by its id, the layer with what stands in it, at its place; and what means an object of it."""
     with Editor() as editor:
         town, base, ours = three(editor)
         for document in (base, ours):
@@ -193,10 +193,10 @@ def test_a_removal_that_is_reverted():
             document.objects['Smithy'].properties.pop('key')
         ours.stamp('Ground', 0, 0, [[7]])
         found = merge(base, ours, town)
-        see(((), ('layer 15 "Things" of theirs has the id 17 now',)), (found.conflicts, found.notices))
-        see((17, [4], 4, 7), (ours.layers['Things'].id, [each.id for each in ours.layers['Things'].objects], ours.objects['Smithy'].properties['key'],
-                              ours.layers['Ground'].cells(0, 0, 1, 1)[0]))
-        see([each.name for each in town.layers], [each.name for each in ours.layers])
+        see(((), ()), (found.conflicts, found.notices))
+        see(['layer put 0 4', 'prop put object:3'], [' '.join(line.split(' ')[:-1])[:17] for line in found.lines])
+        ours.stamp('Ground', 0, 0, [[1]])
+        see([], [str(each) for each in town.difference(ours)])
         done(editor)
 
 

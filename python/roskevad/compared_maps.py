@@ -6,7 +6,7 @@ from bisect import bisect_left
 from typing import TYPE_CHECKING, Any, Iterator, NamedTuple, Optional
 
 from .faults import Refused
-from .tiled_maps import Members
+from .tiled_maps import Members, set_aside
 
 if TYPE_CHECKING:
     from .document import Document
@@ -15,23 +15,32 @@ if TYPE_CHECKING:
 _SIDES = ('x', 'tilewidth'), ('y', 'tileheight')
 
 
-def text_of(document: 'Document') -> bytes:
-    """A document's map as the editor holds it, with what is set aside."""
+class Held(NamedTuple):
+    """A map as an editor holds it."""
+
+    #: Its text, with what is set aside.
+    text: bytes
+    #: The file that a save of it is laid out as; empty where there is none.
+    source: bytes
+
+
+def held(document: 'Document') -> Held:
     text: bytes = document._do(lambda: document._editor._shown('difference()'))
-    return text
+    return Held(text, document._source)
 
 
 @contextlib.contextmanager
-def copied(*texts: bytes) -> 'Iterator[list[Document]]':
-    """A `with` that has documents of texts, in an editor of their own."""
+def copied(*maps: Held) -> 'Iterator[list[Document]]':
+    """A `with` that has documents of maps, in an editor of their own."""
     from .editor import Editor
 
-    names = [f'copy{place}' for place in range(len(texts))]
+    names = [f'copy{place}' for place in range(len(maps))]
     with contextlib.closing(Editor()) as editor:
-        for name, text in zip(names, texts):
-            editor.put_file(name, text)
+        for name, map in zip(names, maps):
+            editor.put_file(name, map.text)
             editor.step(f'open {name} {name}')
             editor.remove_file(name)
+            editor.documents[name]._source = map.source
         yield [editor.documents[name] for name in names]
 
 
@@ -49,12 +58,23 @@ def _plain(value: Any) -> Any:
 
 
 def are_saved_alike(one: 'Document', other: 'Document') -> bool:
-    """Whether files of two maps have the same. Where no file is made of them, as where a layer can't be packed here, the maps are compared."""
+    """Whether files of two maps have the same, unpacked. Where no file is made of them, as where a layer can't be packed here, the maps are
+    compared."""
     try:
-        texts = [document.save_bytes(layout='compact') for document in (one, other)]
+        texts = [document.save_bytes() for document in (one, other)]
     except Refused:
         return said(one.map()) == said(other.map())
-    return texts[0] == texts[1] or said(json.loads(texts[0])) == said(json.loads(texts[1]))
+    return texts[0] == texts[1] or _unpacked(texts[0]) == _unpacked(texts[1])
+
+
+def _unpacked(text: bytes) -> str:
+    """What a file has, with the cells that are packed in it unpacked."""
+    try:
+        text, _ = set_aside(text, 'difference()')
+    except Refused:
+        # Nothing is set aside of this map, so none of it is packed.
+        pass
+    return said(json.loads(text))
 
 
 def is_infinite(document: 'Document') -> bool:

@@ -4,7 +4,7 @@ import json
 from collections import Counter
 from typing import TYPE_CHECKING, Any, Iterable, Iterator, NamedTuple, Optional, Sequence, Union, overload
 
-from .compared_maps import MapNow, Shift, Stand, are_saved_alike, copied, said, shift_of, staying, text_of
+from .compared_maps import MapNow, Shift, Stand, are_saved_alike, copied, held, said, shift_of, staying
 from .difference_lines import lines_between
 from .own_members import OTHERS
 from .rows import BASE, DIAGONALLY, HORIZONTALLY, TURNED, VERTICALLY
@@ -69,13 +69,13 @@ class Difference(Sequence[Change]):
     """What differs between two maps, as they were when it was asked for: each change of the map, of its tilesets, its layers and its objects.
     Without a change they are the same. `str` tells all in words, a line for each change."""
 
-    __slots__ = '_texts', '_changes', '_shift', '_lines', '_left'
+    __slots__ = '_maps', '_changes', '_shift', '_lines', '_left'
 
     def __init__(self, before: 'Document', after: 'Document'):
-        self._texts = text_of(before), text_of(after)
+        self._maps = held(before), held(after)
         self._lines: Optional[tuple[str, ...]] = None
         self._left: Optional[tuple[Change, ...]] = None
-        with copied(*self._texts) as (old, new):
+        with copied(*self._maps) as (old, new):
             goal = MapNow(new)
             first = MapNow(old)
             is_resized = any(first.tree[side] != goal.tree[side] for side in ('width', 'height')) or old.origin != new.origin
@@ -115,16 +115,22 @@ class Difference(Sequence[Change]):
         """A picture as PNG: cells of the other map as squares, those that differ in colours, and objects that do by their boxes."""
         from .difference_pictures import picture
 
-        with copied(*self._texts) as (old, new):
+        with copied(*self._maps) as (old, new):
             return picture(old, new, self._shift, self)
 
     def _find_lines(self) -> None:
+        """Looks for lines by which new layers are as the others are in the file, or else for those by which each is as it is."""
         if self._left is None:
-            with copied(*self._texts) as (copy, new):
-                found = lines_between(copy, MapNow(new), self._shift)
-                is_same = are_saved_alike(copy, new)
-                self._left = () if is_same else tuple(_changes_between(copy, MapNow(new), None))
-                self._lines = tuple(found) if is_same else None
+            self._try_lines(has_formats=False)
+            if self._lines is None:
+                self._try_lines(has_formats=True)
+
+    def _try_lines(self, has_formats: bool) -> None:
+        with copied(*self._maps) as (copy, new):
+            found = lines_between(copy, MapNow(new), self._shift, has_formats)
+            is_same = are_saved_alike(copy, new)
+            self._left = () if is_same else tuple(_changes_between(copy, MapNow(new), None))
+            self._lines = tuple(found) if is_same else None
 
     def __repr__(self) -> str:
         return f'<Difference of {len(self)} changes>'

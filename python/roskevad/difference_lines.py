@@ -3,13 +3,14 @@
 import json
 from typing import TYPE_CHECKING, Any, Iterable, Iterator, Optional
 
-from . import json_values, words
+from . import json_values
 from .compared_maps import MapNow, Shift, said, staying
 from .faults import Refused
+from .limits import MAX_LINE
+from .new_layers import data_of, put_line
 from .own_members import OTHERS
 from .rows import parts_of
 from .tiled_maps import Members
-from .views import TYPES
 
 if TYPE_CHECKING:
     from .document import Document
@@ -17,9 +18,10 @@ if TYPE_CHECKING:
 _COUNTED = 'nextlayerid', 'nextobjectid'
 
 
-def lines_between(copy: 'Document', goal: MapNow, shift: Optional[Shift]) -> list[str]:
-    """Lines that do to a copy of one map what makes it another one, as far as lines can say it."""
-    way = Way(copy)
+def lines_between(copy: 'Document', goal: MapNow, shift: Optional[Shift], has_formats: bool) -> list[str]:
+    """Lines that do to a copy of one map what makes it another one, as far as lines can say it; also in which format new layers have their
+    cells, where they are to say it."""
+    way = Way(copy, has_formats)
     if shift is not None:
         way.say(shift.line(copy, goal))
     lead(way, goal)
@@ -37,10 +39,12 @@ def lead(way: 'Way', goal: MapNow) -> None:
 class Way:
     """What is done to a copy, and to which goal."""
 
-    __slots__ = 'copy', 'goal', 'lines'
+    __slots__ = 'copy', 'goal', 'lines', 'has_formats'
 
-    def __init__(self, copy: 'Document'):
+    def __init__(self, copy: 'Document', has_formats: bool = False):
         self.copy = copy
+        # Whether lines say the formats of new layers; else a save gives them that of the others.
+        self.has_formats = has_formats
         self.goal: MapNow
         self.lines: list[str] = []
 
@@ -91,13 +95,44 @@ def _drop_layers(way: Way) -> None:
 
 
 def _add_layers(way: Way) -> None:
-    there = way.now().layers
-    for id in sorted(way.goal.layers.keys() - there.keys()):
-        members = way.goal.layers[id].members
-        name = members['name'] if words.is_text(members['name']) else 'Layer'
-        is_next = way.copy.members['nextlayerid'] == id or way.say(f'member set map nextlayerid {id}')
-        if is_next:
-            way.say(f'layer add {TYPES[members["type"]]} {name}')
+    now, goal = way.now(), way.goal
+    lists = {parent: now.layers_in(parent) for parent in (0, *now.layers)}
+    for id, stand in goal.layers.items():
+        # What stands in a new group is added with that.
+        if id not in now.layers and stand.parent in lists:
+            line, siblings = lists[stand.parent], goal.layers_in(stand.parent)
+            place = next((line.index(each) + 1 for each in reversed(siblings[:siblings.index(id)]) if each in line), 0)
+            line.insert(place, id)
+            _add_layer(way, now, id, place)
+
+
+def _add_layer(way: Way, now: MapNow, id: int, place: int) -> None:
+    """Adds a layer with all in it that is not there yet. What one line is too short for is added behind it, first of all the layers in it."""
+    parent, whole = way.goal.layers[id].parent, _whole(way, now, id)
+    if way.say(put_line(parent, place, whole)):
+        return
+    without = {name: [] if name in ('objects', 'layers') else value for name, value in whole.items() if name != 'data'}
+    bare = {name: value for name, value in without.items() if name in ('type', 'id', 'encoding', 'objects', 'layers')}
+    if way.say(put_line(parent, place, without)) or way.say(put_line(parent, place, bare)):
+        for at, each in enumerate(whole.get('layers', ())):
+            _add_layer(way, now, each['id'], at)
+
+
+def _whole(way: Way, now: MapNow, id: int) -> Members:
+    """A layer as a file has it, with all in it but what is there already, and but the cells that no line has room for."""
+    goal, members = way.goal, way.goal.layers[id].members
+    kind = members['type']
+    if kind == 'group':
+        return {**members, 'layers': [_whole(way, now, each) for each in goal.layers_in(id) if each not in now.layers]}
+    if kind == 'objectgroup':
+        return {**members, 'objects': [goal.objects[each].members for each in goal.objects_in(id) if each not in now.objects]}
+    if kind != 'tilelayer':
+        return members
+    others = {'width', 'height'} if way.has_formats else {'width', 'height', 'encoding'}
+    cells, found = goal.cells(id), {name: value for name, value in members.items() if name not in others}
+    if 2 * len(cells) <= MAX_LINE and any(cells):
+        found['data'] = data_of(cells, found.get('encoding'))
+    return found
 
 
 def _place_layers(way: Way) -> None:

@@ -5,7 +5,7 @@ from typing import TYPE_CHECKING, Any, Iterator, Mapping, NamedTuple, Optional, 
 
 from .choices import Choices, Side, Take
 from .class_types import ClassTypes, types_of
-from .compared_maps import MapNow, Shift, Stand, copied, text_of
+from .compared_maps import MapNow, Shift, Stand, copied, held
 from .difference import MAP, Change, Tiles, first_id, head_of, told_changes
 from .difference_lines import Way, lead
 from .framed_maps import Framed, frame
@@ -72,7 +72,7 @@ def merged(
 ) -> Merge:
     """What a merge would do, tried on copies."""
     types = types_of(project)
-    with copied(*map(text_of, (base, ours, theirs))) as (first, mine, other):
+    with copied(*map(held, (base, ours, theirs))) as (first, mine, other):
         return _Merging(first, mine, other, choices, dict(offset or {}), types).found()
 
 
@@ -158,20 +158,15 @@ class _Merging:
             tilesets |= back
             if not joined.back <= known:
                 known |= joined.back
-                base, theirs = self._with_back(joined.back, base, ours, theirs)
+                base = self._without(joined.back, base, ours, theirs)
 
-    def _with_back(self, back: set[Subject], base: MapNow, ours: MapNow, theirs: MapNow) -> tuple[MapNow, MapNow]:
-        """The base without what is to be there again, and theirs; with what that stands in, and what stands in it and ours has not. Layers
-        that were there get new ids, since none can be added below one of ours."""
+    def _without(self, back: set[Subject], base: MapNow, ours: MapNow, theirs: MapNow) -> MapNow:
+        """The base without what is to be there again, without what that stands in, and without what stands in it and ours has not."""
         mine, other = things_of(ours), things_of(theirs)
         holders = {subject: [*_holders(subject, other)] for subject in other}
         above = {holder for subject in back if subject in other for holder in holders[subject]}
         inside = {subject for subject in other if self._is_back(subject, holders[subject], back)}
-        found = {subject for subject in above | inside if subject not in mine}
-        names = {subject: self._next('layer') for subject in sorted(found) if subject.kind == 'layer' and subject.id in base.layers}
-        theirs = self._renamed_theirs(names, theirs, {})
-        gone = {Subject(subject.kind, names.get(subject, subject.id)) for subject in found}
-        return MapWithout(renamed(base, _of(names, base), self._types), gone), theirs
+        return MapWithout(base, {subject for subject in above | inside if subject not in mine})
 
     def _is_back(self, subject: Subject, holders: list[Subject], back: set[Subject]) -> bool:
         """Whether it is to be there again, alone or with what it stands in, and ours is not taken there."""
@@ -240,15 +235,14 @@ class _Merging:
         return self._first[kind] - 1
 
     def _clashing(self, base: MapNow, ours: MapNow, theirs: MapNow) -> Names:
-        """New ids for what theirs has added under one that ours has for another thing, or that something of ours means though it is not there;
-        and for layers below one of ours, since none can be added there."""
+        """New ids for what theirs has added under one that ours has for another thing, or that something of ours means though it is not there."""
         old, mine, other = (things_of(map) for map in (base, ours, theirs))
-        last, meant = max(ours.layers, default=0), {id for _, _, id in self._dangling(ours)}
+        meant = {id for _, _, id in self._dangling(ours)}
         names: Names = {}
         for subject, stand in other.items():
             if subject in old or subject in mine and Subject('layer', stand.parent) not in names and is_twin(subject, ours, theirs):
                 continue
-            if subject in mine or subject.kind == 'layer' and subject.id < last or subject.kind == 'object' and subject.id in meant:
+            if subject in mine or subject.kind == 'object' and subject.id in meant:
                 names[subject] = self._next(subject.kind)
         return names
 

@@ -2,11 +2,11 @@
 """Layers that are added as a file has them, with all in them: the line that adds one; or, where one line is too short for it, those that
 add it without what it holds, and then that."""
 import json
-from typing import Any, Iterable, Iterator, Mapping, Optional
+import struct
+from typing import Any, Iterable, Iterator, Mapping, Optional, Union
 
-from . import json_values
+from . import json_values, new_objects
 from .limits import MAX_LINE
-from .new_objects import put_line
 from .rows import parts_of
 from .selection import Run
 from .tiled_maps import Members
@@ -22,13 +22,13 @@ def plain(members: Mapping[str, Any]) -> Members:
 
 def lines_of(group: int, at: int, layer: Members, size: tuple[int, int]) -> Iterator[str]:
     """The lines that add a layer to a map of so many columns and rows, in a group, or in none where that is 0, at a place there."""
-    line = _line_of(group, at, layer)
+    line = put_line(group, at, layer)
     held = _held(layer, size) if len(line.encode()) > MAX_LINE else None
     if held is None:
         yield line
         return
     frame = {name: [] if name in ('objects', 'layers') else value for name, value in layer.items() if name != 'data'}
-    yield _line_of(group, at, frame)
+    yield put_line(group, at, frame)
     yield from held
 
 
@@ -38,7 +38,8 @@ def selecting(runs: Iterable[Run]) -> Iterator[str]:
         yield f'select {"add" if place else "replace"} {run.column} {run.row} {run.length} 1'
 
 
-def _line_of(group: int, at: int, layer: Members) -> str:
+def put_line(group: int, at: int, layer: Members) -> str:
+    """The line that adds a layer as a file has it."""
     return f'layer put {group} {at} {json_values.said(layer, _MEMBERS)}'
 
 
@@ -46,7 +47,7 @@ def _held(layer: Members, size: tuple[int, int]) -> Optional[Iterator[str]]:
     """The lines that add what a layer holds, to it without that; None where it holds nothing that lines could add."""
     kind = layer.get('type')
     if kind == 'objectgroup' and isinstance(layer.get('objects'), list):
-        return (put_line(layer.get('id', 0), json_values.said(item, _MEMBERS)) for item in layer['objects'])
+        return (new_objects.put_line(layer.get('id', 0), json_values.said(item, _MEMBERS)) for item in layer['objects'])
     if kind == 'group' and isinstance(layer.get('layers'), list):
         return (line for at, inner in enumerate(layer['layers']) for line in lines_of(layer.get('id', 0), at, inner, size))
     width, height = size
@@ -63,6 +64,15 @@ def _stamps(layer: int, rows: list[list[int]]) -> Iterator[str]:
         top = filled[0]
         for part in parts_of(rows[top:filled[-1] + 1]):
             yield f'stamp {layer} 0 {top + part.first} {len(rows[0])} {part.values}'
+
+
+def data_of(cells: memoryview, encoding: Any) -> Union[list[int], str]:
+    """What a file has of the cells of a tile layer: numbers, or in base64 four bytes of each."""
+    if encoding != 'base64':
+        return cells.tolist()
+    import base64
+
+    return base64.b64encode(struct.pack(f'<{len(cells)}I', *cells)).decode()
 
 
 def _values(data: Any) -> Optional[list[int]]:
