@@ -144,7 +144,7 @@ def test_first_ids_that_are_counted_anew():
     with Editor() as editor:
         found = editor.open(json.dumps(tree).encode()).difference(editor.open(json.dumps(other).encode()))
         see(['tileset tiles: first id 33 -> 40'], [str(each) for each in found])
-        see(['tileset', 'stamp', 'tileset'], [line.split(' ')[0] for line in found.lines or ()])
+        see(('tileset number 33 40',), found.lines)
 
 
 def test_layers_that_come_back():
@@ -341,6 +341,22 @@ def test_infinite_maps_that_grew():
         assert found[0].words == '2 by 2 cells -> 4 by 4, 2 columns more at the left and 2 rows more above', found[0].words
         assert other.difference(one)[0].words == '4 by 4 cells -> 2 by 2, 2 columns fewer at the left and 2 rows fewer above'
         assert found[0].what == 'size', str(found)
+
+
+def test_infinite_maps_that_grew_and_shrank():
+    """One that has more columns at the left and fewer at the right gets room, and then it is cut. None loses a corner so."""
+    tree = json.loads((MAPS / 'infinite.tmj').read_text())
+    left = json.loads(json.dumps(tree))
+    for layer, _ in layers_of(left):
+        if 'chunks' in layer:
+            layer['startx'] -= 32
+            for chunk in layer['chunks']:
+                chunk['x'] -= 32
+    with one_and_other(*(json.dumps(each).encode() for each in (tree, left))) as (one, other):
+        wide, high = one.width, one.height
+        lines = one.difference(other).lines
+        see(['extend 32 0 0 0', f'resize {wide} {high} 0 0'], [*(lines or ())][:2])
+        see(None, other.difference(one).lines)
 
 
 def test_lines_by_the_program():

@@ -194,7 +194,7 @@ def test_a_removal_that_is_reverted():
         ours.stamp('Ground', 0, 0, [[7]])
         found = merge(base, ours, town)
         see(((), ()), (found.conflicts, found.notices))
-        see(['layer put 0 4', 'prop put object:3'], [' '.join(line.split(' ')[:-1])[:17] for line in found.lines])
+        see((1, 'layer put 0 4 {'), (sum(not line.startswith('prop ') for line in found.lines), found.lines[0][:15]))
         ours.stamp('Ground', 0, 0, [[1]])
         see([], [str(each) for each in town.difference(ours)])
         done(editor)

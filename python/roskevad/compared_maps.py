@@ -176,14 +176,20 @@ class Shift(NamedTuple):
     x: int
     y: int
 
-    def line(self, copy: 'Document', behind: MapNow) -> str:
-        """The line that gives a map the size of another one, and moves all so. Of an infinite map whose corner goes to the left or up all stays
-        where it is on the plane, if it loses no cells at the other sides."""
+    def lines(self, copy: 'Document', behind: MapNow) -> list[str]:
+        """The lines that give a map the size of another one, and move all so. Of an infinite map whose corner goes to the left or up all stays
+        where it is on the plane."""
         width, height = behind.tree['width'], behind.tree['height']
-        sides = *self, width - copy.width - self.x, height - copy.height - self.y
-        if copy.origin != behind.document.origin and min(sides) >= 0:
-            return f'extend {" ".join(map(str, sides))}'
-        return f'resize {width} {height} {self.x} {self.y}'
+        if copy.origin == behind.document.origin or min(self) < 0:
+            return [f'resize {width} {height} {self.x} {self.y}']
+        sides = width - copy.width - self.x, height - copy.height - self.y
+        room = [f'extend {self.x} {self.y} {max(sides[0], 0)} {max(sides[1], 0)}']
+        return [*room, f'resize {width} {height} 0 0'] if min(sides) < 0 else room
+
+    def move(self, copy: 'Document', behind: MapNow) -> None:
+        """Does these lines."""
+        for line in self.lines(copy, behind):
+            copy._edit(line)
 
 
 def shift_of(before: MapNow, behind: MapNow) -> Shift:
@@ -197,12 +203,16 @@ def shift_of(before: MapNow, behind: MapNow) -> Shift:
 
 def _can_be(copy: 'Document', behind: MapNow, shift: Shift) -> bool:
     """Whether a map takes the size of another one with this shift; it is as it was then."""
+    lines, done = shift.lines(copy, behind), 0
     try:
-        copy._edit(shift.line(copy, behind))
+        for line in lines:
+            copy._edit(line)
+            done += 1
     except Refused:
-        return False
-    copy.undo()
-    return True
+        pass
+    for _ in range(done):
+        copy.undo()
+    return done == len(lines)
 
 
 def _shifts(before: MapNow, behind: MapNow) -> Iterator[Shift]:

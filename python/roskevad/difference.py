@@ -8,6 +8,7 @@ from .compared_maps import MapNow, Shift, Stand, are_saved_alike, copied, held, 
 from .difference_lines import lines_between
 from .own_members import OTHERS
 from .rows import BASE, DIAGONALLY, HORIZONTALLY, TURNED, VERTICALLY
+from .same_tilesets import Pair, first_id, paired_tilesets, tileset_name
 from .tiled_maps import Members
 from .told import Subject
 
@@ -154,7 +155,7 @@ def told_changes(now: MapNow, goal: MapNow) -> list[Change]:
 def _resized(old: 'Document', goal: MapNow, shift: Shift) -> list[Change]:
     before, after = ([map_[side] for side in ('width', 'height')] for map_ in (old.outline(), goal.tree))
     was = old.origin
-    old._edit(shift.line(old, goal))
+    shift.move(old, goal)
     # Of an infinite map whose corner lies elsewhere on the plane nothing has moved there.
     is_on_a_plane = was != goal.document.origin
     moved = _more(shift) if is_on_a_plane else f', all moved by {shift.x}, {shift.y}' if any(shift) else ''
@@ -269,36 +270,6 @@ def _of_the_map(now: MapNow, goal: MapNow) -> Iterator[Change]:
 
 
 # ---- tilesets, and tiles by them
-
-
-Pair = tuple[Optional[Members], Optional[Members]]
-
-
-def first_id(tileset: Members) -> int:
-    return int(tileset['firstgid'])
-
-
-def tileset_name(tileset: Members) -> str:
-    return str(tileset.get('source') or tileset.get('name', ''))
-
-
-def tileset_key(tileset: Members) -> tuple[str, str]:
-    """What tells a tileset from others: its file, or its name and its picture."""
-    return tileset_name(tileset), str(tileset.get('image', ''))
-
-
-def paired_tilesets(before: list[Members], behind: list[Members]) -> Iterator[Pair]:
-    """Tilesets that are the same in two maps: by their file, or by name and picture, or by name, and those that are left by their first ids."""
-    old, new = [*before], [*behind]
-    for key in (lambda each: (tileset_key(each), first_id(each)), tileset_key, tileset_name, first_id):
-        for one in [*old]:
-            after = next((each for each in new if key(each) == key(one)), None)
-            if after is not None:
-                old.remove(one)
-                new.remove(after)
-                yield one, after
-    yield from ((each, None) for each in old)
-    yield from ((None, each) for each in new)
 
 
 def _of_tilesets(tilesets: list[Pair]) -> Iterator[Change]:

@@ -10,6 +10,7 @@ from .limits import MAX_LINE
 from .new_layers import data_of, put_line
 from .own_members import OTHERS
 from .rows import parts_of
+from .same_tilesets import first_id, in_turn, paired_tilesets
 from .tiled_maps import Members
 
 if TYPE_CHECKING:
@@ -22,8 +23,8 @@ def lines_between(copy: 'Document', goal: MapNow, shift: Optional[Shift], has_fo
     """Lines that do to a copy of one map what makes it another one, as far as lines can say it; also in which format new layers have their
     cells, where they are to say it."""
     way = Way(copy, has_formats)
-    if shift is not None:
-        way.say(shift.line(copy, goal))
+    for line in shift.lines(copy, goal) if shift is not None else ():
+        way.say(line)
     lead(way, goal)
     return way.lines
 
@@ -31,7 +32,7 @@ def lines_between(copy: 'Document', goal: MapNow, shift: Optional[Shift], has_fo
 def lead(way: 'Way', goal: MapNow) -> None:
     """Does to a copy of one map what makes it another one of its size, as far as lines can say it."""
     way.goal = goal
-    for each in (_drop_layers, _add_tilesets, _add_layers, _place_layers, _change_objects, _paint, _set_members, _set_properties,
+    for each in (_drop_layers, _number_tilesets, _add_tilesets, _add_layers, _place_layers, _change_objects, _paint, _set_members, _set_properties,
                  _change_tilesets, _drop_tilesets, _count):
         each(way)
 
@@ -279,6 +280,14 @@ def _set_listed(way: Way, owner: str, old: list[Members], new: list[Members]) ->
 
 
 # ---- tilesets, and what a map counts
+
+
+def _number_tilesets(way: Way) -> None:
+    """Gives tilesets the first ids that they are to have, and their tiles along."""
+    pairs = paired_tilesets(way.now().tree['tilesets'], way.goal.tree['tilesets'])
+    firsts = sorted((first_id(old), first_id(new)) for old, new in pairs if old is not None and new is not None)
+    for first, other in in_turn(firsts):
+        way.say(f'tileset number {first} {other}')
 
 
 def _add_tilesets(way: Way) -> None:

@@ -3,9 +3,9 @@
 from typing import Iterator, NamedTuple, Optional
 
 from .compared_maps import MapNow
-from .difference import first_id, paired_tilesets, tileset_key, tileset_name
 from .renamed_maps import Counting, values_of
 from .rows import BASE
+from .same_tilesets import first_id, paired_tilesets, tileset_key, tileset_name
 from .tiled_maps import Members
 
 # Where no tileset begins any more, and so many tiles are left room for where nothing says how many a tileset has.

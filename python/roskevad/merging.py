@@ -6,13 +6,14 @@ from typing import TYPE_CHECKING, Any, Iterator, Mapping, NamedTuple, Optional, 
 from .choices import Choices, Side, Take
 from .class_types import ClassTypes, types_of
 from .compared_maps import MapNow, Shift, Stand, copied, held
-from .difference import MAP, Change, Tiles, first_id, head_of, told_changes
+from .difference import MAP, Change, Tiles, head_of, told_changes
 from .difference_lines import Way, lead
 from .framed_maps import Framed, frame
 from .merged_maps import Conflict as Conflict, Joined, MergedMap
 from .merged_tilesets import Shared, added_firsts, counting, numbers, shared_tilesets
 from .renamed_maps import MapWithout, Names, another_names, counted, freed, is_twin, numbers_in_classes, renamed, stand_of, things_of
 from .rows import BASE
+from .same_tilesets import first_id, in_turn
 from .told import Subject
 
 if TYPE_CHECKING:
@@ -128,7 +129,7 @@ class _Merging:
     def _goal(self, framed: Framed) -> MergedMap:
         base, ours, theirs = self._named_alike(*framed.maps)
         self._conflicts = [self._with_new_id(each) for each in self._conflicts]
-        renumbered = [*_in_turn([*numbers(shared_tilesets(base, ours, theirs), ours, theirs)])]
+        renumbered = [*in_turn([*numbers(shared_tilesets(base, ours, theirs), ours, theirs)])]
         for old, new in renumbered:
             if self._way.say(f'tileset number {old} {new}'):
                 self._notices.append(f'the tileset of the first id {old} has the first id {new} now, and its tiles go along')
@@ -291,12 +292,6 @@ def _resized(before: dict[str, Any], ours: 'Document', framed: Framed) -> Iterat
     if framed.lines:
         was, now = ([map['width'], map['height']] for map in (before, ours.outline()))
         yield Change(Subject('map', 0), '', 'size', was, now, f'{was[0]} by {was[1]} cells -> {now[0]} by {now[1]}')
-
-
-def _in_turn(pairs: list[tuple[int, int]]) -> Iterator[tuple[int, int]]:
-    """First ids with new ones, in an order in which none goes past another."""
-    yield from ((old, new) for old, new in reversed(pairs) if new > old)
-    yield from ((old, new) for old, new in pairs if new < old)
 
 
 # ---- tiles
