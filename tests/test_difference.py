@@ -14,6 +14,7 @@ import zlib
 from pathlib import Path
 
 from lib.cases import CORES, Case, check_each, see, unlike
+from lib.histories import New, new_layer, put_back
 from lib.maps import packed
 from lib.merges import layers_of
 from lib.places import TOP
@@ -285,6 +286,8 @@ def edit(chosen, document):
         lambda: setattr(chosen.choice(objects), 'tile', chosen.choice((None, value or None))),
         lambda: document.layers.add(chosen.choice(('tile', 'object', 'group', 'image')), chosen.choice(('A', 'B b'))),
         lambda: chosen.choice(groups).layers.add('tile', 'inner'),
+        lambda: document.layers.put(new_layer(chosen, New(document), value), chosen.choice([None, *groups]), chosen.randrange(2)),
+        lambda: put_back(chosen, document, chosen.choice(layers)),
         lambda: chosen.choice(layers).remove(),
         lambda: chosen.choice(layers).move_into(chosen.choice([None, *groups]), chosen.choice((0, None))),
         lambda: chosen.choice(layers).members.update(opacity=chosen.choice((0.25, 1)), name=chosen.choice(('', 'L')), visible=chosen.random() < 0.5),

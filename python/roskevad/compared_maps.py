@@ -6,7 +6,7 @@ from bisect import bisect_left
 from typing import TYPE_CHECKING, Any, Iterator, NamedTuple, Optional
 
 from .faults import Refused
-from .tiled_maps import Members, set_aside
+from .tiled_maps import Members, drawn, set_aside
 
 if TYPE_CHECKING:
     from .document import Document
@@ -68,13 +68,17 @@ def are_saved_alike(one: 'Document', other: 'Document') -> bool:
 
 
 def _unpacked(text: bytes) -> str:
-    """What a file has, with the cells that are packed in it unpacked."""
+    """What a file has, with the cells that are packed in it unpacked, and without what says that they are not packed."""
     try:
         text, _ = set_aside(text, 'difference()')
     except Refused:
         # Nothing is set aside of this map, so none of it is packed.
         pass
-    return said(json.loads(text))
+    tree = json.loads(text)
+    for layer in drawn(tree['layers']):
+        if layer.get('compression') == '':
+            del layer['compression']
+    return said(tree)
 
 
 def is_infinite(document: 'Document') -> bool:

@@ -32,8 +32,9 @@ def lines_between(copy: 'Document', goal: MapNow, shift: Optional[Shift], has_fo
 def lead(way: 'Way', goal: MapNow) -> None:
     """Does to a copy of one map what makes it another one of its size, as far as lines can say it."""
     way.goal = goal
-    for each in (_drop_layers, _number_tilesets, _add_tilesets, _add_layers, _place_layers, _change_objects, _paint, _set_members, _set_properties,
-                 _change_tilesets, _drop_tilesets, _count):
+    # Tilesets that nothing uses are dropped first, so that others may come below them.
+    for each in (_drop_layers, _number_tilesets, _drop_tilesets, _add_tilesets, _add_layers, _place_layers, _change_objects, _paint, _set_members,
+                 _set_properties, _change_tilesets, _drop_tilesets, _count):
         each(way)
 
 

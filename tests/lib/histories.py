@@ -2,6 +2,7 @@
 """Random edits of maps, as two people make them who do not know of one another: calls of the package, each of which may be refused."""
 import sys
 
+from lib.merges import layers_of
 from lib.places import TOP
 
 sys.path.insert(0, str(TOP / 'python'))
@@ -34,6 +35,8 @@ def edits(chosen, document, offset):
         'shape': lambda: chosen.choice(objects).members.update(chosen.choice(({'ellipse': True}, {'point': True}))),
         'layer add': lambda: painted(document, document.layers.add(chosen.choice(('tile', 'object', 'group', 'image')), chosen.choice(('A', 'B b'))), value),
         'layer in a group': lambda: painted(document, chosen.choice(groups).layers.add('tile', 'inner'), value),
+        'layer put': lambda: document.layers.put(new_layer(chosen, New(document), value), chosen.choice([None, *groups]), chosen.randrange(2)),
+        'layer back': lambda: put_back(chosen, document, chosen.choice(layers)),
         'layer remove': lambda: chosen.choice(layers).remove(),
         'layer into': lambda: chosen.choice(layers).move_into(chosen.choice([None, *groups]), chosen.choice((0, None))),
         'layer move': lambda: chosen.choice(layers).move(chosen.randrange(3)),
@@ -53,7 +56,7 @@ def edits(chosen, document, offset):
 
 # How often each kind is chosen, where not once.
 WEIGHTS = {'stamp': 8, 'erase': 2, 'object add': 4, 'object move': 6, 'object member': 4, 'shape': 4, 'prop set': 4, 'layer member': 2, 'layer move': 4,
-           'layer into': 3, 'object into': 3, 'layer add': 2, 'tileset add': 3, 'extend': 3, 'class member': 4}
+           'layer into': 3, 'layer put': 3, 'layer back': 2, 'object into': 3, 'layer add': 2, 'tileset add': 3, 'extend': 3, 'class member': 4}
 
 
 def added(chosen, document, layer, number):
@@ -67,6 +70,54 @@ def added(chosen, document, layer, number):
 def painted(document, layer, value):
     if layer.kind == 'tile' and value:
         document.stamp(layer, 1, 1, [[value, value]])
+
+
+class New:
+    """A document that things are added to, as a file has them: the next ids, and the objects that they may mean."""
+
+    def __init__(self, document):
+        tree = document.outline()
+        self.ids = {'layer': tree['nextlayerid'], 'object': tree['nextobjectid']}
+        self.objects = [each.id for each in document.objects]
+        self.cells = document.width * document.height
+
+    def id(self, chosen, kind):
+        """A free id; some are left out."""
+        id = self.ids[kind] + chosen.choice((0, 0, 0, 2))
+        self.ids[kind] = id + 1
+        return id
+
+
+def new_layer(chosen, new, value, depth=0):
+    """A layer as a file has it, with all in it: a group of layers, objects that mean others, or cells."""
+    kind = chosen.choice(('objectgroup', 'tilelayer', *['group'] * (2 - depth)))
+    layer = {'type': kind, 'id': new.id(chosen, 'layer'), 'name': chosen.choice(('A', 'put', 'p q')), 'visible': True, 'opacity': chosen.choice((1, 0.5))}
+    if kind == 'group':
+        return {**layer, 'layers': [new_layer(chosen, new, value, depth + 1) for _ in range(chosen.randrange(4))]}
+    if kind == 'objectgroup':
+        return {**layer, 'objects': [new_object(chosen, new) for _ in range(chosen.randrange(4))]}
+    return {**layer, 'data': [chosen.choice((0, 0, value)) for _ in range(new.cells)]} if chosen.random() < 0.7 else layer
+
+
+def new_object(chosen, new):
+    each = {'id': new.id(chosen, 'object'), 'name': chosen.choice(NAMES), 'x': chosen.choice((0, 16, 22.5)), 'y': 24, 'width': 8, 'height': chosen.randrange(20)}
+    new.objects.append(each['id'])
+    if chosen.random() < 0.5:
+        each['properties'] = [{'name': 'to', 'type': 'object', 'value': chosen.choice(new.objects[-3:])}]
+    return each
+
+
+def put_back(chosen, document, layer):
+    """Takes a layer out, and puts it back with all in it, at another place."""
+    tree = next(each for each, _ in layers_of(document.outline()) if each['id'] == layer.id)
+    for each, _ in layers_of({'layers': [tree]}):
+        if each['type'] == 'tilelayer':
+            each.update(data=document.layers[each['id']].cells().tolist())
+            each.pop('encoding', None)
+    layer.remove()
+    groups = [each for each in document.layers.walk() if each.kind == 'group']
+    group = chosen.choice([None, *groups])
+    document.layers.put(tree, group, chosen.randint(0, len(document.layers if group is None else group.layers)))
 
 
 def text(chosen, each):
