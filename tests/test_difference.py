@@ -36,11 +36,12 @@ def two(editor, file='town.tmj'):
 
 
 def tree_of(data):
-    """What a file has, unpacked, as a text in which true is not 1."""
+    """What a file has, unpacked, as a text in which true is not 1; without its version, and what says that nothing is packed."""
     tree = json.loads(data, parse_float=lambda text: int(float(text)) if float(text).is_integer() else float(text))
+    tree.pop('version', None)
     for layer, _ in layers_of(tree):
-        if layer.get('compression'):
-            layer['data'] = zlib.decompress(base64.b64decode(layer['data'])).hex()
+        if layer.pop('compression', ''):
+            layer['data'] = f'packed: {zlib.decompress(base64.b64decode(layer["data"])).hex()}'
     return json.dumps(tree, sort_keys=True)
 
 
@@ -228,6 +229,16 @@ def test_what_no_line_says():
         found = one.difference(other)
         see((None, True), (found.lines, found.left[0].words.startswith('what is of the file itself')))
         see(True, other.difference(one).lines is not None)
+
+
+def test_versions_of_the_format():
+    """Each file keeps its own, and lines lead from the one to the other."""
+    tree = json.loads((MAPS / 'town.tmj').read_text())
+    newer = json.dumps({**tree, 'version': '1.9'}).encode()
+    with one_and_other(json.dumps({**tree, 'version': '1.10'}).encode(), newer) as (one, other):
+        see([], [*one.difference(other)])
+        other.objects['Inn'].x = 96
+        see(('member put object:2 {"x":96}',), one.difference(other).lines)
 
 
 def test_a_move_that_is_past_a_limit():

@@ -7,7 +7,7 @@ import sys
 
 from lib.cases import Case, check_each, check_in_processes, see, unlike
 from lib.histories import edit, history
-from lib.merges import Checked, Table, told_by
+from lib.merges import Checked, Table, layers_of, told_by
 from lib.places import TOP
 
 sys.path.insert(0, str(TOP / 'python'))
@@ -15,7 +15,7 @@ import roskevad  # noqa: E402
 from roskevad import Editor, merge  # noqa: E402
 
 MAPS = TOP / 'examples' / 'maps'
-SEED, PAIRS, MOST = 20261201, 200, 10
+SEED, PAIRS, MOST, LONG = 20261201, 200, 10, 40
 FILES = ('town', 'house', 'groups', 'objects', 'infinite', 'layers', 'properties', 'two_tilesets', 'zlib', 'base64', 'flips')
 
 
@@ -299,6 +299,16 @@ def test_first_ids_that_are_counted_anew():
         done(editor)
 
 
+def test_first_ids_that_are_counted_anew_where_ours_cuts():
+    """What lies outside the map of ours is the same, too, and no conflict."""
+    with Editor() as editor:
+        base, ours, theirs = three(editor, 'two_tilesets.tmj')
+        ours.resize(ours.width - 1, ours.height)
+        theirs.tilesets.renumber(33, 40)
+        see((), merge(base, ours, theirs, offset={'ours': (0, 0)}).conflicts)
+        done(editor)
+
+
 # ---- infinite maps, sizes
 
 
@@ -443,13 +453,19 @@ def merged_files(base, ours, theirs, offset=None):
 
 
 def fault_of_pair(case):
-    return fault_of(case.given, MOST)
+    return fault_at(case.given)
+
+
+def fault_at(seed):
+    """The same by its seed: a fourth of the pairs have up to 40 edits a side, behind which nobody can guess by how much all was moved."""
+    is_long = seed % 4 == 0
+    return fault_of(seed, LONG if is_long else MOST, is_long)
 
 
 def fault_of(seed, most, is_said=False):
     """How a merge of two histories is not as it must be, or None. By how much all was moved may be said, and is guessed else."""
     data, sides, offsets = pair(seed, most)
-    said_offset = {side: by for side, by in zip(('ours', 'theirs'), offsets) if any(by)} if is_said else None
+    said_offset = {name: by for name, by, side in zip(('ours', 'theirs'), offsets, sides) if any(by) and (is_said or leaves_nothing(data, side))}
     found, result, origin, after = merged_files(data, *sides, said_offset)
     if after != sides[0]:
         return 'one undo does not give ours back'
@@ -461,6 +477,12 @@ def fault_of(seed, most, is_said=False):
     told = told_by(found.conflicts, shown) - {('map', 'size')}
     faults = [*([fault] if fault else []), *Checked(*tables, told).found()]
     return '\n    '.join([*faults, *map(str, found.conflicts)]) if faults else fault_of_same(data, sides)
+
+
+def leaves_nothing(base, side):
+    """Whether a side has removed all layers that have cells or objects: then nothing tells by how much all was moved."""
+    kept = [{layer['id'] for layer, _ in layers_of(json.loads(data)) if layer['type'] in ('tilelayer', 'objectgroup')} for data in (base, side)]
+    return kept[0].isdisjoint(kept[1])
 
 
 def fault_of_size(trees, offsets, conflicts):

@@ -34,7 +34,7 @@ exec(compile(source.replace({old!r}, {new!r}), str(path), 'exec'), planted.__dic
 import test_merge
 for seed in range(test_merge.SEED, test_merge.SEED + test_merge.PAIRS):
     try:
-        fault = test_merge.fault_of(seed, test_merge.MOST)
+        fault = test_merge.fault_at(seed)
     except Exception as raised:
         fault = repr(raised)
     if fault:

@@ -68,13 +68,15 @@ def are_saved_alike(one: 'Document', other: 'Document') -> bool:
 
 
 def _unpacked(text: bytes) -> str:
-    """What a file has, with the cells that are packed in it unpacked, and without what says that they are not packed."""
+    """What a file has, with the cells that are packed in it unpacked; but for its version, and for what says that nothing is packed, which a
+    save has as its source has it."""
     try:
         text, _ = set_aside(text, 'difference()')
     except Refused:
         # Nothing is set aside of this map, so none of it is packed.
         pass
     tree = json.loads(text)
+    tree.pop('version', None)
     for layer in drawn(tree['layers']):
         if layer.get('compression') == '':
             del layer['compression']

@@ -5,8 +5,9 @@ from typing import TYPE_CHECKING, Any, Collection, Iterator, Mapping, NamedTuple
 
 from .choices import Choices, Side
 from .compared_maps import MapNow, Shift, is_infinite, said, shift_of
-from .difference import MAP
+from .difference import MAP, Tiles
 from .merged_maps import Conflict, Found, regions, removed_by_ours
+from .same_tilesets import paired_tilesets
 from .told import Subject
 
 if TYPE_CHECKING:
@@ -199,11 +200,14 @@ def _outside(
     """What a side has changed of each tile layer outside a frame, by places in the base; of some layers all that they have."""
     if all(goal.has(*corner) for corner in _corners(frames[1])):
         return
+    pairs = [*paired_tilesets(base.tree['tilesets'], side.tree['tilesets'])]
+    was, now = Tiles(pairs, 0), Tiles(pairs, 1)
     for id, stand in side.layers.items():
         if stand.members['type'] == 'tilelayer':
             old = _values(base, id, frames[0]) if base.has(id, stand) and id not in whole else {}
             new = _values(side, id, frames[1])
-            changed = [at for at in sorted({**old, **new}, key=lambda at: at[::-1]) if frames[1].has(*at) and not goal.has(*at) and old.get(at) != new.get(at)]
+            outside = [at for at in sorted({**old, **new}, key=lambda at: at[::-1]) if frames[1].has(*at) and not goal.has(*at)]
+            changed = [at for at in outside if was.name(old.get(at, 0)) != now.name(new.get(at, 0))]
             if changed:
                 yield id, changed
 

@@ -9,6 +9,8 @@ sys.path.insert(0, str(TOP / 'python'))
 from roskevad import Error  # noqa: E402
 
 NAMES = 'door', 'guard', 'key', ''
+#: A tileset that is kept in the map, but for its name.
+DRAWN = {'image': 'drawn.png', 'imagewidth': 64, 'imageheight': 32, 'tilewidth': 16, 'tileheight': 16, 'tilecount': 8, 'columns': 4, 'margin': 0, 'spacing': 0}
 
 
 def edits(chosen, document, offset):
@@ -30,6 +32,8 @@ def edits(chosen, document, offset):
         'object member': lambda: chosen.choice(objects).members.update(chosen.choice(
             ({'rotation': 45}, {'rotation': 12.5}, {'name': 'n'}, {'type': 'Door'}, {'visible': False}, {'width': number}))),
         'object into': lambda: chosen.choice(objects).move_into(chosen.choice(holders), chosen.choice((0, None))),
+        'object back': lambda: moved_by_hand(chosen, chosen.choice(objects), chosen.choice(holders)),
+        'object member gone': lambda: chosen.choice(objects).members.pop(chosen.choice(('rotation', 'visible', 'ellipse', 'point', 'type'))),
         'object tile': lambda: setattr(chosen.choice([each for each in objects if each.tile] or objects), 'tile', value or None),
         'text': lambda: text(chosen, chosen.choice([each for each in objects if 'text' in each.members])),
         'shape': lambda: chosen.choice(objects).members.update(chosen.choice(({'ellipse': True}, {'point': True}))),
@@ -48,6 +52,8 @@ def edits(chosen, document, offset):
         'map member': lambda: document.members.update(chosen.choice(({'backgroundcolor': '#112233'}, {'backgroundcolor': '#445566'}, {'class': 'Town'}))),
         'tileset add': lambda: document.tilesets.add(chosen.choice((900, 1000)), chosen.choice(('a.tsj', 'b.tsj'))),
         'tileset remove': lambda: chosen.choice(tilesets).remove(),
+        'tileset number': lambda: document.tilesets.renumber(chosen.choice(tilesets), chosen.choice((500, 700, 900, 1100))),
+        'tileset in the map': lambda: document.tilesets.put({'firstgid': chosen.choice((900, 1000)), 'name': chosen.choice(('drawn', 'kept')), **DRAWN}),
         'tileset member': lambda: chosen.choice(tilesets).members.update(origin=chosen.choice(('here', 'there'))),
         'extend': lambda: extended(chosen, document, offset),
         'cut': lambda: cut(chosen, document, offset),
@@ -65,6 +71,13 @@ def added(chosen, document, layer, number):
     each = layer.objects.add(name, number, 8, point=chosen.random() < 0.3, properties={'a b': number})
     if chosen.random() < 0.5:
         each.properties.set('to', chosen.choice(list(document.objects)).id, type='object')
+
+
+def moved_by_hand(chosen, each, layer):
+    """Takes an object out, and puts it into a layer under its id, perhaps with another name."""
+    members = {**each.members, **chosen.choice(({}, {'name': 'back'}))}
+    each.remove()
+    layer.objects.put(members)
 
 
 def painted(document, layer, value):
