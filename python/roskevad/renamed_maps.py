@@ -132,6 +132,9 @@ class CountedMap(MapNow):
         self.layers: dict[int, Stand] = {}
         self.objects: dict[int, Stand] = {}
         self._note(self.tree['layers'], 0)
+        # What the other one is without is in its tree still.
+        self.layers = {id: stand for id, stand in self.layers.items() if id in inner.layers}
+        self.objects = {id: stand for id, stand in self.objects.items() if id in inner.objects}
 
     def _layer(self, layer: Members) -> Members:
         if layer['type'] == 'group':
