@@ -166,7 +166,9 @@ class _Merging:
         mine, other = things_of(ours), things_of(theirs)
         holders = {subject: [*_holders(subject, other)] for subject in other}
         above = {holder for subject in back if subject in other for holder in holders[subject]}
-        inside = {subject for subject in other if self._is_back(subject, holders[subject], back)}
+        # Of what theirs has only moved, ours may have removed what stands in it.
+        lost = {subject for subject in back if subject not in mine}
+        inside = {subject for subject in other if self._is_back(subject, holders[subject], lost)}
         return MapWithout(base, {subject for subject in above | inside if subject not in mine})
 
     def _is_back(self, subject: Subject, holders: list[Subject], back: set[Subject]) -> bool:
