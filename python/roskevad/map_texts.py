@@ -4,7 +4,8 @@ from itertools import groupby
 from typing import TYPE_CHECKING, Any, Iterator
 
 from .compared_maps import MapNow, Stand, is_infinite
-from .difference import Tiles, called, head_of, layer_named, own_of, paired_tilesets, plainly, shown_whole, tileset_name
+from .difference import Tiles, called, head_of, layer_named, own_of, plainly, shown_whole
+from .same_tilesets import paired_tilesets, tileset_name
 from .tiled_maps import Members
 from .told import Subject
 
