@@ -29,14 +29,12 @@ fn layer_here(layers: &Chain<Layer>) -> Option<usize>
 fn seek_numbered(objects: &mut LinkTree<Object>, id: u32) -> bool
     ensures { objects.new ≡ objects.old }
 {
-    let place = match place_of_id(objects, id) {
-        Some(at) => Some(at),
-        None => {
-            objects.note_places(|object| object.id);
-            objects.noted_place(id)
-        }
-    };
-    match place {
+    if let Some(at) = place_of_id(objects, id) {
+        objects.go_to(at, id);
+        return true;
+    }
+    objects.note_places(|object| object.id);
+    match objects.noted_place(id) {
         Some(at) if objects.get(at).id == id => {
             objects.go_to(at, id);
             true
