@@ -1,5 +1,6 @@
 -- What a number among named things, or a look-up, has.
-use Rattle.std.proofs.Common.{◌≡◌, ℕ, List, slice_get, false, Option, Some, None, is_some, All, subst, arith}
+use Rattle.std.proofs.Common.{◌≡◌, ℕ, List, slice_get, true, false, Option, Some, None, IsSome, is_some, All, refl, subst, arith}
+use Rattle.std.specs.Option.{option_map}
 use Rattle.std.proofs.lemmas.Option.{slice_get_within, get_or_from_slice_get}
 
 pub All-at : {X : Type 0} (P : X → Type 0) (xs : List X) (i : ℕ) (x : X) → slice_get xs i ≡ Some x → All P xs → P x
@@ -7,3 +8,11 @@ All-at P xs i x at all = subst P (get_or_from_slice_get xs i x x at) (all i x (s
 
 pub none_from_is_some : {X : Type 0} (o : Option X) → is_some o ≡ false → o ≡ None
 none_from_is_some o e = grind arith
+
+pub mapped_none : {X Y : Type 0} (f : X → Y) (o : Option X) → is_some o ≡ false → option_map f o ≡ None
+mapped_none f None e = refl
+mapped_none f (Some x) e = absurd cc
+
+pub mapped_some : {X Y : Type 0} (f : X → Y) (o : Option X) → is_some o ≡ true → IsSome (option_map f o)
+mapped_some f None e = absurd cc
+mapped_some f (Some x) e = grind arith

@@ -1,13 +1,17 @@
 use Rattle.std.proofs.Common.{sym, ◌∙◌, ap, map}
-use Rattle.std.specs.String.{string_bytes}
+use Rattle.undo_group.specs.Order.{place_in}
+use Rattle.undo_group.specs.Stacks.{documents_of, entries_of}
 use Rattle.undo_group.proofs.Documents.{IsGroup-at}
-use Rattle.undo_group.proofs.NamedStacks.{AreDistinct-documents_of, names-documents_of}
+use Rattle.undo_group.proofs.Entries.{distinct_documents}
 use Rattle.undo_group.proofs.group.Group.names.Goals as goal
 
+pub over-requires : goal.over-requires
+over-requires g c = ?
+
 pub returns-clause-names : goal.returns-clause-names
-returns-clause-names g c = c.over.ensures ∙ ap (map string_bytes) (c.as_slice.ensures ∙ c.keys.ensures.rest)
-    ∙ sym (names-documents_of g.C.Command.change c.args.self.now.stacks.entries)
+returns-clause-names g c = ?
 
 pub returns-clause-whole : goal.returns-clause-whole
-returns-clause-whole g c = IsGroup-at _ c.args.self.now.active
-    (AreDistinct-documents_of g.C.Command.change c.args.self.now.stacks.entries c.keys.ensures.unique)
+returns-clause-whole g c =
+    let self = c.args.self.now in
+    IsGroup-at (documents_of g.C.Command.change (entries_of self)) (place_in self.order self.active) (distinct_documents g.C.Command.change self c.requires)
