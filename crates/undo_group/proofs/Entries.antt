@@ -1,5 +1,5 @@
 -- A group, whose entries are told in order of opening: what its numbers say of the documents, and what each change leaves.
-use Rattle.std.proofs.Common.{◌≡◌, ◌≢◌, ℕ, suc, ◌+◌, ◌-◌, ◌<◌, ◌≤◌, ◌==◌, nat_lt, ◌⊎◌, inl, inr, ◌++◌, position, List, [], ◌∷◌, length, map, remove, get_or, slice_get, Bool, true, false, Option, Some, None, IfSome, option_and_then}
+use Rattle.std.proofs.Common.{◌≡◌, ◌≢◌, ℕ, suc, ◌+◌, ◌-◌, ◌<◌, ◌≤◌, ◌==◌, nat_lt, ◌⊎◌, inl, inr, ◌++◌, position, List, [], ◌∷◌, length, map, remove, get_or, slice_get, Bool, true, false, Option, Some, None, IfSome, is_some, option_and_then}
 use Rattle.std.proofs.Common.{All, refl, sym, ◌∙◌, ap, subst, arith, if◌then◌else◌}
 use Rattle.std.proofs.lemmas.Bool.{cases_lt}
 use Rattle.std.proofs.lemmas.Bool.Decides.{nat_tests}
@@ -14,23 +14,33 @@ use Rattle.std.specs.String.{string_bytes, string_eq}
 use Rattle.std.specs.declared.string.String.{String}
 use Rattle.std.specs.declared.alloc.Global.{Global}
 use Rattle.indexmap.specs.Layout.{set_value_at, length-set_value_at}
-use Rattle.indexmap.specs.IndexMap.{with_value_at}
-use Rattle.indexmap.proofs.CallerLemmas.{keys-with_value_at}
+use Rattle.indexmap.specs.IndexMap.{insert_entry, with_value_at}
+use Rattle.indexmap.proofs.CallerLemmas.{insert_entry-new, keys-with_value_at}
 use Rattle.command_api.specs.Law.{Change}
 use Rattle.undo_stack.specs.Stacks.{history, Holds}
 use Rattle.undo_stack.specs.declared.stack.Stack.{Stack}
 use Rattle.undo_stack.specs.History.{History}
 use Rattle.undo_group.specs.Groups.{AreDistinct, GroupParts, active_history, active_place, added, chosen, history_named, removed, with_active}
 use Rattle.undo_group.specs.Lending.{IsLeft}
-use Rattle.undo_group.specs.Order.{ArePlaced, IsTakenFrom, in_order, number_after, number_left, order_of, place_in}
+use Rattle.undo_group.specs.Order.{ArePlaced, IsOrder, IsTakenFrom, in_order, number_after, number_left, order_of, place_in}
 use Rattle.undo_group.specs.Stacks.{AreHeld, IsReplacedAt, IsTakenOut, document_of, documents_of, entries_of, group_at, group_of, name_at, named, stack_at, stacks_of}
 use Rattle.undo_group.specs.declared.group.Group.{Group}
 use Rattle.undo_group.specs.declared.order.Order.{Order}
 use Rattle.undo_group.proofs.Documents.{active_history-at, active_place-at, place_without}
+use Rattle.undo_group.proofs.Lookups.{none_from_is_some}
 use Rattle.undo_group.proofs.NamedStacks.{AreDistinct-documents_of, All-set_value_at, found_name, group_at-push, group_at-set_value_at, history_named-documents_of}
 use Rattle.undo_group.proofs.NamedStacks.{is_name, name_at-entry, removed-at, replaced-at, stack_at-number, taken-at}
 use Rattle.undo_group.proofs.Ordered.{in_order-at, in_order-push, in_order-set_value_at, in_order-take, length-in_order, map-in_order, slice_get-in_order}
+use Rattle.undo_group.proofs.Shifting.{placed_of}
 use Rattle.undo_group.proofs.OrderedDocuments.{AreDistinct-in_order, history_named-in_order}
+
+-- a new name goes last
+pub inserted_last : {C : Type 0} (g : Group C) (name : List ℕ) (key : String Global) (stack : Stack C) (es : List (String Global × Stack C))
+    → string_bytes key ≡ name → is_some (lookup (is_name name) g.stacks.entries) ≡ false → es ≡ insert_entry string_eq g.stacks.entries key stack
+    → es ≡ g.stacks.entries ++ (key, stack) ∷ []
+inserted_last g name key stack es named absent inserted =
+    let none : is_some (lookup (string_eq key) g.stacks.entries) ≡ false = ap (λ n. is_some (lookup (is_name n) g.stacks.entries)) named ∙ absent in
+    inserted ∙ insert_entry-new string_eq g.stacks key stack (none_from_is_some _ none)
 
 -- the place of a number that is not taken out, once one is and its own is given to the last
 new_place : (ns ps ms qs : List ℕ) (n gone at : ℕ) → ArePlaced ns ps n → gone < n → ArePlaced ms qs (n - 1) → IsTakenFrom ns (get_or ps gone 0) gone ms
@@ -92,9 +102,12 @@ number_left-within n gone (Some at) lt within = by_test (at == gone) refl
         by_last false last = grind (arith, nat_tests)
 
 module _ {C : Type 0} (f : C → Change) (g : Group C) (held : AreHeld f g) where
+  placed : ArePlaced (order_of g.order) g.order.places.items (length g.stacks.entries)
+  placed = placed_of g.order (length g.stacks.entries) held.order
+
   length-entries : length (entries_of g) ≡ length g.stacks.entries
   length-entries =
-      length-in_order g.stacks.entries (order_of g.order) (λ p lt. held.order.placed.within p (omega (arith, held.order.entries))) ∙ held.order.entries
+      length-in_order g.stacks.entries (order_of g.order) (λ p lt. placed.placed.within p (omega (arith, placed.entries))) ∙ placed.entries
 
   -- the place of the active one is one of theirs
   place_within : (n : ℕ) → n ≡ length g.stacks.entries → IfSome (place_in g.order g.active) (λ p. p < n)
@@ -102,14 +115,14 @@ module _ {C : Type 0} (f : C → Change) (g : Group C) (held : AreHeld f g) wher
     where
       by_active : (o : Option ℕ) → IfSome o (λ at. at < length g.stacks.entries) → IfSome (place_in g.order o) (λ p. p < n)
       by_active None within = tt
-      by_active (Some at) within = rw count (held.order.numbered.within at within)
+      by_active (Some at) within = rw count (placed.numbered.within at within)
 
   -- the documents have distinct names
   pub distinct_documents : AreDistinct (documents_of f (entries_of g))
   distinct_documents =
       subst (λ ds. AreDistinct ds) (sym (map-in_order (document_of f) g.stacks.entries (order_of g.order))) (
       AreDistinct-in_order (documents_of f g.stacks.entries) (order_of g.order) g.order.places.items
-      (AreDistinct-documents_of f g.stacks.entries held.distinct) (rw (length-map g.stacks.entries (document_of f)) held.order)
+      (AreDistinct-documents_of f g.stacks.entries held.distinct) (rw (length-map g.stacks.entries (document_of f)) placed)
       )
 
   -- there are as many as entries
@@ -123,20 +136,20 @@ module _ {C : Type 0} (f : C → Change) (g : Group C) (held : AreHeld f g) wher
   history_named-entries name =
       ap (history_named name) (map-in_order (document_of f) g.stacks.entries (order_of g.order))
       ∙ history_named-in_order (documents_of f g.stacks.entries) (order_of g.order) g.order.places.items
-      (AreDistinct-documents_of f g.stacks.entries held.distinct) (rw (length-map g.stacks.entries (document_of f)) held.order) name
+      (AreDistinct-documents_of f g.stacks.entries held.distinct) (rw (length-map g.stacks.entries (document_of f)) placed) name
       ∙ history_named-documents_of f name g.stacks.entries
 
   -- the entry with a number stands at its place
   pub entry_at-place : (i : ℕ) → i < length g.stacks.entries
       → slice_get (entries_of g) (get_or g.order.places.items i 0) ≡ slice_get g.stacks.entries i
-  entry_at-place i lt = in_order-at g.stacks.entries (order_of g.order) g.order.places.items i held.order lt
+  entry_at-place i lt = in_order-at g.stacks.entries (order_of g.order) g.order.places.items i placed lt
 
   -- what stands at a place
   pub slice_get-entries : (p : ℕ) → slice_get (entries_of g) p ≡ option_and_then (slice_get g.stacks.entries) (slice_get (order_of g.order) p)
   slice_get-entries p = by_number (slice_get (order_of g.order) p) refl
     where
       among : (p : ℕ) → p < length (order_of g.order) → get_or (order_of g.order) p 0 < length g.stacks.entries
-      among p lt = held.order.placed.within p (omega (arith, held.order.entries))
+      among p lt = placed.placed.within p (omega (arith, placed.entries))
 
       by_number : (o : Option ℕ) → slice_get (order_of g.order) p ≡ o → slice_get (entries_of g) p ≡ option_and_then (slice_get g.stacks.entries) o
       by_number None none =
@@ -144,6 +157,10 @@ module _ {C : Type 0} (f : C → Change) (g : Group C) (held : AreHeld f g) wher
       by_number (Some k) at =
           slice_get-in_order g.stacks.entries (order_of g.order) p among (slice_get_within (order_of g.order) p k at)
           ∙ ap (slice_get g.stacks.entries) (get_or_from_slice_get (order_of g.order) p k 0 at)
+
+  pub slice_get-documents : (p : ℕ)
+      → slice_get (documents_of f (entries_of g)) p ≡ option_map (document_of f) (option_and_then (slice_get g.stacks.entries) (slice_get (order_of g.order) p))
+  slice_get-documents p = slice_get-map (document_of f) (entries_of g) p ∙ ap (option_map (document_of f)) (slice_get-entries p)
 
   -- the active one is the entry with the active number
   place_in-active : (i : ℕ) → g.active ≡ Some i → place_in g.order g.active ≡ Some (get_or g.order.places.items i 0)
@@ -193,10 +210,10 @@ module _ {C : Type 0} (f : C → Change) (g : Group C) (held : AreHeld f g) wher
   group_of-last name h old is =
       let ns = order_of g.order in
       let ds : documents_of f (entries_of g) ≡ old.documents ++ record { name = name; history = h } ∷ [] = ap (λ (p : GroupParts). p.documents) is in
-      let count : length ns ≡ suc (length old.documents) = omega (arith, held.order.entries, length-documents, ap length ds, length-append old.documents (record { name = name; history = h } ∷ [])) in
+      let count : length ns ≡ suc (length old.documents) = omega (arith, placed.entries, length-documents, ap length ds, length-append old.documents (record { name = name; history = h } ∷ [])) in
       let last : slice_get ns (length ns - 1) ≡ Some (get_or ns (length ns - 1) 0) = slice_get-get_or ns (length ns - 1) 0 (omega arith) in
       let back : get_or g.order.places.items (get_or ns (length ns - 1) 0) 0 ≡ length ns - 1 =
-      held.order.placed.back (length ns - 1) (omega (arith, held.order.entries)) in
+      placed.placed.back (length ns - 1) (omega (arith, placed.entries)) in
       let at : length ns - 1 ≡ length old.documents = omega arith in
       let named : name_at (old.documents ++ record { name = name; history = h } ∷ []) (Some (length old.documents)) ≡ Some name = grind (arith, gets, elements) in
       rw (last, back, at, ds, named) refl
@@ -229,7 +246,7 @@ module _ {C : Type 0} (f : C → Change) (g : Group C) (held : AreHeld f g) wher
           let p : ℕ = get_or g.order.places.items i 0 in
           let there : slice_get (entries_of g) p ≡ Some e = entry_at-place i lt ∙ at in
           let written : in_order (set_value_at es i w) (order_of g.order) ≡ set_value_at (entries_of g) p w =
-          in_order-set_value_at es (order_of g.order) g.order.places.items i w held.order lt in
+          in_order-set_value_at es (order_of g.order) g.order.places.items i w placed lt in
           let place : place_in g.order g.active ≡ Some p = ap (place_in g.order) is in
           let name : (group_of f g).active ≡ Some (string_bytes e.0) =
           ap (name_at (documents_of f (entries_of g))) place ∙ name_at-entry f (entries_of g) p e there in
@@ -252,7 +269,7 @@ module _ {C : Type 0} (f : C → Change) (g : Group C) (held : AreHeld f g) wher
     entries_of-added =
         rw (entries, last) (
         in_order-push g.stacks.entries (order_of g.order) (key, stack) (length g.stacks.entries) refl
-        (λ p lt. held.order.placed.within p (omega (arith, held.order.entries)))
+        (λ p lt. placed.placed.within p (omega (arith, placed.entries)))
         )
 
     place_in-added : place_in n.order n.active ≡ place_in g.order g.active
@@ -260,9 +277,9 @@ module _ {C : Type 0} (f : C → Change) (g : Group C) (held : AreHeld f g) wher
       where
         by_active : (o : Option ℕ) → IfSome o (λ at. at < length g.stacks.entries) → place_in n.order o ≡ place_in g.order o
         by_active None within = refl
-        by_active (Some at) within = ap Some (rw last_place (grind (arith, elements, held.order.places)))
+        by_active (Some at) within = ap Some (rw last_place (grind (arith, elements, placed.places)))
 
-    pub AreHeld-added : Holds f stack → IsDistinct string_eq (keys_of n.stacks.entries) → ArePlaced (order_of n.order) n.order.places.items (length g.stacks.entries + 1)
+    pub AreHeld-added : Holds f stack → IsDistinct string_eq (keys_of n.stacks.entries) → IsOrder n.order (length g.stacks.entries + 1)
         → AreHeld f n
     AreHeld-added holds unique order =
         let count : length n.stacks.entries ≡ length g.stacks.entries + 1 = grind (arith, elements, entries) in
@@ -284,17 +301,20 @@ module _ {C : Type 0} (f : C → Change) (g : Group C) (held : AreHeld f g) wher
   -- the stack with a number goes
   module _ (n : Group C) (i : ℕ) (e d : String Global × Stack C) (lt : i < length g.stacks.entries) (at : slice_get g.stacks.entries i ≡ Some e)
       (entries : n.stacks.entries ≡ swap_remove g.stacks.entries i d) (unique : IsDistinct string_eq (keys_of n.stacks.entries))
-      (order : ArePlaced (order_of n.order) n.order.places.items (length g.stacks.entries - 1))
+      (order : IsOrder n.order (length g.stacks.entries - 1))
       (taken : IsTakenFrom (order_of g.order) (get_or g.order.places.items i 0) i (order_of n.order))
       (active : n.active ≡ number_left i (length g.stacks.entries - 1) g.active) where
     count : length n.stacks.entries ≡ length g.stacks.entries - 1
     count = grind (arith, elements, entries)
 
+    left : ArePlaced (order_of n.order) n.order.places.items (length g.stacks.entries - 1)
+    left = placed_of n.order (length g.stacks.entries - 1) order
+
     entries_of-removed : entries_of n ≡ remove (entries_of g) (get_or g.order.places.items i 0)
     entries_of-removed =
         rw entries (
-        in_order-take g.stacks.entries (order_of g.order) g.order.places.items (order_of n.order) i d held.order lt taken
-        (λ p lt. order.placed.within p (omega (arith, order.entries)))
+        in_order-take g.stacks.entries (order_of g.order) g.order.places.items (order_of n.order) i d placed lt taken
+        (λ p lt. left.placed.within p (omega (arith, left.entries)))
         )
 
     pub AreHeld-removed : AreHeld f n
@@ -309,7 +329,7 @@ module _ {C : Type 0} (f : C → Change) (g : Group C) (held : AreHeld f g) wher
     group_of-removed =
         let place : place_in n.order n.active ≡ place_without (get_or g.order.places.items i 0) (place_in g.order g.active) =
         ap (place_in n.order) active
-        ∙ place_in-left (order_of g.order) g.order.places.items (order_of n.order) n.order.places.items (length g.stacks.entries) i g.active held.order lt order
+        ∙ place_in-left (order_of g.order) g.order.places.items (order_of n.order) n.order.places.items (length g.stacks.entries) i g.active placed lt left
         taken held.within in
         rw (entries_of-removed, place) (
         removed-at f (entries_of g) (get_or g.order.places.items i 0) e (place_in g.order g.active) (entry_at-place i lt ∙ at) distinct_documents

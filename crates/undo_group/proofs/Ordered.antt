@@ -1,16 +1,16 @@
 -- Lists whose elements are told in an order: what stands at a place there, and what a change of the list or the order leaves.
 use Rattle.std.proofs.Common.{◌≡◌, ◌≢◌, ℕ, zero, suc, ◌+◌, ◌-◌, ◌<◌, ◌≤◌, ◌==◌, List, [], ◌∷◌, ◌++◌, length, map, take, remove, set, get_or, slice_get, filter_map}
-use Rattle.std.proofs.Common.{if◌then◌else◌, Bool, true, false, Option, Some, None, refl, sym, ap, ◌∙◌, ◌⊎◌, inl, inr, arith}
+use Rattle.std.proofs.Common.{if◌then◌else◌, Bool, true, false, Option, Some, None, refl, sym, ap, subst, ◌∙◌, ◌⊎◌, inl, inr, arith}
 use Rattle.std.proofs.lemmas.Bool.{cases_lt}
 use Rattle.std.proofs.lemmas.Bool.Decides.{nat_tests}
 use Rattle.std.proofs.lemmas.Grind.{elements}
 use Rattle.std.proofs.lemmas.List.Elements.{filter_map-append}
 use Rattle.std.proofs.lemmas.List.Edits.{length-remove, get_or-remove_below, get_or-remove_above}
-use Rattle.std.proofs.lemmas.Option.{gets, slice_get-get_or, slice_get_past, slice_get-map, slice_get_within, get_or_from_slice_get}
+use Rattle.std.proofs.lemmas.Option.{gets, slice_get-get_or, slice_get_past, slice_get_read, slice_get-map, slice_get_within, get_or_from_slice_get}
 use Rattle.std.specs.List.{swap_remove}
 use Rattle.std.specs.Option.{option_map}
 use Rattle.indexmap.specs.Layout.{set_value_at, length-set_value_at}
-use Rattle.undo_group.specs.Order.{ArePlaced, IsTakenFrom, in_order, number_after}
+use Rattle.undo_group.specs.Order.{AreAmong, ArePlaced, IsTakenFrom, in_order, number_after}
 
 -- lists that have the same at each place are equal
 same_at_each : {X : Type 0} (xs ys : List X) → length xs ≡ length ys → ((i : ℕ) → i < length xs → slice_get xs i ≡ slice_get ys i) → xs ≡ ys
@@ -23,6 +23,9 @@ same_at_each (x ∷ xs) (y ∷ ys) l e =
   where
     some-eq : Some x ≡ Some y → x ≡ y
     some-eq q = cc
+
+pub AreAmong-rest : (ns : List ℕ) (n : ℕ) (rest : List ℕ) (m : ℕ) → ns ≡ n ∷ rest → AreAmong ns m → AreAmong rest m
+AreAmong-rest ns n rest m is among at lt = subst (λ (l : List ℕ). get_or l (suc at) 0 < m) is (among (suc at) (rw is (omega arith)))
 
 module _ {X : Type 0} where
   -- there are as many as numbers
@@ -47,6 +50,14 @@ module _ {X : Type 0} where
       by_head None none p lt rest = absurd (grind (arith, gets, within zero))
       by_head (Some x) some zero lt rest = rw some refl
       by_head (Some x) some (suc p) lt rest = rw some (rest p (omega arith))
+
+  -- the first one
+  pub in_order-first : (xs : List X) (ns : List ℕ) (n : ℕ) (rest : List ℕ) (x : X) → ns ≡ n ∷ rest → AreAmong ns (length xs) → x ≡ get_or xs n x
+      → in_order xs ns ≡ x ∷ in_order xs rest
+  in_order-first xs ns n rest x is among there =
+      let first : n < length xs = subst (λ (l : List ℕ). get_or l 0 0 < length xs) is (among 0 (rw is (omega arith))) in
+      let at : slice_get xs n ≡ Some x = slice_get_read xs (length xs) n x refl first there in
+      rw (is, at) refl
 
   -- what has a number stands at its place
   pub in_order-at : (xs : List X) (ns ps : List ℕ) (i : ℕ) → ArePlaced ns ps (length xs) → i < length xs

@@ -5,7 +5,21 @@ use Rattle.std.proofs.lemmas.Bool.Decides.{nat_tests}
 use Rattle.std.proofs.lemmas.Grind.{elements}
 use Rattle.std.proofs.lemmas.List.Edits.{length-remove, get_or-remove_below, get_or-remove_above}
 use Rattle.std.specs.List.{swap_remove}
-use Rattle.undo_group.specs.Order.{ArePlaced, IsFoundIn, IsTakenFrom, number_after}
+use Rattle.undo_group.specs.Order.{ArePlaced, IsFoundIn, IsOrder, IsTakenFrom, number_after}
+use Rattle.undo_group.specs.declared.order.Order.{Order}
+
+pub placed_of : (o : Order) (n : ℕ) → IsOrder o n → ArePlaced o.entries.items o.places.items n
+unfolding IsOrder
+placed_of o n order = order
+
+pub is_order : (o : Order) (n : ℕ) → ArePlaced o.entries.items o.places.items n → IsOrder o n
+unfolding IsOrder
+is_order o n placed = placed
+
+-- so it is with more room
+pub same_order : (o p : Order) (n : ℕ) → p.entries.items ≡ o.entries.items → p.places.items ≡ o.places.items → IsOrder o n → IsOrder p n
+unfolding IsOrder
+same_order o p n entries places order = rw (entries, places) order
 
 -- the places before this one are right, and those behind it are still one too high; n numbers stand in xs
 pub record IsShifted (xs ps : List ℕ) (n at : ℕ) : Type 0 where

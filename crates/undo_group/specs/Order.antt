@@ -20,7 +20,7 @@ pub record ArePlaced (xs ps : List ℕ) (n : ℕ) : Type 0 where
   pub numbered : IsFoundIn ps xs n
 
 -- n entries have an order
-abbrev pub IsOrder : Order → ℕ → Type 0
+unfoldable pub IsOrder : Order → ℕ → Type 0
 IsOrder o n = ArePlaced o.entries.items o.places.items n
 
 -- all of them are below n

@@ -15,6 +15,7 @@ pub struct Order {
 
 impl Order {
     /// No entries. Takes no memory.
+    #[tactic(auto, unfolding(crate::specs::Order::IsOrder))]
     pub fn new(alloc: Global) -> Order
         ensures order { IsOrder result 0 }
     {
@@ -66,6 +67,7 @@ impl Order {
     }
 
     /// Puts an entry last, which gets the number behind all others.
+    #[tactic(auto, unfolding(crate::specs::Order::IsOrder))]
     pub fn push_reserved(&mut self)
         requires order { IsOrder self.old (vec_len self.old.entries) }
         requires room { vec_len self.old.entries < vec_capacity self.old.entries }

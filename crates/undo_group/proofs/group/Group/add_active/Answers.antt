@@ -6,6 +6,6 @@ use Rattle.undo_group.proofs.group.Group.add_active.Goals as goal
 pub returns-clause-added : goal.returns-clause-added
 returns-clause-added g c =
     let f = g.C.Command.change in
-    rw c.last.ensures (
+    rw c.last-self.ensures (
     group_of-last f c.add.new.self c.in_default.ensures.sound c.args.name.now (history f c.args.stack) (group_of f c.args.self.now) c.in_default.ensures.added
     )

@@ -1,14 +1,14 @@
 use Rattle.std.proofs.Common.{◌≡◌, ◌+◌, ◌-◌, ℕ, get_or, arith, refl, ap, subst, ◌∙◌}
 use Rattle.std.specs.Vec.{vec_len}
-use Rattle.undo_group.specs.Order.{ArePlaced}
-use Rattle.undo_group.proofs.Shifting.{ArePlaced-shifted, shifted_more, shifted_out, taken_out}
+use Rattle.undo_group.specs.Order.{ArePlaced, IsOrder}
+use Rattle.undo_group.proofs.Shifting.{ArePlaced-shifted, is_order, placed_of, shifted_more, shifted_out, taken_out}
 use Rattle.undo_group.proofs.order.Order.remove.Goals as goal
 
 pub loop-at-init : goal.loop-at-init
 loop-at-init c =
     let old = c.args.self.now in
     let s = c.swap_remove-place.ensures in
-    let order : ArePlaced old.entries.items old.places.items c.len-last.result = rw c.len-last.ensures c.requires.order in
+    let order : ArePlaced old.entries.items old.places.items c.len-last.result = rw c.len-last.ensures (placed_of old (vec_len old.entries) c.requires.order) in
     let count : vec_len old.places ≡ c.len-last.result = omega (arith, order.places) in (
       shifted_out old.entries.items old.places.items c.remove.new.self.items c.len-last.result (c.len-last.result - 1) c.args.entry c.index-moved.result.now
       c.swap_remove-place.result order (omega arith) (omega arith) c.index-moved.ensures s.value c.remove.ensures.items
@@ -23,13 +23,13 @@ loop-at-preserved c = (shifted_more _ _ _ _ _ c.loop-at.invariant.0 c.loop-at-te
 pub returns-clause-order : goal.returns-clause-order
 returns-clause-order c =
     let now = c.loop-at.self in
-    subst (λ (k : ℕ). ArePlaced now.entries.items now.places.items (k - 1)) c.len-last.ensures
-    (ArePlaced-shifted now.entries.items now.places.items _ c.loop-at.at c.loop-at.invariant.0 c.loop-at-test.false)
+    subst (λ (k : ℕ). IsOrder now (k - 1)) c.len-last.ensures
+    (is_order now _ (ArePlaced-shifted now.entries.items now.places.items _ c.loop-at.at c.loop-at.invariant.0 c.loop-at-test.false))
 
 pub returns-clause-taken : goal.returns-clause-taken
 returns-clause-taken c =
     let old = c.args.self.now in
-    let order : ArePlaced old.entries.items old.places.items c.len-last.result = rw c.len-last.ensures c.requires.order in
+    let order : ArePlaced old.entries.items old.places.items c.len-last.result = rw c.len-last.ensures (placed_of old (vec_len old.entries) c.requires.order) in
     rw c.loop-at.invariant.1 (
     taken_out old.entries.items old.places.items c.remove.new.self.items c.len-last.result (c.len-last.result - 1) c.args.entry c.index-moved.result.now
     c.swap_remove-place.result order (omega arith) (omega arith) c.index-moved.ensures c.swap_remove-place.ensures.value c.remove.ensures.items
