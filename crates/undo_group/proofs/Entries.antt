@@ -158,6 +158,15 @@ module _ {C : Type 0} (f : C → Change) (g : Group C) (held : AreHeld f g) wher
           slice_get-in_order g.stacks.entries (order_of g.order) p among (slice_get_within (order_of g.order) p k at)
           ∙ ap (slice_get g.stacks.entries) (get_or_from_slice_get (order_of g.order) p k 0 at)
 
+  pub number_within : (p : ℕ) → IfSome (slice_get (order_of g.order) p) (λ k. k < length g.stacks.entries)
+  number_within p = by_number (slice_get (order_of g.order) p) refl
+    where
+      by_number : (o : Option ℕ) → slice_get (order_of g.order) p ≡ o → IfSome o (λ k. k < length g.stacks.entries)
+      by_number None none = tt
+      by_number (Some k) at =
+          subst (λ (j : ℕ). j < length g.stacks.entries) (get_or_from_slice_get (order_of g.order) p k 0 at)
+          (placed.placed.within p (omega (arith, placed.entries, slice_get_within (order_of g.order) p k at)))
+
   pub slice_get-documents : (p : ℕ)
       → slice_get (documents_of f (entries_of g)) p ≡ option_map (document_of f) (option_and_then (slice_get g.stacks.entries) (slice_get (order_of g.order) p))
   slice_get-documents p = slice_get-map (document_of f) (entries_of g) p ∙ ap (option_map (document_of f)) (slice_get-entries p)

@@ -16,3 +16,7 @@ mapped_none f (Some x) e = absurd cc
 pub mapped_some : {X Y : Type 0} (f : X → Y) (o : Option X) → is_some o ≡ true → IsSome (option_map f o)
 mapped_some f None e = absurd cc
 mapped_some f (Some x) e = grind arith
+
+pub option_map-map : {X Y Z : Type 0} (f : X → Y) (h : Y → Z) (o : Option X) → option_map h (option_map f o) ≡ option_map (λ x. h (f x)) o
+option_map-map f h None = refl
+option_map-map f h (Some x) = refl

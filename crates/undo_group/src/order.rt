@@ -18,6 +18,7 @@ impl Order {
     #[tactic(auto, unfolding(crate::specs::Order::IsOrder))]
     pub fn new(alloc: Global) -> Order
         ensures order { IsOrder result 0 }
+        ensures entries { order_of result ≡ [] }
     {
         Order {
             entries: Vec::new(alloc),
@@ -82,6 +83,7 @@ impl Order {
     }
 
     /// Takes the entry with a number out. The last number falls away: the entry that had it gets the number that is free.
+    #[tactic(auto, unfolding(crate::specs::Order::IsOrder))]
     pub fn remove(&mut self, entry: usize)
         requires order { IsOrder self.old (vec_len self.old.entries) }
         requires within { entry < vec_len self.old.entries }

@@ -1,20 +1,26 @@
-use Rattle.std.proofs.Common.{refl, arith}
+use Rattle.std.proofs.Common.{refl, sym, ◌∙◌, ap, slice_get, arith}
 use Rattle.std.proofs.lemmas.Option.{slice_get-map, gets}
+use Rattle.std.specs.Option.{option_map}
+use Rattle.undo_stack.specs.Stacks.{history}
 use Rattle.undo_group.specs.Order.{place_in}
 use Rattle.undo_group.specs.Stacks.{documents_of, entries_of}
 use Rattle.undo_group.proofs.Documents.{IsGroup-at}
 use Rattle.undo_group.proofs.Entries.{IsLeft-set_value_at, active_history-number, distinct_documents, stack_at-active}
+use Rattle.undo_group.proofs.Lookups.{option_map-map}
 use Rattle.undo_group.proofs.group.Group.active_mut.Goals as goal
 
 pub returns-in-Some : goal.returns-in-Some
 returns-in-Some g c =
     let f = g.C.Command.change in
-    let old = c.args.self.now in (
+    let old = c.args.self.now in
+    let stack = c.get_index_mut.ensures.value ∙ slice_get-map (λ e. e.1) old.stacks.entries c.in-Some.at in (
       (refl, λ w holds. IsLeft-set_value_at f old c.requires c.in-Some.at w c.in-Some.is holds, refl),
       record {
         lends = tt;
-        active = grind (arith, slice_get-map, active_history-number f old c.requires c.in-Some.at c.in-Some.is);
-        stack = grind (arith, slice_get-map, stack_at-active f old c.requires c.in-Some.at c.in-Some.is);
+        active = sym (option_map-map (λ s. s.now) (history f) c.get_index_mut.result) ∙ ap (option_map (history f)) stack
+            ∙ option_map-map (λ e. e.1) (history f) (slice_get old.stacks.entries c.in-Some.at)
+            ∙ sym (active_history-number f old c.requires c.in-Some.at c.in-Some.is);
+        stack = stack ∙ sym (stack_at-active f old c.requires c.in-Some.at c.in-Some.is);
         held = grind (arith, gets, slice_get-map, c.requires.stacks c.in-Some.at);
         whole = grind (arith, IsGroup-at (documents_of f (entries_of old)) (place_in old.order old.active) (distinct_documents f old c.requires));
       },

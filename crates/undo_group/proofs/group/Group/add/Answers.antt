@@ -126,3 +126,6 @@ returns-clause-fault g c =
     let old = c.args.self.now in
     let absent : is_some (lookup (is_name c.args.name.now) old.stacks.entries) ≡ false = sym c.contains_key.ensures ∙ c.if-contains_key.false in
     history_named-entries f old c.requires.sound c.args.name.now ∙ mapped_none (history f) _ absent
+
+pub returns-clause-unchanged : goal.returns-clause-unchanged
+returns-clause-unchanged g c = rw (c.in-Err.ensures.err, c.reserve.ensures.entries, c.reserve.ensures.places) refl

@@ -1,7 +1,17 @@
 use Rattle.undo_stack.specs.Stacks.{history}
 use Rattle.undo_group.specs.Stacks.{group_of}
-use Rattle.undo_group.proofs.Entries.{group_of-last}
+use Rattle.undo_group.proofs.Entries.{group_of-last, number_within}
 use Rattle.undo_group.proofs.group.Group.add_active.Goals as goal
+
+pub returns-clause-sound : goal.returns-clause-sound
+returns-clause-sound g c =
+    let held = c.in_default.ensures.sound in
+    record {
+      stacks = held.stacks;
+      distinct = held.distinct;
+      order = held.order;
+      within = rw c.last-self.ensures (number_within g.C.Command.change c.add.new.self held _);
+    }
 
 pub returns-clause-added : goal.returns-clause-added
 returns-clause-added g c =

@@ -18,7 +18,7 @@ returns-clause-steps c =
     in_order-first names c.self.inside.left.now c.in_ok-first.first.now others c.index-self-first.result c.in_ok-first.ensures.cases.0 c.self.invariant
     c.index-self-first.is
     )
-    ∙ ap (λ (n : List ℕ). n ∷ map string_bytes (in_order names others)) (sym c.as_str.ensures.value)
+    ∙ ap (λ (n : List ℕ). n ∷ map string_bytes (in_order names others)) (ap string_bytes c.index-self-first.is ∙ sym c.as_str.ensures.value)
 
 pub returns-clause-goes : goal.returns-clause-goes
 returns-clause-goes c =
