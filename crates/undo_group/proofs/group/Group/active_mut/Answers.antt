@@ -1,12 +1,12 @@
 use Rattle.std.proofs.Common.{refl, sym, ◌∙◌, ap, slice_get, arith}
-use Rattle.std.proofs.lemmas.Option.{slice_get-map, gets}
+use Rattle.std.proofs.lemmas.Option.{slice_get-map}
 use Rattle.std.specs.Option.{option_map}
-use Rattle.undo_stack.specs.Stacks.{history}
+use Rattle.undo_stack.specs.Stacks.{Holds, history}
 use Rattle.undo_group.specs.Order.{place_in}
 use Rattle.undo_group.specs.Stacks.{documents_of, entries_of}
 use Rattle.undo_group.proofs.Documents.{IsGroup-at}
 use Rattle.undo_group.proofs.Entries.{IsLeft-set_value_at, active_history-number, distinct_documents, stack_at-active}
-use Rattle.undo_group.proofs.Lookups.{option_map-map}
+use Rattle.undo_group.proofs.Lookups.{IfSome-at, IfSome-mapped, option_map-map}
 use Rattle.undo_group.proofs.group.Group.active_mut.Goals as goal
 
 pub returns-in-Some : goal.returns-in-Some
@@ -21,7 +21,7 @@ returns-in-Some g c =
             ∙ option_map-map (λ e. e.1) (history f) (slice_get old.stacks.entries c.in-Some.at)
             ∙ sym (active_history-number f old c.requires c.in-Some.at c.in-Some.is);
         stack = stack ∙ sym (stack_at-active f old c.requires c.in-Some.at c.in-Some.is);
-        held = grind (arith, gets, slice_get-map, c.requires.stacks c.in-Some.at);
+        held = IfSome-mapped (λ s. s.now) (Holds f) c.get_index_mut.result (rw stack (IfSome-at (λ e. e.1) (Holds f) old.stacks.entries c.in-Some.at c.requires.stacks));
         whole = grind (arith, IsGroup-at (documents_of f (entries_of old)) (place_in old.order old.active) (distinct_documents f old c.requires));
       },
     )
