@@ -1,6 +1,6 @@
 -- A group, whose entries are told in order of opening: what its numbers say of the documents, and what each change leaves.
 use Rattle.std.proofs.Common.{◌≡◌, ◌≢◌, ℕ, suc, ◌+◌, ◌-◌, ◌<◌, ◌≤◌, ◌==◌, nat_lt, ◌⊎◌, inl, inr, ◌++◌, position, List, [], ◌∷◌, length, map, remove, get_or, slice_get, Bool, true, false, Option, Some, None, IfSome, is_some, option_and_then}
-use Rattle.std.proofs.Common.{All, refl, sym, ◌∙◌, ap, subst, arith, if◌then◌else◌}
+use Rattle.std.proofs.Common.{refl, sym, ◌∙◌, ap, subst, arith, if◌then◌else◌}
 use Rattle.std.proofs.lemmas.Bool.{cases_lt}
 use Rattle.std.proofs.lemmas.Bool.Decides.{nat_tests}
 use Rattle.std.proofs.lemmas.Grind.{elements}
@@ -20,12 +20,11 @@ use Rattle.command_api.specs.Law.{Change}
 use Rattle.undo_stack.specs.Stacks.{history, Holds}
 use Rattle.undo_stack.specs.declared.stack.Stack.{Stack}
 use Rattle.undo_stack.specs.History.{History}
-use Rattle.undo_group.specs.Groups.{AreDistinct, GroupParts, active_history, active_place, added, chosen, history_named, removed, with_active}
+use Rattle.undo_group.specs.Groups.{AreDistinct, GroupParts, active_history, active_place, added, chosen, history_named, removed}
 use Rattle.undo_group.specs.Lending.{IsLeft}
 use Rattle.undo_group.specs.Order.{ArePlaced, IsOrder, IsTakenFrom, in_order, number_after, number_left, order_of, place_in}
-use Rattle.undo_group.specs.Stacks.{AreHeld, IsReplacedAt, IsTakenOut, document_of, documents_of, entries_of, group_at, group_of, name_at, named, stack_at, stacks_of}
+use Rattle.undo_group.specs.Stacks.{AreHeld, IsTakenOut, document_of, documents_of, entries_of, group_of, name_at, named, stack_at, stacks_of}
 use Rattle.undo_group.specs.declared.group.Group.{Group}
-use Rattle.undo_group.specs.declared.order.Order.{Order}
 use Rattle.undo_group.proofs.Documents.{active_history-at, active_place-at, place_without}
 use Rattle.undo_group.proofs.Lookups.{none_from_is_some}
 use Rattle.undo_group.proofs.NamedStacks.{AreDistinct-documents_of, All-set_value_at, found_name, group_at-push, group_at-set_value_at, history_named-documents_of}
@@ -215,7 +214,7 @@ module _ {C : Type 0} (f : C → Change) (g : Group C) (held : AreHeld f g) wher
   -- the one that stands last was opened last
   pub group_of-last : (name : List ℕ) (h : History) (old : GroupParts) → group_of f g ≡ added name h old
       → group_of f (record { stacks = g.stacks; order = g.order; active = slice_get (order_of g.order) (length (order_of g.order) - 1) })
-        ≡ chosen (Some name) (added name h old)
+      ≡ chosen (Some name) (added name h old)
   group_of-last name h old is =
       let ns = order_of g.order in
       let ds : documents_of f (entries_of g) ≡ old.documents ++ record { name = name; history = h } ∷ [] = ap (λ (p : GroupParts). p.documents) is in

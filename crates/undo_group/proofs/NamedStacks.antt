@@ -18,7 +18,6 @@ use Rattle.indexmap.proofs.SetLemmas.{map-remove}
 use Rattle.command_api.specs.Law.{Change}
 use Rattle.undo_stack.specs.Stacks.{history, Holds}
 use Rattle.undo_stack.specs.declared.stack.Stack.{Stack}
-use Rattle.undo_stack.specs.History.{History}
 use Rattle.undo_group.specs.Groups.{IsNew, AreDistinct, history_named, with_history, removed, added, with_active}
 use Rattle.undo_group.specs.Stacks.{document_of, documents_of, name_at, group_at, named, stack_at, stack_named}
 use Rattle.undo_group.specs.Stacks.{IsReplaced, IsTakenOut, NamedStack}

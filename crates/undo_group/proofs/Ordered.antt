@@ -1,12 +1,12 @@
 -- Lists whose elements are told in an order: what stands at a place there, and what a change of the list or the order leaves.
-use Rattle.std.proofs.Common.{◌≡◌, ◌≢◌, ℕ, zero, suc, ◌+◌, ◌-◌, ◌<◌, ◌≤◌, ◌==◌, List, [], ◌∷◌, ◌++◌, length, map, take, remove, set, get_or, slice_get, filter_map}
+use Rattle.std.proofs.Common.{◌≡◌, ◌≢◌, ℕ, zero, suc, ◌+◌, ◌-◌, ◌<◌, ◌≤◌, ◌==◌, List, [], ◌∷◌, ◌++◌, length, map, remove, get_or, slice_get}
 use Rattle.std.proofs.Common.{if◌then◌else◌, Bool, true, false, Option, Some, None, refl, sym, ap, subst, ◌∙◌, ◌⊎◌, inl, inr, arith}
 use Rattle.std.proofs.lemmas.Bool.{cases_lt}
 use Rattle.std.proofs.lemmas.Bool.Decides.{nat_tests}
 use Rattle.std.proofs.lemmas.Grind.{elements}
 use Rattle.std.proofs.lemmas.List.Elements.{filter_map-append}
-use Rattle.std.proofs.lemmas.List.Edits.{length-remove, get_or-remove_below, get_or-remove_above}
-use Rattle.std.proofs.lemmas.Option.{gets, slice_get-get_or, slice_get_past, slice_get_read, slice_get-map, slice_get_within, get_or_from_slice_get}
+use Rattle.std.proofs.lemmas.List.Edits.{length-remove}
+use Rattle.std.proofs.lemmas.Option.{gets, slice_get_read, slice_get-map}
 use Rattle.std.specs.List.{swap_remove}
 use Rattle.std.specs.Option.{option_map}
 use Rattle.indexmap.specs.Layout.{set_value_at, length-set_value_at}
@@ -140,7 +140,7 @@ map-in_order f xs (n ∷ ns) = grind (arith, slice_get-map f xs n, map-in_order 
 -- a value is written
 module _ {K X : Type 0} where
   slice_get-set_value_at : (es : List (K × X)) (i : ℕ) (w : X) (j : ℕ)
-    → slice_get (set_value_at es i w) j ≡ option_map (λ e. (e.0, if i == j then w else e.1)) (slice_get es j)
+      → slice_get (set_value_at es i w) j ≡ option_map (λ e. (e.0, if i == j then w else e.1)) (slice_get es j)
   slice_get-set_value_at [] i w j = refl
   slice_get-set_value_at (e ∷ es) zero w zero = refl
   slice_get-set_value_at (e ∷ es) zero w (suc j) = by_entry (slice_get es j) refl

@@ -4,7 +4,6 @@ use Rattle.std.proofs.lemmas.Bool.{cases_lt}
 use Rattle.std.proofs.lemmas.Bool.Decides.{nat_tests}
 use Rattle.std.proofs.lemmas.Grind.{elements}
 use Rattle.std.proofs.lemmas.List.Edits.{length-remove, get_or-remove_below, get_or-remove_above}
-use Rattle.std.specs.List.{swap_remove}
 use Rattle.undo_group.specs.Order.{ArePlaced, IsFoundIn, IsOrder, IsTakenFrom, number_after}
 use Rattle.undo_group.specs.declared.order.Order.{Order}
 

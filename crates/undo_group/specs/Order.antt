@@ -1,5 +1,5 @@
 -- Numbered entries in an order: which number stands at each place, and at which place each number stands.
-use Rattle.std.specs.Prelude.{filter_map, slice_get, ◌≡◌, ◌≢◌, ℕ, ◌+◌, ◌-◌, ◌<◌, ◌≤◌, ◌==◌, List, length, slice_index, Option, Some, None, if◌then◌else◌}
+use Rattle.std.specs.Prelude.{filter_map, slice_get, ◌≡◌, ℕ, ◌+◌, ◌-◌, ◌<◌, ◌≤◌, ◌==◌, List, length, slice_index, Option, Some, None, if◌then◌else◌}
 use Rattle.std.specs.Option.{option_map}
 use Rattle.undo_group.specs.declared.order.Order.{Order}
 

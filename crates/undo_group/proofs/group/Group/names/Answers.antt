@@ -1,7 +1,7 @@
-use Rattle.std.proofs.Common.{◌≡◌, ℕ, List, length, sym, ◌∙◌, ap, map, arith}
+use Rattle.std.proofs.Common.{length, sym, ◌∙◌, ap, map, arith}
 use Rattle.std.proofs.lemmas.List.{length-map}
 use Rattle.std.specs.String.{string_bytes}
-use Rattle.undo_group.specs.Order.{in_order, order_of, place_in}
+use Rattle.undo_group.specs.Order.{order_of, place_in}
 use Rattle.undo_group.specs.Stacks.{documents_of, entries_of}
 use Rattle.undo_group.proofs.Documents.{IsGroup-at}
 use Rattle.undo_group.proofs.Entries.{distinct_documents}

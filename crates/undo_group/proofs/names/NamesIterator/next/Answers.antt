@@ -1,4 +1,4 @@
-use Rattle.std.proofs.Common.{◌≡◌, ◌<◌, List, ℕ, ◌∷◌, length, map, sym, ◌∙◌, ap, subst, arith}
+use Rattle.std.proofs.Common.{◌<◌, List, ℕ, ◌∷◌, length, map, sym, ◌∙◌, ap, subst, arith}
 use Rattle.std.specs.String.{string_bytes}
 use Rattle.undo_group.specs.Order.{in_order}
 use Rattle.undo_group.proofs.Ordered.{AreAmong-rest, in_order-first}

@@ -1,4 +1,4 @@
-use Rattle.std.proofs.Common.{◌≡◌, ◌+◌, ◌-◌, ℕ, get_or, arith, refl, ap, subst, ◌∙◌}
+use Rattle.std.proofs.Common.{◌≡◌, ◌-◌, ℕ, get_or, arith, refl, ap, subst, ◌∙◌}
 use Rattle.std.specs.Vec.{vec_len}
 use Rattle.undo_group.specs.Order.{ArePlaced, IsOrder}
 use Rattle.undo_group.proofs.Shifting.{ArePlaced-shifted, is_order, placed_of, shifted_more, shifted_out, taken_out}
@@ -11,9 +11,9 @@ loop-at-init c =
     let order : ArePlaced old.entries.items old.places.items c.len-last.result = rw c.len-last.ensures (placed_of old (vec_len old.entries) c.requires.order) in
     let count : vec_len old.places ≡ c.len-last.result = omega (arith, order.places) in (
       shifted_out old.entries.items old.places.items c.remove.new.self.items c.len-last.result (c.len-last.result - 1) c.args.entry c.index-moved.result.now
-      c.swap_remove-place.result order (omega arith) (omega arith) c.index-moved.ensures s.value c.remove.ensures.items
-      c.swap_remove-place.new.self.items (omega (arith, order.places)) (λ d lt. s.by_index.0 d (omega (arith, order.places)) ∙ ap (λ (k : ℕ). get_or old.places.items (k - 1) d) count)
-      (λ k d other lt. s.by_index.1 k d other (omega (arith, order.places))),
+          c.swap_remove-place.result order (omega arith) (omega arith) c.index-moved.ensures s.value c.remove.ensures.items
+          c.swap_remove-place.new.self.items (omega (arith, order.places)) (λ d lt. s.by_index.0 d (omega (arith, order.places)) ∙ ap (λ (k : ℕ). get_or old.places.items (k - 1) d) count)
+          (λ k d other lt. s.by_index.1 k d other (omega (arith, order.places))),
       refl,
     )
 
