@@ -194,8 +194,8 @@ impl Listening {
         self.pushed = None;
     }
 
-    /// A further line of a call is to be done. Where the one before it added a step, of which all is known, that alone is noted: says
-    /// whether.
+    /// A further line of a call is to be done. Where the one before it added a step, or merged into one of the lines of the call, of
+    /// which all is known, that alone is noted: says whether. A merge leaves the documents and the index as they were.
     #[inline(always)]
     pub fn goes_on_behind_edit(&mut self) -> bool {
         if !self.is_many || self.last.depth != 0 {
@@ -204,6 +204,7 @@ impl Listening {
         match self.pushed {
             Some(Pushed::Added) => self.last.index = self.last.index.saturating_add(1),
             Some(Pushed::AddedAndDropped) => self.block.drop_first(),
+            Some(Pushed::Merged) if self.block.knows_last(&self.last) => {}
             _ => return false,
         }
         self.pushed = None;
