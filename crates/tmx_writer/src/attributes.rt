@@ -1,13 +1,13 @@
 // The attributes of an element.
 use crate::layout::Sheet;
-use crate::members::{is_far_at, is_true_at, items_of, note_of, noted, text_at};
-use crate::number::{push_number, push_real};
+use crate::members::{is_far_at, is_true_at, items_at, items_of, note_of, noted, text_at};
+use crate::number::{push_number, push_real, push_whole};
 use crate::part::{Kind, Part};
 use crate::property::{property_of, push_property};
 use crate::tables::{
     EXPORT, FILE_TILESET, FRAME, GRID, HEXAGON, How, IMAGE_LAYER, INSTANCE_LOOK, LAYER_END,
     LAYER_HEAD, LAYER_LOOK, MAP_END, MAP_HEAD, OBJECT, OBJECT_LAYER, OWN_LOOK, PLACE, Row, SIZE,
-    STAGGER, TILE, TILESET, TURNING, WORDS,
+    STAGGER, TILE, TILESET, TURNING, WANG_COLOR, WANG_SET, WANG_TILE, WORDS,
 };
 use serde_json::Value;
 use std::alloc::{AllocError, Global};
@@ -28,19 +28,28 @@ impl Told {
     }
 }
 
-// What a member is told as; nothing if it can't be.
+// Pushes what a member is told as; nothing if it can't be.
+fn push_value(
+    alloc: Global,
+    value: &Value,
+    is_real: bool,
+    out: &mut Vec<u8>,
+) -> Result<(), AllocError> {
+    match value {
+        Value::String(text) => out.extend_from_slice(text.as_bytes()),
+        Value::Bool(is_set) => push_whole(if *is_set { 1 } else { 0 }, out),
+        Value::Number(number) => if is_real {
+            push_real(alloc, number, out)
+        } else {
+            push_number(alloc, number, out)
+        },
+        Value::Null | Value::Array(_) | Value::Object(_) => Ok(()),
+    }
+}
+
 fn told_value(alloc: Global, value: &Value, is_real: bool) -> Result<Vec<u8>, AllocError> {
     let mut out = Vec::new(alloc);
-    match value {
-        Value::String(text) => out.extend_from_slice(text.as_bytes())?,
-        Value::Bool(is_set) => out.push(if *is_set { b'1' } else { b'0' })?,
-        Value::Number(number) => if is_real {
-            push_real(alloc, number, &mut out)?;
-        } else {
-            push_number(alloc, number, &mut out)?;
-        },
-        Value::Null | Value::Array(_) | Value::Object(_) => {}
-    }
+    push_value(alloc, value, is_real, &mut out)?;
     Ok(out)
 }
 
@@ -240,27 +249,69 @@ fn push_data(
     Ok(())
 }
 
-fn push_corners(alloc: Global, value: &Value, told: &mut Vec<Told>) -> Result<(), AllocError> {
+// Pushes a coordinate.
+fn push_side(
+    alloc: Global,
+    corner: &Value,
+    name: &str,
+    out: &mut Vec<u8>,
+) -> Result<(), AllocError> {
+    match corner.get(name) {
+        Some(value) => push_value(alloc, value, true, out),
+        None => push_whole(0, out),
+    }
+}
+
+// Pushes a corner behind those that are told.
+fn push_corner(alloc: Global, corner: &Value, out: &mut Vec<u8>) -> Result<(), AllocError> {
+    if !out.is_empty() {
+        out.push(b' ')?;
+    }
+    push_side(alloc, corner, "x", out)?;
+    out.push(b',')?;
+    push_side(alloc, corner, "y", out)
+}
+
+fn corners_of(alloc: Global, value: &Value) -> Result<Vec<u8>, AllocError> {
     let mut out = Vec::new(alloc);
     for corner in items_of(value) {
-        if !out.is_empty() {
-            out.push(b' ')?;
-        }
-        let mut pair = Vec::new(alloc);
-        push_row(alloc, &("x", How::RealTold("0")), corner, &mut pair)?;
-        push_row(alloc, &("y", How::RealTold("0")), corner, &mut pair)?;
-        let mut is_first = true;
-        for number in &pair {
-            if !is_first {
-                out.push(b',')?;
-            }
-            out.extend_from_slice(&number.value)?;
-            is_first = false;
-        }
+        push_corner(alloc, corner, &mut out)?;
     }
+    Ok(out)
+}
+
+fn push_corners(alloc: Global, value: &Value, told: &mut Vec<Told>) -> Result<(), AllocError> {
+    let value = corners_of(alloc, value)?;
     told.push(Told {
         name: "points",
-        value: out,
+        value,
+    })?;
+    Ok(())
+}
+
+// Pushes the number of a color behind those that are told.
+fn push_color(alloc: Global, color: &Value, out: &mut Vec<u8>) -> Result<(), AllocError> {
+    if !out.is_empty() {
+        out.push(b',')?;
+    }
+    push_value(alloc, color, false, out)
+}
+
+fn colors_of(alloc: Global, value: &Value) -> Result<Vec<u8>, AllocError> {
+    let mut out = Vec::new(alloc);
+    for color in items_at(value, "wangid") {
+        push_color(alloc, color, &mut out)?;
+    }
+    Ok(out)
+}
+
+// Pushes a tile of a wang set, and the numbers of its colors.
+fn push_wang_tile(alloc: Global, value: &Value, told: &mut Vec<Told>) -> Result<(), AllocError> {
+    push_rows(alloc, &WANG_TILE, value, told)?;
+    let value = colors_of(alloc, value)?;
+    told.push(Told {
+        name: "wangid",
+        value,
     })?;
     Ok(())
 }
@@ -287,6 +338,49 @@ fn push_chunk(alloc: Global, value: &Value, told: &mut Vec<Told>) -> Result<(), 
     push_rows(alloc, &SIZE, value, told)
 }
 
+// Pushes the attributes of a part of a tileset.
+fn push_of_tileset(alloc: Global, part: &Part<'_>, told: &mut Vec<Told>) -> Result<(), AllocError> {
+    let value = part.value;
+    match part.kind {
+        Kind::Tileset => push_tileset(alloc, value, told),
+        Kind::TileOffset => push_rows(alloc, &PLACE, value, told),
+        Kind::Grid => push_rows(alloc, &GRID, value, told),
+        Kind::Turning => push_rows(alloc, &TURNING, value, told),
+        Kind::Tile => push_rows(alloc, &TILE, value, told),
+        Kind::Frame => push_rows(alloc, &FRAME, value, told),
+        Kind::WangSet => push_rows(alloc, &WANG_SET, value, told),
+        Kind::WangColor => push_rows(alloc, &WANG_COLOR, value, told),
+        Kind::WangTile => push_wang_tile(alloc, value, told),
+        _ => Ok(()),
+    }
+}
+
+// Pushes the attributes of an element.
+fn push_all(
+    alloc: Global,
+    sheet: &Sheet<'_>,
+    part: &Part<'_>,
+    told: &mut Vec<Told>,
+) -> Result<(), AllocError> {
+    let value = part.value;
+    match part.kind {
+        Kind::Map => push_map(alloc, value, told),
+        Kind::ChunkSize => push_rows(alloc, &SIZE, value, told),
+        Kind::Export => push_rows(alloc, &EXPORT, value, told),
+        Kind::Property | Kind::Member => push_property(alloc, &property_of(part), told),
+        Kind::Picture | Kind::TilePicture | Kind::LayerPicture => push_picture(alloc, part, told),
+        Kind::Layer | Kind::ObjectLayer | Kind::ImageLayer | Kind::Group => push_layer(
+            alloc, sheet, part, told,
+        ),
+        Kind::Data => push_data(alloc, sheet, value, told),
+        Kind::Chunk => push_chunk(alloc, value, told),
+        Kind::Object => push_object(alloc, value, told),
+        Kind::Polygon | Kind::Polyline => push_corners(alloc, value, told),
+        Kind::Words => push_rows(alloc, &WORDS, value, told),
+        _ => push_of_tileset(alloc, part, told),
+    }
+}
+
 /// The attributes of an element, in Tiled's order.
 pub fn attributes_of(
     alloc: Global,
@@ -294,31 +388,6 @@ pub fn attributes_of(
     part: &Part<'_>,
 ) -> Result<Vec<Told>, AllocError> {
     let mut told = Vec::new(alloc);
-    let value = part.value;
-    match part.kind {
-        Kind::Map => push_map(alloc, value, &mut told)?,
-        Kind::ChunkSize => push_rows(alloc, &SIZE, value, &mut told)?,
-        Kind::Export => push_rows(alloc, &EXPORT, value, &mut told)?,
-        Kind::Property | Kind::Member => push_property(alloc, &property_of(part), &mut told)?,
-        Kind::Tileset => push_tileset(alloc, value, &mut told)?,
-        Kind::TileOffset => push_rows(alloc, &PLACE, value, &mut told)?,
-        Kind::Grid => push_rows(alloc, &GRID, value, &mut told)?,
-        Kind::Turning => push_rows(alloc, &TURNING, value, &mut told)?,
-        Kind::Picture | Kind::TilePicture | Kind::LayerPicture => push_picture(
-            alloc, part, &mut told,
-        )?,
-        Kind::Tile => push_rows(alloc, &TILE, value, &mut told)?,
-        Kind::Frame => push_rows(alloc, &FRAME, value, &mut told)?,
-        Kind::Layer | Kind::ObjectLayer | Kind::ImageLayer | Kind::Group => push_layer(
-            alloc, sheet, part, &mut told,
-        )?,
-        Kind::Data => push_data(alloc, sheet, value, &mut told)?,
-        Kind::Chunk => push_chunk(alloc, value, &mut told)?,
-        Kind::Object => push_object(alloc, value, &mut told)?,
-        Kind::Polygon | Kind::Polyline => push_corners(alloc, value, &mut told)?,
-        Kind::Words => push_rows(alloc, &WORDS, value, &mut told)?,
-        Kind::Settings | Kind::Properties | Kind::Animation => {}
-        Kind::Ellipse | Kind::Point | Kind::Capsule => {}
-    }
+    push_all(alloc, sheet, part, &mut told)?;
     Ok(told)
 }

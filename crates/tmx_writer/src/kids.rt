@@ -107,7 +107,17 @@ fn push_tileset<'a>(value: &'a Value, kids: &mut Kids<'a>) -> Result<(), AllocEr
     push_member(Kind::Turning, value, "transformations", kids)?;
     push_properties(value, kids)?;
     push_picture(Kind::Picture, value, kids)?;
-    push_items(Kind::Tile, items_at(value, "tiles"), kids)
+    push_items(Kind::Tile, items_at(value, "tiles"), kids)?;
+    if items_at(value, "wangsets").is_empty() {
+        return Ok(());
+    }
+    push_member(Kind::WangSets, value, "wangsets", kids)
+}
+
+fn push_wang_set<'a>(value: &'a Value, kids: &mut Kids<'a>) -> Result<(), AllocError> {
+    push_items(Kind::WangColor, items_at(value, "colors"), kids)?;
+    push_items(Kind::WangTile, items_at(value, "wangtiles"), kids)?;
+    push_properties(value, kids)
 }
 
 fn push_tile<'a>(value: &'a Value, kids: &mut Kids<'a>) -> Result<(), AllocError> {
@@ -181,23 +191,31 @@ fn push_map<'a>(value: &'a Value, kids: &mut Kids<'a>) -> Result<(), AllocError>
     push_layers(value, kids)
 }
 
+// Pushes the elements in an element.
+fn push_all<'a>(of: &Part<'a>, kids: &mut Kids<'a>) -> Result<(), AllocError> {
+    match of.kind {
+        Kind::Map => push_map(of.value, kids),
+        Kind::Settings => push_settings(of.value, kids),
+        Kind::Properties => push_class_members(of, kids),
+        Kind::Property | Kind::Member => push_class(of, kids),
+        Kind::Tileset => push_tileset(of.value, kids),
+        Kind::Tile => push_tile(of.value, kids),
+        Kind::Animation => push_items(Kind::Frame, items_of(of.value), kids),
+        Kind::WangSets => push_items(Kind::WangSet, items_of(of.value), kids),
+        Kind::WangSet => push_wang_set(of.value, kids),
+        Kind::WangColor => push_properties(of.value, kids),
+        Kind::Layer | Kind::ObjectLayer | Kind::ImageLayer | Kind::Group => push_layer_kids(
+            of, kids,
+        ),
+        Kind::Data => push_chunks(of.value, kids),
+        Kind::Object => push_object(of.value, kids),
+        _ => Ok(()),
+    }
+}
+
 /// The elements in an element, in Tiled's order.
 pub fn kids_of<'a>(alloc: Global, of: &Part<'a>) -> Result<Vec<Part<'a>>, AllocError> {
     let mut kids = Vec::new(alloc);
-    match of.kind {
-        Kind::Map => push_map(of.value, &mut kids)?,
-        Kind::Settings => push_settings(of.value, &mut kids)?,
-        Kind::Properties => push_class_members(of, &mut kids)?,
-        Kind::Property | Kind::Member => push_class(of, &mut kids)?,
-        Kind::Tileset => push_tileset(of.value, &mut kids)?,
-        Kind::Tile => push_tile(of.value, &mut kids)?,
-        Kind::Animation => push_items(Kind::Frame, items_of(of.value), &mut kids)?,
-        Kind::Layer | Kind::ObjectLayer | Kind::ImageLayer | Kind::Group => push_layer_kids(
-            of, &mut kids,
-        )?,
-        Kind::Data => push_chunks(of.value, &mut kids)?,
-        Kind::Object => push_object(of.value, &mut kids)?,
-        _ => {}
-    }
+    push_all(of, &mut kids)?;
     Ok(kids)
 }

@@ -65,28 +65,37 @@ fn push_number(value: &Value, name: &str, out: &mut Vec<u8>) -> Result<(), Alloc
     }
 }
 
-// What tells a part from its siblings of the same name.
-fn key_of(alloc: Global, part: &Part<'_>, at: usize) -> Result<Vec<u8>, AllocError> {
-    let mut key = Vec::from_slice(alloc, element_name(part.kind).as_bytes())?;
-    key.push(b' ')?;
+fn push_corner(value: &Value, out: &mut Vec<u8>) -> Result<(), AllocError> {
+    push_number(value, "x", out)?;
+    out.push(b',')?;
+    push_number(value, "y", out)
+}
+
+// Pushes what tells a part from its siblings of the same name.
+fn push_key(part: &Part<'_>, at: usize, out: &mut Vec<u8>) -> Result<(), AllocError> {
+    out.extend_from_slice(element_name(part.kind).as_bytes())?;
+    out.push(b' ')?;
     match part.kind {
-        Kind::Property => key.extend_from_slice(text_at(part.value, "name").as_bytes())?,
-        Kind::Member => key.extend_from_slice(part.key.as_bytes())?,
-        Kind::Tileset => push_number(part.value, "firstgid", &mut key)?,
+        Kind::Property => out.extend_from_slice(text_at(part.value, "name").as_bytes()),
+        Kind::Member => out.extend_from_slice(part.key.as_bytes()),
+        Kind::Tileset => push_number(part.value, "firstgid", out),
         Kind::Layer
         | Kind::ObjectLayer
         | Kind::ImageLayer
         | Kind::Group
         | Kind::Object
-        | Kind::Tile => push_number(part.value, "id", &mut key)?,
-        Kind::Chunk => {
-            push_number(part.value, "x", &mut key)?;
-            key.push(b',')?;
-            push_number(part.value, "y", &mut key)?;
-        }
-        Kind::Frame => push_whole(at as u64, &mut key)?,
-        _ => {}
+        | Kind::Tile => push_number(part.value, "id", out),
+        Kind::Chunk => push_corner(part.value, out),
+        Kind::Frame | Kind::WangSet | Kind::WangColor | Kind::WangTile => push_whole(
+            at as u64, out,
+        ),
+        _ => Ok(()),
     }
+}
+
+fn key_of(alloc: Global, part: &Part<'_>, at: usize) -> Result<Vec<u8>, AllocError> {
+    let mut key = Vec::new(alloc);
+    push_key(part, at, &mut key)?;
     Ok(key)
 }
 

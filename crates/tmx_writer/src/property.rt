@@ -80,22 +80,26 @@ pub fn is_text_between(property: &Property<'_>) -> bool {
     }
 }
 
-fn value_text(alloc: Global, property: &Property<'_>) -> Result<Vec<u8>, AllocError> {
-    let mut out = Vec::new(alloc);
+fn push_value(alloc: Global, property: &Property<'_>, out: &mut Vec<u8>) -> Result<(), AllocError> {
     match property.value {
         Value::Bool(is_set) => out.extend_from_slice(if *is_set {
             b"true".as_slice()
         } else {
             b"false".as_slice()
-        })?,
+        }),
         Value::Number(number) => if property.kind == "float" || number.is_f64() {
-            push_shortest(alloc, number, &mut out)?;
+            push_shortest(alloc, number, out)
         } else {
-            push_number(alloc, number, &mut out)?;
+            push_number(alloc, number, out)
         },
-        Value::String(text) => out.extend_from_slice(text.as_bytes())?,
-        Value::Null | Value::Array(_) | Value::Object(_) => {}
+        Value::String(text) => out.extend_from_slice(text.as_bytes()),
+        Value::Null | Value::Array(_) | Value::Object(_) => Ok(()),
     }
+}
+
+fn value_text(alloc: Global, property: &Property<'_>) -> Result<Vec<u8>, AllocError> {
+    let mut out = Vec::new(alloc);
+    push_value(alloc, property, &mut out)?;
     Ok(out)
 }
 

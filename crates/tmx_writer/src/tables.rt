@@ -96,6 +96,23 @@ pub static TILE: [Row; 8] = [
 
 pub static FRAME: [Row; 2] = [("tileid", How::Told("0")), ("duration", How::Told("0"))];
 
+pub static WANG_SET: [Row; 4] = [
+    ("name", How::Told("")),
+    ("class", How::Unless("")),
+    ("type", How::Told("mixed")),
+    ("tile", How::Told("0")),
+];
+
+pub static WANG_COLOR: [Row; 5] = [
+    ("name", How::Told("")),
+    ("class", How::Unless("")),
+    ("color", How::Told("")),
+    ("tile", How::Told("0")),
+    ("probability", How::RealTold("0")),
+];
+
+pub static WANG_TILE: [Row; 1] = [("tileid", How::Told("0"))];
+
 pub static OBJECT_LAYER: [Row; 2] = [
     ("color", How::Unless("")),
     ("draworder", How::Unless("topdown")),

@@ -1,5 +1,6 @@
 -- A group, whose entries are told in order of opening: what its numbers say of the documents, and what each change leaves.
-use Rattle.std.proofs.Common.{◌≡◌, ◌≢◌, ℕ, suc, ◌+◌, ◌-◌, ◌<◌, ◌≤◌, ◌==◌, nat_lt, ◌⊎◌, inl, inr, ◌++◌, position, List, [], ◌∷◌, length, map, remove, get_or, slice_get, Bool, true, false, Option, Some, None, IfSome, is_some, option_and_then}
+use Rattle.std.proofs.Common.{◌≡◌, ◌≢◌, ℕ, suc, ◌+◌, ◌-◌, ◌<◌, ◌≤◌, ◌==◌, nat_lt, ◌⊎◌, inl, inr, ◌++◌, position, List, [], ◌∷◌, length, map, remove}
+use Rattle.std.proofs.Common.{get_or, slice_get, Bool, true, false, Option, Some, None, IfSome, is_some, option_and_then}
 use Rattle.std.proofs.Common.{refl, sym, ◌∙◌, ap, subst, arith, if◌then◌else◌}
 use Rattle.std.proofs.lemmas.Bool.{cases_lt}
 use Rattle.std.proofs.lemmas.Bool.Decides.{nat_tests}
