@@ -1,5 +1,5 @@
 -- Steps of which the first that refuses decides, and what code answers for them.
-use Rattle.std.specs.Prelude.{◌≡◌, Bool, ⊤, Option, Some, None, Result, Ok, Err, if◌then◌else◌}
+use Rattle.std.specs.Prelude.{◌≡◌, Bool, ⊤, Result, Ok, Err, if◌then◌else◌}
 use Rattle.tmx_tree.specs.declared.fault.Refusal.{Refusal}
 use Rattle.tmx_tree.specs.declared.fault.Fault.{Fault}
 use Rattle.tmx_tree.specs.declared.fault.Fault.TheVariants.{Memory, Refused}

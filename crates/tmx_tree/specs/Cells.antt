@@ -1,8 +1,9 @@
 -- The cells of a layer or a chunk: as an array of numbers, or as a text in base64.
-use Rattle.std.specs.Prelude.{ℕ, ◌+◌, ◌-◌, ◌*◌, ◌%◌, ◌^◌, ◌==◌, ◌||◌, ℤ, pos, List, [], ◌∷◌, ◌++◌, length, replicate, Bool, nat_le, codes, Option, Some, None, option_and_then, unwrap_or, Result, Ok, Err}
+use Rattle.std.specs.Prelude.{ℕ, ◌-◌, ◌*◌, ◌%◌, ◌^◌, ◌==◌, ◌||◌, ℤ, pos, List, [], ◌∷◌, ◌++◌, length, replicate, Bool, nat_le, codes, Option, Some, None}
+use Rattle.std.specs.Prelude.{option_and_then, unwrap_or, Result, Ok, Err}
 use Rattle.std.specs.Prelude.{if◌then◌else◌}
 use Rattle.std.specs.Str.{bytes_eq, trim}
-use Rattle.serde_json.specs.Data.{unsigned, Data, number, string, array, Members, put}
+use Rattle.serde_json.specs.Data.{unsigned, Data, number, string, array}
 use Rattle.serde_json.specs.View.{items_of}
 use Rattle.xml_text.specs.Xml.{Xml, Children, no_children, child}
 use Rattle.tmx_tree.specs.declared.cells.TheConstants.{MOST_CELLS}
@@ -12,9 +13,9 @@ use Rattle.tmx_tree.specs.declared.fault.Refusal.{Refusal}
 use Rattle.tmx_tree.specs.declared.fault.Refusal.TheVariants.{Encoding, Cells}
 use Rattle.tmx_tree.specs.Answers.{◌>>=◌}
 use Rattle.tmx_tree.specs.Numbers.{is_digit, with_digit, unsigned_of, whole_of}
-use Rattle.tmx_tree.specs.Elements.{Attributes, attribute, attributes_of, kids_of, is_named, text_in}
+use Rattle.tmx_tree.specs.Elements.{Attributes, attribute, attributes_of, is_named, text_in}
 use Rattle.tmx_tree.specs.Texts.{is_one_of}
-use Rattle.tmx_tree.specs.Properties.{text_at, is_blank}
+use Rattle.tmx_tree.specs.Properties.{is_blank}
 
 -- ---- the format
 abbrev pub packings : List (List ℕ)

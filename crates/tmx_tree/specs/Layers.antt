@@ -1,9 +1,10 @@
 -- Layers of a map or a group.
-use Rattle.std.specs.Prelude.{ℕ, map, ◌==◌, ◌&&◌, ◌||◌, not, ℤ, pos, List, [], ◌∷◌, ◌++◌, Bool, true, false, codes, Option, Some, None, option_and_then, option_map, is_some, is_none, slice_index}
+use Rattle.std.specs.Prelude.{ℕ, map, ◌==◌, ◌&&◌, ◌||◌, not, ℤ, List, [], ◌∷◌, ◌++◌, Bool, true, false, codes, Option, Some, None, option_and_then}
+use Rattle.std.specs.Prelude.{option_map, is_some, is_none, slice_index}
 use Rattle.std.specs.Prelude.{unwrap_or, Result, Ok, Err, if◌then◌else◌}
 use Rattle.std.specs.Str.{bytes_eq}
-use Rattle.serde_json.specs.Data.{Data, string, array, object, Members, no_members, member, put}
-use Rattle.serde_json.specs.View.{view, items_of}
+use Rattle.serde_json.specs.Data.{Data, string, object, Members, no_members, put}
+use Rattle.serde_json.specs.View.{view}
 use Rattle.json_members.specs.Members.{put_some}
 use Rattle.xml_text.specs.Xml.{Xml, element, text, Children, no_children, child}
 use Rattle.tmx_tree.specs.declared.cells.Form.{Form}
@@ -19,8 +20,8 @@ use Rattle.tmx_tree.specs.Numbers.{whole_of}
 use Rattle.tmx_tree.specs.Rows.{whole_data, with_rows}
 use Rattle.tmx_tree.specs.Tables.{with_layer_rows, size_rows, place_rows, image_layer_rows, object_layer_rows}
 use Rattle.tmx_tree.specs.Elements.{Attributes, attribute, attributes_of, kids_of, is_named, first_named, text_in}
-use Rattle.tmx_tree.specs.Texts.{is_one_of, one_of}
-use Rattle.tmx_tree.specs.Properties.{text_at, unless_empty, own_properties, with_note, is_blank}
+use Rattle.tmx_tree.specs.Texts.{is_one_of}
+use Rattle.tmx_tree.specs.Properties.{text_at, own_properties, with_note, is_blank}
 use Rattle.tmx_tree.specs.Cells.{form_of, cell_count, cells_in, padded, array_of}
 use Rattle.tmx_tree.specs.Bounds.{with_chunk_cells, with_bounds}
 use Rattle.tmx_tree.specs.Objects.{said_id, id_or_next, id_member, real_at, put_pair, with_objects}

@@ -11,5 +11,6 @@ pub mod Corners
 pub mod Objects
 pub mod Layers
 pub mod Wangs
+pub mod Counts
 pub mod Tilesets
 pub mod Maps

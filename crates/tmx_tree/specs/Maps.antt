@@ -1,5 +1,6 @@
 -- A map in XML, as the tree that Tiled's JSON has of it.
-use Rattle.std.specs.Prelude.{ℕ, ◌==◌, ◌&&◌, ◌||◌, not, max, ℤ, pos, negsuc, List, [], ◌∷◌, ◌++◌, Bool, true, false, nat_le, codes, Option, Some, None, option_and_then, option_map}
+use Rattle.std.specs.Prelude.{ℕ, ◌==◌, ◌&&◌, not, max, pos, List, [], ◌∷◌, ◌++◌, Bool, nat_le, codes, Option, Some, None}
+use Rattle.std.specs.Prelude.{option_and_then, option_map}
 use Rattle.std.specs.Prelude.{unwrap_or, Result, Ok, Err, if◌then◌else◌}
 use Rattle.std.specs.Result.{result_ok}
 use Rattle.std.specs.Str.{bytes_eq}
@@ -13,7 +14,7 @@ use Rattle.tmx_tree.specs.declared.fault.Fault.{Fault}
 use Rattle.tmx_tree.specs.declared.fault.Fault.TheVariants.{Memory, Refused}
 use Rattle.tmx_tree.specs.Answers.{◌>>=◌}
 use Rattle.tmx_tree.specs.Numbers.{whole_of, unsigned_of}
-use Rattle.tmx_tree.specs.Rows.{whole_data, with_rows, is_whole_data}
+use Rattle.tmx_tree.specs.Rows.{with_rows, is_whole_data}
 use Rattle.tmx_tree.specs.Tables.{with_map_rows, hexagonal_rows}
 use Rattle.tmx_tree.specs.Elements.{Attributes, attribute, attributes_of, kids_of, is_named, first_named}
 use Rattle.tmx_tree.specs.Texts.{is_one_of, one_of}

@@ -1,5 +1,6 @@
 -- Numbers that a text spells.
-use Rattle.std.specs.Prelude.{ℕ, ◌+◌, ◌-◌, ◌*◌, ◌%◌, ◌^◌, ◌==◌, ◌&&◌, ℤ, pos, neg_ℤ, ◌-ℤ◌, int_lt, List, [], ◌∷◌, Bool, true, false, nat_lt, nat_le, drop, slice_index}
+use Rattle.std.specs.Prelude.{ℕ, ◌+◌, ◌-◌, ◌*◌, ◌%◌, ◌^◌, ◌==◌, ◌&&◌, ℤ, pos, neg_ℤ, int_lt, List, [], ◌∷◌, Bool, nat_lt, nat_le, drop}
+use Rattle.std.specs.Prelude.{slice_index}
 use Rattle.std.specs.Prelude.{Float, Option, Some, None, option_map, option_and_then, if◌then◌else◌}
 use Rattle.std.specs.Str.{trim}
 use Rattle.std.specs.Float.{binary64, floor, float_to_signed}

@@ -1,5 +1,6 @@
 -- Objects, and the ids of objects and layers.
-use Rattle.std.specs.Prelude.{ℕ, ◌+◌, ◌-◌, ◌^◌, max, ℤ, pos, negsuc, List, [], ◌∷◌, ◌++◌, ◌&&◌, ◌||◌, not, Bool, true, false, nat_lt, codes, Option, Some, None, option_and_then, option_map}
+use Rattle.std.specs.Prelude.{ℕ, ◌+◌, ◌^◌, max, ℤ, pos, negsuc, List, [], ◌∷◌, ◌++◌, ◌&&◌, ◌||◌, not, Bool, true, nat_lt, codes, Option, Some, None}
+use Rattle.std.specs.Prelude.{option_and_then}
 use Rattle.std.specs.Prelude.{unwrap_or, Result, Ok, Err, if◌then◌else◌}
 use Rattle.std.specs.Str.{bytes_eq}
 use Rattle.serde_json.specs.Data.{Num, unsigned, Data, boolean, number, string, object, Members, no_members, put}
@@ -15,7 +16,7 @@ use Rattle.tmx_tree.specs.Answers.{◌>>=◌}
 use Rattle.tmx_tree.specs.Numbers.{whole_of, real_of}
 use Rattle.tmx_tree.specs.Rows.{whole_data, real_in, is_whole_data, with_rows}
 use Rattle.tmx_tree.specs.Tables.{object_rows, own_object_rows, instance_rows, text_rows}
-use Rattle.tmx_tree.specs.Elements.{Attributes, attribute, attributes_of, kids_of, is_named, first_named, text_in}
+use Rattle.tmx_tree.specs.Elements.{Attributes, attribute, attributes_of, kids_of, is_named, text_in}
 use Rattle.tmx_tree.specs.Texts.{is_one_of}
 use Rattle.tmx_tree.specs.Properties.{text_at, own_properties}
 use Rattle.tmx_tree.specs.Cells.{array_of}

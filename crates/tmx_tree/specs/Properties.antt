@@ -1,10 +1,11 @@
 -- Properties of a map, a layer, an object, a tileset or a tile.
-use Rattle.std.specs.Prelude.{ℕ, ℤ, pos, List, [], ◌∷◌, ◌++◌, ◌==◌, ◌||◌, ◌&&◌, map, Bool, true, false, not, nat_le, codes, length, drop, slice_index, Option, Some, None, option_map}
+use Rattle.std.specs.Prelude.{ℕ, ℤ, pos, List, [], ◌∷◌, ◌++◌, ◌==◌, ◌||◌, ◌&&◌, map, Bool, true, false, not, nat_le, codes, length, drop, slice_index, Option}
+use Rattle.std.specs.Prelude.{Some, None}
 use Rattle.std.specs.Prelude.{unwrap_or, Result, Ok, Err, if◌then◌else◌}
 use Rattle.std.specs.Char.{to_ascii_lowercase}
 use Rattle.std.specs.List.{list_all}
 use Rattle.std.specs.Str.{bytes_eq, trim}
-use Rattle.serde_json.specs.Data.{Num, Data, boolean, number, string, array, object, Items, Members, no_members, member, put}
+use Rattle.serde_json.specs.Data.{Num, Data, boolean, number, string, array, object, Members, no_members, member, put}
 use Rattle.serde_json.specs.View.{view, items_of, members_view}
 use Rattle.json_members.specs.Members.{put_some}
 use Rattle.xml_text.specs.Xml.{Xml, element, text, Children, no_children, child}

@@ -1,5 +1,6 @@
 -- Members that attributes are: a row of a table says which, how its text is read, and when there is a member.
-use Rattle.std.specs.Prelude.{ℕ, ℤ, pos, List, [], ◌∷◌, Bool, true, false, not, Float, Option, Some, None, option_map, option_and_then, unwrap_or, Result, Ok, Err, if◌then◌else◌}
+use Rattle.std.specs.Prelude.{ℕ, ℤ, pos, List, [], ◌∷◌, Bool, true, false, not, Float, Option, Some, None, option_map, option_and_then, unwrap_or, Result, Ok}
+use Rattle.std.specs.Prelude.{Err, if◌then◌else◌}
 use Rattle.std.specs.Ordering.{int_eq}
 use Rattle.serde_json.specs.Data.{Num, unsigned, Data, boolean, number, string, Members}
 use Rattle.serde_json.specs.Find.{of_integer, as_number, as_integer, as_str, as_bool}

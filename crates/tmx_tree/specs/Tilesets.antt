@@ -1,5 +1,6 @@
 -- The tilesets of a map: files of their own, or in the map itself.
-use Rattle.std.specs.Prelude.{ℕ, ◌==◌, ◌&&◌, ◌||◌, not, ℤ, pos, List, [], ◌∷◌, ◌++◌, Bool, true, false, codes, Option, Some, None, option_and_then, unwrap_or, Result, Ok, Err, is_some}
+use Rattle.std.specs.Prelude.{ℕ, ◌&&◌, ◌||◌, not, ℤ, pos, List, [], ◌∷◌, ◌++◌, Bool, true, false, codes, Option, Some, None, option_and_then}
+use Rattle.std.specs.Prelude.{Result, Ok, Err, is_some}
 use Rattle.std.specs.Prelude.{if◌then◌else◌}
 use Rattle.std.specs.Ordering.{int_eq}
 use Rattle.std.specs.Str.{bytes_eq}
@@ -9,16 +10,16 @@ use Rattle.xml_text.specs.Xml.{Xml, Children, no_children, child}
 use Rattle.tmx_tree.specs.declared.fault.Refusal.{Refusal}
 use Rattle.tmx_tree.specs.declared.fault.Refusal.TheVariants.{OldTileset}
 use Rattle.tmx_tree.specs.Answers.{◌>>=◌}
-use Rattle.tmx_tree.specs.Numbers.{whole_of}
 use Rattle.tmx_tree.specs.Rows.{whole_data, is_whole_data, with_rows}
 use Rattle.tmx_tree.specs.Tables.{with_tileset_rows, turning_rows, with_tile_rows, frame_rows}
-use Rattle.tmx_tree.specs.Cells.{side, whole_at, array_of}
-use Rattle.tmx_tree.specs.Elements.{Attributes, attribute, attributes_of, kids_of, is_named, first_named}
+use Rattle.tmx_tree.specs.Cells.{side, whole_at}
+use Rattle.tmx_tree.specs.Elements.{Attributes, attributes_of, kids_of, is_named, first_named}
 use Rattle.tmx_tree.specs.Texts.{one_of}
 use Rattle.tmx_tree.specs.Properties.{text_at, unless_none, own_properties}
 use Rattle.tmx_tree.specs.Objects.{said_id, text_unless}
 use Rattle.tmx_tree.specs.Layers.{transparent, object_layer}
 use Rattle.tmx_tree.specs.Wangs.{wang_sets}
+use Rattle.tmx_tree.specs.Counts.{with_counts}
 
 -- ---- a file of its own: the id of its first tile, and the file
 abbrev pub external : Attributes → Data
@@ -62,7 +63,8 @@ grid_orientation attrs = one_of (codes "isometric" ∷ []) (codes "orthogonal") 
 abbrev pub is_own_grid : Attributes → Attributes → Bool
 is_own_grid attrs grid =
     bytes_eq (grid_orientation grid) (codes "orthogonal")
-    && (int_eq (whole_at (codes "width") grid) (whole_at (codes "tilewidth") attrs) && int_eq (whole_at (codes "height") grid) (whole_at (codes "tileheight") attrs))
+    && (int_eq (whole_at (codes "width") grid) (whole_at (codes "tilewidth") attrs)
+    && int_eq (whole_at (codes "height") grid) (whole_at (codes "tileheight") attrs))
 
 abbrev pub grid_data : Attributes → Data
 grid_data grid =
@@ -138,11 +140,9 @@ with_tiles no_children found = Ok found
 with_tiles (child x xs) found = with_tile x found >>= λ more. with_tiles xs more
 
 -- ---- in the map itself
--- terrains are not read, nor is a tileset that does not say how many tiles it has
+-- terrains are not read
 abbrev pub is_old : Xml → Bool
-is_old x =
-    is_some (first_named (codes "terraintypes") (kids_of x))
-    || not (is_some (attribute (codes "tilecount") (attributes_of x)) && is_some (attribute (codes "columns") (attributes_of x)))
+is_old x = is_some (first_named (codes "terraintypes") (kids_of x))
 
 abbrev pub with_places : Xml → Members → Members
 with_places x ms = put_some (codes "tileoffset") (offset_in x) (put_some (codes "grid") (grid_in x) ms)
@@ -161,9 +161,13 @@ with_lists kids ms = do
   sets ← wang_sets (first_named (codes "wangsets") kids)
   Ok (put_some (codes "wangsets") (unless_none sets) (put_some (codes "tiles") (unless_none tiles) ms))
 
+-- its attributes
+unfoldable pub tileset_members : Xml → Result Members Refusal
+tileset_members x = with_tileset_rows (attributes_of x) no_members >>= λ rows. with_counts x rows
+
 unfoldable pub embedded : Xml → Result Data Refusal
 embedded x = do
-  rows ← with_tileset_rows (attributes_of x) no_members
+  rows ← tileset_members x
   turned ← turning_in (first_named (codes "transformations") (kids_of x))
   full ← with_lists (kids_of x) (put_some (codes "transformations") turned (with_drawing x rows))
   ms ← own_properties (kids_of x) full

@@ -4,7 +4,8 @@ ghost use Rattle.serde_json.specs.Find.{as_array};
 ghost use Rattle.std.specs.Int.{int_min, int_max};
 ghost use Rattle.serde_json.specs.View.{view as data_of, items_view, members_view};
 ghost use Rattle.xml_text.specs.Xml.{attribute_view};
-ghost use Rattle.tmx_tree.specs.Bounds.{begun_at, ended_at, joined, with_stretch, last_of, chunk_stretch, is_empty_cell, with_cell, next_x, next_y, with_cells, has_no_cells, with_chunk_cells, block, blocks, put_bounds, with_bounds};
+ghost use Rattle.tmx_tree.specs.Bounds.{begun_at, ended_at, joined, with_stretch, last_of, chunk_stretch, is_empty_cell, with_cell, next_x, next_y, with_cells};
+ghost use Rattle.tmx_tree.specs.Bounds.{has_no_cells, with_chunk_cells, block, blocks, put_bounds, with_bounds};
 
 use crate::cells::{side, whole_at};
 use crate::row::is_whole_data;

@@ -6,7 +6,8 @@ ghost use Rattle.xml_text.specs.Xml.{attribute_view, node_view, view, children_o
 ghost use Rattle.tmx_tree.specs.Answers.{GivesBy};
 ghost use Rattle.tmx_tree.specs.Elements.{text_in};
 ghost use Rattle.std.specs.Str.{trim};
-ghost use Rattle.tmx_tree.specs.Cells.{form_of, is_space, cell, csv_from, if_fine, csv_cells, counted, element_cell, with_tile, with_tiles, padded, side, whole_at, cell_count, cells_in};
+ghost use Rattle.tmx_tree.specs.Cells.{form_of, is_space, cell, csv_from, if_fine, csv_cells, counted, element_cell, with_tile, with_tiles, padded, side};
+ghost use Rattle.tmx_tree.specs.Cells.{whole_at, cell_count, cells_in};
 
 use crate::element::{attribute_value, attributes, named, text_in};
 use crate::fault::{Fault, Refusal};

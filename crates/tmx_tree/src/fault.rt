@@ -29,7 +29,8 @@ pub enum Refusal {
     PropertyType,
     /// No id is left for a layer or an object that has none.
     NoIdLeft,
-    /// A tileset in the map itself has terrains or wang sets of before Tiled 1.5, or does not say how many tiles it has.
+    /// A tileset in the map itself has terrains or wang sets of before Tiled 1.5, or does not say how many tiles it has, nor
+    /// does its picture.
     OldTileset,
     /// Groups or classes nest too deep for a tree.
     TooDeep,

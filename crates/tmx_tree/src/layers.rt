@@ -4,8 +4,10 @@ ghost use Rattle.serde_json.specs.View.{view as data_of, members_view};
 ghost use Rattle.xml_text.specs.Xml.{attribute_view, node_view, view, children_of};
 ghost use Rattle.tmx_tree.specs.Answers.{GivesBy, Leaves};
 ghost use Rattle.tmx_tree.specs.Elements.{name_of, attributes_of, kids_of};
-ghost use Rattle.tmx_tree.specs.Layers.{is_placed, with_offset, layer_members, order_said, draw_order, with_draw_order, object_group, object_layer_members, object_layer, image_note, transparent, with_image, image_layer};
-ghost use Rattle.tmx_tree.specs.Layers.{is_plain, plain_layer, with_layers, with_layer, layer_view, layers_view, side_member, starts_with_hash, with_plain, with_group};
+ghost use Rattle.tmx_tree.specs.Layers.{is_placed, with_offset, layer_members, order_said, draw_order, with_draw_order, object_group, object_layer_members};
+ghost use Rattle.tmx_tree.specs.Layers.{object_layer, image_note, transparent, with_image, image_layer};
+ghost use Rattle.tmx_tree.specs.Layers.{is_plain, plain_layer, with_layers, with_layer, layer_view, layers_view, side_member, starts_with_hash, with_plain};
+ghost use Rattle.tmx_tree.specs.Layers.{with_group};
 
 use crate::element::{attribute_value, attributes, children, first_named};
 use crate::fault::{Fault, Refusal};

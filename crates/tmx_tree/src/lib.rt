@@ -4,6 +4,7 @@
 mod bounds;
 mod cells;
 mod corners;
+mod counts;
 mod element;
 mod fault;
 mod format;

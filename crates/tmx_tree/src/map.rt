@@ -5,7 +5,8 @@ ghost use Rattle.xml_text.specs.Xml.{attribute_view, view};
 ghost use Rattle.tmx_tree.specs.Answers.{GivesBy, Leaves};
 ghost use Rattle.tmx_tree.specs.Elements.{attributes_of, kids_of};
 ghost use Rattle.tmx_tree.specs.Layers.{layers_view};
-ghost use Rattle.tmx_tree.specs.Maps.{with_orientation, with_order, with_shift, with_stagger, with_hexagons, map_type, own_members, next_said, is_infinite, layers_of, put_layers, version_of, map_note, map_members, within, tree_of, tmx_tree, IsRefused};
+ghost use Rattle.tmx_tree.specs.Maps.{with_orientation, with_order, with_shift, with_stagger, with_hexagons, map_type, own_members, next_said, is_infinite};
+ghost use Rattle.tmx_tree.specs.Maps.{layers_of, put_layers, version_of, map_note, map_members, within, tree_of, tmx_tree, IsRefused};
 
 use crate::element::{attribute_value, attributes, children, has_name};
 use crate::fault::{Fault, Refusal};

@@ -1,7 +1,8 @@
 // Numbers that a text spells.
 ghost use Rattle.std.specs.Prelude.{◌≡◌, ◌^◌, ◌<◌, option_map, drop, slice_index};
 ghost use Rattle.serde_json.specs.View.{number_view};
-ghost use Rattle.tmx_tree.specs.Numbers.{is_digit, digits_of, wrapped_digits_of, unsigned_of, positive, negative, whole_of, signed, wrapped_of, real_number, real_of, is_whole, without_plus, negated, whole_in, wrapped_in};
+ghost use Rattle.tmx_tree.specs.Numbers.{is_digit, digits_of, wrapped_digits_of, unsigned_of, positive, negative, whole_of, signed, wrapped_of, real_number};
+ghost use Rattle.tmx_tree.specs.Numbers.{real_of, is_whole, without_plus, negated, whole_in, wrapped_in};
 
 use serde_json::Number;
 use std::num::{nearest_i64_to_f64, saturating_f64_to_i64};

@@ -3,7 +3,9 @@ ghost use Rattle.std.specs.Prelude.{◌≡◌, ◌≤◌, map, option_map, OnOk,
 ghost use Rattle.serde_json.specs.View.{view as data_of, number_view, members_view};
 ghost use Rattle.xml_text.specs.Xml.{attribute_view, node_view, view, children_of};
 ghost use Rattle.tmx_tree.specs.Answers.{GivesBy, Leaves};
-ghost use Rattle.tmx_tree.specs.Objects.{said_id, id_or_next, least_behind, real_at, is_zero, put_pair, with_pair, text_if, text_unless, with_alignment, with_font, with_words, text_of, is_flat, shape_name, with_corners, with_shape, with_part, with_parts, is_instance, is_positive, put_size, with_size, with_own, object_members, id_member, with_object, with_objects, id_view};
+ghost use Rattle.tmx_tree.specs.Objects.{said_id, id_or_next, least_behind, real_at, is_zero, put_pair, with_pair, text_if, text_unless, with_alignment};
+ghost use Rattle.tmx_tree.specs.Objects.{with_font, with_words, text_of, is_flat, shape_name, with_corners, with_shape, with_part, with_parts, is_instance};
+ghost use Rattle.tmx_tree.specs.Objects.{is_positive, put_size, with_size, with_own, object_members, id_member, with_object, with_objects, id_view};
 
 use crate::corners::corners;
 use crate::element::{attribute_value, attributes, children, is_named, named, text_in};

@@ -6,7 +6,8 @@ ghost use Rattle.serde_json.specs.Data.{string, boolean};
 ghost use Rattle.xml_text.specs.Xml.{attribute_view};
 ghost use Rattle.tmx_tree.specs.Answers.{GivesBy};
 ghost use Rattle.tmx_tree.specs.Numbers.{whole_of, wrapped_of};
-ghost use Rattle.tmx_tree.specs.Properties.{text_at, is_false, is_true, is_hexadecimal, is_without_alpha, with_alpha, color_value, plain_value, as_text, int_value, float_read, object_value, typed_of};
+ghost use Rattle.tmx_tree.specs.Properties.{text_at, is_false, is_true, is_hexadecimal, is_without_alpha, with_alpha, color_value, plain_value, as_text};
+ghost use Rattle.tmx_tree.specs.Properties.{int_value, float_read, object_value, typed_of};
 
 use crate::element::attribute_value;
 use crate::fault::{Fault, Refusal};

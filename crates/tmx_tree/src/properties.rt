@@ -3,7 +3,8 @@ ghost use Rattle.std.specs.Prelude.{◌≡◌, map, option_map, OnOk};
 ghost use Rattle.serde_json.specs.View.{view as data_of, members_view};
 ghost use Rattle.xml_text.specs.Xml.{node_view, view, children_of};
 ghost use Rattle.tmx_tree.specs.Answers.{Leaves};
-ghost use Rattle.tmx_tree.specs.Properties.{with_property_of, with_property, with_properties, with_properties_of, properties_in, own_properties, has_none, unless_none};
+ghost use Rattle.tmx_tree.specs.Properties.{with_property_of, with_property, with_properties, with_properties_of, properties_in, own_properties, has_none};
+ghost use Rattle.tmx_tree.specs.Properties.{unless_none};
 
 use crate::element::{children, named};
 use crate::fault::Fault;

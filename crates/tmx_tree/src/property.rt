@@ -6,7 +6,9 @@ ghost use Rattle.json_members.specs.Members.{put_some};
 ghost use Rattle.xml_text.specs.Xml.{attribute_view, node_view, view, children_of};
 ghost use Rattle.tmx_tree.specs.Answers.{Gives, GivesBy, Leaves};
 ghost use Rattle.tmx_tree.specs.Elements.{attributes_of, kids_of};
-ghost use Rattle.tmx_tree.specs.Properties.{is_blank, are_none, unless_empty, value_text, value_of, class_in, class_of, class_members, class_member, class_view, property_view, typed_of, named_value, with_note, note_of_member, put_note_of, with_class_member, property_of, other_type};
+ghost use Rattle.tmx_tree.specs.Properties.{is_blank, are_none, unless_empty, value_text, value_of, class_in, class_of, class_members, class_member};
+ghost use Rattle.tmx_tree.specs.Properties.{class_view, property_view, typed_of, named_value, with_note, note_of_member, put_note_of, with_class_member};
+ghost use Rattle.tmx_tree.specs.Properties.{property_of, other_type};
 
 use crate::element::{attributes, children, text_in};
 use crate::fault::Fault;

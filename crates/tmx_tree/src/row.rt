@@ -6,7 +6,8 @@ ghost use Rattle.json_members.specs.Members.{put_some};
 ghost use Rattle.xml_text.specs.Xml.{attribute_view};
 ghost use Rattle.tmx_tree.specs.Answers.{GivesBy, Leaves};
 ghost use Rattle.tmx_tree.specs.Numbers.{real_of, real_number};
-ghost use Rattle.tmx_tree.specs.Rows.{row_of, real_in, read_as, usual, is_whole_data, is_empty_text, is_flag, is_usual, unless_usual, where_absent, where_given, row_value, with_row, with_rows};
+ghost use Rattle.tmx_tree.specs.Rows.{row_of, real_in, read_as, usual, is_whole_data, is_empty_text, is_flag, is_usual, unless_usual, where_absent};
+ghost use Rattle.tmx_tree.specs.Rows.{where_given, row_value, with_row, with_rows};
 
 use crate::element::attribute_value;
 use crate::fault::{Fault, Refusal};

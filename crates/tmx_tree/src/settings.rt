@@ -2,7 +2,8 @@
 ghost use Rattle.std.specs.Prelude.{◌≡◌, map, option_map, IfOk};
 ghost use Rattle.serde_json.specs.View.{view as data_of, members_view};
 ghost use Rattle.xml_text.specs.Xml.{attribute_view, node_view, children_of};
-ghost use Rattle.tmx_tree.specs.Maps.{chunk_side, side_of_chunk, size_data, chunk_size, unless_no_members, export_of, export_in, chunk_size_in, settings_in, settings};
+ghost use Rattle.tmx_tree.specs.Maps.{chunk_side, side_of_chunk, size_data, chunk_size, unless_no_members, export_of, export_in, chunk_size_in, settings_in};
+ghost use Rattle.tmx_tree.specs.Maps.{settings};
 
 use crate::element::{attribute_value, attributes, children, first_named};
 use crate::number::unsigned_of;

@@ -4,7 +4,9 @@ ghost use Rattle.serde_json.specs.View.{view as data_of, members_view};
 ghost use Rattle.xml_text.specs.Xml.{attribute_view, node_view, view, children_of};
 ghost use Rattle.tmx_tree.specs.Answers.{GivesBy, Gives, Leaves};
 ghost use Rattle.tmx_tree.specs.Elements.{attributes_of, kids_of};
-ghost use Rattle.tmx_tree.specs.Layers.{data_text, data_form, with_form, has_chunk, finite_cells, with_finite, chunk_members, chunk_cells, with_another_chunk, with_chunk, with_chunks, chunks_view, put_chunks, is_element, has_elements, has_loose_cells, with_infinite, with_cells, tile_layer};
+ghost use Rattle.tmx_tree.specs.Layers.{data_text, data_form, with_form, has_chunk, finite_cells, with_finite, chunk_members, chunk_cells, with_another_chunk};
+ghost use Rattle.tmx_tree.specs.Layers.{with_chunk, with_chunks, chunks_view, put_chunks, is_element, has_elements, has_loose_cells, with_infinite, with_cells};
+ghost use Rattle.tmx_tree.specs.Layers.{tile_layer};
 
 use crate::bounds::{Stretch, put_bounds, with_chunk_cells};
 use crate::cells::{Form, cell_count, cells_in, form_of, padded};

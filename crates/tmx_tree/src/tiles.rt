@@ -3,7 +3,8 @@ ghost use Rattle.std.specs.Prelude.{◌≡◌, map, option_map, OnOk};
 ghost use Rattle.serde_json.specs.View.{view as data_of, members_view};
 ghost use Rattle.xml_text.specs.Xml.{node_view, view, children_of};
 ghost use Rattle.tmx_tree.specs.Answers.{GivesBy, Leaves};
-ghost use Rattle.tmx_tree.specs.Tilesets.{with_frame, with_frames, animation, collision, with_frames_in, with_solid, tile_members, is_alone, with_tile_entry, with_tile, with_tiles};
+ghost use Rattle.tmx_tree.specs.Tilesets.{with_frame, with_frames, animation, collision, with_frames_in, with_solid, tile_members, is_alone, with_tile_entry};
+ghost use Rattle.tmx_tree.specs.Tilesets.{with_tile, with_tiles};
 
 use crate::element::{attributes, children, first_named, named};
 use crate::fault::Fault;

@@ -4,11 +4,13 @@ ghost use Rattle.serde_json.specs.View.{view as data_of, members_view};
 ghost use Rattle.xml_text.specs.Xml.{attribute_view, node_view, view, children_of};
 ghost use Rattle.tmx_tree.specs.Answers.{GivesBy, Leaves};
 ghost use Rattle.tmx_tree.specs.Elements.{attributes_of, kids_of};
-ghost use Rattle.tmx_tree.specs.Tilesets.{unless_zero, picture, with_picture, point, are_zero, offset_of, grid_orientation, is_own_grid, grid_data, grid_of, is_set, is_turning, turning, turning_in};
-ghost use Rattle.tmx_tree.specs.Tilesets.{is_old, with_places, alignment, with_drawing, with_lists, embedded, offset_in, grid_in};
+ghost use Rattle.tmx_tree.specs.Tilesets.{unless_zero, picture, with_picture, point, are_zero, offset_of, grid_orientation, is_own_grid, grid_data, grid_of};
+ghost use Rattle.tmx_tree.specs.Tilesets.{is_set, is_turning, turning, turning_in};
+ghost use Rattle.tmx_tree.specs.Tilesets.{is_old, with_places, alignment, with_drawing, with_lists, tileset_members, embedded, offset_in, grid_in};
 
 use crate::cells::whole_at;
-use crate::element::{attribute_value, attributes, children, first_named};
+use crate::counts::put_counts;
+use crate::element::{attributes, children, first_named};
 use crate::fault::Fault;
 use crate::layers::transparent;
 use crate::objects::text_unless;
@@ -183,13 +185,11 @@ fn turning_in(alloc: Global, element: Option<&Element>) -> Result<Option<Value>,
     }
 }
 
-/// Whether a tileset has terrains, or does not say how many tiles it has.
+/// Whether a tileset has terrains.
 pub fn is_old(element: &Element) -> bool
     ensures { result ≡ is_old (view element.now) }
 {
     first_named(children(element), "terraintypes").is_some()
-        || !(attribute_value(attributes(element), "tilecount").is_some()
-            && attribute_value(attributes(element), "columns").is_some())
 }
 
 fn put_places(
@@ -247,13 +247,22 @@ fn put_lists(
     Ok(())
 }
 
+#[tactic(auto, unfolding(crate::specs::Tilesets::tileset_members))]
+fn tileset_members(alloc: Global, element: &Element) -> Result<Map<String, Value>, Fault>
+    ensures { GivesBy (λ m. members_view m.entries) result (tileset_members (view element.now)) }
+{
+    let mut members = Map::new(alloc);
+    put_tileset_rows(alloc, attributes(element), &mut members)?;
+    put_counts(alloc, element, &mut members)?;
+    Ok(members)
+}
+
 /// A tileset that stands in the map itself.
 #[tactic(auto, unfolding(crate::specs::Tilesets::embedded))]
 pub fn embedded(alloc: Global, element: &Element) -> Result<Value, Fault>
     ensures { GivesBy data_of result (embedded (view element.now)) }
 {
-    let mut members = Map::new(alloc);
-    put_tileset_rows(alloc, attributes(element), &mut members)?;
+    let mut members = tileset_members(alloc, element)?;
     put_drawing(alloc, element, &mut members)?;
     let turned = turning_in(alloc, first_named(children(element), "transformations"))?;
     put_some(alloc, &mut members, "transformations", turned)?;

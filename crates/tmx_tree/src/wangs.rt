@@ -4,7 +4,8 @@ ghost use Rattle.serde_json.specs.View.{view as data_of, members_view};
 ghost use Rattle.xml_text.specs.Xml.{attribute_view, node_view, view, children_of};
 ghost use Rattle.tmx_tree.specs.Answers.{GivesBy, Leaves};
 ghost use Rattle.tmx_tree.specs.Cells.{csv_cells};
-ghost use Rattle.tmx_tree.specs.Wangs.{with_color_of, with_color, with_colors, eight, with_wang_tile_of, with_wang_tile, with_wang_tiles, has_old_colors, wang_type, with_lists, wang_set, new_wang_set, with_wang_set, with_wang_sets, wang_sets};
+ghost use Rattle.tmx_tree.specs.Wangs.{with_color_of, with_color, with_colors, eight, with_wang_tile_of, with_wang_tile, with_wang_tiles, has_old_colors};
+ghost use Rattle.tmx_tree.specs.Wangs.{wang_type, with_lists, wang_set, new_wang_set, with_wang_set, with_wang_sets, wang_sets};
 
 use crate::cells::csv_cells;
 use crate::element::{attributes, children, first_named, named};

@@ -6,4 +6,5 @@ use Rattle.tmx_tree.proofs.tilesets.push_tilesets.Given as goal
 
 abbrev pub invariant-loop-node : goal.invariant-loop-node
 invariant-loop-node l =
-    with_tilesets (children_of (map node_view (drop l.node-index l.node-items))) (map view l.found.items) ≡ with_tilesets (children_of (map node_view l.node-items)) (map view l.initial.found.items)
+    with_tilesets (children_of (map node_view (drop l.node-index l.node-items))) (map view l.found.items)
+    ≡ with_tilesets (children_of (map node_view l.node-items)) (map view l.initial.found.items)
