@@ -41,6 +41,10 @@ pub returns-in-SetTilesetHead-clause-unchanged : goal.returns-in-SetTilesetHead-
 returns-in-SetTilesetHead-clause-unchanged c =
     rw (c.in-SetTilesetHead.is, sym c.deref_mut-in-SetTilesetHead.ensures.value) c.merge-in-SetTilesetHead.ensures.unchanged
 
+pub returns-in-SetTilesetMember-clause-unchanged : goal.returns-in-SetTilesetMember-clause-unchanged
+returns-in-SetTilesetMember-clause-unchanged c =
+    rw (c.in-SetTilesetMember.is, sym c.deref_mut-in-SetTilesetMember.ensures.value) c.merge-in-SetTilesetMember.ensures.unchanged
+
 pub returns-in-NumberTileset-clause-unchanged : goal.returns-in-NumberTileset-clause-unchanged
 returns-in-NumberTileset-clause-unchanged c = rw c.in-NumberTileset.is c.merge-in-NumberTileset.ensures.unchanged
 
