@@ -1,6 +1,6 @@
 -- Documents by name, and by their numbers: what changing, adding or taking out one of them leaves.
-use Rattle.std.proofs.Common.{◌≡◌, ◌<◌, ◌-◌, ◌==◌, nat_lt, if◌then◌else◌, ℕ, zero, suc, List, [], ◌∷◌, ◌++◌, length, remove, slice_get, position}
-use Rattle.std.proofs.Common.{Option, Some, None, IfSome, refl, ap, arith}
+use Rattle.std.proofs.Common.{◌≡◌, ◌<◌, ◌-◌, ◌==◌, nat_lt, if◌then◌else◌, ℕ, zero, suc, List, [], ◌∷◌}
+use Rattle.std.proofs.Common.{◌++◌, length, remove, slice_get, position, Option, Some, None, IfSome, refl, ap, arith}
 use Rattle.std.proofs.lemmas.Bool.Decides.{nat_tests}
 use Rattle.std.proofs.lemmas.Grind.{elements}
 use Rattle.std.proofs.lemmas.Option.{gets}

@@ -1,6 +1,6 @@
 -- A group, whose entries are told in order of opening: what its numbers say of the documents, and what each change leaves.
-use Rattle.std.proofs.Common.{◌≡◌, ◌≢◌, ℕ, suc, ◌+◌, ◌-◌, ◌<◌, ◌≤◌, ◌==◌, nat_lt, ◌⊎◌, inl, inr, ◌++◌, position, List, [], ◌∷◌, length, map, remove}
-use Rattle.std.proofs.Common.{get_or, slice_get, Bool, true, false, Option, Some, None, IfSome, is_some, option_and_then}
+use Rattle.std.proofs.Common.{◌≡◌, ◌≢◌, ℕ, suc, ◌+◌, ◌-◌, ◌<◌, ◌≤◌, ◌==◌, nat_lt, ◌⊎◌, inl, inr, ◌++◌, position, List}
+use Rattle.std.proofs.Common.{[], ◌∷◌, length, map, remove, get_or, slice_get, Bool, true, false, Option, Some, None, IfSome, is_some, option_and_then}
 use Rattle.std.proofs.Common.{refl, sym, ◌∙◌, ap, subst, arith, if◌then◌else◌}
 use Rattle.std.proofs.lemmas.Bool.{cases_lt}
 use Rattle.std.proofs.lemmas.Bool.Decides.{nat_tests}
@@ -219,7 +219,8 @@ module _ {C : Type 0} (f : C → Change) (g : Group C) (held : AreHeld f g) wher
   group_of-last name h old is =
       let ns = order_of g.order in
       let ds : documents_of f (entries_of g) ≡ old.documents ++ record { name = name; history = h } ∷ [] = ap (λ (p : GroupParts). p.documents) is in
-      let count : length ns ≡ suc (length old.documents) = omega (arith, placed.entries, length-documents, ap length ds, length-append old.documents (record { name = name; history = h } ∷ [])) in
+      let count : length ns ≡ suc (length old.documents) =
+      omega (arith, placed.entries, length-documents, ap length ds, length-append old.documents (record { name = name; history = h } ∷ [])) in
       let last : slice_get ns (length ns - 1) ≡ Some (get_or ns (length ns - 1) 0) = slice_get-get_or ns (length ns - 1) 0 (omega arith) in
       let back : get_or g.order.places.items (get_or ns (length ns - 1) 0) 0 ≡ length ns - 1 =
       placed.placed.back (length ns - 1) (omega (arith, placed.entries)) in
@@ -305,7 +306,9 @@ module _ {C : Type 0} (f : C → Change) (g : Group C) (held : AreHeld f g) wher
 
     pub group_of-added : group_of f n ≡ added (string_bytes key) (history f stack) (group_of f g)
     group_of-added =
-        rw (entries_of-added, place_in-added) (group_at-push f (entries_of g) (key, stack) (place_in g.order g.active) (place_within (length (entries_of g)) length-entries))
+        rw (entries_of-added, place_in-added) (
+        group_at-push f (entries_of g) (key, stack) (place_in g.order g.active) (place_within (length (entries_of g)) length-entries)
+        )
 
   -- the stack with a number goes
   module _ (n : Group C) (i : ℕ) (e d : String Global × Stack C) (lt : i < length g.stacks.entries) (at : slice_get g.stacks.entries i ≡ Some e)
@@ -328,7 +331,8 @@ module _ {C : Type 0} (f : C → Change) (g : Group C) (held : AreHeld f g) wher
 
     pub AreHeld-removed : AreHeld f n
     AreHeld-removed = record {
-      stacks = rw entries (All-take (λ e. Holds f e.1) (length g.stacks.entries - 1) _ (All-set (λ e. Holds f e.1) g.stacks.entries i _ (held.stacks _ d (omega arith)) held.stacks));
+      stacks = rw entries (All-take (λ e. Holds f e.1) (length g.stacks.entries - 1) _
+          (All-set (λ e. Holds f e.1) g.stacks.entries i _ (held.stacks _ d (omega arith)) held.stacks));
       distinct = unique;
       order = rw count order;
       within = rw (active, count) (number_left-within (length g.stacks.entries) i g.active lt held.within);

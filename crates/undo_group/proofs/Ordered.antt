@@ -110,13 +110,15 @@ module _ {X : Type 0} where
       let m : length (in_order xs ns) ≡ length xs = length-in_order xs ns of_old ∙ order.entries in
       same_at_each (in_order (swap_remove xs i d) ms) (remove (in_order xs ns) (get_or ps i 0))
       (omega (arith, taken.one_less, order.entries, length-remove (in_order xs ns) (get_or ps i 0)))
-      (λ q below. slice_get-in_order (swap_remove xs i d) ms q among (omega arith) ∙ each of_old place m q (omega (arith, taken.one_less, order.entries)) (cases_lt q (get_or ps i 0)))
+      (λ q below. slice_get-in_order (swap_remove xs i d) ms q among (omega arith)
+      ∙ each of_old place m q (omega (arith, taken.one_less, order.entries)) (cases_lt q (get_or ps i 0)))
     where
       -- another number than i stands at each other place
       other : (q : ℕ) → q < length xs → q ≢ get_or ps i 0 → get_or ns q 0 ≢ i
       other q lt apart same = apart (sym (order.placed.back q lt) ∙ ap (λ k. get_or ps k 0) same)
 
-      after : (q : ℕ) → q < length xs → q ≢ get_or ps i 0 → slice_get (swap_remove xs i d) (number_after i (length ns - 1) (get_or ns q 0)) ≡ slice_get xs (get_or ns q 0)
+      after : (q : ℕ) → q < length xs → q ≢ get_or ps i 0
+          → slice_get (swap_remove xs i d) (number_after i (length ns - 1) (get_or ns q 0)) ≡ slice_get xs (get_or ns q 0)
       after q below apart = rw order.entries (named_after xs i (get_or ns q 0) d lt (order.placed.within q below) (other q below apart))
 
       each : ((p : ℕ) → p < length ns → get_or ns p 0 < length xs) → get_or ps i 0 < length xs → length (in_order xs ns) ≡ length xs

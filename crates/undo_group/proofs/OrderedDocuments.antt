@@ -1,6 +1,6 @@
 -- Documents that are told in another order: which names and histories there are, and which of them is the active one.
-use Rattle.std.proofs.Common.{◌≡◌, ℕ, zero, suc, ◌<◌, List, [], ◌∷◌, length, get_or, slice_get, Bool, true, false, Option, Some, None, refl, sym, ap}
-use Rattle.std.proofs.Common.{subst, ◌∙◌, arith}
+use Rattle.std.proofs.Common.{◌≡◌, ℕ, zero, suc, ◌<◌, List, [], ◌∷◌, length, get_or, slice_get}
+use Rattle.std.proofs.Common.{Bool, true, false, Option, Some, None, refl, sym, ap, subst, ◌∙◌, arith}
 use Rattle.std.proofs.lemmas.Option.{slice_get_within}
 use Rattle.std.proofs.lemmas.Slice.Eq.{bytes_eq-Decides}
 use Rattle.std.specs.Str.{bytes_eq}
@@ -46,7 +46,8 @@ AreDistinct-by : (ds : List OpenDocument) (ns : List ℕ) → AreDistinct ds
     → ((p q : ℕ) → p < length ns → q < length ns → get_or ns p 0 ≡ get_or ns q 0 → p ≡ q) → AreDistinct (in_order ds ns)
 AreDistinct-by ds [] distinct once = tt
 AreDistinct-by ds (n ∷ ns) distinct once =
-    by_head (slice_get ds n) refl (AreDistinct-by ds ns distinct (λ p q lt below same. let e = once (suc p) (suc q) (omega arith) (omega arith) same in omega arith))
+    by_head (slice_get ds n) refl
+    (AreDistinct-by ds ns distinct (λ p q lt below same. let e = once (suc p) (suc q) (omega arith) (omega arith) same in omega arith))
   where
     by_head : (o : Option OpenDocument) → slice_get ds n ≡ o → AreDistinct (in_order ds ns) → AreDistinct (in_order ds (n ∷ ns))
     by_head None none rest = rw none rest

@@ -1,6 +1,6 @@
 -- Numbers in order of which one is taken out: places are written again behind it.
-use Rattle.std.proofs.Common.{◌≡◌, ◌≢◌, ℕ, ◌+◌, ◌-◌, ◌<◌, ◌≤◌, List, length, get_or, set, remove, arith, refl, ap, subst, ◌∙◌, ◌==◌, Bool, true}
-use Rattle.std.proofs.Common.{false, ◌⊎◌, inl, inr}
+use Rattle.std.proofs.Common.{◌≡◌, ◌≢◌, ℕ, ◌+◌, ◌-◌, ◌<◌, ◌≤◌, List, length, get_or, set, remove}
+use Rattle.std.proofs.Common.{arith, refl, ap, subst, ◌∙◌, ◌==◌, Bool, true, false, ◌⊎◌, inl, inr}
 use Rattle.std.proofs.lemmas.Bool.{cases_lt}
 use Rattle.std.proofs.lemmas.Bool.Decides.{nat_tests}
 use Rattle.std.proofs.lemmas.Grind.{elements}

@@ -21,7 +21,8 @@ returns-in-Some g c =
             ∙ option_map-map (λ e. e.1) (history f) (slice_get old.stacks.entries c.in-Some.at)
             ∙ sym (active_history-number f old c.requires c.in-Some.at c.in-Some.is);
         stack = stack ∙ sym (stack_at-active f old c.requires c.in-Some.at c.in-Some.is);
-        held = IfSome-mapped (λ s. s.now) (Holds f) c.get_index_mut.result (rw stack (IfSome-at (λ e. e.1) (Holds f) old.stacks.entries c.in-Some.at c.requires.stacks));
+        held = IfSome-mapped (λ s. s.now) (Holds f) c.get_index_mut.result
+            (rw stack (IfSome-at (λ e. e.1) (Holds f) old.stacks.entries c.in-Some.at c.requires.stacks));
         whole = grind (arith, IsGroup-at (documents_of f (entries_of old)) (place_in old.order old.active) (distinct_documents f old c.requires));
       },
     )

@@ -116,7 +116,8 @@ returns-clause-sound g c =
     record {
       stacks = rw same c.requires.sound.stacks;
       distinct = rw same c.requires.sound.distinct;
-      order = rw same (same_order old.order c.reserve.new.self (length old.stacks.entries) c.reserve.ensures.entries c.reserve.ensures.places c.requires.sound.order);
+      order = rw same
+          (same_order old.order c.reserve.new.self (length old.stacks.entries) c.reserve.ensures.entries c.reserve.ensures.places c.requires.sound.order);
       within = rw same c.requires.sound.within;
     }
 

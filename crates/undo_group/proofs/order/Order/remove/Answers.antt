@@ -12,7 +12,8 @@ loop-at-init c =
     let count : vec_len old.places ≡ c.len-last.result = omega (arith, order.places) in (
       shifted_out old.entries.items old.places.items c.remove.new.self.items c.len-last.result (c.len-last.result - 1) c.args.entry c.index-moved.result.now
           c.swap_remove-place.result order (omega arith) (omega arith) c.index-moved.ensures s.value c.remove.ensures.items
-          c.swap_remove-place.new.self.items (omega (arith, order.places)) (λ d lt. s.by_index.0 d (omega (arith, order.places)) ∙ ap (λ (k : ℕ). get_or old.places.items (k - 1) d) count)
+          c.swap_remove-place.new.self.items (omega (arith, order.places))
+          (λ d lt. s.by_index.0 d (omega (arith, order.places)) ∙ ap (λ (k : ℕ). get_or old.places.items (k - 1) d) count)
           (λ k d other lt. s.by_index.1 k d other (omega (arith, order.places))),
       refl,
     )
