@@ -8,7 +8,7 @@ use Rattle.command_api.specs.Names.{Names, Vanishing, WhenEqual, IsSettled}
 use Rattle.command_api.specs.Making.{Makes}
 use Rattle.command_api.specs.Exchange.{FitsTurn, IsExchanged, change_of}
 use Rattle.command_api.specs.Offers.{FitsPut, IsMerged, Shown, offer_undone}
-use Rattle.command_api.specs.Swap.{swap, swap_where, swap_shown, swap_held, FitsBack, FitsShown, IsGiven}
+use Rattle.command_api.specs.Swap.{swap, swap_where, swap_shown, swap_held, FitsBack, FitsShown, IsCovered, IsGiven}
 
 -- ---- one turn: the part has the value new, and the held one is put in
 module _ {V : Type 0} {p : Lens DocumentParts V} {held new : V} {d e : DocumentParts} (laws : IsLawfulLens p) (given : p.get d ≡ Some new)
@@ -173,24 +173,28 @@ held_made laws vanishes own given told found fits is = record {
   names = refl;
 }
 
--- one that is made takes a newer change of its part in, and a test has told whether the part has the value from before both
-pub held_merged : {V : Type 0} {names : Names} {p : Lens DocumentParts V} {same told : Bool} (made : Bool) {held before : V} {d : DocumentParts}
-    {o : Shown}
+-- what puts a value of the part back is covered by each value of it
+pub put-covered : {V : Type 0} {p : Lens DocumentParts V} {value before : V} {d : DocumentParts} → IsLawfulLens p → FitsBack p before d
+    → IsCovered p value (put p before d) d
+put-covered {value = value} {before = before} {d = d} laws fits = record {
+  well_formed = fits.well_formed;
+  there = fits.there;
+  same = laws.update-update (λ own. value) (λ own. before) d;
+}
+
+-- one that is made takes in a newer change that its value covers, and a test has told whether the part has the value from before both
+pub held_merged : {V : Type 0} {names : Names} {p : Lens DocumentParts V} {same told : Bool} (made : Bool) {held : V} {d : DocumentParts} {o : Shown}
     → IsLawfulLens p → names.vanishing ≡ WhenEqual → (own : V) → p.get d ≡ Some own → (told ≡ true → own ≡ held) → (own ≡ held → told ≡ true)
-    → FitsBack p before d → offer_undone o d ≡ put p before d
-    → FitsTurn false (swap_held names p same made (Some held)) (offer_undone o d)
+    → IsCovered p held (offer_undone o d) d → FitsTurn false (swap_held names p same made (Some held)) (offer_undone o d)
     → IsMerged (change_of (swap_held names p same made (Some held))) (change_of (swap_held names p told made (Some held))) o d
-held_merged {p = p} made {held = held} {before = before} {d = d} laws vanishes own given equal same fits is older =
-    let there = (rw is at older).1.fits in
-    let back : put p held d ≡ put p held (put p before d) = sym (laws.update-update (λ own. held) (λ own. before) d) in
+held_merged made laws vanishes own given equal same covered older = record {
+  fits = (
+    older.0,
     record {
-      fits = (
-        older.0,
-        record {
-          fits = record { well_formed = fits.well_formed; there = fits.there; back = rw back there.back };
-          settled = put-IsSettled laws vanishes own given equal same;
-        },
-      );
-      undone = back ∙ ap (put p held) (sym is);
-      names = refl;
-    }
+      fits = record { well_formed = covered.well_formed; there = covered.there; back = rw (← covered.same) older.1.fits.back };
+      settled = put-IsSettled laws vanishes own given equal same;
+    },
+  );
+  undone = sym covered.same;
+  names = refl;
+}

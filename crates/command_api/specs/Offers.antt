@@ -26,7 +26,7 @@ use Rattle.command_api.specs.declared.offer.Offer.TheVariants as offers
 
 -- what is shown: nothing; the cells that a paint with this id changes on a layer; an object, and its placing before and
 -- after; an owner, a name, and the setting of that property before, where there was one, and after; or a name, or none, and an
--- owner's head before its own member of that name, or several at once, were set
+-- owner's head, or the value, before its own member of that name, or several at once, were set
 pub data Shown : Type 0 where
   Nothing : Shown
   Cells : ℕ → ℕ → List CellEdit → Shown
@@ -61,7 +61,7 @@ offer_undone Nothing d = d
 offer_undone (Cells id layer cells) d = painted layer cells Before d
 offer_undone (Place object before after) d = put (placing_with_id object) before d
 offer_undone (Value owner name before after) d = setting_undone owner name before d
-offer_undone (Member name before) d = head_undone before d
+offer_undone (Member name before) d = head_undone name before d
 
 -- the well-formed document has the tile layer, the cells are the difference to it of the document before them, and that
 -- one is well formed too
@@ -100,7 +100,7 @@ FitsOffer Nothing d = Unit {0}
 FitsOffer (Cells id layer cells) d = FitsCells layer cells d
 FitsOffer (Place object before after) d = FitsPut (placing_with_id object) before after d
 FitsOffer (Value owner name before after) d = FitsSetting owner name before after d
-FitsOffer (Member name before) d = FitsHead before d
+FitsOffer (Member name before) d = FitsHead name before d
 
 -- what a command shows: nothing exactly where it does not follow, else its tag and its undo
 pub record IsOfferOf (c : Change) (o : Shown) : Type 0 where

@@ -51,6 +51,12 @@ pub record FitsBack {V : Type 0} (p : Lens DocumentParts V) (before : V) (d : Do
   pub there : IsSome (p.get d)
   pub back : IsWellFormed (put p before d).map
 
+-- the well-formed document has the part, and is with a value put in what the document from before is with it
+pub record IsCovered {V : Type 0} (p : Lens DocumentParts V) (value : V) (before d : DocumentParts) : Type 0 where
+  pub well_formed : IsWellFormed d.map
+  pub there : IsSome (p.get d)
+  pub same : put p value before ≡ put p value d
+
 -- the document with the held value put in, where one is held
 abbrev pub put_held : {V : Type 0} → Lens DocumentParts V → Option V → DocumentParts → DocumentParts
 put_held p None d = d

@@ -1,9 +1,9 @@
 use map_model::{
-    CellEdit, LayerHead, MapHead, MemberOwner, ObjectHead, Owner, Placing, Scalar, Setting,
-    TilesetHead,
+    CellEdit, JsonValue, LayerHead, MapHead, MemberOwner, ObjectHead, Owner, Placing, Scalar,
+    Setting, TilesetHead,
 };
 
-/// The head of an owner: what it is beside its id and its lists.
+/// The head of an owner: what it is beside its id and its lists. Of a tileset it may be the value alone of the member that is named.
 #[derive(Drop)]
 pub enum OwnerHead<'a> {
     /// That of the object with this id.
@@ -14,6 +14,8 @@ pub enum OwnerHead<'a> {
     Tileset(u32, &'a TilesetHead),
     /// That of the map.
     Map(&'a MapHead),
+    /// The value of the own member that is named, of the tileset with this first id.
+    TilesetMember(u32, &'a JsonValue),
 }
 
 impl<'a> OwnerHead<'a> {
@@ -29,6 +31,7 @@ impl<'a> OwnerHead<'a> {
             OwnerHead::Layer(layer, _) => MemberOwner::Layer(*layer),
             OwnerHead::Tileset(first_id, _) => MemberOwner::Tileset(*first_id),
             OwnerHead::Map(_) => MemberOwner::Map,
+            OwnerHead::TilesetMember(first_id, _) => MemberOwner::Tileset(*first_id),
         }
     }
 }
@@ -58,7 +61,7 @@ pub enum Offer<'a> {
         kind: &'a str,
         value: Scalar<'a>,
     },
-    /// The owner's own member with a name is set, or several are at once. Before, the owner had this head.
+    /// The owner's own member with a name is set, or several are at once. Before, the owner had this head, or the member this value.
     Member {
         name: Option<&'a str>,
         before: OwnerHead<'a>,

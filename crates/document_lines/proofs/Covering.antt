@@ -17,7 +17,7 @@ use Rattle.map_model.specs.Bodies.{body_with_objects, tile_at}
 use Rattle.map_model.specs.Document.{DocumentParts, with_map}
 use Rattle.map_model.specs.Given.{given_setting}
 use Rattle.map_model.specs.Groups.{inside}
-use Rattle.map_model.specs.Heads.{head, head_of_layer, head_of_map, head_with_id, layer_head_with_id, tileset_head_with_id}
+use Rattle.map_model.specs.Heads.{head, head_of_layer, head_of_map, head_with_id, layer_head_with_id, tileset_head_with_id, tileset_value}
 use Rattle.map_model.specs.Lens.{Lens, found, layer_objects, name, next_object_id, of_layer, of_object, placing, placing_with_id, siblings, tilesets}
 use Rattle.map_model.specs.Lens.{update_found, visible}
 use Rattle.map_model.specs.Lists.{change_at, or_empty}
@@ -41,7 +41,8 @@ use Rattle.layer_commands.specs.declared.show.ShowLayer.{ShowLayer}
 use Rattle.layer_commands.specs.Changes.{add_change, add_exchange, move_change, move_exchange, remove_change, remove_exchange, rename_change, rename_exchange}
 use Rattle.layer_commands.specs.Changes.{resize_change, resize_exchange, show_change, show_exchange}
 use Rattle.member_commands.specs.declared.set_head.SetHead.{SetHead}
-use Rattle.member_commands.specs.Changes.{set_head_change, set_head_exchange}
+use Rattle.member_commands.specs.declared.set_value.SetValue.{SetValue}
+use Rattle.member_commands.specs.Changes.{set_head_change, set_head_exchange, set_value_change, set_value_exchange}
 use Rattle.member_commands.specs.Layers.{layer_heads}
 use Rattle.member_commands.specs.Maps.{map_heads}
 use Rattle.member_commands.specs.Objects.{object_heads}
@@ -137,6 +138,10 @@ map_head-keeps f = record { selection = λ d. refl; layers = λ d. record { widt
 
 tileset_head-keeps : (first_id : ℕ) → KeepsCellsAt (tileset_head_with_id first_id)
 tileset_head-keeps first_id f =
+    record { selection = λ d. refl; layers = λ d. record { width = refl; height = refl; ids = refl }; cells = λ d id x y. refl }
+
+tileset_value-keeps : (first_id : ℕ) (name : List ℕ) → KeepsCellsAt (tileset_value first_id name)
+tileset_value-keeps first_id name f =
     record { selection = λ d. refl; layers = λ d. record { width = refl; height = refl; ids = refl }; cells = λ d id x y. refl }
 
 tile_at-objects : (g : List Object → List Object) (number : ℕ) (b : Body) → tile_at (body_with_objects g b) number ≡ tile_at b number
@@ -256,6 +261,9 @@ set_layer_head-covers c = outline-covers (set_head_exchange layer_heads c) (held
 set_tileset_head-covers : (c : SetHead TilesetHead) → Covers outline_differs (set_head_change tileset_heads c)
 set_tileset_head-covers c = outline-covers (set_head_exchange tileset_heads c) (held-keeps (tileset_head_with_id c.id) c.head (tileset_head-keeps c.id))
 
+set_value-covers : (c : SetValue) → Covers outline_differs (set_value_change c)
+set_value-covers c = outline-covers (set_value_exchange c) (held-keeps (tileset_value c.first_id c.name) c.value (tileset_value-keeps c.first_id c.name))
+
 set_map_head-covers : (c : SetHead MapHead) → Covers outline_differs (set_head_change map_heads c)
 set_map_head-covers c = outline-covers (set_head_exchange map_heads c) (held-keeps head_of_map c.head map_head-keeps)
 
@@ -348,7 +356,8 @@ pub outline_edit-covers : (e : Edit)
     → IsOf edits.RenameLayer e ⊎ (IsOf edits.ShowLayer e ⊎ (IsOf edits.AddObject e ⊎ (IsOf edits.RemoveObject e ⊎ (IsOf edits.PlaceObject e
     ⊎ (IsOf edits.SetProperty e ⊎ (IsOf edits.RemoveProperty e ⊎ (IsOf edits.AddTileset e
     ⊎ (IsOf edits.RemoveTileset e ⊎ (IsOf edits.SetObjectHead e ⊎ (IsOf edits.SetLayerHead e ⊎ (IsOf edits.SetMapHead e
-    ⊎ (IsOf edits.ReparentObject e ⊎ (IsOf edits.PutProperty e ⊎ IsOf edits.SetTilesetHead e)))))))))))))
+    ⊎ (IsOf edits.ReparentObject e ⊎ (IsOf edits.PutProperty e
+    ⊎ (IsOf edits.SetTilesetHead e ⊎ IsOf edits.SetTilesetMember e))))))))))))))
     → Covers outline_differs (edit_change e)
 outline_edit-covers e (inl h) = rw h.1 (rename-covers h.0)
 outline_edit-covers e (inr (inl h)) = rw h.1 (show-covers h.0)
@@ -364,7 +373,8 @@ outline_edit-covers e (inr (inr (inr (inr (inr (inr (inr (inr (inr (inr (inl h))
 outline_edit-covers e (inr (inr (inr (inr (inr (inr (inr (inr (inr (inr (inr (inl h)))))))))))) = rw h.1 (set_map_head-covers h.0.value)
 outline_edit-covers e (inr (inr (inr (inr (inr (inr (inr (inr (inr (inr (inr (inr (inl h))))))))))))) = rw h.1 (reparent_object-covers h.0)
 outline_edit-covers e (inr (inr (inr (inr (inr (inr (inr (inr (inr (inr (inr (inr (inr (inl h)))))))))))))) = rw h.1 (put_property-covers h.0)
-outline_edit-covers e (inr (inr (inr (inr (inr (inr (inr (inr (inr (inr (inr (inr (inr (inr h)))))))))))))) = rw h.1 (set_tileset_head-covers h.0.value)
+outline_edit-covers e (inr (inr (inr (inr (inr (inr (inr (inr (inr (inr (inr (inr (inr (inr (inl h))))))))))))))) = rw h.1 (set_tileset_head-covers h.0.value)
+outline_edit-covers e (inr (inr (inr (inr (inr (inr (inr (inr (inr (inr (inr (inr (inr (inr (inr h))))))))))))))) = rw h.1 (set_value-covers h.0.value)
 
 pub layer_edit-covers : (e : Edit)
     → IsOf edits.AddLayer e ⊎ (IsOf edits.RemoveLayer e ⊎ (IsOf edits.MoveLayer e ⊎ IsOf edits.NumberTileset e)) → Covers layers_differ (edit_change e)

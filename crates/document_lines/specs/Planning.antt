@@ -6,7 +6,7 @@ use Rattle.fractions.specs.declared.lines.Fractions.{Fractions}
 use Rattle.command_api.specs.Law.{Change, IsSame}
 use Rattle.command_api.specs.Offers.{Shown, Nothing}
 use Rattle.layer_commands.specs.Changes.{add_change, remove_change, rename_change, show_change, move_change, resize_change}
-use Rattle.member_commands.specs.Changes.{set_head_change, set_head_shown}
+use Rattle.member_commands.specs.Changes.{set_head_change, set_head_shown, set_value_change, set_value_shown}
 use Rattle.member_commands.specs.Layers.{layer_heads}
 use Rattle.member_commands.specs.Maps.{map_heads}
 use Rattle.member_commands.specs.Tilesets.{tileset_heads}
@@ -29,7 +29,7 @@ use Rattle.document_lines.specs.declared.planned.Edit.{Edit}
 use Rattle.document_lines.specs.declared.planned.Edit.TheVariants.{Paint, AddLayer, RemoveLayer, RenameLayer, ShowLayer, MoveLayer, Select, ResizeMap}
 use Rattle.document_lines.specs.declared.planned.Edit.TheVariants.{AddObject, RemoveObject, PlaceObject, SetProperty, RemoveProperty, AddTileset, RemoveTileset}
 use Rattle.document_lines.specs.declared.planned.Edit.TheVariants.{SetObjectHead, SetLayerHead, SetMapHead, ReparentObject, PutProperty, SetTilesetHead}
-use Rattle.document_lines.specs.declared.planned.Edit.TheVariants.{NumberTileset}
+use Rattle.document_lines.specs.declared.planned.Edit.TheVariants.{NumberTileset, SetTilesetMember}
 use Rattle.document_lines.specs.declared.planned.Planned.{Planned}
 use Rattle.document_lines.specs.declared.planned.Planned.TheVariants as planned
 use Rattle.document_lines.specs.Acts.{Act, answer_of}
@@ -61,6 +61,7 @@ edit_change (ReparentObject command) = reparent_object_change command
 edit_change (PutProperty command) = put_property_change command
 edit_change (SetTilesetHead command) = set_head_change tileset_heads command.value
 edit_change (NumberTileset command) = number_tileset_change command
+edit_change (SetTilesetMember command) = set_value_change command.value
 
 -- what a planned edit shows to the step before it
 abbrev pub edit_shown : Edit → Shown
@@ -71,6 +72,7 @@ edit_shown (SetObjectHead command) = set_head_shown object_heads command.value
 edit_shown (SetLayerHead command) = set_head_shown layer_heads command.value
 edit_shown (SetMapHead command) = set_head_shown map_heads command.value
 edit_shown (SetTilesetHead command) = set_head_shown tileset_heads command.value
+edit_shown (SetTilesetMember command) = set_value_shown command.value
 edit_shown edit = Nothing
 
 -- a refusal has left all as it was

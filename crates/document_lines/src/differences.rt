@@ -242,7 +242,8 @@ impl Edit {
             | Edit::SetMapHead(_)
             | Edit::ReparentObject(_)
             | Edit::PutProperty(_)
-            | Edit::SetTilesetHead(_) => Differences::of_outline(),
+            | Edit::SetTilesetHead(_)
+            | Edit::SetTilesetMember(_) => Differences::of_outline(),
         }
     }
 }

@@ -33,6 +33,7 @@ macro_rules! with_command {
             Edit::PutProperty($command) => $call,
             Edit::SetTilesetHead($command) => $call,
             Edit::NumberTileset($command) => $call,
+            Edit::SetTilesetMember($command) => $call,
         }
     };
 }

@@ -1,6 +1,6 @@
 use layer_commands::{AddLayer, MoveLayer, RemoveLayer, RenameLayer, ResizeMap, ShowLayer};
 use map_model::{LayerHead, MapHead, ObjectHead, TilesetHead};
-use member_commands::SetHead;
+use member_commands::{SetHead, SetValue};
 use object_commands::{AddObject, PlaceObject, RemoveObject, ReparentObject};
 use paint_commands::{PaintCommand, SelectCommand};
 use property_commands::{
@@ -33,6 +33,7 @@ pub enum Edit {
     PutProperty(PutProperty),
     SetTilesetHead(Box<SetHead<TilesetHead>>),
     NumberTileset(NumberTileset),
+    SetTilesetMember(Box<SetValue>),
 }
 
 /// What is to be done for a line.

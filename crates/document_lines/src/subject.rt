@@ -64,6 +64,7 @@ impl Edit {
             Edit::PutProperty(command) => Subject::of_owner(command.owner()),
             Edit::SetTilesetHead(command) => Subject::of_members(command.owner()),
             Edit::NumberTileset(command) => Subject::Tileset(command.first_id()),
+            Edit::SetTilesetMember(command) => Subject::of_members(command.owner()),
         }
     }
 }

@@ -42,3 +42,4 @@ pub mod OtherTiers
 pub mod Parents
 pub mod MovedLayers
 pub mod MovedObjects
+pub mod ValueLaws

@@ -1,5 +1,9 @@
 -- The heads of owners: what an object, a layer, a tileset or a map is beside its id, its size and its lists; and owners with another head.
-use Rattle.std.specs.Prelude.{ℕ}
+use Rattle.std.specs.Prelude.{ℕ, List}
+use Rattle.std.specs.Ordering.{nat_cmp, match_ordering}
+use Rattle.std.specs.Cmp.Lexicographic.{slice_cmp}
+use Rattle.serde_json.specs.Data.{Data, Members, no_members, member}
+use Rattle.serde_json.specs.Find.{get_member}
 use Rattle.map_model.specs.declared.heads.LayerHead.{LayerHead}
 use Rattle.map_model.specs.declared.heads.MapHead.{MapHead}
 use Rattle.map_model.specs.declared.heads.ObjectHead.{ObjectHead}
@@ -9,7 +13,7 @@ use Rattle.map_model.specs.declared.parts.MapParts.{MapParts}
 use Rattle.map_model.specs.declared.parts.Object.{Object}
 use Rattle.map_model.specs.declared.parts.Tileset.{Tileset}
 use Rattle.map_model.specs.Document.{DocumentParts, with_map}
-use Rattle.map_model.specs.Lens.{Lens, found, of_layer, of_object, of_tileset, whole}
+use Rattle.map_model.specs.Lens.{Lens, found, inner, of_layer, of_object, of_tileset, whole}
 use Rattle.map_model.specs.Objects.{object_place}
 
 -- ---- objects
@@ -57,6 +61,23 @@ head_of_tileset = whole tileset_head tileset_with_head
 -- the head of the tileset with the first id
 abbrev pub tileset_head_with_id : ℕ → Lens DocumentParts TilesetHead
 tileset_head_with_id first_id = of_tileset first_id head_of_tileset
+
+-- the members, with f of the value of this name in its place
+abbrev pub with_member : List ℕ → (Data → Data) → Members → Members
+with_member k f no_members = no_members
+with_member k f (member l d ms) = match_ordering (slice_cmp nat_cmp k l) (member l d (with_member k f ms)) (member l (f d) ms) (member l d (with_member k f ms))
+
+-- the lens of the value of this name
+abbrev pub value_named : List ℕ → Lens Members Data
+value_named name = record { get = get_member name; update = with_member name }
+
+-- the kept members of a tileset
+abbrev pub kept_of_tileset : Lens Tileset Members
+kept_of_tileset = whole (λ t. t.kept) (λ kept t. record t { kept = kept })
+
+-- the value of the kept member of a name, of the tileset with the first id
+abbrev pub tileset_value : ℕ → List ℕ → Lens DocumentParts Data
+tileset_value first_id name = of_tileset first_id (inner kept_of_tileset (value_named name))
 
 -- ---- maps
 abbrev pub map_head : MapParts → MapHead

@@ -1,9 +1,11 @@
 // What a map's records hold, each seen by contracts as plain data.
-ghost use Rattle.std.specs.Prelude.{◌≡◌, IsUtf8, [], ◌+◌, ◌*◌, ◌<◌, length, slice_set, string_bytes};
+ghost use Rattle.std.specs.Prelude.{◌≡◌, IsUtf8, [], ◌+◌, ◌*◌, ◌<◌, length, slice_set, string_bytes, Some, IsSome};
+ghost use Rattle.serde_json.specs.Find.{get_member};
 ghost use Rattle.serde_json.specs.View.{view as data_of, members_view};
 ghost use Rattle.map_model.specs.Lists.{Each};
 ghost use Rattle.map_model.specs.Alike.{AreAlike};
 ghost use Rattle.map_model.specs.CellEdits.{AreInRowOrder, HaveRange, IsBelow, cell_number, put_values, side_value, with_value};
+ghost use Rattle.map_model.specs.Heads.{with_member};
 ghost use Rattle.map_model.specs.WellFormed.{IsTileValue};
 
 use crate::alike::put_alike;
@@ -192,6 +194,21 @@ impl Kept {
         ensures { members_view result.now.entries ≡ self.now }
     {
         &self.members
+    }
+
+    /// Gives the member of a name, which is there, another value, and hands the old one back.
+    pub fn replace_value(&mut self, name: &str, value: JsonValue) -> JsonValue
+        requires { IsSome (get_member name.now self.old) }
+        ensures given { get_member name.now self.old ≡ Some result }
+        ensures kept { self.new ≡ with_member name.now (λ own. value) self.old }
+    {
+        let JsonValue { value } = value;
+        let Some(own) = self.members.get_mut(name) else {
+            unreachable!();
+        };
+        JsonValue {
+            value: mem::replace(own, value),
+        }
     }
 }
 

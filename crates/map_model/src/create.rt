@@ -84,7 +84,7 @@ fn object_layer(alloc: Global, id: u32, name: MapText) -> Result<Layer, AllocErr
         visible: true,
         properties: Chain::new(alloc),
         kept: kept_by_object_layer(alloc)?,
-        body: Body::Objects(LinkTree::new()),
+        body: Body::Objects(LinkTree::new(alloc)),
     })
 }
 

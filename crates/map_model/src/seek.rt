@@ -25,6 +25,24 @@ fn layer_here(layers: &Chain<Layer>) -> Option<usize>
     Some(at)
 }
 
+// Goes to the object with an id, and tells whether it did: by the ids, if they rise, or else by the numbers noted for the objects.
+fn seek_numbered(objects: &mut LinkTree<Object>, id: u32) -> bool
+    ensures { objects.new ≡ objects.old }
+{
+    if let Some(at) = place_of_id(objects, id) {
+        objects.go_to(at, id);
+        return true;
+    }
+    objects.note_places(|object| object.id);
+    match objects.noted_place(id) {
+        Some(at) if objects.get(at).id == id => {
+            objects.go_to(at, id);
+            true
+        }
+        _ => false,
+    }
+}
+
 // Goes to the object with an id, if it is the one that was last changed or gone to, or else by the ids, and notes that it did.
 fn seek_listed(objects: &mut LinkTree<Object>, id: u32) -> bool
     ensures { objects.new ≡ objects.old }
@@ -46,15 +64,30 @@ fn seek_listed(objects: &mut LinkTree<Object>, id: u32) -> bool
 }
 
 /// Goes to the object with an id, so that it is found and changed at once, in layers that may have so many groups in one
-/// another. Where the ids of a layer do not rise, or those of several layers overlap, it may miss the object. No layer changes.
+/// another, and tells whether it did. No layer changes.
 #[inline(never)]
 #[cycle(seek)]
-pub fn seek_in_layers(layers: &mut Chain<Layer>, id: u32, groups: usize)
+pub fn seek_in_layers(layers: &mut Chain<Layer>, id: u32, groups: usize) -> bool
     ensures { layers.new ≡ layers.old }
 {
-    if let Some(at) = likely_layer(layers, id, groups) {
-        layers.get_mut(at).body.seek_object(id, groups);
+    match likely_layer(layers, id, groups) {
+        Some(at) => layers.get_mut(at).body.seek_object(id, groups),
+        None => false,
     }
+}
+
+/// The same, where the ids of a layer do not rise, or those of several layers overlap: by a number noted for each object.
+#[inline(never)]
+#[cycle(noted)]
+pub fn seek_noted(layers: &mut Chain<Layer>, id: u32, groups: usize) -> bool
+    ensures { layers.new ≡ layers.old }
+{
+    for at in 0..layers.len() {
+        if layers.get_mut(at).body.seek_noted_object(id, groups) {
+            return true;
+        }
+    }
+    false
 }
 
 // The place of a layer of which an object may have the id, or one that stands in it: the layer that was last changed, or
@@ -122,24 +155,35 @@ impl Body {
         }
     }
 
-    // Goes to the object with an id, or in a group to the layer that may have it first.
+    // Goes to the object with an id, or in a group to the layer that may have it first, and tells whether it did.
     #[cycle(seek)]
-    fn seek_object(&mut self, id: u32, groups: usize)
+    fn seek_object(&mut self, id: u32, groups: usize) -> bool
         ensures { self.new ≡ self.old }
     {
         match self {
-            Body::Objects(objects) => {
-                if let Some(at) = place_of_id(objects, id) {
+            Body::Objects(objects) => match place_of_id(objects, id) {
+                Some(at) => {
                     objects.go_to(at, id);
+                    true
                 }
-            }
-            Body::Group(layers) => {
-                if groups > 0 {
-                    seek_in_layers(layers, id, groups - 1);
-                }
-            }
-            Body::Tiles(_, _) => {}
-            Body::Other => {}
+                None => false,
+            },
+            Body::Group(layers) => groups > 0 && seek_in_layers(layers, id, groups - 1),
+            Body::Tiles(_, _) => false,
+            Body::Other => false,
+        }
+    }
+
+    // Goes to the object with an id, or in a group to the one in the first layer that has it, and tells whether it did.
+    #[cycle(noted)]
+    fn seek_noted_object(&mut self, id: u32, groups: usize) -> bool
+        ensures { self.new ≡ self.old }
+    {
+        match self {
+            Body::Objects(objects) => seek_numbered(objects, id),
+            Body::Group(layers) => groups > 0 && seek_noted(layers, id, groups - 1),
+            Body::Tiles(_, _) => false,
+            Body::Other => false,
         }
     }
 }

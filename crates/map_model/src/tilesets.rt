@@ -1,9 +1,10 @@
 // Tilesets: where they stand, and whether they are in use.
-ghost use Rattle.std.specs.Prelude.{◌≡◌, ◌<◌, Some, IsSome, find, position};
+ghost use Rattle.std.specs.Prelude.{◌≡◌, ◌<◌, Some, IsSome, find, option_and_then, position};
 ghost use Rattle.std.specs.List.{list_any};
 ghost use Rattle.std.specs.Option.{option_copied, option_map};
+ghost use Rattle.serde_json.specs.Find.{get_member};
 ghost use Rattle.map_model.specs.Groups.{drawn, tree};
-ghost use Rattle.map_model.specs.Heads.{tileset_head, tileset_with_head};
+ghost use Rattle.map_model.specs.Heads.{tileset_head, tileset_with_head, with_member};
 ghost use Rattle.map_model.specs.Keeping.{layer_tier};
 ghost use Rattle.map_model.specs.Lists.{change_first};
 ghost use Rattle.map_model.specs.Renumbering.{end_in, has_losses, tileset_with_first_id};
@@ -12,7 +13,7 @@ ghost use Rattle.map_model.specs.Tilesets.{has_first_id, in_use, tileset_place, 
 ghost use Rattle.map_model.specs.Uses.{base_limit, end_of, is_between, nearer};
 ghost use Rattle.map_model.specs.WellFormed.{IsWellFormed};
 
-use crate::contents::{Kept, MapText};
+use crate::contents::{JsonValue, Kept, MapText};
 use crate::heads::TilesetHead;
 use crate::limits::MAX_GROUPS;
 use crate::map::Map;
@@ -112,6 +113,23 @@ pub fn head_tileset_in(
         unreachable!();
     };
     tilesets.get_mut(at).replace_head(head)
+}
+
+/// Gives the kept member of a name, which the tileset with a first id has, another value, and hands the old one back.
+pub fn value_tileset_in(
+    tilesets: &mut Chain<Tileset>,
+    first_id: u32,
+    name: &str,
+    value: JsonValue,
+) -> JsonValue
+    requires { IsSome (option_and_then (λ t. get_member name.now t.kept) (find (has_first_id first_id) tilesets.old)) }
+    ensures given { option_and_then (λ t. get_member name.now t.kept) (find (has_first_id first_id) tilesets.old) ≡ Some result }
+    ensures tilesets { tilesets.new ≡ change_first (has_first_id first_id) (λ t. record t { kept = with_member name.now (λ own. value) t.kept }) tilesets.old }
+{
+    let Some(at) = place_in(tilesets, first_id) else {
+        unreachable!();
+    };
+    tilesets.get_mut(at).kept.replace_value(name, value)
 }
 
 /// Gives the tileset with a first id another one.

@@ -1,5 +1,5 @@
 -- The heads of one kind of owner: which part of a document they are, and what their members say.
-use Rattle.std.specs.Prelude.{◌≡◌, ◌≢◌, ◌↔◌, ℕ, List, Bool, true, Some, Result, Ok}
+use Rattle.std.specs.Prelude.{◌≡◌, ◌≢◌, ℕ, List, Bool, true, Option, Some, Result, Ok}
 use Rattle.serde_json.specs.Data.{Members}
 use Rattle.map_model.specs.declared.owner.MemberOwner.{MemberOwner}
 use Rattle.map_model.specs.Document.{DocumentParts}
@@ -15,7 +15,7 @@ use Rattle.refusals.specs.declared.edit_fault.EditFault.{EditFault}
 use Rattle.refusals.specs.declared.edit_fault.EditFault.TheVariants.{NoMemory}
 use Rattle.refusals.specs.declared.map_refusal.MapRefusal.{MapRefusal}
 use Rattle.command_api.specs.Heads.{ShownHead, FitsHead, head_owner, head_undone}
-use Rattle.command_api.specs.Swap.{FitsBack}
+use Rattle.command_api.specs.Swap.{FitsBack, IsCovered}
 
 -- the owner with an id, its head in a document, and that head as an offer shows it; why an edit is refused where no owner has the
 -- id; where such an owner stands, and how much further it is saved; which members are own ones; the members of a head, and the head
@@ -32,15 +32,17 @@ pub record HeadParts (H : Type 0) : Type 0 where
   pub read : DocumentParts → Members → Result H MapRefusal
 
 -- a head that was read from an owner's members, with own ones put in that a line can say, or without one of them, makes a well-formed
--- map of a well-formed one; and what an offer shows is the owner, and its head put back
+-- map of a well-formed one; what an offer shows of a head is the owner, and the head put back; and a head covers what any offer shows
+-- of its owner
 pub record AreHeadParts {H : Type 0} (p : HeadParts H) : Type 0 where
   pub absence : p.absence ≢ NoMemory
   pub inner : is_inner p.place ≡ true
   pub lawful : (id : ℕ) → IsLawfulLens (p.lens id)
   pub owned : (id : ℕ) (h : H) → head_owner (p.shown id h) ≡ p.owner id
-  pub only : (id : ℕ) (s : ShownHead) → head_owner s ≡ p.owner id → (h : H) × (s ≡ p.shown id h)
-  pub undone : (id : ℕ) (h : H) (d : DocumentParts) → head_undone (p.shown id h) d ≡ put (p.lens id) h d
-  pub fits : (id : ℕ) (h : H) (d : DocumentParts) → FitsHead (p.shown id h) d ↔ FitsBack (p.lens id) h d
+  pub undone : (id : ℕ) (name : Option (List ℕ)) (h : H) (d : DocumentParts) → head_undone name (p.shown id h) d ≡ put (p.lens id) h d
+  pub fits : (id : ℕ) (name : Option (List ℕ)) (h : H) (d : DocumentParts) → FitsBack (p.lens id) h d → FitsHead name (p.shown id h) d
+  pub covered : (id : ℕ) (name : Option (List ℕ)) (s : ShownHead) (h : H) (d : DocumentParts) → head_owner s ≡ p.owner id → FitsHead name s d
+      → IsCovered (p.lens id) h (head_undone name s d) d
   pub put_in : (id : ℕ) (fractions : Fractions) (moved : Moved) (words : Members) (own new : H) (d : DocumentParts) → IsWellFormed d.map
       → (p.lens id).get d ≡ Some own → AreWords (members_said fractions p.place moved words) → all_named p.is_own words ≡ true
       → p.read d (put_words fractions p.place moved words (p.members own)) ≡ Ok new → IsWellFormed (put (p.lens id) new d).map

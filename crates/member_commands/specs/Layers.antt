@@ -8,7 +8,7 @@ use Rattle.map_model.specs.Heads.{layer_head_with_id}
 use Rattle.map_json.specs.LayerHeads.{is_layer_member, layer_head_at, layer_head_members}
 use Rattle.refusals.specs.declared.edit_fault.EditFault.TheVariants.{NoSuchLayer}
 use Rattle.command_api.specs.Heads.{LayersHead}
-use Rattle.command_api.proofs.ShownHeads.{head_owner-Layer}
+use Rattle.command_api.proofs.ShownHeads.{layer-covered}
 use Rattle.map_json.proofs.HeadedLayers.{layer_put-well_formed, layer_without-well_formed}
 use Rattle.map_model.proofs.HeadLaws.{layer_head-laws}
 use Rattle.member_commands.specs.Heads.{AreHeadParts, HeadParts}
@@ -32,9 +32,9 @@ layer_heads-laws = record {
   inner = refl;
   lawful = layer_head-laws;
   owned = λ id h. refl;
-  only = head_owner-Layer;
-  undone = λ id h d. refl;
-  fits = λ id h d. (λ f. f, λ f. f);
+  undone = λ id name h d. refl;
+  fits = λ id name h d f. f;
+  covered = layer-covered;
   put_in = layer_put-well_formed;
   taken_out = layer_without-well_formed;
 }

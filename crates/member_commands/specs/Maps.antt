@@ -8,7 +8,7 @@ use Rattle.map_model.specs.Heads.{head_of_map}
 use Rattle.map_json.specs.MapHeads.{is_map_member, map_head_at, map_head_members}
 use Rattle.refusals.specs.declared.edit_fault.EditFault.TheVariants.{NoSuchLayer}
 use Rattle.command_api.specs.Heads.{MapsHead}
-use Rattle.command_api.proofs.ShownHeads.{head_owner-Map}
+use Rattle.command_api.proofs.ShownHeads.{map-covered}
 use Rattle.map_json.proofs.MapHeadLaws.{map_put-well_formed, map_without-well_formed}
 use Rattle.map_model.proofs.HeadLaws.{map_head-laws}
 use Rattle.member_commands.specs.Heads.{AreHeadParts, HeadParts}
@@ -33,9 +33,9 @@ map_heads-laws = record {
   inner = refl;
   lawful = λ id. map_head-laws;
   owned = λ id h. refl;
-  only = λ id. head_owner-Map;
-  undone = λ id h d. refl;
-  fits = λ id h d. (λ f. f, λ f. f);
+  undone = λ id name h d. refl;
+  fits = λ id name h d f. f;
+  covered = λ id. map-covered;
   put_in = λ id. map_put-well_formed;
   taken_out = λ id. map_without-well_formed;
 }

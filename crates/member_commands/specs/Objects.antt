@@ -11,7 +11,7 @@ use Rattle.map_json.specs.ObjectHeads.{head_at, head_members}
 use Rattle.json_trees.specs.declared.names.TheConstants.{RESERVED_NAME}
 use Rattle.refusals.specs.declared.edit_fault.EditFault.TheVariants.{NoSuchObject}
 use Rattle.command_api.specs.Heads.{ObjectsHead}
-use Rattle.command_api.proofs.ShownHeads.{head_owner-Object}
+use Rattle.command_api.proofs.ShownHeads.{object-covered}
 use Rattle.map_json.proofs.HeadedObjects.{put-well_formed, without-well_formed}
 use Rattle.map_model.proofs.HeadLaws.{head_with_id-laws}
 use Rattle.member_commands.specs.Heads.{AreHeadParts, HeadParts}
@@ -39,9 +39,9 @@ object_heads-laws = record {
   inner = refl;
   lawful = head_with_id-laws;
   owned = λ id h. refl;
-  only = head_owner-Object;
-  undone = λ id h d. refl;
-  fits = λ id h d. (λ f. f, λ f. f);
+  undone = λ id name h d. refl;
+  fits = λ id name h d f. f;
+  covered = object-covered;
   put_in = put-well_formed is_object_member refl;
   taken_out = without-well_formed;
 }

@@ -8,7 +8,7 @@ use Rattle.map_model.specs.Heads.{tileset_head_with_id}
 use Rattle.map_json.specs.TilesetHeads.{is_tileset_member, tileset_head_at, tileset_head_members}
 use Rattle.refusals.specs.declared.edit_fault.EditFault.TheVariants.{NoSuchTileset}
 use Rattle.command_api.specs.Heads.{TilesetsHead}
-use Rattle.command_api.proofs.ShownHeads.{head_owner-Tileset}
+use Rattle.command_api.proofs.ShownHeads.{tileset-covered}
 use Rattle.map_json.proofs.TilesetHeadLaws.{tileset_put-well_formed, tileset_without-well_formed}
 use Rattle.map_model.proofs.HeadLaws.{tileset_head-laws}
 use Rattle.member_commands.specs.Heads.{AreHeadParts, HeadParts}
@@ -32,9 +32,9 @@ tileset_heads-laws = record {
   inner = refl;
   lawful = tileset_head-laws;
   owned = λ id h. refl;
-  only = head_owner-Tileset;
-  undone = λ id h d. refl;
-  fits = λ id h d. (λ f. f, λ f. f);
+  undone = λ id name h d. refl;
+  fits = λ id name h d f. f;
+  covered = tileset-covered;
   put_in = tileset_put-well_formed;
   taken_out = tileset_without-well_formed;
 }

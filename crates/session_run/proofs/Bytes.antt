@@ -1,10 +1,11 @@
 -- From the plans of lines to those of their bytes, and from these to steps.
-use Rattle.std.proofs.Common.{◌≡◌, ℕ, List, None, Some, Ok, Err, refl, subst, sym}
+use Rattle.std.proofs.Common.{◌≡◌, ℕ, List, Option, None, Some, Ok, Err, refl, subst, sym}
 use Rattle.fractions.specs.declared.lines.Fractions.{Fractions}
 use Rattle.map_store.specs.Files.{StoreParts}
 use Rattle.command_api.specs.Law.{Change, IsSame}
 use Rattle.refusals.specs.declared.line_fault.LineFault.{LineFault}
 use Rattle.refusals.specs.declared.refusal.Refusal.TheVariants.{NoMemory}
+use Rattle.undo_stack.specs.History.{History, current}
 use Rattle.session.specs.declared.line.Line.{Line}
 use Rattle.session.specs.declared.more_line.MoreLine.{MoreLine}
 use Rattle.session.specs.declared.reply.Reply.{Reply}
@@ -22,7 +23,7 @@ use Rattle.document_lines.specs.Planning.{edit_change}
 use Rattle.editor.specs.Kinds.{CommitKinds, Kinds, PlanKinds}
 use Rattle.editor.specs.MoreKinds.{StepKindsFor}
 use Rattle.editor.specs.MorePlanning.{PlansMoreIn}
-use Rattle.editor.specs.Planning.{Commits, KeepsPlan, Plans}
+use Rattle.editor.specs.Planning.{Commits, FitsActive, KeepsPlan, Plans}
 use Rattle.editor.proofs.Committing.{commit_step, uncommitted}
 use Rattle.editor.proofs.KindLists.{commit_line}
 use Rattle.editor.proofs.MoreCommitting.{more_commit_kinds, more_commit_step, more_quiet, more_refused, more_refused_kinds, more_uncommitted}
@@ -109,3 +110,12 @@ module _ {C : Type 0} (change : C → Change) (dialect : Dialect) (bytes : List 
 pub unput_bytes : {C : Type 0} (change : C → Change) (dialect : Dialect) (bytes : List ℕ) (edit : Edit) (old mid : Workspace)
     → PlansBytes change dialect bytes old (planned.Push edit) mid → MachineStepFor dialect bytes old (Some (Refused NoMemory)) mid
 unput_bytes change dialect bytes edit old mid p = subst (λ w. MachineStepFor dialect bytes old (Some (Refused NoMemory)) w) (sym p.0) p.2
+
+pub unput_kinds : {C : Type 0} (change : C → Change) (dialect : Dialect) (bytes : List ℕ) (edit : Edit) (old mid : Machine) (os ms : List Kinds)
+    → PlansKinds change dialect bytes old (planned.Push edit) mid os ms → StepKindsFor dialect bytes old (Some (Refused NoMemory)) mid os ms
+unput_kinds change dialect bytes edit old mid os ms p = rw (p.0, p.1) p.3
+
+-- a command fits where an edit that does the same does
+pub same-FitsActive : (active : Option History) (c d : Change) → IsSame c d → FitsActive active c → FitsActive active d
+same-FitsActive None c d same fits = fits
+same-FitsActive (Some h) c d same fits = (same.fits_redo (current h)).0 fits

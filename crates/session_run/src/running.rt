@@ -363,6 +363,7 @@ pub fn run_lines<R: Read, W: Write, S: MapStore>(
             Edit::PutProperty(command) => Some(boxed(alloc, command)?),
             Edit::SetTilesetHead(command) => Some(command),
             Edit::NumberTileset(command) => Some(boxed(alloc, command)?),
+            Edit::SetTilesetMember(command) => Some(command),
         }
     };
     let stopped = match step_all(

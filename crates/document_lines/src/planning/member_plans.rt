@@ -1,20 +1,22 @@
 // The edits of own members that lines ask for.
 ghost use Rattle.std.specs.Prelude.{◌≡◌};
+ghost use Rattle.map_model.specs.declared.owner.MemberOwner.TheVariants as owners;
 ghost use Rattle.undo_stack.specs.Stacks.{history, nestings, Holds};
 ghost use Rattle.document_lines.specs.EditLines.{IsOfMembers};
 ghost use Rattle.document_lines.specs.MoreRules.{more_answer_of};
 ghost use Rattle.document_lines.specs.Planning.{PlansEdit, PlansMade, PlansMore};
-ghost use Rattle.member_commands.specs.Changes.{set_head_change};
+ghost use Rattle.member_commands.specs.Changes.{set_head_change, set_tileset_change};
 ghost use Rattle.member_commands.specs.Edits.{after_put_members, after_remove_member, after_set_member};
 ghost use Rattle.member_commands.specs.Names.{put_members_names, remove_member_names, set_member_names};
+ghost use Rattle.member_commands.specs.Tilesets.{tileset_heads};
 
-use crate::planned::Planned;
+use crate::planned::{Edit, Planned};
 use crate::planning::edited_head::EditedHead;
 use crate::planning::refused;
 use command_api::Command;
 use fractions::Fractions;
 use map_model::{Document, LayerHead, MapHead, MemberOwner, ObjectHead, TilesetHead};
-use member_commands::SetHead;
+use member_commands::{SetHead, SetTileset, set_tileset_member};
 use refusals::{MoreFault, Refusal};
 use session::{MoreLine, Text};
 use std::alloc::Global;
@@ -48,6 +50,37 @@ fn plan_set<H: EditedHead>(
     let (name, json) = (name.as_str(), json.as_str());
     let command = SetHead::<H>::set(alloc, document, id, name, json, follows, fractions);
     planned(alloc, command)
+}
+
+// The plan of a tileset's own member: its edit, by the member's value or by the tileset's head, or its refusal.
+fn planned_tileset(alloc: Global, command: Result<SetTileset, MoreFault>) -> Planned
+    ensures { PlansMade set_tileset_change command result }
+{
+    match command {
+        Ok(SetTileset::Head(command)) => planned(alloc, Ok(command)),
+        Ok(SetTileset::Value(command)) => match Box::new(alloc, command) {
+            Ok(command) => Planned::Push(Edit::SetTilesetMember(command)),
+            Err(_) => refused(Refusal::NoMemory),
+        },
+        Err(fault) => refused(Refusal::from(fault)),
+    }
+}
+
+#[inline(never)]
+fn plan_set_tileset(
+    alloc: Global,
+    document: &Document,
+    first_id: u32,
+    name: &Text<'_>,
+    json: &Text<'_>,
+    follows: bool,
+    fractions: Fractions,
+) -> Planned
+    ensures { PlansEdit (more_answer_of (set_member_names (owners.Tileset first_id) name.now follows) (after_set_member tileset_heads fractions document.now first_id name.now json.now)) document.now result }
+{
+    let (name, json) = (name.as_str(), json.as_str());
+    let command = set_tileset_member(alloc, document, first_id, name, json, follows, fractions);
+    planned_tileset(alloc, command)
 }
 
 #[inline(never)]
@@ -168,7 +201,7 @@ pub fn on_members<C: Command>(
             name,
             json,
             follows,
-        } => plan_set::<TilesetHead>(
+        } => plan_set_tileset(
             alloc,
             stack.document(),
             *first_id,

@@ -12,7 +12,7 @@ use crate::limits::MAX_GROUPS;
 use crate::objects::{head_object_in, insert_object_in, place_object_in, take_object_in};
 use crate::parts::{Object, Placing};
 use crate::place::ObjectPlace;
-use crate::seek::{seek_here, seek_in_layers};
+use crate::seek::{seek_here, seek_in_layers, seek_noted};
 use link_tree::Loose;
 
 impl Document {
@@ -36,15 +36,14 @@ impl Document {
         take_object_in(&mut self.map.parts.layers, place)
     }
 
-    /// Goes to the object with an id, where ids rise along its layer, so that it is then found and changed at once. The
-    /// document stays as it is.
+    /// Goes to the object with an id, so that it is then found and changed at once. The document stays as it is.
     pub fn seek_object(&mut self, id: u32)
         ensures document { self.new ≡ self.old }
         ensures well_formed { IsDocument self.new }
     {
         let layers = &mut self.map.parts.layers;
-        if !seek_here(layers, id, MAX_GROUPS) {
-            seek_in_layers(layers, id, MAX_GROUPS);
+        if !seek_here(layers, id, MAX_GROUPS) && !seek_in_layers(layers, id, MAX_GROUPS) {
+            seek_noted(layers, id, MAX_GROUPS);
         }
     }
 

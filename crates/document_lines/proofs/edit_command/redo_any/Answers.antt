@@ -1,4 +1,5 @@
 -- One arm after the other, each by what its command says: a search at every arm takes far longer.
+use Rattle.std.proofs.Common.{sym}
 use Rattle.document_lines.proofs.edit_command.redo_any.Goals as goal
 
 pub redo-requires : goal.redo-requires
@@ -108,3 +109,9 @@ redo-requires-in-NumberTileset c = rw c.in-NumberTileset.is at c.requires
 
 pub returns-in-NumberTileset : goal.returns-in-NumberTileset
 returns-in-NumberTileset c = rw c.in-NumberTileset.is c.redo-in-NumberTileset.ensures
+
+pub redo-requires-in-SetTilesetMember : goal.redo-requires-in-SetTilesetMember
+redo-requires-in-SetTilesetMember c = rw c.deref_mut-in-SetTilesetMember.ensures.value (rw c.in-SetTilesetMember.is at c.requires)
+
+pub returns-in-SetTilesetMember : goal.returns-in-SetTilesetMember
+returns-in-SetTilesetMember c = rw (c.in-SetTilesetMember.is, sym c.deref_mut-in-SetTilesetMember.ensures.value) c.redo-in-SetTilesetMember.ensures

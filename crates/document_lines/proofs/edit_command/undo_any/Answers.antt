@@ -1,4 +1,5 @@
 -- One arm after the other, each by what its command says: a search at every arm takes far longer.
+use Rattle.std.proofs.Common.{sym}
 use Rattle.document_lines.proofs.edit_command.undo_any.Goals as goal
 
 pub undo-requires : goal.undo-requires
@@ -108,3 +109,9 @@ undo-requires-in-NumberTileset c = rw c.in-NumberTileset.is at c.requires
 
 pub returns-in-NumberTileset : goal.returns-in-NumberTileset
 returns-in-NumberTileset c = rw c.in-NumberTileset.is c.undo-in-NumberTileset.ensures
+
+pub undo-requires-in-SetTilesetMember : goal.undo-requires-in-SetTilesetMember
+undo-requires-in-SetTilesetMember c = rw c.deref_mut-in-SetTilesetMember.ensures.value (rw c.in-SetTilesetMember.is at c.requires)
+
+pub returns-in-SetTilesetMember : goal.returns-in-SetTilesetMember
+returns-in-SetTilesetMember c = rw (c.in-SetTilesetMember.is, sym c.deref_mut-in-SetTilesetMember.ensures.value) c.undo-in-SetTilesetMember.ensures

@@ -41,6 +41,10 @@ pub returns-in-SetTilesetHead-clause-unchanged : goal.returns-in-SetTilesetHead-
 returns-in-SetTilesetHead-clause-unchanged c =
     rw (c.in-SetTilesetHead.is, sym c.deref_mut-in-SetTilesetHead.ensures.value) c.merge-in-SetTilesetHead.ensures.unchanged
 
+pub returns-in-SetTilesetMember-clause-unchanged : goal.returns-in-SetTilesetMember-clause-unchanged
+returns-in-SetTilesetMember-clause-unchanged c =
+    rw (c.in-SetTilesetMember.is, sym c.deref_mut-in-SetTilesetMember.ensures.value) c.merge-in-SetTilesetMember.ensures.unchanged
+
 pub returns-in-NumberTileset-clause-unchanged : goal.returns-in-NumberTileset-clause-unchanged
 returns-in-NumberTileset-clause-unchanged c = rw c.in-NumberTileset.is c.merge-in-NumberTileset.ensures.unchanged
 
@@ -49,3 +53,13 @@ returns-in-ReparentObject-clause-unchanged c = rw c.in-ReparentObject.is c.merge
 
 pub returns-in-PutProperty-clause-unchanged : goal.returns-in-PutProperty-clause-unchanged
 returns-in-PutProperty-clause-unchanged c = rw c.in-PutProperty.is c.merge-in-PutProperty.ensures.unchanged
+
+pub merge-requires-in-SetTilesetMember : goal.merge-requires-in-SetTilesetMember
+merge-requires-in-SetTilesetMember c = rw c.deref_mut-in-SetTilesetMember.ensures.value (rw c.in-SetTilesetMember.is at c.requires)
+
+pub returns-in-Paint-clause-unchanged : goal.returns-in-Paint-clause-unchanged
+returns-in-Paint-clause-unchanged c = rw c.in-Paint.is c.merge.ensures.unchanged
+
+pub returns-in-SetTilesetMember-clause-merged : goal.returns-in-SetTilesetMember-clause-merged
+returns-in-SetTilesetMember-clause-merged c =
+    rw (c.in-SetTilesetMember.is, sym c.deref_mut-in-SetTilesetMember.ensures.value) c.merge-in-SetTilesetMember.ensures.merged

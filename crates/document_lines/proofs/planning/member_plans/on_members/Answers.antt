@@ -64,7 +64,7 @@ pub returns-in-SetMember-Tileset-default-default-default-clause-plans : goal.ret
 returns-in-SetMember-Tileset-default-default-default-clause-plans g c =
     let line = c.in-SetMember-Tileset-default-default-default in
     let owner : line.owner ≡ owners.Tileset line.first_id = search rules in
-    rw (line.is, owner, sym c.document-in-SetMember-Tileset-default-default-default.ensures) (c.plan_set-in-SetMember-Tileset-default-default-default.ensures, refl)
+    rw (line.is, owner, sym c.document-in-SetMember-Tileset-default-default-default.ensures) (c.plan_set_tileset.ensures, refl)
 
 pub returns-in-PutMembers-Tileset-default-default-clause-plans : goal.returns-in-PutMembers-Tileset-default-default-clause-plans
 returns-in-PutMembers-Tileset-default-default-clause-plans g c =

@@ -3,7 +3,7 @@ use Rattle.command_api.specs.Law.{Change}
 use denote.Param.Object.{read_made}
 use Rattle.session_run.specs.contracts.running.fn.run_lines.put.{dyn-1-ghosts}
 use Rattle.session_run.proofs.running.fn.run_lines.put.Hides.{has-1-2, has-1-3, has-1-4, has-1-5, has-1-6, has-1-9, has-1-10, has-1-11, has-1-13, has-1-14}
-use Rattle.session_run.proofs.running.fn.run_lines.put.Hides.{has-1-15, has-1-16, has-1-17, has-1-18, has-1-19, has-1-20, has-1-21, has-1-22}
+use Rattle.session_run.proofs.running.fn.run_lines.put.Hides.{has-1-15, has-1-16, has-1-17, has-1-18, has-1-19, has-1-20, has-1-21, has-1-22, has-1-23}
 use Rattle.layer_commands.specs.Changes.{add_change, remove_change, rename_change, show_change, move_change}
 use Rattle.object_commands.specs.Changes.{add_object_change, remove_object_change, place_object_change, reparent_object_change}
 use Rattle.property_commands.specs.PropertyChanges.{put_property_change, remove_property_change}
@@ -136,3 +136,10 @@ returns-in_ok-boxed-in-NumberTileset g c =
     let read = read_made (dyn-1-ghosts g.dyn-1).0 _ (has.at tt) (has.same tt) Change
     (λ j x. j.1.change x) _ _ _ c.into_dyn_box-in_ok-boxed-in-NumberTileset.ensures.1 in
     rw c.in-NumberTileset.is (same-IsSame _ _ (read ∙ ap number_tileset_change c.in_ok-boxed-in-NumberTileset.ensures))
+
+pub returns-in-SetTilesetMember : goal.returns-in-SetTilesetMember
+returns-in-SetTilesetMember g c =
+    let has = has-1-23 g.dyn-1.0 g.dyn-1-has in
+    let read = read_made (dyn-1-ghosts g.dyn-1).0 _ (has.at tt) (has.same tt) Change
+    (λ j x. j.1.change x) _ _ _ c.into_dyn_box-in-SetTilesetMember.ensures.1 in
+    rw c.in-SetTilesetMember.is (same-IsSame _ _ read)
