@@ -15,7 +15,7 @@ use Rattle.undo_stack.specs.Stacks.{history, macros}
 use Rattle.undo_stack.specs.declared.stack.Stack.{Stack}
 use Rattle.undo_group.specs.Groups.{AreDistinct, IsGroup, OpenDocument, active_among, history_named, with_history, with_history_of}
 use Rattle.undo_group.specs.Lending.{IsLeft}
-use Rattle.undo_group.specs.Stacks.{IsReplaced, IsReplacedAt, IsTakenOut, NamedStack, document_of, documents_of, group_of, named, stack_at, stack_named}
+use Rattle.undo_group.specs.Stacks.{IsReplaced, IsReplacedAt, IsTakenOut, NamedStack, document_of, documents_of, entries_of, group_of, named, stack_at, stack_named}
 use Rattle.session.specs.declared.line.Line.{Line}
 use Rattle.refusals.specs.declared.refusal.Refusal.{Refusal}
 use Rattle.session.specs.declared.reply.Reply.{Reply}
@@ -168,7 +168,7 @@ module _ {C : Type 0} (f : C → Change) (old new : Editor C) (s t : Stack C) (s
     (whole : IsGroup (group_of f old.group)) (active : Some (history f s) ≡ active_of (machine_of f old))
     (was : Some s ≡ stack_at (machine_of f old).group.active (stacks_in old)) where
   distinct : AreDistinct (map (document f) (stacks_in old))
-  distinct = subst (λ (ds : List OpenDocument). AreDistinct ds) (sym (documents-stacks f old.group.stacks.entries)) whole.distinct
+  distinct = subst (λ (ds : List OpenDocument). AreDistinct ds) (sym (documents-stacks f (entries_of old.group))) whole.distinct
 
   -- whatever became of the list of s
   pub active_kinds : (Changes : History → History → List Bool → List Bool → Type 0) → Changes (history f s) (history f t) (macros s) (macros t)

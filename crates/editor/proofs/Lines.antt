@@ -1,5 +1,5 @@
 -- What a line about the active document did with its stack, of the editor: the stack s was lent, and left as t.
-use Rattle.std.proofs.Common.{◌≡◌, Some, sym, subst}
+use Rattle.std.proofs.Common.{◌≡◌, Some, None, refl, sym, subst}
 use Rattle.command_api.specs.Law.{Change}
 use Rattle.map_store.specs.Files.{StoreParts}
 use Rattle.undo_stack.specs.Stacks.{history, macros, Holds}
@@ -9,11 +9,12 @@ use Rattle.undo_group.specs.Groups.{IsGroup}
 use Rattle.undo_group.specs.Lending.{IsLeft}
 use Rattle.undo_group.specs.Stacks.{group_of, stack_at}
 use Rattle.session.specs.declared.line.Line.{Line}
+use Rattle.refusals.specs.declared.refusal.Refusal.TheVariants.{NoActiveDocument}
 use Rattle.document_lines.specs.declared.planned.Planned.{Planned}
 use Rattle.document_lines.specs.Kinds.{DocumentKinds}
 use Rattle.document_lines.specs.Machine.{Machine, active_of, workspace}
-use Rattle.document_lines.specs.Planning.{PlansOn}
-use Rattle.document_lines.specs.Rules.{Rule, rule_of}
+use Rattle.document_lines.specs.Planning.{IsOfActive, PlansOn, refused}
+use Rattle.document_lines.specs.Rules.{Rule, OnFiles, OnDocuments, OnActive, Edits, rule_of}
 use Rattle.document_lines.specs.Turns.{turning_rule_of}
 use Rattle.document_lines.proofs.Moving.{steady-PlansOn}
 use Rattle.document_lines.proofs.SteadyPlans.{plans-steady}
@@ -70,3 +71,11 @@ module _ {C : Type 0} (f : C → Change) (old new : Editor C) (s t : Stack C) (s
       → PlanKinds line (machine_of f old) plan (machine_of f new) (kinds_in old) (kinds_in new)
   line-kinds held was kinds sound =
       plan_kinds f old new s t same left whole active was line plan (steady_plans held sound) (kinds (steady sound))
+
+-- where no document is active, a line about the active one is refused
+pub refused-PlansBy : (rule : Rule) (m : Machine) (stored : StoreParts) → active_of m ≡ None → IsOfActive rule
+    → PlansBy rule (workspace m stored) (refused NoActiveDocument) (workspace m stored)
+refused-PlansBy (OnFiles act) m stored none about = absurd about
+refused-PlansBy (OnDocuments act) m stored none about = absurd about
+refused-PlansBy (OnActive act) m stored none about = (rw none (refl, refl), refl)
+refused-PlansBy (Edits names edit) m stored none about = (rw none (refl, refl), refl)

@@ -4,6 +4,7 @@
 mod find;
 mod iter;
 mod link_tree;
+mod numbers;
 mod tree;
 
 pub use iter::Iter;

@@ -8,6 +8,7 @@ ghost use Rattle.link_tree.specs.Changing.{ChangesAt, ChangesEach, TakesEach};
 ghost use Rattle.link_tree.specs.Passing.{IsFirst, NonePasses, SomePasses};
 
 use crate::iter::Iter;
+use crate::numbers::Numbers;
 use crate::tree::{Link, Tree};
 use std::alloc::Global;
 use std::marker::Model;
@@ -65,6 +66,7 @@ pub struct LinkTree<T> {
     tree: Tree<T>,
     here: usize,
     note: Option<u32>,
+    numbers: Numbers,
 }
 
 impl<T> Model for LinkTree<T> {
@@ -82,14 +84,15 @@ impl<T> Model for LinkTree<T> {
 }
 
 impl<T: Drop> LinkTree<T> {
-    /// A list with no links.
-    pub fn new() -> LinkTree<T>
+    /// A list with no links. It takes no memory.
+    pub fn new(alloc: Global) -> LinkTree<T>
         ensures { result ≡ [] }
     {
         LinkTree {
             tree: Tree::Empty,
             here: 0,
             note: None,
+            numbers: Numbers::new(alloc),
         }
     }
 
@@ -158,6 +161,29 @@ impl<T: Drop> LinkTree<T> {
             Some(noted) => noted == note,
             None => false,
         }
+    }
+
+    /// Notes a number for each place that has none, so that `noted_place` finds it; for none, where there is no memory. Neither
+    /// putting in nor taking out a link takes memory for these. No item changes.
+    pub fn note_places<F: Fn(&T) -> u32>(&mut self, number: F)
+        requires { F.IsAlwaysCallable number }
+        ensures { self.new ≡ self.old }
+    {
+        let noted = self.numbers.len();
+        if noted == self.tree.len() || !self.numbers.make_room(self.tree.len()) {
+            return;
+        }
+        for item in Iter::over(&self.tree).skip(noted) {
+            self.numbers.push(number(item));
+        }
+    }
+
+    /// A place for which a number was noted. Where links were put in since, it may be another one, or none.
+    pub fn noted_place(&self, number: u32) -> Option<usize>
+        ensures { IfSome result (λ at. at < length self.now) }
+    {
+        let at = self.numbers.place_of(number)?;
+        if at < self.len() { Some(at) } else { None }
     }
 
     /// Visits the items in order.
@@ -240,6 +266,7 @@ impl<T: Drop> LinkTree<T> {
         let Loose { link } = loose;
         self.here = at;
         self.note = None;
+        self.numbers.end_at(at);
         if let Tree::Filled(link) = link {
             self.tree.insert(at, link);
         }
@@ -253,6 +280,7 @@ impl<T: Drop> LinkTree<T> {
     {
         self.here = at;
         self.note = None;
+        self.numbers.take(at);
         Loose {
             link: Tree::Filled(self.tree.take(at)),
         }

@@ -1,5 +1,6 @@
 -- Documents by name, and by their numbers: what changing, adding or taking out one of them leaves.
-use Rattle.std.proofs.Common.{◌≡◌, ◌<◌, ℕ, zero, suc, List, [], ◌∷◌, ◌++◌, length, remove, slice_get, position, Option, Some, None, IfSome, refl, ap, arith}
+use Rattle.std.proofs.Common.{◌≡◌, ◌<◌, ◌-◌, ◌==◌, nat_lt, if◌then◌else◌, ℕ, zero, suc, List, [], ◌∷◌}
+use Rattle.std.proofs.Common.{◌++◌, length, remove, slice_get, position, Option, Some, None, IfSome, refl, ap, arith}
 use Rattle.std.proofs.lemmas.Bool.Decides.{nat_tests}
 use Rattle.std.proofs.lemmas.Grind.{elements}
 use Rattle.std.proofs.lemmas.Option.{gets}
@@ -9,7 +10,12 @@ use Rattle.undo_stack.specs.History.{History}
 use Rattle.undo_group.specs.Groups.{OpenDocument, GroupParts, IsGroup, IsNew, AreDistinct, history_named, active_history, active_place, is_active}
 use Rattle.undo_group.specs.Groups.{removed, without, with_history}
 use Rattle.undo_group.specs.Groups.{with_active}
-use Rattle.undo_group.specs.Stacks.{group_at, number_without}
+use Rattle.undo_group.specs.Stacks.{group_at}
+
+-- the place of the active one, once the one at another place is taken out and those behind it stand one lower
+abbrev pub place_without : ℕ → Option ℕ → Option ℕ
+place_without gone None = None
+place_without gone (Some at) = if at == gone then None else Some (if nat_lt gone at then at - 1 else at)
 
 -- where no document has the name, nothing changes and nothing goes
 pub with_history-new : (name : List ℕ) (h : History) (ds : List OpenDocument) → IsNew name ds → with_history name h ds ≡ ds
@@ -41,7 +47,7 @@ history_named-at (e ∷ ds) zero d distinct at = grind (arith, bytes_eq-Decides)
 history_named-at (e ∷ ds) (suc i) d distinct at = grind (arith, history_named-at ds i d distinct.1, bytes_eq-Decides)
 
 -- and no other number has the name
-same_number : (ds : List OpenDocument) (i j : ℕ) (d e : OpenDocument) → AreDistinct ds → slice_get ds i ≡ Some d → slice_get ds j ≡ Some e → d.name ≡ e.name
+pub same_number : (ds : List OpenDocument) (i j : ℕ) (d e : OpenDocument) → AreDistinct ds → slice_get ds i ≡ Some d → slice_get ds j ≡ Some e → d.name ≡ e.name
     → i ≡ j
 same_number [] i j d e distinct at there same = absurd cc
 same_number (x ∷ ds) zero zero d e distinct at there same = refl
@@ -85,6 +91,6 @@ without-at (e ∷ ds) zero d distinct at = grind (arith, bytes_eq-Decides, witho
 without-at (e ∷ ds) (suc i) d distinct at = grind (arith, without-at ds i d distinct.1, history_named-at ds i d distinct.1, bytes_eq-Decides)
 
 pub group_at-remove : (ds : List OpenDocument) (i : ℕ) (d : OpenDocument) (number : Option ℕ) → AreDistinct ds → slice_get ds i ≡ Some d
-    → group_at (remove ds i) (number_without i number) ≡ removed d.name (group_at ds number)
+    → group_at (remove ds i) (place_without i number) ≡ removed d.name (group_at ds number)
 group_at-remove ds i d None distinct at = grind (arith, without-at ds i d)
 group_at-remove ds i d (Some j) distinct at = grind (arith, elements, gets, nat_tests, without-at ds i d, same_number ds i j d, bytes_eq-Decides)

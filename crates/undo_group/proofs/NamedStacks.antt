@@ -1,10 +1,9 @@
 -- The stacks of a group by name, as documents: what a look-up, a number and each change of them say of the group.
-use Rattle.std.proofs.Common.{◌≡◌, ℕ, zero, suc, ◌++◌, List, [], ◌∷◌, map, take, drop, remove, slice_get, position, Bool, false, Option, Some, None, is_some}
-use Rattle.std.proofs.Common.{All, refl, ◌∙◌, ap, arith, ◌<◌, ◌-◌, length}
-use Rattle.std.proofs.lemmas.Bool.Decides.{nat_tests}
-use Rattle.std.proofs.lemmas.Grind.{common_steps, elements}
+use Rattle.std.proofs.Common.{◌≡◌, ℕ, zero, suc, ◌++◌, List, [], ◌∷◌, map, take, drop, remove, slice_get, position, Bool, false, Option, Some, None, IfSome}
+use Rattle.std.proofs.Common.{All, refl, ◌∙◌, ap, arith, ◌<◌, length}
+use Rattle.std.proofs.lemmas.Grind.{common_steps}
 use Rattle.std.proofs.lemmas.List.{length-map, map-append}
-use Rattle.std.proofs.lemmas.List.Elements.{All-cons, All-head, All-tail, All-push, All-append, All-take, All-drop}
+use Rattle.std.proofs.lemmas.List.Elements.{All-cons, All-head, All-tail}
 use Rattle.std.proofs.lemmas.List.Quantifiers.{position-Some}
 use Rattle.std.proofs.lemmas.Option.{slice_get-map, gets}
 use Rattle.std.proofs.lemmas.Slice.Eq.{bytes_eq-Decides}
@@ -14,21 +13,15 @@ use Rattle.std.specs.Option.{option_map}
 use Rattle.std.specs.Str.{bytes_eq}
 use Rattle.std.specs.String.{string_bytes, string_eq}
 use Rattle.std.specs.declared.string.String.{String}
-use Rattle.std.specs.declared.alloc.Global.{Global}
-use Rattle.indexmap.specs.Layout.{set_value_at, length-set_value_at}
-use Rattle.indexmap.specs.IndexMap.{with_value_at, insert_entry}
-use Rattle.indexmap.proofs.CallerLemmas.{insert_entry-new}
+use Rattle.indexmap.specs.Layout.{set_value_at}
 use Rattle.indexmap.proofs.SetLemmas.{map-remove}
 use Rattle.command_api.specs.Law.{Change}
 use Rattle.undo_stack.specs.Stacks.{history, Holds}
 use Rattle.undo_stack.specs.declared.stack.Stack.{Stack}
-use Rattle.undo_stack.specs.History.{History}
-use Rattle.undo_group.specs.Groups.{IsNew, AreDistinct, history_named, with_history, removed, GroupParts, added, chosen}
-use Rattle.undo_group.specs.Stacks.{document_of, documents_of, name_at, group_at, named, number_without, group_of, stack_at, stack_named, stacks_of, AreHeld}
-use Rattle.undo_group.specs.Stacks.{IsReplacedAt, IsTakenOut, NamedStack}
-use Rattle.undo_group.specs.declared.group.Group.{Group}
-use Rattle.undo_group.specs.Lending.{IsLeft}
-use Rattle.undo_group.proofs.Documents.{history_named-at, with_history-new, group_at-remove}
+use Rattle.undo_group.specs.Groups.{IsNew, AreDistinct, history_named, with_history, removed, added, with_active}
+use Rattle.undo_group.specs.Stacks.{document_of, documents_of, name_at, group_at, named, stack_at, stack_named}
+use Rattle.undo_group.specs.Stacks.{IsReplaced, IsTakenOut, NamedStack}
+use Rattle.undo_group.proofs.Documents.{history_named-at, with_history-new, group_at-remove, place_without}
 
 -- the test by which a name is looked up
 abbrev pub is_name : {Y : Type 0} → List ℕ → String Y → Bool
@@ -63,14 +56,6 @@ module _ {C : Type 0} (f : C → Change) {Y : Type 0} where
   stack_named-stacks name [] = refl
   stack_named-stacks name (e ∷ es) = grind (arith, stack_named-stacks name es)
 
-  -- the stack at a number, which is found by its name
-  pub stack_at-found : (es : List (String Y × Stack C)) (key : String Y) (s : Stack C) (number : Option ℕ) (i : ℕ) → number ≡ Some i
-      → slice_get es i ≡ Some (key, s) → lookup (is_name (string_bytes key)) es ≡ Some s
-      → stack_at (name_at (documents_of f es) number) (map (λ e. named (string_bytes e.0) e.1) es) ≡ Some s
-  stack_at-found es key s number i is at found =
-      let name : name_at (documents_of f es) (Some i) ≡ Some (string_bytes key) = rw (slice_get-map (document_of f) es i, at) refl in
-      rw (is, name, stack_named-stacks (string_bytes key) es) found
-
   -- the stack at a number is the one of its name
   stack_named-at : (es : List (String Y × Stack C)) (i : ℕ) (e : String Y × Stack C) → AreDistinct (documents_of f es) → slice_get es i ≡ Some e
       → stack_named (string_bytes e.0) (map (λ e. named (string_bytes e.0) e.1) es) ≡ Some e.1
@@ -98,11 +83,10 @@ module _ {C : Type 0} (f : C → Change) {Y : Type 0} where
           let name : name_at (documents_of f es) (Some i) ≡ Some (string_bytes e.0) = grind (arith, slice_get-map) in
           rw (name, at) (stack_named-at es i e distinct at)
 
-  -- a number that was found by a name has it
-  pub name_at-found : (name : List ℕ) (es : List (String Y × Stack C)) (i : ℕ) → position (is_name name) (keys_of es) ≡ Some i
-      → name_at (documents_of f es) (Some i) ≡ Some name
-  name_at-found name [] i at = absurd cc
-  name_at-found name (e ∷ es) i at = grind (arith, gets, slice_get-map, bytes_eq-Decides, position-Some (is_name name) (keys_of (e ∷ es)) i e.0 at)
+  -- the name at a number
+  pub name_at-entry : (es : List (String Y × Stack C)) (i : ℕ) (e : String Y × Stack C) → slice_get es i ≡ Some e
+      → name_at (documents_of f es) (Some i) ≡ Some (string_bytes e.0)
+  name_at-entry es i e at = ap (option_map (λ d. d.name)) (slice_get-map (document_of f) es i ∙ ap (option_map (document_of f)) at)
 
   -- a stack that is written at a number is the history of the document there, and the stacks hold where it does
   documents_of-set_value_at : (es : List (String Y × Stack C)) (i : ℕ) (e : String Y × Stack C) (w : Stack C) → AreDistinct (documents_of f es)
@@ -119,7 +103,7 @@ module _ {C : Type 0} (f : C → Change) {Y : Type 0} where
         slice_get-map (document_of f) es i,
       )
 
-  All-set_value_at : (es : List (String Y × Stack C)) (i : ℕ) (w : Stack C) → Holds f w → All (λ e. Holds f e.1) es
+  pub All-set_value_at : (es : List (String Y × Stack C)) (i : ℕ) (w : Stack C) → Holds f w → All (λ e. Holds f e.1) es
       → All (λ e. Holds f e.1) (set_value_at es i w)
   All-set_value_at [] i w here all = all
   All-set_value_at (e ∷ es) zero w here all = All-cons (λ x. Holds f x.1) (e.0, w) es here (All-tail (λ x. Holds f x.1) e es all)
@@ -127,19 +111,25 @@ module _ {C : Type 0} (f : C → Change) {Y : Type 0} where
       All-cons (λ x. Holds f x.1) e (set_value_at es i w) (All-head (λ x. Holds f x.1) e es all)
       (All-set_value_at es i w here (All-tail (λ x. Holds f x.1) e es all))
 
-  -- the stack that was found by a name goes
-  pub removed-found : (name : List ℕ) (es : List (String Y × Stack C)) (i : ℕ) (e : String Y × Stack C) (number : Option ℕ)
-      → position (is_name name) (keys_of es) ≡ Some i → slice_get es i ≡ Some e → IsDistinct string_eq (keys_of es)
-      → group_at (documents_of f (remove es i)) (number_without i number) ≡ removed name (group_at (documents_of f es) number)
-  removed-found name es i e number found at unique =
-      let distinct = AreDistinct-documents_of es unique in
-      grind (
-        arith,
-        map-remove (document_of f) es i,
-        group_at-remove (documents_of f es) i (document_of f e) number distinct,
-        slice_get-map (document_of f) es i,
-        name_at-found name es i found,
+  -- the stack at a place goes
+  pub removed-at : (es : List (String Y × Stack C)) (i : ℕ) (e : String Y × Stack C) (place : Option ℕ) → slice_get es i ≡ Some e → AreDistinct (documents_of f es)
+      → group_at (documents_of f (remove es i)) (place_without i place) ≡ removed (string_bytes e.0) (group_at (documents_of f es) place)
+  removed-at es i e place at distinct =
+      rw (map-remove (document_of f) es i) (
+      group_at-remove (documents_of f es) i (document_of f e) place distinct (slice_get-map (document_of f) es i ∙ ap (option_map (document_of f)) at)
       )
+
+  -- the stack at a place is written
+  pub group_at-set_value_at : (es : List (String Y × Stack C)) (i : ℕ) (e : String Y × Stack C) (w : Stack C) → slice_get es i ≡ Some e
+      → AreDistinct (documents_of f es)
+      → group_at (documents_of f (set_value_at es i w)) (Some i) ≡ with_active (history f w) (group_at (documents_of f es) (Some i))
+  group_at-set_value_at es i e w at distinct =
+      grind (arith, gets, name_at-entry es i e at, documents_of-set_value_at es i e w distinct at, slice_get-map)
+
+  -- a stack is put last
+  pub group_at-push : (es : List (String Y × Stack C)) (e : String Y × Stack C) (place : Option ℕ) → IfSome place (λ i. i < length es)
+      → group_at (documents_of f (es ++ e ∷ [])) place ≡ added (string_bytes e.0) (history f e.1) (group_at (documents_of f es) place)
+  group_at-push es e place within = grind (arith, common_steps, gets, map-append (document_of f) es, length-map)
 
 -- ---- the stacks themselves
 module _ {C : Type 0} {Y : Type 0} where
@@ -165,85 +155,28 @@ module _ {C : Type 0} {Y : Type 0} where
       some-eq v u q = cc
   set_value_at-between (x ∷ es) (suc i) e w at = ap (λ ys. x ∷ ys) (set_value_at-between es i e w at)
 
-  -- the stack that was found by a name is taken out
-  pub taken-found : (name : List ℕ) (es : List (String Y × Stack C)) (i : ℕ) (e : String Y × Stack C) → position (is_name name) (keys_of es) ≡ Some i
-      → slice_get es i ≡ Some e → IsTakenOut name (map named_of es) e.1 (map named_of (remove es i))
-  taken-found name es i e found at =
-      let same : string_bytes e.0 ≡ name = grind (arith, gets, slice_get-map, bytes_eq-Decides, position-Some (is_name name) (keys_of es) i e.0 found) in
-      record {
-        first = map named_of (take i es);
-        rest = map named_of (drop (suc i) es);
-        was = ap (map named_of) (between es i e at) ∙ map-append named_of (take i es) (e ∷ drop (suc i) es)
-            ∙ ap (λ n. map named_of (take i es) ++ named n e.1 ∷ map named_of (drop (suc i) es)) same;
-        left = map-append named_of (take i es) (drop (suc i) es);
-      }
+  -- the stack at a place is taken out
+  pub taken-at : (es : List (String Y × Stack C)) (i : ℕ) (e : String Y × Stack C) → slice_get es i ≡ Some e
+      → IsTakenOut (string_bytes e.0) (map named_of es) e.1 (map named_of (remove es i))
+  taken-at es i e at = record {
+    first = map named_of (take i es);
+    rest = map named_of (drop (suc i) es);
+    was = ap (map named_of) (between es i e at) ∙ map-append named_of (take i es) (e ∷ drop (suc i) es);
+    left = map-append named_of (take i es) (drop (suc i) es);
+  }
 
-module _ {C : Type 0} (f : C → Change) (g : Group C) where
-  -- the stack at the active number is written
-  pub IsLeft-set_value_at : (i : ℕ) (w : Stack C) → IsDistinct string_eq (keys_of g.stacks.entries) → g.active ≡ Some i → AreHeld f g → Holds f w
-      → IsLeft f g w (record { stacks = with_value_at g.stacks i w; active = g.active })
-  IsLeft-set_value_at i w unique is held holds =
-      let es = g.stacks.entries in
-      record {
-        sound = record { stacks = All-set_value_at f es i w holds held.stacks; within = rw (length-set_value_at es i w) held.within };
-        group = grind (arith, gets, documents_of-set_value_at f es i, AreDistinct-documents_of f es unique, slice_get-map, held.within);
-        stacks = by_entry (slice_get es i) refl;
-      }
-    where
-      -- the active name is that of the entry at the number
-      by_entry : (o : Option (String Global × Stack C)) → slice_get g.stacks.entries i ≡ o
-          → IsReplacedAt (group_of f g).active (stacks_of g) w (map named_of (set_value_at g.stacks.entries i w))
-      by_entry None none = absurd (grind (arith, gets, held.within))
-      by_entry (Some e) at =
-          let es = g.stacks.entries in
-          let name : (group_of f g).active ≡ Some (string_bytes e.0) = grind (arith, gets, slice_get-map) in
-          rw name (
-          record {
-            stack = e.1;
-            first = map named_of (take i es);
-            rest = map named_of (drop (suc i) es);
-            was = ap (map named_of) (between es i e at) ∙ map-append named_of (take i es) (e ∷ drop (suc i) es);
-            is = ap (map named_of) (set_value_at-between es i e w at) ∙ map-append named_of (take i es) ((e.0, w) ∷ drop (suc i) es);
-          }
-          )
+  -- the stack at a place is written
+  pub replaced-at : (es : List (String Y × Stack C)) (i : ℕ) (e : String Y × Stack C) (w : Stack C) → slice_get es i ≡ Some e
+      → IsReplaced (string_bytes e.0) (map named_of es) w (map named_of (set_value_at es i w))
+  replaced-at es i e w at = record {
+    stack = e.1;
+    first = map named_of (take i es);
+    rest = map named_of (drop (suc i) es);
+    was = ap (map named_of) (between es i e at) ∙ map-append named_of (take i es) (e ∷ drop (suc i) es);
+    is = ap (map named_of) (set_value_at-between es i e w at) ∙ map-append named_of (take i es) ((e.0, w) ∷ drop (suc i) es);
+  }
 
-  -- a stack of a new name goes last
-  module _ (new : Group C) (name : List ℕ) (key : String Global) (stack : Stack C)
-      (named_so : string_bytes key ≡ name) (absent : is_some (lookup (is_name name) g.stacks.entries) ≡ false)
-      (inserted : new.stacks.entries ≡ insert_entry string_eq g.stacks.entries key stack) (active : new.active ≡ g.active) (held : AreHeld f g) where
-    stacks-added : new.stacks.entries ≡ g.stacks.entries ++ (key, stack) ∷ []
-    stacks-added =
-        let none : is_some (lookup (string_eq key) g.stacks.entries) ≡ false = ap (λ n. is_some (lookup (is_name n) g.stacks.entries)) named_so ∙ absent in
-        grind (arith, insert_entry-new string_eq g.stacks key stack)
-
-    pub AreHeld-added : Holds f stack → AreHeld f new
-    AreHeld-added holds = record {
-      stacks = rw stacks-added (All-push (λ e. Holds f e.1) g.stacks.entries (key, stack) held.stacks holds);
-      within = grind (arith, common_steps, stacks-added, held.within);
-    }
-
-    pub stacks_of-added : stacks_of new ≡ stacks_of g ++ named name stack ∷ []
-    stacks_of-added =
-        ap (map named_of) stacks-added
-        ∙ map-append named_of g.stacks.entries ((key, stack) ∷ [])
-        ∙ ap (λ n. stacks_of g ++ named n stack ∷ []) named_so
-
-    pub group_of-added : group_of f new ≡ added name (history f stack) (group_of f g)
-    group_of-added = grind (arith, common_steps, gets, stacks-added, map-append (document_of f) g.stacks.entries, length-map, held.within)
-
-  -- the stack at a number goes
-  pub AreHeld-removed : (i : ℕ) (new : Group C) → i < length g.stacks.entries → new.stacks.entries ≡ remove g.stacks.entries i
-      → new.active ≡ number_without i g.active
-      → AreHeld f g → AreHeld f new
-  AreHeld-removed i new within inserted active held =
-      let es = g.stacks.entries in
-      let P : String Global × Stack C → Type 0 = λ e. Holds f e.1 in
-      record {
-        stacks = rw inserted (All-append P (take i es) (drop (suc i) es) (All-take P i es held.stacks) (All-drop P (suc i) es held.stacks));
-        within = grind (arith, elements, nat_tests, held.within);
-      }
-
-  -- the document that was added last is chosen
-  pub group_of-chosen_last : (name : List ℕ) (h : History) (old : GroupParts) (n : ℕ) → group_of f g ≡ added name h old → n ≡ length g.stacks.entries
-      → group_of f (record { stacks = g.stacks; active = Some (n - 1) }) ≡ chosen (Some name) (added name h old)
-  group_of-chosen_last name h old n e l = grind (arith, common_steps, gets, ap (λ (p : GroupParts). p.documents) e, length-map g.stacks.entries (document_of f))
+-- a number that was found by a name has it
+pub found_name : {C : Type 0} {Y : Type 0} (name : List ℕ) (es : List (String Y × Stack C)) (i : ℕ) (e : String Y × Stack C)
+    → position (is_name name) (keys_of es) ≡ Some i → slice_get es i ≡ Some e → string_bytes e.0 ≡ name
+found_name name es i e found at = grind (arith, gets, slice_get-map, bytes_eq-Decides, position-Some (is_name name) (keys_of es) i e.0 found)

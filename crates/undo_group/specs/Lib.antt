@@ -1,3 +1,4 @@
 pub mod Groups
+pub mod Order
 pub mod Stacks
 pub mod Lending

@@ -1,14 +1,18 @@
 -- A group of stacks, seen as a group of histories, where f says what their commands do.
-use Rattle.std.specs.Prelude.{◌≡◌, ℕ, ◌-◌, ◌<◌, ◌==◌, nat_lt, if◌then◌else◌, List, [], ◌∷◌, ◌++◌, map, length, Option, Some, None, IsSome, IfSome, All}
+use Rattle.std.specs.Prelude.{◌≡◌, ℕ, ◌<◌, if◌then◌else◌, List, [], ◌∷◌, ◌++◌, map, length, Option, Some, None, IsSome, IfSome, All}
 use Rattle.std.specs.Prelude.{slice_get}
+use Rattle.std.specs.List.{IsDistinct}
+use Rattle.std.specs.Map.{keys_of}
 use Rattle.std.specs.Option.{option_map}
 use Rattle.std.specs.Str.{bytes_eq}
-use Rattle.std.specs.String.{string_bytes}
+use Rattle.std.specs.String.{string_bytes, string_eq}
+use Rattle.std.specs.declared.alloc.Global.{Global}
 use Rattle.std.specs.declared.string.String.{String}
 use Rattle.command_api.specs.Law.{Change}
 use Rattle.undo_stack.specs.Stacks.{history, Holds}
 use Rattle.undo_stack.specs.declared.stack.Stack.{Stack}
 use Rattle.undo_group.specs.Groups.{OpenDocument, GroupParts, IsNew, history_named}
+use Rattle.undo_group.specs.Order.{IsOrder, in_order, order_of, place_in}
 use Rattle.undo_group.specs.declared.group.Group.{Group}
 use Rattle.undo_group.specs.declared.group.GroupFault.{GroupFault}
 use Rattle.undo_group.specs.declared.group.GroupFault.TheVariants.{NameTaken, NoSuchDocument, NoMemory}
@@ -31,9 +35,13 @@ name_at ds (Some at) = option_map (λ d. d.name) (slice_get ds at)
 abbrev pub group_at : List OpenDocument → Option ℕ → GroupParts
 group_at ds number = record { documents = ds; active = name_at ds number }
 
+-- the names of a group with their stacks, in order of opening
+abbrev pub entries_of : {C : Type 0} → Group C → List (String Global × Stack C)
+entries_of g = in_order g.stacks.entries (order_of g.order)
+
 -- the group that it stands for
 abbrev pub group_of : {C : Type 0} → (C → Change) → Group C → GroupParts
-group_of f g = group_at (documents_of f g.stacks.entries) g.active
+group_of f g = group_at (documents_of f (entries_of g)) (place_in g.order g.active)
 
 -- ---- the stacks themselves
 -- a stack that is open under a name
@@ -46,7 +54,7 @@ named name s = record { name = name; stack = s }
 
 -- the stacks of a group, in order of opening
 abbrev pub stacks_of : {C : Type 0} → Group C → List (NamedStack C)
-stacks_of g = map (λ e. named (string_bytes e.0) e.1) g.stacks.entries
+stacks_of g = map (λ e. named (string_bytes e.0) e.1) (entries_of g)
 
 -- the stack of this name
 abbrev pub stack_named : {C : Type 0} → List ℕ → List (NamedStack C) → Option (Stack C)
@@ -78,15 +86,12 @@ abbrev pub IsReplacedAt : {C : Type 0} → Option (List ℕ) → List (NamedStac
 IsReplacedAt None old s new = new ≡ old
 IsReplacedAt (Some name) old s new = IsReplaced name old s new
 
--- the stacks hold, and the number of the active one is among them
+-- the stacks hold, under distinct names, each at its place in the order, and the number of the active one is among them
 pub record AreHeld {C : Type 0} (f : C → Change) (g : Group C) : Type 0 where
   pub stacks : All (λ e. Holds f e.1) g.stacks.entries
+  pub distinct : IsDistinct string_eq (keys_of g.stacks.entries)
+  pub order : IsOrder g.order (length g.stacks.entries)
   pub within : IfSome g.active (λ at. at < length g.stacks.entries)
-
--- the number of the active one, once the stack at another number is taken out and those behind it stand one lower
-abbrev pub number_without : ℕ → Option ℕ → Option ℕ
-number_without gone None = None
-number_without gone (Some at) = if at == gone then None else Some (if nat_lt gone at then at - 1 else at)
 
 -- a document is not added where its name is taken, or, with a new name, where memory runs out
 abbrev pub IsNotAdded : List ℕ → List OpenDocument → GroupFault → Type 0

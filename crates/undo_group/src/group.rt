@@ -6,9 +6,11 @@ ghost use Rattle.undo_stack.specs.Reading.{undo_text_of, redo_text_of};
 ghost use Rattle.undo_stack.specs.Stacks.{history, Holds};
 ghost use Rattle.undo_group.specs.Groups.{history_named, active_history, active_place, text_of_active, is_clean_active, IsNew, IsGroup, empty_group, added, removed, chosen};
 ghost use Rattle.undo_group.specs.Lending.{LendsActive};
-ghost use Rattle.undo_group.specs.Stacks.{group_of, named, number_without, stack_at, stacks_of, AreHeld, IsNotAdded, IsTakenOut};
+ghost use Rattle.undo_group.specs.Order.{number_left};
+ghost use Rattle.undo_group.specs.Stacks.{group_of, named, stack_at, stacks_of, AreHeld, IsNotAdded, IsTakenOut};
 
 use crate::names::Names;
+use crate::order::Order;
 use command_api::Command;
 use indexmap::IndexMap;
 use std::alloc::Global;
@@ -37,7 +39,9 @@ pub struct NotAdded<C> {
 /// A caller sees the names and the histories. That each stack holds is a condition of the calls, which each of them keeps.
 #[derive(Drop)]
 pub struct Group<C> {
+    // A document has a number here. Once it is closed, the last one gets that number, so that no other moves.
     stacks: IndexMap<String, Stack<C>>,
+    order: Order,
     // The number of the active one.
     active: Option<usize>,
 }
@@ -51,6 +55,7 @@ impl<C: Command> Group<C> {
     {
         Group {
             stacks: IndexMap::new(alloc),
+            order: Order::new(alloc),
             active: None,
         }
     }
@@ -83,8 +88,17 @@ impl<C: Command> Group<C> {
                 stack,
             });
         };
+        if self.order.reserve().is_err() {
+            return Err(NotAdded {
+                fault: GroupFault::NoMemory,
+                stack,
+            });
+        }
         match self.stacks.insert(key, stack) {
-            Ok(_) => Ok(()),
+            Ok(_) => {
+                self.order.push_reserved();
+                Ok(())
+            }
             Err(refused) => {
                 let (_, stack) = refused.value;
                 Err(NotAdded {
@@ -116,7 +130,7 @@ impl<C: Command> Group<C> {
         if let Err(refused) = self.add(alloc, name, stack) {
             return Err(refused);
         }
-        self.active = Some(self.stacks.len() - 1);
+        self.active = self.order.last();
         Ok(())
     }
 
@@ -139,8 +153,10 @@ impl<C: Command> Group<C> {
         let Some(at) = self.stacks.get_index_of(name) else {
             return Err(GroupFault::NoSuchDocument);
         };
-        let (_, stack) = self.stacks.shift_remove_index(at).unwrap();
-        self.active = number_without(self.active, at);
+        let last = self.stacks.len() - 1;
+        let (_, stack) = self.stacks.swap_remove_index(at).unwrap();
+        self.order.remove(at);
+        self.active = number_left(self.active, at, last);
         Ok(stack)
     }
 
@@ -226,7 +242,7 @@ impl<C: Command> Group<C> {
         requires { AreHeld C.change self.now }
         ensures { option_copied result ≡ option_map (λ d. d.name) (slice_get (group_of C.change self.now).documents place) }
     {
-        let (name, _) = self.stacks.get_index(place)?;
+        let (name, _) = self.stacks.get_index(self.order.entry_at(place)?)?;
         Some(name.as_str())
     }
 
@@ -236,7 +252,7 @@ impl<C: Command> Group<C> {
         ensures placed { option_map (λ stack. history C.change stack.now) result ≡ option_map (λ d. d.history) (slice_get (group_of C.change self.now).documents place) }
         ensures held { IfSome result (λ stack. Holds C.change stack.now) }
     {
-        let (_, stack) = self.stacks.get_index(place)?;
+        let (_, stack) = self.stacks.get_index(self.order.entry_at(place)?)?;
         Some(stack)
     }
 
@@ -245,9 +261,7 @@ impl<C: Command> Group<C> {
         requires { AreHeld C.change self.now }
         ensures { result ≡ active_place (group_of C.change self.now) }
     {
-        // (the proof has from here that no two names are equal)
-        let _count = self.stacks.len();
-        self.active
+        Some(self.order.place_of(self.active?))
     }
 
     /// The names of the open documents, in order of opening.
@@ -256,7 +270,7 @@ impl<C: Command> Group<C> {
         ensures names { result ≡ map (λ d. d.name) (group_of C.change self.now).documents }
         ensures whole { IsGroup (group_of C.change self.now) }
     {
-        Names::over(self.stacks.keys().as_slice())
+        Names::over(self.order.entries(), self.stacks.keys().as_slice())
     }
 
     /// The text for undo of the active document, and empty where none is active.
@@ -293,13 +307,13 @@ impl<C: Command> Group<C> {
     }
 }
 
-// The number of the active one, once the stack at another number is taken out and those behind it stand one lower.
-fn number_without(active: Option<usize>, gone: usize) -> Option<usize>
-    ensures { result ≡ number_without gone active }
+// The number of the active one, once the stack at another number is taken out, which the last one gets.
+fn number_left(active: Option<usize>, gone: usize, last: usize) -> Option<usize>
+    ensures { result ≡ number_left gone last active }
 {
     let at = active?;
     if at == gone {
         return None;
     }
-    if at > gone { Some(at - 1) } else { Some(at) }
+    if at == last { Some(gone) } else { Some(at) }
 }

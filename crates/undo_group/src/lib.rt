@@ -3,6 +3,7 @@
 
 mod group;
 mod names;
+mod order;
 
 pub use group::{Group, GroupFault, NotAdded};
 pub use names::Names;

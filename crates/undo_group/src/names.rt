@@ -1,29 +1,37 @@
-ghost use Rattle.std.specs.Prelude.{◌≡◌, map};
+ghost use Rattle.std.specs.Prelude.{◌≡◌, length, map};
 ghost use Rattle.std.specs.Iterator.{YieldsFirstRef, item_count};
 ghost use Rattle.std.specs.String.{string_bytes};
+ghost use Rattle.undo_group.specs.Order.{AreAmong, in_order};
 
 use std::marker::Model;
 
 /// The names that are left to visit, in order of opening.
 #[derive(Drop)]
 pub struct Names<'a> {
-    left: &'a [String],
+    // The numbers of their documents.
+    left: &'a [usize],
+    // The name of the document with each number.
+    names: &'a [String],
 }
 
 impl<'a> Model for Names<'a> {
-    ghost use Rattle.std.specs.Prelude.{ℕ, List, map};
+    ghost use Rattle.std.specs.Prelude.{ℕ, List, length, map};
     ghost use Rattle.std.specs.String.{string_bytes};
+    ghost use Rattle.undo_group.specs.Order.{AreAmong, in_order};
 
     ghost Value = { List (List ℕ) };
 
-    ghost view = { λ a. map string_bytes a.left.now };
+    ghost view = { λ a. map string_bytes (in_order a.names.now a.left.now) };
+
+    ghost invariant = { λ a. AreAmong a.left.now (length a.names.now) };
 }
 
 impl<'a> Names<'a> {
-    pub(crate) fn over(left: &'a [String]) -> Names<'a>
-        ensures { result ≡ map string_bytes left.entry.now }
+    pub(crate) fn over(left: &'a [usize], names: &'a [String]) -> Names<'a>
+        requires { AreAmong left.now (length names.now) }
+        ensures { result ≡ map string_bytes (in_order names.entry.now left.entry.now) }
     {
-        Names { left }
+        Names { left, names }
     }
 }
 
@@ -37,6 +45,6 @@ impl<'a> Iterator for Names<'a> {
     fn next(&mut self) -> Option<&'a str> {
         let (first, others) = self.left.split_first()?;
         self.left = others;
-        Some(first.as_str())
+        Some(self.names[*first].as_str())
     }
 }

@@ -27,3 +27,9 @@ returns-clause-kinds g c =
     let lost = subst P c.as_str.ensures (taken-LosesKinds c.as_str.result.now _ old new c.in-Ok.ensures.taken) in
     let active = active_history (group_of g.C.Command.change c.remove.new.self) in
     rw c.status.ensures (status_UnlessRefused active (LosesKinds c.args.name.now) (map kinds_of old) (map kinds_of new) lost)
+
+pub returns-in_default-clause-sound : goal.returns-in_default-clause-sound
+returns-in_default-clause-sound g c = λ sound.
+    let f = g.C.Command.change in
+    group-IsSound f _ (group_of f c.args.self.now.group) (record { limit = c.requires.limit; group = c.remove.ensures.sound })
+    c.in_default.ensures.unchanged sound.steady

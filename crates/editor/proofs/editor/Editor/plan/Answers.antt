@@ -1,6 +1,11 @@
-use Rattle.std.proofs.Common.{refl}
+use Rattle.std.proofs.Common.{◌≡◌, None, refl, sym, rules}
+use Rattle.document_lines.specs.Machine.{active_of}
+use Rattle.document_lines.specs.Planning.{IsOfActive}
+use Rattle.document_lines.specs.Rules.{rule_of}
+use Rattle.document_lines.specs.Turns.{turning_rule_of}
+use Rattle.editor.specs.Editors.{machine_of}
 use Rattle.editor.proofs.Lent.{left-IsHeld}
-use Rattle.editor.proofs.Lines.{line-fits, line-kinds, line-plans, line-sound, line-turns, line-unchanged}
+use Rattle.editor.proofs.Lines.{line-fits, line-kinds, line-plans, line-sound, line-turns, line-unchanged, refused-PlansBy}
 use Rattle.editor.proofs.editor.Editor.plan.Goals as goal
 
 pub returns-in-Some-clause-held : goal.returns-in-Some-clause-held
@@ -46,3 +51,21 @@ returns-in-Some-clause-kinds g c =
     line-kinds g.C.Command.change c.args.self.now _ c.in-Some.stack.now stack refl (c.active_mut.follows.holds stack c.on_document.ensures.sound)
     c.in-Some.ensures.whole c.in-Some.ensures.active c.args.line.now c.on_document.result c.on_document.ensures.plans
     c.in-Some.ensures.held c.in-Some.ensures.stack c.on_document.ensures.kinds
+
+pub returns-in-None : goal.returns-in-None
+returns-in-None g c =
+    let m = machine_of g.C.Command.change c.args.self.now in
+    let stored = g.S.MapStore.stored c.args.store.now in
+    let none : active_of m ≡ None = sym c.in-None.ensures.active in
+    let about : IsOfActive (rule_of c.args.line.now) = search rules in
+    let turning : IsOfActive (turning_rule_of c.args.line.now) = search rules in
+    rw (c.active_mut.follows.holds-at-none, c.refused.ensures) (record {
+      held = c.requires.held;
+      turns = refused-PlansBy (turning_rule_of c.args.line.now) m stored none turning;
+      unchanged = refl;
+      fits = tt;
+      asks = search rules;
+      sound = λ sound. sound;
+      plans = λ sound. refused-PlansBy (rule_of c.args.line.now) m stored none about;
+      kinds = λ sound. refl;
+    })

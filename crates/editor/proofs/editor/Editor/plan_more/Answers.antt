@@ -56,3 +56,6 @@ pub returns-in-Some-clause-plans : goal.returns-in-Some-clause-plans
 returns-in-Some-clause-plans g c =
     let P : Option History → Type 0 = λ active. PlansMoreIn c.args.fractions c.args.line.now active c.on_more_line.result in
     subst P c.in-Some.ensures.active c.on_more_line.ensures.plans.0
+
+pub returns-in-None-clause-sound : goal.returns-in-None-clause-sound
+returns-in-None-clause-sound g c = rw c.active_mut.follows.holds-at-none (λ sound. sound)

@@ -50,3 +50,12 @@ returns-in-Some-clause-kinds g c =
     let follows = c.active_mut.follows.holds stack c.save_document.ensures.sound in
     kept_kinds change c.args.self.now _ c.in-Some.stack.now stack refl follows
     c.in-Some.ensures.whole c.in-Some.ensures.active c.in-Some.ensures.stack (ap macros_of c.save_document.ensures.kept)
+
+pub returns-in-None-clause-sound : goal.returns-in-None-clause-sound
+returns-in-None-clause-sound g c = rw c.active_mut.follows.holds-at-none (λ sound. sound)
+
+pub returns-in-None-clause-step : goal.returns-in-None-clause-step
+returns-in-None-clause-step g c = rw (sym c.in-None.ensures.active) ((refl, rw c.active_mut.follows.holds-at-none refl), refl)
+
+pub returns-in-None-clause-unchanged : goal.returns-in-None-clause-unchanged
+returns-in-None-clause-unchanged g c = rw c.active_mut.follows.holds-at-none refl

@@ -35,3 +35,9 @@ returns-in-Some-clause-kinds g c =
     let t = c.seek_object.new.self in
     kept_kinds change c.args.self.now _ s t refl (c.active_mut.follows.holds t c.seek_object.ensures.sound)
     c.in-Some.ensures.whole c.in-Some.ensures.active c.in-Some.ensures.stack (ap macros_of c.seek_object.ensures.kept)
+
+pub returns-in-None-clause-machine : goal.returns-in-None-clause-machine
+returns-in-None-clause-machine g c = rw c.active_mut.follows.holds-at-none refl
+
+pub returns-in-None-clause-sound : goal.returns-in-None-clause-sound
+returns-in-None-clause-sound g c = rw c.active_mut.follows.holds-at-none (λ sound. sound)

@@ -1,4 +1,4 @@
-use Rattle.std.proofs.Common.{◌-◌, refl}
+use Rattle.std.proofs.Common.{◌-◌, refl, sym}
 use Rattle.undo_stack.specs.Stacks.{history, macros}
 use Rattle.session.specs.declared.line.Line.TheVariants.{Undo}
 use Rattle.document_lines.specs.declared.planned.Planned.TheVariants as planned
@@ -63,3 +63,12 @@ returns-in-Some-clause-kinds g c =
     (λ steady.
     kept-DocumentKinds Undo Undo (history f s) (planned.Reply c.answered.result) (macros s) (macros t) refl refl (λ k. k)
     (turn-macros f ((history f s).position - 1) s t c.undo-answer.result steady c.undo-answer.ensures.reported c.undo-answer.ensures.kept))
+
+pub returns-in-None-clause-sound : goal.returns-in-None-clause-sound
+returns-in-None-clause-sound g c = rw c.active_mut.follows.holds-at-none (λ sound. sound)
+
+pub returns-in-None-clause-step : goal.returns-in-None-clause-step
+returns-in-None-clause-step g c = λ sound stored. (rw (sym c.in-None.ensures.active) (refl, rw c.active_mut.follows.holds-at-none refl), refl)
+
+pub returns-in-None-clause-kinds : goal.returns-in-None-clause-kinds
+returns-in-None-clause-kinds g c = λ sound. rw c.active_mut.follows.holds-at-none refl

@@ -1,22 +1,29 @@
-use Rattle.std.proofs.Common.{refl, arith}
-use Rattle.std.proofs.lemmas.Option.{slice_get-map, gets}
-use Rattle.undo_group.specs.Stacks.{documents_of}
-use Rattle.undo_group.proofs.Documents.{IsGroup-at, active_history-at}
-use Rattle.undo_group.proofs.NamedStacks.{AreDistinct-documents_of, IsLeft-set_value_at, stack_at-number}
+use Rattle.std.proofs.Common.{refl, sym, ◌∙◌, ap, slice_get, arith}
+use Rattle.std.proofs.lemmas.Option.{slice_get-map}
+use Rattle.std.specs.Option.{option_map}
+use Rattle.undo_stack.specs.Stacks.{Holds, history}
+use Rattle.undo_group.specs.Order.{place_in}
+use Rattle.undo_group.specs.Stacks.{documents_of, entries_of}
+use Rattle.undo_group.proofs.Documents.{IsGroup-at}
+use Rattle.undo_group.proofs.Entries.{IsLeft-set_value_at, active_history-number, distinct_documents, stack_at-active}
+use Rattle.undo_group.proofs.Lookups.{IfSome-at, IfSome-mapped, option_map-map}
 use Rattle.undo_group.proofs.group.Group.active_mut.Goals as goal
 
 pub returns-in-Some : goal.returns-in-Some
 returns-in-Some g c =
     let f = g.C.Command.change in
     let old = c.args.self.now in
-    let distinct = AreDistinct-documents_of f old.stacks.entries c.get_index_mut.ensures.unique in (
-      (refl, λ w holds. IsLeft-set_value_at f old c.in-Some.at w c.get_index_mut.ensures.unique c.in-Some.is c.requires holds, refl),
+    let stack = c.get_index_mut.ensures.value ∙ slice_get-map (λ e. e.1) old.stacks.entries c.in-Some.at in (
+      (refl, λ w holds. IsLeft-set_value_at f old c.requires c.in-Some.at w c.in-Some.is holds, refl),
       record {
         lends = tt;
-        active = grind (arith, slice_get-map, active_history-at, distinct);
-        stack = grind (arith, slice_get-map, stack_at-number f old.stacks.entries c.in-Some.at distinct);
-        held = grind (arith, gets, slice_get-map, c.requires.stacks c.in-Some.at);
-        whole = grind (arith, IsGroup-at (documents_of f old.stacks.entries) old.active distinct);
+        active = sym (option_map-map (λ s. s.now) (history f) c.get_index_mut.result) ∙ ap (option_map (history f)) stack
+            ∙ option_map-map (λ e. e.1) (history f) (slice_get old.stacks.entries c.in-Some.at)
+            ∙ sym (active_history-number f old c.requires c.in-Some.at c.in-Some.is);
+        stack = stack ∙ sym (stack_at-active f old c.requires c.in-Some.at c.in-Some.is);
+        held = IfSome-mapped (λ s. s.now) (Holds f) c.get_index_mut.result
+            (rw stack (IfSome-at (λ e. e.1) (Holds f) old.stacks.entries c.in-Some.at c.requires.stacks));
+        whole = grind (arith, IsGroup-at (documents_of f (entries_of old)) (place_in old.order old.active) (distinct_documents f old c.requires));
       },
     )
 

@@ -1,13 +1,15 @@
-use Rattle.std.proofs.Common.{arith}
-use Rattle.std.proofs.lemmas.List.{length-map}
-use Rattle.undo_group.specs.Stacks.{document_of, documents_of}
-use Rattle.undo_group.proofs.Documents.{active_place-at}
-use Rattle.undo_group.proofs.NamedStacks.{AreDistinct-documents_of}
+use Rattle.std.proofs.Common.{arith, length}
+use Rattle.undo_group.proofs.Entries.{active_place-number}
+use Rattle.undo_group.proofs.Shifting.{placed_of}
 use Rattle.undo_group.proofs.group.Group.active_place.Goals as goal
 
-pub returns : goal.returns
-returns g c =
-    let f = g.C.Command.change in
+pub place_of-requires : goal.place_of-requires
+place_of-requires g c =
     let self = c.args.self.now in
-    let distinct = AreDistinct-documents_of f self.stacks.entries c.len-count.ensures.unique in
-    grind (arith, length-map self.stacks.entries (document_of f), active_place-at (documents_of f self.stacks.entries) self.active distinct, c.requires.within)
+    grind (arith, (placed_of self.order (length self.stacks.entries) c.requires.order).places, c.requires.within)
+
+pub returns-in_err-self : goal.returns-in_err-self
+returns-in_err-self g c = grind (arith, active_place-number g.C.Command.change c.args.self.now c.requires)
+
+pub returns : goal.returns
+returns g c = grind (arith, active_place-number g.C.Command.change c.args.self.now c.requires)
