@@ -5,3 +5,5 @@ mod Numbered
 mod Pieces
 mod Rows
 pub mod OneMore
+pub mod Shown
+pub mod Unions

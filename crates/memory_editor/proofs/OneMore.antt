@@ -12,7 +12,7 @@ use Rattle.document_lines.specs.Differing.{Covers, DifferWithin, all_differs}
 use Rattle.memory_editor.specs.OneMore.{TellsOneMore}
 
 -- the two documents may change places
-turned-within : (told : Differences) (d e : DocumentParts) → DifferWithin told d e → DifferWithin told e d
+pub turned-within : (told : Differences) (d e : DocumentParts) → DifferWithin told d e → DifferWithin told e d
 turned-within told d e h = record {
   outline = λ not. sym (h.outline not);
   selection = λ not. sym (h.selection not);
@@ -29,16 +29,16 @@ edit-more was own told c join covers = record {
 }
 
 -- where all is told, nothing is said
+pub all-within : (d e : DocumentParts) → DifferWithin all_differs d e
+all-within d e = record {
+  outline = λ not. cc;
+  selection = λ not. cc;
+  layers = λ not. absurd (not refl);
+  cells = λ id x y not. absurd (not tt);
+}
+
 pub all-more : (was : Differences) (c : Change) → TellsOneMore was all_differs c
-all-more was c = record { redo = λ d e h fits. all d (c.redone e); undo = λ d e fits h. all d e }
-  where
-    all : (d e : DocumentParts) → DifferWithin all_differs d e
-    all d e = record {
-      outline = λ not. cc;
-      selection = λ not. cc;
-      layers = λ not. absurd (not refl);
-      cells = λ id x y not. absurd (not tt);
-    }
+all-more was c = record { redo = λ d e h fits. all-within d (c.redone e); undo = λ d e fits h. all-within d e }
 
 -- ---- the entries of a macro
 after-append : {B : Type 0} (f : B → Change) (xs : List B) (x : B) (d : DocumentParts) → after f (xs ++ x ∷ []) d ≡ (f x).redone (after f xs d)

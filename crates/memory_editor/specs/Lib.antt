@@ -5,3 +5,5 @@ pub mod ManyLines
 pub mod Parts
 pub mod Rectangles
 pub mod OneMore
+pub mod Unions
+pub mod Turned

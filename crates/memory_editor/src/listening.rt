@@ -1,5 +1,7 @@
 // What has to be kept of lines, so that what they did can be told: how the documents stood, and what became of the last edit. The
 // rest is read from the steps that stand there when it is asked for.
+ghost use Rattle.std.specs.Prelude.{◌≡◌, IfSome, false};
+ghost use Rattle.memory_editor.specs.Unions.{TellsTurn};
 
 use crate::block::{Block, LineDone};
 use crate::edited::Edited;
@@ -22,7 +24,9 @@ pub struct Done {
 
 impl Done {
     /// Nothing.
-    pub fn nothing() -> Done {
+    pub fn nothing() -> Done
+        ensures { result.became ≡ Became.Nothing }
+    {
         Done {
             documents: false,
             differences: Differences::nothing(),
@@ -33,7 +37,9 @@ impl Done {
     }
 
     // Other documents are open. Where another one is active, or none is, all differs.
-    fn of_documents(is_other: bool) -> Done {
+    fn of_documents(is_other: bool) -> Done
+        ensures { result.became ≡ Became.Nothing }
+    {
         let differences = if is_other {
             all_differences()
         } else {
@@ -47,7 +53,10 @@ impl Done {
     }
 
     // What these entries change, which became that.
-    fn of_entries(seen: Seen, became: Became) -> Done {
+    fn of_entries(seen: Seen, became: Became) -> Done
+        ensures became { result.became ≡ became }
+        ensures differs { result.differences ≡ seen.differences }
+    {
         Done {
             differences: seen.differences,
             subject: seen.subject,
@@ -57,7 +66,9 @@ impl Done {
     }
 
     // As it is, and the first step was dropped.
-    fn dropping(self) -> Done {
+    fn dropping(self) -> Done
+        ensures { result.became ≡ Became.AddedAndDropped }
+    {
         Done {
             became: Became::AddedAndDropped,
             dropped: 1,
@@ -66,7 +77,9 @@ impl Done {
     }
 
     // A macro ended. What it holds was done before.
-    fn of_end(stack: &Stack<Edit>, is_dropped: bool) -> Done {
+    fn of_end(stack: &Stack<Edit>, is_dropped: bool) -> Done
+        ensures { result.became ≡ Became.Turned → ⊥ }
+    {
         let ended = Done {
             differences: Differences::nothing(),
             ..Done::of_entries(last_seen(stack), Became::Added)
@@ -75,7 +88,9 @@ impl Done {
     }
 
     // What a line did that pushed nothing: it turned steps, ended a macro, or changed neither document nor steps.
-    fn of_turn(stack: &Stack<Edit>, before: Standing, now: Standing) -> Done {
+    fn of_turn(stack: &Stack<Edit>, before: Standing, now: Standing) -> Done
+        ensures { result.became ≡ Became.Turned → TellsTurn stack.now before.index now.index result.differences }
+    {
         // Where there is no step, all were forgotten.
         if stack.count() == 0 {
             return Done::nothing();
@@ -194,8 +209,8 @@ impl Listening {
         self.pushed = None;
     }
 
-    /// A further line of a call is to be done. Where the one before it added a step, of which all is known, that alone is noted: says
-    /// whether.
+    /// A further line of a call is to be done. Where the one before it added a step, or merged into one of the lines of the call, of
+    /// which all is known, that alone is noted: says whether. A merge leaves the documents and the index as they were.
     #[inline(always)]
     pub fn goes_on_behind_edit(&mut self) -> bool {
         if !self.is_many || self.last.depth != 0 {
@@ -204,6 +219,7 @@ impl Listening {
         match self.pushed {
             Some(Pushed::Added) => self.last.index = self.last.index.saturating_add(1),
             Some(Pushed::AddedAndDropped) => self.block.drop_first(),
+            Some(Pushed::Merged) if self.block.knows_last(&self.last) => {}
             _ => return false,
         }
         self.pushed = None;
@@ -246,7 +262,9 @@ impl Listening {
     }
 
     /// The index before the lines of the call.
-    pub fn first(&self) -> usize {
+    pub fn first(&self) -> usize
+        ensures { self.now.is_many ≡ false → result ≡ self.now.last.index }
+    {
         if self.is_many {
             self.block.first()
         } else {
@@ -265,7 +283,9 @@ impl Listening {
     }
 
     // What the line did to the document of a stack, which was the active one before.
-    fn on_stack(&self, now: Standing, stack: &Stack<Edit>) -> Done {
+    fn on_stack(&self, now: Standing, stack: &Stack<Edit>) -> Done
+        ensures { result.became ≡ Became.Turned → TellsTurn stack.now self.now.last.index now.index result.differences }
+    {
         match self.pushed {
             Some(Pushed::Added) => Done::of_entries(last_seen(stack), Became::Added),
             Some(Pushed::AddedAndDropped) => {
@@ -279,7 +299,10 @@ impl Listening {
     }
 
     // What the one line of a call did.
-    fn line_done(&self, now: Standing, stack: Option<&Stack<Edit>>) -> Done {
+    fn line_done(&self, now: Standing, stack: Option<&Stack<Edit>>) -> Done
+        ensures { result.became ≡ Became.Turned
+            → IfSome stack.entry (λ s. TellsTurn s.now self.now.last.index now.index result.differences) }
+    {
         if !self.last.has_documents_of(now) {
             return Done::of_documents(self.last.leaves(now));
         }
@@ -290,7 +313,9 @@ impl Listening {
     }
 
     // What the lines of a call did, where they are several.
-    fn block_done(&self, now: Standing, stack: Option<&Stack<Edit>>) -> Done {
+    fn block_done(&self, now: Standing, stack: Option<&Stack<Edit>>) -> Done
+        ensures { result.became ≡ Became.Nothing }
+    {
         let mut block = self.block;
         block.look_at_undone(stack);
         let line = LineDone {
@@ -309,7 +334,10 @@ impl Listening {
     }
 
     /// What the lines of the call did, where the documents stand so now, and this is the stack of the active one.
-    pub fn done(&self, now: Standing, stack: Option<&Stack<Edit>>) -> Done {
+    pub fn done(&self, now: Standing, stack: Option<&Stack<Edit>>) -> Done
+        ensures { result.became ≡ Became.Turned → (self.now.is_many ≡ false)
+            × IfSome stack.entry (λ s. TellsTurn s.now self.now.last.index now.index result.differences) }
+    {
         if self.is_many {
             self.block_done(now, stack)
         } else {

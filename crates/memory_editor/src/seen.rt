@@ -1,9 +1,13 @@
 // What steps change, and what they are about: looked up in their edits, when it is asked for.
-ghost use Rattle.std.specs.Prelude.{◌≡◌};
+ghost use Rattle.std.specs.Prelude.{◌≡◌, ◌+◌, ◌≤◌};
 ghost use Rattle.undo_stack.specs.Entries.{entry_change};
-ghost use Rattle.document_lines.specs.Differing.{all_differs};
+ghost use Rattle.undo_stack.specs.History.{current, document_at};
+ghost use Rattle.undo_stack.specs.Sides.{before_last};
+ghost use Rattle.undo_stack.specs.Stacks.{Holds, history};
+ghost use Rattle.document_lines.specs.Differing.{DifferWithin, all_differs, no_differences};
 ghost use Rattle.document_lines.specs.Planning.{edit_change};
 ghost use Rattle.memory_editor.specs.OneMore.{TellsOneMore};
+ghost use Rattle.memory_editor.specs.Unions.{HasInner, TellsOn, open_document};
 
 use document_lines::{Cells, Differences, Subject};
 use editor::Edit;
@@ -50,7 +54,9 @@ pub fn common_subject(one: Option<Subject>, other: Option<Subject>) -> Option<Su
 
 impl Seen {
     /// No entry.
-    pub fn nothing() -> Seen {
+    pub fn nothing() -> Seen
+        ensures { result.differences ≡ no_differences }
+    {
         Seen {
             differences: Differences::nothing(),
             subject: None,
@@ -147,45 +153,74 @@ pub fn count_of(ended: &Entry<Edit>) -> usize {
 }
 
 /// What was done last.
-pub fn last_seen(stack: &Stack<Edit>) -> Seen {
+pub fn last_seen(stack: &Stack<Edit>) -> Seen
+    ensures { Holds edit_change stack.now → let h = history edit_change stack.now in DifferWithin result.differences (before_last h) (current h) }
+{
     match stack.last() {
         Some(entry) => Seen::nothing().with_entry(entry),
         None => Seen::nothing(),
     }
 }
 
+// The step with this number, beside others.
+fn step_seen(seen: Seen, stack: &Stack<Edit>, at: usize) -> Seen
+    ensures { Holds edit_change stack.now → let h = history edit_change stack.now in
+        TellsOn seen.differences result.differences (document_at h at) (document_at h (at + 1)) }
+{
+    match stack.entry(at) {
+        Some(entry) => seen.with_entry(entry),
+        None => seen,
+    }
+}
+
 /// The steps from one number up to another, beside others.
-pub fn steps_seen(mut seen: Seen, stack: &Stack<Edit>, from: usize, to: usize) -> Seen {
+pub fn steps_seen(mut seen: Seen, stack: &Stack<Edit>, from: usize, to: usize) -> Seen
+    ensures { Holds edit_change stack.now → from ≤ to → let h = history edit_change stack.now in
+        TellsOn seen.differences result.differences (document_at h from) (document_at h to) }
+{
     for at in from..to {
         if seen.left == 0 {
             return Seen::all();
         }
-        if let Some(entry) = stack.entry(at) {
-            seen = seen.with_entry(entry);
-        }
+        seen = step_seen(seen, stack, at);
     }
     seen
 }
 
+// The entry with this number of the open macro at a level, beside others.
+fn entry_seen(seen: Seen, stack: &Stack<Edit>, level: usize, at: usize) -> Seen
+    ensures { Holds edit_change stack.now → let h = history edit_change stack.now in
+        TellsOn seen.differences result.differences (open_document h level at) (open_document h level (at + 1)) }
+{
+    match stack.open_entry(level, at) {
+        Some(entry) => seen.with_entry(entry),
+        None => seen,
+    }
+}
+
 // The entries of the open macro at a level from one number on, beside others.
-fn level_seen(mut seen: Seen, stack: &Stack<Edit>, level: usize, from: usize) -> Seen {
+fn level_seen(mut seen: Seen, stack: &Stack<Edit>, level: usize, from: usize) -> Seen
+    ensures { Holds edit_change stack.now → let h = history edit_change stack.now in HasInner h level from →
+        TellsOn seen.differences result.differences (open_document h level from) (open_document h (level + 1) 0) }
+{
     for at in from..stack.open_count(level).unwrap_or(0) {
         if seen.left == 0 {
             return Seen::all();
         }
-        if let Some(entry) = stack.open_entry(level, at) {
-            seen = seen.with_entry(entry);
-        }
+        seen = entry_seen(seen, stack, level, at);
     }
     seen
 }
 
 /// The entries of the open macro at a level from one number on, and those of the macros in it, beside others.
-pub fn open_seen(mut seen: Seen, stack: &Stack<Edit>, level: usize, from: usize) -> Seen {
-    let mut from = from;
-    for level in level..stack.depth() {
-        seen = level_seen(seen, stack, level, from);
-        from = 0;
+pub fn open_seen(mut seen: Seen, stack: &Stack<Edit>, level: usize, from: usize) -> Seen
+    ensures { Holds edit_change stack.now → let h = history edit_change stack.now in HasInner h level from →
+        TellsOn seen.differences result.differences (open_document h level from) (current h) }
+{
+    let mut first = from;
+    for inner in level..stack.depth() {
+        seen = level_seen(seen, stack, inner, first);
+        first = 0;
     }
     seen
 }

@@ -1,20 +1,26 @@
 // What lines did, as it is told when it is asked for, and the steps of the active document.
-ghost use Rattle.std.specs.Prelude.{◌≡◌, option_and_then};
+ghost use Rattle.std.specs.Prelude.{◌≡◌, ℕ, ◌<◌, IfSome, IsTrue, option_and_then};
 ghost use Rattle.std.specs.Option.{option_map};
+ghost use Rattle.map_model.specs.Document.{DocumentParts};
+ghost use Rattle.edits.specs.Blocks.{in_area, is_below, offset};
 ghost use Rattle.session.specs.Replies.{refusal_of};
+ghost use Rattle.undo_stack.specs.History.{count, current, document_at};
 ghost use Rattle.undo_stack.specs.Reading.{text_at};
 ghost use Rattle.undo_stack.specs.Stacks.{history, Holds};
 ghost use Rattle.document_lines.specs.Machine.{active_of};
+ghost use Rattle.document_lines.specs.Differing.{DifferWithin};
 ghost use Rattle.document_lines.specs.Planning.{edit_change};
 ghost use Rattle.memory_editor.specs.Lookups.{standing_of};
-ghost use Rattle.memory_editor.specs.Parts.{step_text_of};
+ghost use Rattle.memory_editor.specs.Parts.{active_map, step_text_of};
+ghost use Rattle.memory_editor.specs.Turned.{differences_of};
+ghost use Rattle.memory_editor.specs.Unions.{DifferOn, TellsCellsOf, document_behind};
 
 use crate::lookups::Status;
 use crate::memory_editor::MemoryEditor;
 use crate::seen::{Seen, open_seen};
 use crate::standing::Standing;
-use crate::told::{Step, Told};
-use document_lines::{Cells, Dialect, Subject};
+use crate::told::{Became, Step, Told};
+use document_lines::{Cells, Dialect, Differences, Subject};
 use editor::Edit;
 use edits::Area;
 use map_model::Map;
@@ -22,32 +28,37 @@ use refusals::{LineFault, Refusal};
 use session::{Reply, any_word_fault, word_fault};
 use undo_stack::Stack;
 
-// The end of so many columns from one on, in a map that has so many.
-fn end_within(from: i32, count: u32, all: u32) -> i64 {
-    (i64::from(from) + i64::from(count)).min(i64::from(all))
-}
-
-// How many columns there are from one on, before an end.
-fn count_to(from: i32, end: i64) -> u32 {
-    u32::try_from(end.saturating_sub(i64::from(from))).unwrap_or(0)
+// Columns, or rows, as far as they lie in a map that has so many: the first one, and how many.
+fn columns_within(from: i32, count: u32, all: u32) -> (i32, u32)
+    ensures { (at : ℕ) → at < all → IsTrue (is_below (offset from at) count) → IsTrue (is_below (offset result.0 at) result.1) }
+{
+    let first = from.max(0);
+    let end = (i64::from(from) + i64::from(count)).min(i64::from(all));
+    match u32::try_from(end - i64::from(first)) {
+        Ok(within) => (first, within),
+        Err(_) => (first, 0),
+    }
 }
 
 // An area as far as it lies in a map.
-fn area_within(map: &Map, area: Area) -> Area {
+fn area_within(map: &Map, area: Area) -> Area
+    ensures { (x y : ℕ) → x < map.now.width → y < map.now.height → IsTrue (in_area area x y) → IsTrue (in_area result x y) }
+{
     let parts = map.parts();
-    let right = end_within(area.x, area.width, parts.width);
-    let below = end_within(area.y, area.height, parts.height);
-    let (x, y) = (area.x.max(0), area.y.max(0));
+    let (x, width) = columns_within(area.x, area.width, parts.width);
+    let (y, height) = columns_within(area.y, area.height, parts.height);
     Area {
         x,
         y,
-        width: count_to(x, right),
-        height: count_to(y, below),
+        width,
+        height,
     }
 }
 
 // Cells as far as they lie in a map.
-fn cells_within(map: &Map, cells: Cells) -> Cells {
+fn cells_within(map: &Map, cells: Cells) -> Cells
+    ensures { TellsCellsOf map.now cells result }
+{
     match cells {
         Cells::Within { layer, area } => Cells::Within {
             layer,
@@ -79,29 +90,43 @@ fn bad_word(dialect: Dialect, line: &[u8]) -> Option<u32> {
 
 // What a step, or an open macro, that holds these entries is about and changes, where the map is that now.
 fn step_of<'a>(map: &Map, text: &'a str, is_macro: bool, seen: Seen) -> Step<'a>
-    ensures { result.text.now ≡ text.now }
+    ensures text { result.text.now ≡ text.now }
+    ensures differs { (d e : DocumentParts) → DifferWithin seen.differences d e → DifferOn map.now result.differences d e }
 {
-    let mut differences = seen.differences;
-    differences.cells = cells_within(map, differences.cells);
+    let cells = cells_within(map, seen.differences.cells);
     Step {
         text,
         is_macro,
         subject: seen.subject.unwrap_or(Subject::Nothing),
-        differences,
+        differences: Differences {
+            cells,
+            ..seen.differences
+        },
+    }
+}
+
+// Whether a step of a stack is a macro, and what it changes.
+fn seen_at(stack: &Stack<Edit>, at: usize) -> (bool, Seen)
+    requires held { Holds edit_change stack.now }
+    requires there { at < count (history edit_change stack.now) }
+    ensures { let h = history edit_change stack.now in DifferWithin result.1.differences (document_at h at) (document_behind h at) }
+{
+    match stack.entry(at) {
+        Some(entry) => (entry.is_macro(), Seen::nothing().with_entry(entry)),
+        None => (true, open_seen(Seen::nothing(), stack, 0, 0)),
     }
 }
 
 // The step of a stack with this number, and `None` past the last one.
 fn step_in<'a>(stack: &'a Stack<Edit>, at: usize) -> Option<Step<'a>>
     requires { Holds edit_change stack.now }
-    ensures { option_map (λ step. step.text.now) result ≡ text_at (history edit_change stack.now) at }
+    ensures text { option_map (λ step. step.text.now) result ≡ text_at (history edit_change stack.now) at }
+    ensures differs { IfSome result (λ step. let h = history edit_change stack.now in
+        DifferOn (current h).map step.differences (document_at h at) (document_behind h at)) }
 {
     match stack.text(at) {
         Some(text) => {
-            let (is_macro, seen) = match stack.entry(at) {
-                Some(entry) => (entry.is_macro(), Seen::nothing().with_entry(entry)),
-                None => (true, open_seen(Seen::nothing(), stack, 0, 0)),
-            };
+            let (is_macro, seen) = seen_at(stack, at);
             Some(step_of(stack.document().map(), text, is_macro, seen))
         }
         None => None,
@@ -110,7 +135,9 @@ fn step_in<'a>(stack: &'a Stack<Edit>, at: usize) -> Option<Step<'a>>
 
 impl MemoryEditor {
     // How the documents stand. It is read from the stack of the active one.
-    fn standing(&self) -> Standing {
+    fn standing(&self) -> Standing
+        ensures { result.index ≡ (standing_of (active_of self.now.machine)).index }
+    {
         let group = self.editor.group();
         let (index, depth) = match group.active() {
             Some(stack) => (stack.index(), stack.depth()),
@@ -238,6 +265,8 @@ impl MemoryEditor {
         ensures depth { result.depth ≡ (standing_of (active_of self.now.machine)).depth }
         ensures clean { result.is_clean ≡ (standing_of (active_of self.now.machine)).is_clean }
         ensures refusal { result.refusal ≡ option_and_then refusal_of self.now.reply }
+        ensures turned { result.became ≡ Became.Turned → IfSome (active_of self.now.machine) (λ h.
+            DifferOn (current h).map (differences_of result) (document_at h result.before) (document_at h result.index)) }
     {
         let done = self.listening.done(self.standing(), self.active());
         let cells = self.cells_in_map(done.differences.cells);
@@ -262,7 +291,9 @@ impl MemoryEditor {
     }
 
     // Cells as far as they lie in the map of the active document.
-    fn cells_in_map(&self, cells: Cells) -> Cells {
+    fn cells_in_map(&self, cells: Cells) -> Cells
+        ensures { IfSome (active_map self.now.machine) (λ m. TellsCellsOf m cells result) }
+    {
         match self.active_map() {
             Some(map) => cells_within(map, cells),
             None => cells,
@@ -294,7 +325,9 @@ impl MemoryEditor {
     /// The step with this number of the active document, where the first one has 0, and `None` past the last one or where no
     /// document is active. An open macro stands last. It visits at most 64 of its entries.
     pub fn step_at(&self, at: usize) -> Option<Step<'_>>
-        ensures { option_map (λ step. step.text.now) result ≡ step_text_of (active_of self.now.machine) at }
+        ensures text { option_map (λ step. step.text.now) result ≡ step_text_of (active_of self.now.machine) at }
+        ensures differs { IfSome result (λ step. IfSome (active_of self.now.machine) (λ h.
+            DifferOn (current h).map step.differences (document_at h at) (document_behind h at))) }
     {
         match self.active() {
             Some(stack) => step_in(stack, at),

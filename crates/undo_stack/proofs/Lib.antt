@@ -21,3 +21,4 @@ pub mod Held
 mod Turned
 pub mod Told
 pub mod Innermost
+pub mod Sides

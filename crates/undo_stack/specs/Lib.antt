@@ -5,6 +5,7 @@ pub mod Turning
 pub mod Calm
 pub mod Macros
 pub mod Reading
+pub mod Sides
 pub mod Sequence
 pub mod Nestings
 pub mod Entries

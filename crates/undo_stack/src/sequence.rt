@@ -1,4 +1,4 @@
-ghost use Rattle.std.specs.Prelude.{◌≡◌, ◌↔◌, ◌≤◌, ◌<◌, ◌+◌, ◌-◌, ◌++◌, ◌∷◌, [], length, take, drop, IfOk, IfErr, Some, false, true, max};
+ghost use Rattle.std.specs.Prelude.{◌≡◌, ◌↔◌, ◌≤◌, ◌<◌, ◌+◌, ◌-◌, ◌++◌, ◌∷◌, [], length, take, drop, slice_get, IfOk, IfErr, MatchOption, Some, false, true, max};
 ghost use Rattle.std.specs.VecDeque.{deque_capacity};
 ghost use Rattle.map_model.specs.Document.{DocumentParts};
 ghost use Rattle.command_api.specs.Names.{is_free};
@@ -58,7 +58,10 @@ impl<C: Command> Sequence<C> {
     }
 
     /// The entry below the index, and `None` where the index is 0.
-    pub fn last(&self) -> Option<&Entry<C>> {
+    pub fn last(&self) -> Option<&Entry<C>>
+        ensures { MatchOption result (self.now.index ≤ length self.now.entries.items → self.now.index ≡ 0)
+            (λ entry. (0 < self.now.index) × (slice_get self.now.entries.items (self.now.index - 1) ≡ Some entry.now)) }
+    {
         if self.index == 0 {
             return None;
         }
