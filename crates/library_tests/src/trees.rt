@@ -37,7 +37,7 @@ fn place(order: Order, any: usize, count: usize) -> usize
 
 // A list of 4,096 items that are put in in an order.
 fn filled(alloc: Global, order: Order) -> Result<LinkTree<usize>, AllocError> {
-    let mut tree = LinkTree::new();
+    let mut tree = LinkTree::new(alloc);
     let mut seed = 1;
     for item in 0..4096 {
         let count = tree.len();
@@ -191,7 +191,7 @@ fn balanced_after_moves(rt: HostRuntime) -> Result<(), Fail> {
 // It holds what a plain list holds in which the same is put in, changed and taken out.
 #[test]
 fn same_as_a_plain_list(rt: HostRuntime) -> Result<(), Fail> {
-    let mut tree = LinkTree::new();
+    let mut tree = LinkTree::new(rt.alloc());
     let mut plain = Vec::new(rt.alloc());
     let mut seed = 3;
     for item in 0..2_000 {

@@ -72,8 +72,8 @@ impl<E: Drop> ElementList<E> for Chain<E> {
 impl<E: Drop> ElementList<E> for LinkTree<E> {
     ghost listed = { λ elements. elements };
 
-    fn none(_alloc: Global) -> LinkTree<E> {
-        LinkTree::new()
+    fn none(alloc: Global) -> LinkTree<E> {
+        LinkTree::new(alloc)
     }
 
     fn count(&self) -> usize {
