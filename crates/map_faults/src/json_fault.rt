@@ -1,8 +1,8 @@
 // Where bytes cease to be JSON. Places are offsets, which count from 0.
-use crate::line_column::LineColumn;
 use crate::scan::{Scan, is_blank};
 use serde_json::{Error, Value};
 use std::alloc::{AllocError, Global};
+use tiled_files::LineColumn;
 
 // The offset of a line and a column. Column 0, which is the end behind a newline, gives that newline.
 fn offset_of(bytes: &[u8], line: usize, column: usize) -> usize {

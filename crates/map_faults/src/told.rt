@@ -1,6 +1,5 @@
 // What is told of a fault: an object of JSON.
 use crate::json_fault::place_of_fault;
-use crate::line_column::LineColumn;
 use crate::members::Members;
 use crate::offsets::offset_of_steps;
 use crate::output::Output;
@@ -9,6 +8,7 @@ use refusals::{MapRefusal, StoreFault};
 use serde_json::{Error, Value};
 use std::alloc::{AllocError, Global};
 use std::io;
+use tiled_files::{LineColumn, json_in};
 use tiled_maps::why_damaged;
 
 /// Why a map can't be set aside, if its text would be longer than `LONGEST`.
@@ -17,6 +17,14 @@ pub const TOO_LONG: &str = "set aside, it would be longer than 67,108,864 bytes"
 /// Why a map is refused whose layers are packed otherwise than by zlib or gzip, and the cure.
 const OTHER_COMPRESSION: &str =
     "only zlib and gzip are unpacked: choose another Tile Layer Format in Map > Map Properties";
+
+// The text in JSON that says what a file says.
+#[derive(Clone, Copy)]
+struct JsonOf<'a> {
+    json: &'a [u8],
+    /// Whether it is that of the file, which is not in XML.
+    is_own: bool,
+}
 
 // The place in a file where the reader has stopped, if it has read the file or what was set aside of it.
 #[derive(Clone, Copy)]
@@ -148,16 +156,24 @@ fn put_line_column(bytes: &[u8], offset: Result<usize, AllocError>, out: &mut Me
     }
 }
 
+fn put_no_line(out: &mut Members) {
+    out.nothing("line");
+    out.nothing("column");
+}
+
 // Puts the place of a fault in the tree of a file.
-fn put_in_tree(bytes: &[u8], root: &Value, place: &Place, found: InFile, out: &mut Members) {
+fn put_in_tree(file: JsonOf<'_>, root: &Value, place: &Place, found: InFile, out: &mut Members) {
     let alloc = place.alloc();
     out.key("path");
     place.put_steps(found.steps, out);
     out.truth("exact", found.is_exact);
     put_written("shown", shown_at(place, root, found), out);
     put_written("text", words_of(place, root, found), out);
+    if !file.is_own {
+        return put_no_line(out);
+    }
     let steps = place.front(found.steps);
-    put_line_column(bytes, offset_of_steps(alloc, bytes, steps), out);
+    put_line_column(file.json, offset_of_steps(alloc, file.json, steps), out);
 }
 
 fn line_text(alloc: Global, place: LineColumn) -> Result<String, AllocError> {
@@ -196,6 +212,29 @@ fn begun(alloc: Global, told: &str) -> Members {
     out
 }
 
+fn told_in(
+    alloc: Global,
+    file: JsonOf<'_>,
+    refusal: MapRefusal,
+    place: &Place,
+    is_set_aside: bool,
+) -> Result<Vec<u8>, AllocError> {
+    let mut out = begun(alloc, refusal.words());
+    match Value::from_slice(alloc, file.json) {
+        Ok(root) => {
+            put_why(why_refused(alloc, &root, refusal, place)?, &mut out);
+            let found = in_file(place, &root, refusal, is_set_aside);
+            put_in_tree(file, &root, place, found, &mut out);
+        }
+        Err(error) => {
+            out.nothing("why");
+            put_no_json(alloc, file.json, &error, &mut out);
+        }
+    }
+    out.end_object();
+    out.into_line()
+}
+
 /// What is told of a file that the reader refuses, with the place at which it stopped. It has read what was set aside of the file, or
 /// the file itself.
 pub fn told_of_refusal(
@@ -208,30 +247,39 @@ pub fn told_of_refusal(
     if place.is_lost() {
         return Err(AllocError);
     }
-    let mut out = begun(alloc, refusal.words());
-    match Value::from_slice(alloc, bytes) {
-        Ok(root) => {
-            put_why(why_refused(alloc, &root, refusal, place)?, &mut out);
-            let found = in_file(place, &root, refusal, is_set_aside);
-            put_in_tree(bytes, &root, place, found, &mut out);
-        }
-        Err(error) => {
-            out.nothing("why");
-            put_no_json(alloc, bytes, &error, &mut out);
-        }
-    }
-    out.end_object();
-    out.into_line()
+    let Ok(made) = json_in(alloc, bytes) else {
+        return Err(AllocError);
+    };
+    let file = match &made {
+        Some(json) => JsonOf {
+            json,
+            is_own: false,
+        },
+        None => JsonOf {
+            json: bytes,
+            is_own: true,
+        },
+    };
+    told_in(alloc, file, refusal, place, is_set_aside)
 }
 
-/// What is told of a file that is not set aside, and why. It has no place.
-pub fn told_of_not_aside(alloc: Global, why: &str) -> Result<Vec<u8>, AllocError> {
+/// What is told of a file that is not set aside, and why. It has no place, or that of the byte at which it ceases to be XML.
+pub fn told_of_not_aside(
+    alloc: Global,
+    why: &str,
+    place: Option<LineColumn>,
+) -> Result<Vec<u8>, AllocError> {
     let mut out = begun(alloc, StoreFault::Device.words());
     out.text("why", why);
-    out.nothing("path");
-    out.truth("exact", false);
-    for name in ["shown", "text", "line", "column"] {
-        out.nothing(name);
+    match place {
+        Some(place) => put_in_bytes(alloc, place, &mut out),
+        None => {
+            out.nothing("path");
+            out.truth("exact", false);
+            out.nothing("shown");
+            out.nothing("text");
+            put_no_line(&mut out);
+        }
     }
     out.end_object();
     out.into_line()

@@ -1,6 +1,7 @@
 // The reports of files, one after the other.
 use crate::json_lines::{Outcome, Refused, line_of};
 use crate::listing::write_listing;
+use crate::named::Named;
 use crate::refused::{write_not_aside, write_refusal};
 use map_faults::{Output, Place, TOO_LONG};
 use map_json::{MapFault, read_map_along};
@@ -8,7 +9,8 @@ use std::alloc::Global;
 use std::fs;
 use std::io::{self, Read, Write};
 use std::rt::Files;
-use tiled_maps::{Fault, LONGEST, set_aside};
+use tiled_files::{FileFault, LONGEST, json_in};
+use tiled_maps::{Fault, set_aside};
 
 /// The name that stands for standard input.
 const INPUT: &str = "-";
@@ -51,11 +53,11 @@ fn read_file<R: Files + AllocGlobal, I: Read>(
 // Writes the line of JSON of a file, and gives whether it tells of a map.
 fn write_line<W: Write>(
     alloc: Global,
-    file: &str,
+    named: Named<'_>,
     outcome: Outcome<'_>,
     output: &mut W,
 ) -> io::Result<bool> {
-    let (line, is_whole) = line_of(alloc, file, outcome)?;
+    let (line, is_whole) = line_of(alloc, named, outcome)?;
     output.write_all(&line)?;
     output.write_all(b"\n")?;
     Ok(match outcome {
@@ -82,13 +84,22 @@ fn write_lines<W: Write>(
             write_refusal(alloc, refused, out);
             false
         }
-        Outcome::NotAside(why) => {
+        Outcome::NotAside(why, place) => {
             out.text(file);
             out.text(": ");
-            write_not_aside(why, out);
+            write_not_aside(why, place, out);
             false
         }
         Outcome::Unread(_) => false,
+    }
+}
+
+// Writes how the name of a file differs from what is in it.
+fn write_difference<W: Write>(named: Named<'_>, out: &mut Output<'_, W>) {
+    if let Some(words) = named.differs {
+        out.text("  ");
+        out.text(words);
+        out.text("\n");
     }
 }
 
@@ -96,15 +107,16 @@ fn write_lines<W: Write>(
 fn write_outcome<W: Write>(
     alloc: Global,
     form: Form,
-    file: &str,
+    named: Named<'_>,
     outcome: Outcome<'_>,
     output: &mut W,
 ) -> io::Result<bool> {
     if form == Form::Json {
-        return write_line(alloc, file, outcome, output);
+        return write_line(alloc, named, outcome, output);
     }
     let mut out = Output::new(output);
-    let is_map = write_lines(alloc, file, outcome, &mut out);
+    let is_map = write_lines(alloc, named.file, outcome, &mut out);
+    write_difference(named, &mut out);
     out.end()?;
     Ok(is_map)
 }
@@ -119,35 +131,87 @@ fn report_unread<R: Eprint, W: Write>(
     output: &mut W,
 ) -> io::Result<bool> {
     eprintln!(rt; "map_report: {file}: {error}")?;
-    write_outcome(alloc, form, file, Outcome::Unread(error), output)
+    let named = Named::unread(file);
+    write_outcome(alloc, form, named, Outcome::Unread(error), output)
 }
 
-// Reports the text of a map: the bytes of its file, or what was set aside of them.
+// Reports the text of a map: the JSON that its file says, or what was set aside of it.
 fn report_text<W: Write>(
     alloc: Global,
     manner: Manner,
-    file: &str,
-    bytes: &[u8],
+    named: Named<'_>,
+    json: &[u8],
     text: &[u8],
     output: &mut W,
 ) -> io::Result<bool> {
     let mut place = Place::new(alloc);
     match read_map_along(alloc, text, &mut place) {
-        Ok(map) => write_outcome(alloc, manner.form, file, Outcome::Map(&map), output),
+        Ok(map) => write_outcome(alloc, manner.form, named, Outcome::Map(&map), output),
         Err(fault) => {
             let outcome = Outcome::Refused(Refused {
-                file: bytes,
+                file: json,
                 text,
                 opens_all_maps: manner.opens_all_maps,
                 fault,
                 place: &place,
             });
-            write_outcome(alloc, manner.form, file, outcome, output)
+            write_outcome(alloc, manner.form, named, outcome, output)
         }
     }
 }
 
-// Reports the bytes of a file. A map that needs it is set aside, if all maps are opened.
+// Reports a file that is no map in XML, or that is not set aside. There may have been no memory.
+fn report_not_aside<W: Write>(
+    alloc: Global,
+    form: Form,
+    named: Named<'_>,
+    bytes: &[u8],
+    fault: FileFault,
+    output: &mut W,
+) -> io::Result<bool> {
+    if fault.is_memory() {
+        let place = Place::new(alloc);
+        let refused = Refused {
+            file: bytes,
+            text: bytes,
+            opens_all_maps: true,
+            fault: MapFault::Memory,
+            place: &place,
+        };
+        return write_outcome(alloc, form, named, Outcome::Refused(refused), output);
+    }
+    let outcome = Outcome::NotAside(fault.words(), fault.place_in(bytes));
+    write_outcome(alloc, form, named, outcome, output)
+}
+
+// Reports the JSON that a file says. A map that needs it is set aside.
+fn report_json<W: Write>(
+    alloc: Global,
+    manner: Manner,
+    named: Named<'_>,
+    json: &[u8],
+    output: &mut W,
+) -> io::Result<bool> {
+    let form = manner.form;
+    match set_aside(alloc, json) {
+        Ok(Some(text)) if text.len() > LONGEST => {
+            write_outcome(
+                alloc,
+                form,
+                named,
+                Outcome::NotAside(TOO_LONG, None),
+                output,
+            )
+        }
+        Ok(Some(text)) => report_text(alloc, manner, named, json, &text, output),
+        Ok(None) | Err(Fault::NotJson) => report_text(alloc, manner, named, json, json, output),
+        Err(fault) => {
+            report_not_aside(alloc, form, named, json, FileFault::Aside(fault), output)
+        }
+    }
+}
+
+// Reports the bytes of a file. A map in XML is read, and one that needs it is set aside, if all maps are opened.
 fn report_bytes<W: Write>(
     alloc: Global,
     manner: Manner,
@@ -155,31 +219,14 @@ fn report_bytes<W: Write>(
     bytes: &[u8],
     output: &mut W,
 ) -> io::Result<bool> {
-    let form = manner.form;
+    let named = Named::of(file, bytes);
     if !manner.opens_all_maps {
-        return report_text(alloc, manner, file, bytes, bytes, output);
+        return report_text(alloc, manner, named, bytes, bytes, output);
     }
-    match set_aside(alloc, bytes) {
-        Ok(Some(text)) if text.len() > LONGEST => {
-            write_outcome(alloc, form, file, Outcome::NotAside(TOO_LONG), output)
-        }
-        Ok(Some(text)) => report_text(alloc, manner, file, bytes, &text, output),
-        Ok(None) | Err(Fault::NotJson) => report_text(alloc, manner, file, bytes, bytes, output),
-        Err(Fault::Memory) => {
-            let place = Place::new(alloc);
-            let outcome = Outcome::Refused(Refused {
-                file: bytes,
-                text: bytes,
-                opens_all_maps: true,
-                fault: MapFault::Memory,
-                place: &place,
-            });
-            write_outcome(alloc, form, file, outcome, output)
-        }
-        Err(fault) => {
-            let outcome = Outcome::NotAside(fault.words());
-            write_outcome(alloc, form, file, outcome, output)
-        }
+    match json_in(alloc, bytes) {
+        Ok(Some(json)) => report_json(alloc, manner, named, &json, output),
+        Ok(None) => report_json(alloc, manner, named, bytes, output),
+        Err(fault) => report_not_aside(alloc, manner.form, named, bytes, fault, output),
     }
 }
 

@@ -8,7 +8,8 @@ use refusals::{MapRefusal, Refusal, StoreFault};
 use serde_json::{Error, Value};
 use std::alloc::{AllocError, Global};
 use std::io::{self, ErrorKind};
-use tiled_maps::{Fault, LONGEST, set_aside};
+use tiled_files::{LONGEST, is_xml, json_in};
+use tiled_maps::{Fault, set_aside};
 
 // ---- places
 
@@ -158,11 +159,11 @@ fn put_placeless(out: &mut Members, told: &str, reason: Option<&str>) {
 
 // ---- with --all-maps
 
-// Puts that the editor does not open a map, since it can't be set aside.
-fn put_not_set_aside(out: &mut Members, why: &str) {
+// Puts that the editor does not open a map, since it can't be set aside, or ceases to be XML at a place.
+fn put_not_set_aside(alloc: Global, why: &str, place: Option<LineColumn>, out: &mut Members) {
     out.truth("opens", false);
     out.key("refused");
-    put_not_aside(why, out);
+    put_not_aside(alloc, why, place, out);
 }
 
 // Puts why the editor does not open a map that is set aside.
@@ -194,16 +195,26 @@ fn put_aside(alloc: Global, file: &[u8], text: &[u8], out: &mut Members) {
     }
 }
 
-// Puts what the editor answers with `--all-maps` to a map with fractions, a packed or an infinite one.
+// Puts what the editor answers with `--all-maps` to the JSON that a file says.
+fn put_json_with_all_maps(alloc: Global, json: &[u8], out: &mut Members) {
+    match set_aside(alloc, json) {
+        Ok(Some(text)) if text.len() > LONGEST => put_not_set_aside(alloc, TOO_LONG, None, out),
+        Ok(Some(text)) => put_aside(alloc, json, &text, out),
+        Ok(None) => put_aside(alloc, json, json, out),
+        Err(Fault::Memory) => out.lose(),
+        Err(fault) => put_not_set_aside(alloc, fault.words(), None, out),
+    }
+}
+
+// Puts what the editor answers with `--all-maps` to a map with fractions, a packed or an infinite one, or to XML.
 fn put_with_all_maps(alloc: Global, bytes: &[u8], out: &mut Members) {
     out.key("allmaps");
     out.begin_object();
-    match set_aside(alloc, bytes) {
-        Ok(Some(text)) if text.len() > LONGEST => put_not_set_aside(out, TOO_LONG),
-        Ok(Some(text)) => put_aside(alloc, bytes, &text, out),
-        Ok(None) => put_aside(alloc, bytes, bytes, out),
-        Err(Fault::Memory) => out.lose(),
-        Err(fault) => put_not_set_aside(out, fault.words()),
+    match json_in(alloc, bytes) {
+        Ok(Some(json)) => put_json_with_all_maps(alloc, &json, out),
+        Ok(None) => put_json_with_all_maps(alloc, bytes, out),
+        Err(fault) if fault.is_memory() => out.lose(),
+        Err(fault) => put_not_set_aside(alloc, fault.words(), fault.place_in(bytes), out),
     }
     out.end_object();
 }
@@ -227,15 +238,26 @@ pub fn put_refusal(alloc: Global, refused: Refused<'_>, out: &mut Members) {
             MapRefusal::Fraction | MapRefusal::Infinite | MapRefusal::Compressed => {
                 put_with_all_maps(alloc, refused.file, out)
             }
+            MapRefusal::NotJson if is_xml(refused.file) => {
+                put_with_all_maps(alloc, refused.file, out)
+            }
             _ => {}
         }
     }
     out.end_object();
 }
 
-/// Puts why a map can't be set aside.
-pub fn put_not_aside(why: &str, out: &mut Members) {
-    put_placeless(out, StoreFault::Device.words(), Some(why));
+/// Puts why a map can't be set aside, or is no XML behind a place.
+pub fn put_not_aside(alloc: Global, why: &str, place: Option<LineColumn>, out: &mut Members) {
+    out.begin_object();
+    out.code(StoreFault::Device.words());
+    out.begin_list("places");
+    if let Some(place) = place {
+        put_line_column(alloc, place, out);
+    }
+    out.end_array();
+    out.text("reason", why);
+    out.end_object();
 }
 
 /// Puts why a file could not be read.

@@ -7,6 +7,7 @@ mod json_lines;
 mod json_listing;
 mod json_refusal;
 mod listing;
+mod named;
 mod options;
 mod refused;
 mod table;

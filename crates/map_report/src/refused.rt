@@ -1,13 +1,19 @@
 // Why a map is refused: the code, its words, and the place of the fault.
 use crate::fraction_places::{Fractions, Owner, find_fractions, write_owner};
 use crate::json_lines::Refused;
-use map_faults::{Output, Place, TOO_LONG, place_of_fault, why_refused};
+use map_faults::{LineColumn, Output, Place, TOO_LONG, place_of_fault, why_refused};
 use map_json::{MapFault, read_map_along};
 use refusals::{MapRefusal, Refusal, StoreFault};
 use serde_json::{Error, Value};
 use std::alloc::Global;
 use std::io::Write;
-use tiled_maps::{Fault, LONGEST, set_aside};
+use tiled_files::{LONGEST, is_xml, json_in};
+use tiled_maps::{Fault, set_aside};
+
+fn write_line_column<W: Write>(place: LineColumn, out: &mut Output<'_, W>) {
+    out.value(": line ", &place.line);
+    out.value(", column ", &place.column);
+}
 
 // Writes where a text ceases to be JSON, where there is memory to know it.
 fn write_line<W: Write>(alloc: Global, bytes: &[u8], error: &Error, out: &mut Output<'_, W>) {
@@ -15,8 +21,7 @@ fn write_line<W: Write>(alloc: Global, bytes: &[u8], error: &Error, out: &mut Ou
         return;
     }
     if let Ok(place) = place_of_fault(alloc, bytes, error) {
-        out.value(": line ", &place.line);
-        out.value(", column ", &place.column);
+        write_line_column(place, out);
     }
 }
 
@@ -105,20 +110,38 @@ fn write_aside<W: Write>(alloc: Global, file: &[u8], text: &[u8], out: &mut Outp
     }
 }
 
-// Writes why a map is not set aside.
-fn write_not_set_aside<W: Write>(why: &str, out: &mut Output<'_, W>) {
-    out.text("\n  with --all-maps: ");
+// Writes why a map is not set aside, or is no XML, and where it ceases to be.
+fn write_why_not<W: Write>(why: &str, place: Option<LineColumn>, out: &mut Output<'_, W>) {
     out.text(why);
+    if let Some(place) = place {
+        write_line_column(place, out);
+    }
 }
 
-// Writes what the editor answers with `--all-maps` to a map with fractions, a packed or an infinite one.
-fn write_with_all_maps<W: Write>(alloc: Global, bytes: &[u8], out: &mut Output<'_, W>) {
-    match set_aside(alloc, bytes) {
-        Ok(Some(text)) if text.len() > LONGEST => write_not_set_aside(TOO_LONG, out),
-        Ok(Some(text)) => write_aside(alloc, bytes, &text, out),
-        Ok(None) => write_aside(alloc, bytes, bytes, out),
+// Writes why the editor does not open a map with `--all-maps`.
+fn write_not_set_aside<W: Write>(why: &str, place: Option<LineColumn>, out: &mut Output<'_, W>) {
+    out.text("\n  with --all-maps: ");
+    write_why_not(why, place, out);
+}
+
+// Writes what the editor answers with `--all-maps` to the JSON that a file says.
+fn write_json_with_all_maps<W: Write>(alloc: Global, json: &[u8], out: &mut Output<'_, W>) {
+    match set_aside(alloc, json) {
+        Ok(Some(text)) if text.len() > LONGEST => write_not_set_aside(TOO_LONG, None, out),
+        Ok(Some(text)) => write_aside(alloc, json, &text, out),
+        Ok(None) => write_aside(alloc, json, json, out),
         Err(Fault::Memory) => {}
-        Err(fault) => write_not_set_aside(fault.words(), out),
+        Err(fault) => write_not_set_aside(fault.words(), None, out),
+    }
+}
+
+// Writes what the editor answers with `--all-maps` to a map with fractions, a packed or an infinite one, or to XML.
+fn write_with_all_maps<W: Write>(alloc: Global, bytes: &[u8], out: &mut Output<'_, W>) {
+    match json_in(alloc, bytes) {
+        Ok(Some(json)) => write_json_with_all_maps(alloc, &json, out),
+        Ok(None) => write_json_with_all_maps(alloc, bytes, out),
+        Err(fault) if fault.is_memory() => {}
+        Err(fault) => write_not_set_aside(fault.words(), fault.place_in(bytes), out),
     }
 }
 
@@ -146,12 +169,12 @@ fn write_all_fractions<W: Write>(alloc: Global, bytes: &[u8], out: &mut Output<'
     write_with_all_maps(alloc, bytes, out);
 }
 
-/// Writes the line of a map that can't be set aside.
-pub fn write_not_aside<W: Write>(why: &str, out: &mut Output<'_, W>) {
+/// Writes the line of a map that can't be set aside, or is no XML behind a place.
+pub fn write_not_aside<W: Write>(why: &str, place: Option<LineColumn>, out: &mut Output<'_, W>) {
     out.text("no ");
     out.text(StoreFault::Device.words());
     out.text(": ");
-    out.text(why);
+    write_why_not(why, place, out);
     out.text("\n");
 }
 
@@ -173,13 +196,16 @@ fn write_more<W: Write>(
             refused.file,
             out,
         ),
+        MapRefusal::NotJson if is_xml(refused.file) => {
+            write_with_all_maps(alloc, refused.file, out)
+        }
         _ => {}
     }
 }
 
 /// Writes the line of a map that is refused, with the place at which the reader stopped. Where that is lost, there was no
 /// memory. If the map is refused for a fraction, a line for each of them follows. If it is refused for a fraction, as packed or as
-/// infinite, what the editor answers with `--all-maps` follows.
+/// infinite, or is XML, what the editor answers with `--all-maps` follows.
 pub fn write_refusal<W: Write>(alloc: Global, refused: Refused<'_>, out: &mut Output<'_, W>) {
     let place = refused.place;
     match refused.fault {

@@ -12,7 +12,7 @@ pub const CLOSED: usize = usize::MAX - 1;
 /// No memory is left for it, and all is as it was.
 pub const NO_MEMORY: usize = usize::MAX - 2;
 
-/// The undo limit is above the greatest, or no layout, or no dialect, has the number.
+/// The undo limit is above the greatest, or no layout, no dialect, or no kind of files, has the number.
 pub const TOO_GREAT: usize = usize::MAX - 3;
 
 /// No line can spell that name of a file.
@@ -44,6 +44,17 @@ pub const UNLIKE: usize = usize::MAX - 11;
 /// The map has too many fractions.
 pub const TOO_MANY_FRACTIONS: usize = usize::MAX - 12;
 
+// Why a map in XML is not read, or not written: the numbers of `tmx_maps::Fault`, but for `Memory` and `NotJson`.
+
+/// The bytes begin as XML, and are none that is read.
+pub const NOT_XML: usize = usize::MAX - 13;
+
+/// The XML is no map, or no tileset, that is read.
+pub const NOT_A_TMX: usize = usize::MAX - 14;
+
+/// The map has what XML can't say.
+pub const NO_TMX: usize = usize::MAX - 15;
+
 // Each is the number that `include/roskevad.h` gives it, which is fixed for callers that are built already.
 const _: () = prove!(DONE == 0);
 
@@ -72,3 +83,9 @@ const _: () = prove!(TOO_LARGE == 18_446_744_073_709_551_605);
 const _: () = prove!(UNLIKE == 18_446_744_073_709_551_604);
 
 const _: () = prove!(TOO_MANY_FRACTIONS == 18_446_744_073_709_551_603);
+
+const _: () = prove!(NOT_XML == 18_446_744_073_709_551_602);
+
+const _: () = prove!(NOT_A_TMX == 18_446_744_073_709_551_601);
+
+const _: () = prove!(NO_TMX == 18_446_744_073_709_551_600);

@@ -1,6 +1,6 @@
 //! The editor for C: an editor in memory, behind a type that C can hold.
 //!
-//! Each call but the last six, and the two that tell the word at fault, takes an editor, which C keeps and never looks into. A call
+//! Each call but the last ten, and the two that tell the word at fault, takes an editor, which C keeps and never looks into. A call
 //! that gives bytes copies them to the front of a buffer where the buffer has room for all of them, and else leaves the buffer as it
 //! was; it answers how many there are. What stands in place of a length or a number is one of the constants at the end of the numbers.
 #![tactic(auto)]
@@ -30,11 +30,13 @@ ghost use Rattle.document_lines.specs.declared.dialect.Dialect.TheVariants.{Plai
 ghost use Rattle.memory_editor.specs.Buffers.{filled};
 ghost use Rattle.memory_editor.specs.Parts.{active_map, clean_index_of, has_step};
 ghost use Rattle.roskevad_c.specs.Dialects.{dialect_at};
-ghost use Rattle.roskevad_c.specs.Asides.{TellsAside, TellsBack, TellsBackLike, TellsLayout, TellsMapFault};
+ghost use Rattle.roskevad_c.specs.Asides.{TellsAside, TellsBack, TellsBackAs, TellsBackLike, TellsLayout, TellsMapFault, TellsTileset, TellsTilesetFault, TellsTmxFault};
 ghost use Rattle.roskevad_c.specs.Answers.{action_at, cells_at, file_in, is_there, last_reply, macro_number_at, size_of, told_bytes, told_number, told_size, with_file, without, RunsManyLines, Opens, OpensFor, Puts, Steps, TellsCount, TellsOfStep, TellsOutline, TellsRun};
 
 use crate::answers::{BAD_NAME, CLOSED, DONE, NO_MEMORY, NONE, TOO_GREAT};
-use crate::asides::{copy_fault, copy_laid, copy_layout, copy_made, layout_of};
+use crate::asides::{
+    copy_back, copy_fault, copy_laid, copy_layout, copy_made, copy_told, kind_of, layout_of,
+};
 use crate::c_editor::CEditor;
 use crate::copies::{copy_bytes, copy_outline, copy_reply};
 use crate::dialects::dialect_of;
@@ -42,11 +44,12 @@ use crate::done_counts::DoneCounts;
 use crate::names::spelled;
 use crate::runs::SelectionRun;
 use document_lines::Dialect;
-use map_faults::map_fault;
+use map_faults::{map_fault, tileset_fault};
 use map_layout::lay_out;
 use memory_editor::{MemoryEditor, Rectangle};
 use std::alloc::Global;
-use tiled_maps::{put_back, put_back_like, set_aside};
+use tiled_files::{kind_of_bytes, opened, saved, tileset_text, tmx_fault};
+use tiled_maps::put_back;
 
 // The greatest undo limit.
 const GREATEST_LIMIT: usize = 1_000_000;
@@ -454,15 +457,16 @@ pub extern "C" fn roskevad_close(alloc: Global, editor: &mut CEditor)
     let _ = editor.take(alloc);
 }
 
-/// Copies the text of a map with what the editor's format refuses set aside, as `tiled_maps::set_aside` makes it. Answers its size,
-/// `NONE` where there is nothing to set aside, so that the bytes can be read as they are, or why it is not set aside: `NOT_JSON`,
-/// `NAME_TAKEN`, `TOO_MANY_FRACTIONS`, `TOO_DEEP`, `BAD_CHUNK`, `OVERLAP`, `TOO_LARGE`, `UNLIKE` or `NO_MEMORY`. The text is made anew
-/// at each call; most fit into twice as many bytes as are given, and no text has a bound that is useful.
+/// Copies the text of a map with what the editor's format refuses set aside, as `tiled_files::opened` makes it of JSON and of XML.
+/// Answers its size, `NONE` where there is nothing to set aside, so that the bytes can be read as they are, or why it is not set aside:
+/// `NOT_JSON`, `NAME_TAKEN`, `TOO_MANY_FRACTIONS`, `TOO_DEEP`, `BAD_CHUNK`, `OVERLAP`, `TOO_LARGE`, `UNLIKE` or `NO_MEMORY`, and of XML
+/// `NOT_XML` and `NOT_A_TMX`. The text is made anew at each call; most fit into twice as many bytes as are given, and no text has a
+/// bound that is useful.
 #[unsafe(no_mangle)]
 pub extern "C" fn roskevad_set_aside(alloc: Global, bytes: &[u8], text: &mut [u8]) -> usize
     ensures { TellsAside bytes.now result text.old text.new }
 {
-    copy_made(set_aside(alloc, bytes), text)
+    copy_made(opened(alloc, bytes), text)
 }
 
 /// Copies the text of a map in which what was set aside is put back, as `tiled_maps::put_back` makes it. Answers its size, `NONE` where
@@ -471,12 +475,13 @@ pub extern "C" fn roskevad_set_aside(alloc: Global, bytes: &[u8], text: &mut [u8
 pub extern "C" fn roskevad_put_back(alloc: Global, bytes: &[u8], text: &mut [u8]) -> usize
     ensures { TellsBack bytes.now result text.old text.new }
 {
-    copy_made(put_back(alloc, bytes), text)
+    copy_back(put_back(alloc, bytes), text)
 }
 
-/// Copies the text of a map in which what was set aside is put back, laid out as a source is, as `tiled_maps::put_back_like` makes it.
-/// The source is the bytes of the file that the map was opened from; one of no bytes is none, and the text is in Tiled's layout.
-/// Answers its size, `NOT_JSON`, `TOO_DEEP` or `NO_MEMORY`. The text is made anew at each call.
+/// Copies the text of a map in which what was set aside is put back, laid out as a source is, as `tiled_files::saved` makes it: in XML, if
+/// that is in XML, else in JSON. The source is the bytes of the file that the map was opened from; one of no bytes is none, and the text
+/// is in Tiled's layout. Answers its size, `NOT_JSON`, `TOO_DEEP` or `NO_MEMORY`, and for XML `NO_TMX`. The text is made anew at each
+/// call.
 #[unsafe(no_mangle)]
 pub extern "C" fn roskevad_put_back_like(
     alloc: Global,
@@ -486,7 +491,25 @@ pub extern "C" fn roskevad_put_back_like(
 ) -> usize
     ensures { TellsBackLike bytes.now source.now result text.old text.new }
 {
-    copy_laid(put_back_like(alloc, bytes, source), text)
+    copy_laid(saved(alloc, bytes, source, kind_of_bytes(source)), text)
+}
+
+/// The same as a file of the kind of this number, whichever its source is: JSON where it is 0, XML where it is 1. For another number it
+/// answers `TOO_GREAT`.
+#[unsafe(no_mangle)]
+pub extern "C" fn roskevad_put_back_as(
+    alloc: Global,
+    bytes: &[u8],
+    source: &[u8],
+    kind: usize,
+    text: &mut [u8],
+) -> usize
+    ensures { TellsBackAs bytes.now source.now kind result text.old text.new }
+{
+    match kind_of(kind) {
+        Some(kind) => copy_laid(saved(alloc, bytes, source, kind), text),
+        None => TOO_GREAT,
+    }
 }
 
 /// Copies a JSON text in the layout of this number, as `map_layout::lay_out` makes it. Answers its size, `TOO_GREAT` where no layout has
@@ -513,6 +536,35 @@ pub extern "C" fn roskevad_map_fault(alloc: Global, bytes: &[u8], text: &mut [u8
     ensures { TellsMapFault bytes.now result text.old text.new }
 {
     copy_fault(map_fault(alloc, bytes), text)
+}
+
+/// Copies the way to the first member of a map that XML can't say, as `layers[0].name`, in the JSON that the text of the map is saved as.
+/// Answers its size, `NONE` where XML says all, or where that is not known `NOT_XML`, `NOT_A_TMX`, `NOT_JSON`, `TOO_DEEP` or
+/// `NO_MEMORY`. The text is made anew at each call.
+#[unsafe(no_mangle)]
+pub extern "C" fn roskevad_tmx_fault(alloc: Global, bytes: &[u8], text: &mut [u8]) -> usize
+    ensures { TellsTmxFault result text.old text.new }
+{
+    copy_made(tmx_fault(alloc, bytes), text)
+}
+
+/// Copies the JSON text of the file of a tileset in XML, as `tiled_files::tileset_text` makes it. Answers its size, `NONE` where the file is
+/// an object of JSON, so that the bytes are that text, or why it is no tileset: `NOT_JSON`, `NO_MEMORY`, and of XML `NOT_XML` and
+/// `NOT_A_TMX`. The text is made anew at each call.
+#[unsafe(no_mangle)]
+pub extern "C" fn roskevad_tileset_file(alloc: Global, bytes: &[u8], text: &mut [u8]) -> usize
+    ensures { TellsTileset bytes.now result text.old text.new }
+{
+    copy_made(tileset_text(alloc, bytes), text)
+}
+
+/// Copies what `map_faults::tileset_fault` tells of the bytes of a file: why it is refused as a tileset, and where, as an object of JSON.
+/// Answers its size, `NONE` where the tileset is read, or `NO_MEMORY`. The text is made anew at each call.
+#[unsafe(no_mangle)]
+pub extern "C" fn roskevad_tileset_fault(alloc: Global, bytes: &[u8], text: &mut [u8]) -> usize
+    ensures { TellsTilesetFault bytes.now result text.old text.new }
+{
+    copy_told(tileset_fault(alloc, bytes), text)
 }
 
 /// Copies the version of the library, and answers its size.

@@ -164,7 +164,7 @@ fn all_maps_arg<'a>(alloc: Global) -> Arg<'a>
         .long("all-maps")
         .action(ArgAction::SetTrue)
         .help(
-            "Opens packed maps, infinite ones and maps with fractions, too, and puts back what no edit changed",
+            "Opens maps in XML, packed and infinite ones, and those with fractions, too, and puts back what no edit changed",
         )
 }
 

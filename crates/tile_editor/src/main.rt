@@ -117,7 +117,7 @@ fn main(rt: HostRuntime) -> ExitCode {
     let files = FolderStore::new(&rt, chosen.folder).telling("tile_editor");
     // Where there is no file to be a source, nothing is told of it.
     let sources = FolderStore::new(&rt, chosen.folder);
-    let faults = FolderFaults::new(&rt, chosen.folder);
+    let faults = FolderFaults::new(&rt, rt.alloc(), chosen.folder);
     // One type of store with and without the option: the compiler folds what `run` calls once into it.
     let mut store = TiledStore::new(files, sources, faults, chosen.opens_all_maps);
     let mut report = ErrorLines::new(&rt, rt.alloc(), chosen.does_all_edits);

@@ -7,7 +7,7 @@ use std::alloc::Global;
 use std::fmt::{Display, Formatter, Write};
 use std::rt::Files;
 use std::{fmt, fs};
-use tiled_maps::Fault;
+use tiled_files::{FileFault, LineColumn, tmx_fault};
 use tiled_store::FaultReport;
 
 /// The most characters of a session line that are shown.
@@ -85,25 +85,47 @@ impl<'a, R: Eprint> Report for ErrorLines<'a, R> {
     }
 }
 
+// The way to what XML can't say of a map, where a save is refused for that and it is known.
+fn untold(alloc: Global, bytes: &[u8], fault: FileFault) -> Option<String> {
+    if !fault.is_no_tmx() {
+        return None;
+    }
+    let path = tmx_fault(alloc, bytes).ok()??;
+    String::from_utf8(path).ok()
+}
+
 /// Says on standard error why a file of a folder is not loaded or not saved.
 #[derive(Drop)]
 pub struct FolderFaults<'a, R> {
     rt: &'a R,
+    alloc: Global,
     folder: &'a str,
 }
 
 impl<'a, R: Eprint> FolderFaults<'a, R> {
-    /// Of the folder at a path.
-    pub fn new(rt: &'a R, folder: &'a str) -> FolderFaults<'a, R> {
-        FolderFaults { rt, folder }
+    /// Of the folder at a path, with memory for what it says of a map that is not saved as XML.
+    pub fn new(rt: &'a R, alloc: Global, folder: &'a str) -> FolderFaults<'a, R> {
+        FolderFaults { rt, alloc, folder }
     }
 }
 
 impl<'a, R: Eprint> FaultReport for FolderFaults<'a, R> {
-    fn refused(&self, name: &str, fault: Fault) {
+    fn refused(&self, name: &str, bytes: &[u8], fault: FileFault) {
         let folder = self.folder;
         let reason = fault.words();
-        let _ = eprintln!(self.rt; "tile_editor: {folder}/{name}: {reason}");
+        if let Some(path) = untold(self.alloc, bytes, fault) {
+            let path = Shown(path.as_str());
+            let _ = eprintln!(self.rt; "tile_editor: {folder}/{name}: in {path} {reason}");
+            return;
+        }
+        let _ = match fault.place_in(bytes) {
+            Some(LineColumn { line, column }) => {
+                eprintln!(self.rt;
+                    "tile_editor: {folder}/{name}: {reason}: line {line}, column {column}"
+                )
+            }
+            None => eprintln!(self.rt; "tile_editor: {folder}/{name}: {reason}"),
+        };
     }
 
     fn too_long(&self, name: &str) {

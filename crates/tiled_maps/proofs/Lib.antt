@@ -9,3 +9,4 @@ pub mod SourceWalks
 pub mod PackedWalks
 pub mod PackedLaws
 pub mod PackedDepths
+pub mod PutLike

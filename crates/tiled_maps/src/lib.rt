@@ -18,4 +18,4 @@ pub use fault::Fault;
 pub use fractions::number_in;
 pub use look::needs_nothing;
 pub use map_layout::LaidText;
-pub use text::{LONGEST, put_back, put_back_like, set_aside};
+pub use text::{LONGEST, put_back, put_back_by, put_back_like, set_aside};

@@ -305,8 +305,8 @@ fn map_like(small: bool, alloc: Global, source: &Value, map: Value) -> Result<Va
 
 /// The map as its source has it: with its version, its empty compressions, and its layers written as they are there, new ones as the
 /// first tile layer is. Without a source it stays as it is.
-pub fn as_in(alloc: Global, source: &Option<Value>, map: Value) -> Result<Value, AllocError>
-    ensures { IfOk result (λ v. data_of v ≡ as_in (option_map data_of source.now) (data_of map)) }
+pub fn as_in(alloc: Global, source: Option<&Value>, map: Value) -> Result<Value, AllocError>
+    ensures { IfOk result (λ v. data_of v ≡ as_in (option_map (λ s. data_of s.now) source.entry) (data_of map)) }
 {
     let Some(source) = source else {
         return Ok(map);

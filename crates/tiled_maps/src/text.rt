@@ -3,7 +3,7 @@ ghost use Rattle.std.specs.Prelude.{◌≡◌, ◌≤◌, ◌||◌, IfOk, option
 ghost use Rattle.serde_json.specs.Data.{depth};
 ghost use Rattle.serde_json.specs.Read.{max_depth};
 ghost use Rattle.serde_json.specs.View.{view as data_of};
-ghost use Rattle.tiled_maps.specs.Likeness.{IsSource, PutsBackLike, PutsTreeBack};
+ghost use Rattle.tiled_maps.specs.Likeness.{IsSource, if_map, PutsBackBy, PutsBackLike, PutsLike, PutsTreeBack};
 ghost use Rattle.fractions.specs.Aside.{reserved_name};
 ghost use Rattle.json_trees.specs.Names.{has_name};
 ghost use Rattle.json_trees.specs.Texts.{IsTreeOf};
@@ -174,6 +174,18 @@ fn source_tree(alloc: Global, source: &[u8]) -> Result<Option<Value>, AllocError
     }
 }
 
+// A map as its source has it, with those layers packed that note how they were.
+fn put_like(alloc: Global, source: Option<&Value>, exact: Value) -> Result<Value, Fault>
+    ensures { PutsLike (option_map (λ s. data_of s.now) source.entry) (data_of exact) result }
+{
+    let map = as_in(alloc, source, exact)?;
+    if !is_within(MAX_DEPTH, &map) {
+        return Err(Fault::TooDeep);
+    }
+    let packed = packed(alloc, source, map)?;
+    Ok(packed)
+}
+
 /// The text of a map in which what was set aside is put back, as `put_back` does, laid out as its source is: the bytes of the file
 /// that the map was, or that it replaces.
 ///
@@ -193,12 +205,28 @@ pub fn put_back_like(alloc: Global, bytes: &[u8], source: &[u8]) -> Result<LaidT
 {
     let exact = put_back_tree(alloc, bytes)?;
     let tree = source_tree(alloc, source)?;
-    let map = as_in(alloc, &tree, exact)?;
-    if !is_within(MAX_DEPTH, &map) {
-        return Err(Fault::TooDeep);
-    }
-    let map = packed(alloc, tree.as_ref(), map)?;
+    let map = put_like(alloc, tree.as_ref(), exact)?;
     let laid = value_laid_out_like(alloc, &map, source, tree)?;
     discard(map);
     Ok(laid)
+}
+
+// A source, if it is a map.
+fn if_map(source: Option<&Value>) -> Option<&Value>
+    ensures { option_map (λ s. data_of s.now) result ≡ if_map (option_map (λ s. data_of s.now) source.entry) }
+{
+    match source {
+        Some(source) if is_map(source) => Some(source),
+        _ => None,
+    }
+}
+
+/// The tree of a map in which what was set aside is put back, as `put_back_like` puts it, by the tree of a source.
+///
+/// `NotJson`, `TooDeep` and `Memory` come, as of `put_back_like`.
+pub fn put_back_by(alloc: Global, bytes: &[u8], source: Option<&Value>) -> Result<Value, Fault>
+    ensures { PutsBackBy bytes.now (if_map (option_map (λ s. data_of s.now) source.entry)) result }
+{
+    let exact = put_back_tree(alloc, bytes)?;
+    put_like(alloc, if_map(source), exact)
 }

@@ -3,9 +3,9 @@ use Rattle.std.proofs.Common.{◌≡◌, ℕ, List, Bool, true, false, true≢fa
 use Rattle.map_store.specs.Files.{StoreParts}
 use Rattle.tiled_store.specs.Stored.{IsSourceBy, IsSourceOf, PutsBy, PutsFor}
 
-pub puts_by : (sets : Bool) (source bytes file : List ℕ) → sets ≡ true → PutsFor source bytes file → PutsBy sets source bytes file
-puts_by true source bytes file has puts = puts
-puts_by false source bytes file has puts = absurd (true≢false (sym has))
+pub puts_by : (sets : Bool) (name source bytes file : List ℕ) → sets ≡ true → PutsFor name source bytes file → PutsBy sets name source bytes file
+puts_by true name source bytes file has puts = puts
+puts_by false name source bytes file has puts = absurd (true≢false (sym has))
 
 pub source_by : (sets : Bool) (name : List ℕ) (old : StoreParts) (source : List ℕ) → sets ≡ true → IsSourceOf name old source
     → IsSourceBy sets name old source

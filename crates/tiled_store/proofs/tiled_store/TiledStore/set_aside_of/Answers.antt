@@ -1,6 +1,6 @@
 use Rattle.std.proofs.Common.{rules, ◌<◌, length, Some, Ok, inr, refl}
 use Rattle.tiled_maps.specs.declared.text.TheConstants.{LONGEST}
-use Rattle.tiled_maps.specs.Texts.{SetsAside}
+use Rattle.tiled_files.specs.Opening.{Opens}
 use Rattle.tiled_store.proofs.tiled_store.TiledStore.set_aside_of.Goals as goal
 use Rattle.tiled_store.proofs.tiled_store.TiledStore.set_aside_of.Goals.{then-not-self-via-then-not-self, then-not-self-via-else-not-self+then-stays}
 
@@ -16,6 +16,6 @@ returns-then-not-self-clause-gives g c sets =
 pub returns-in-Ok-Some-clause-refused : goal.returns-in-Ok-Some-clause-refused
 returns-in-Ok-Some-clause-refused g c refused =
     let text = c.in-Ok-Some.text in
-    let own : SetsAside c.args.bytes.now (Ok (Some text)) = search rules in
+    let own : Opens c.args.bytes.now (Ok (Some text)) = search rules in
     let long : LONGEST < length text.items = search rules in
     inr (text, own, long)

@@ -1,0 +1,17 @@
+pub mod Answers
+pub mod Numbers
+pub mod Elements
+pub mod Texts
+pub mod Rows
+pub mod Tables
+pub mod Properties
+pub mod Cells
+pub mod Bounds
+pub mod Corners
+pub mod Objects
+pub mod Layers
+pub mod Wangs
+pub mod Counts
+pub mod Tilesets
+pub mod Maps
+pub mod TilesetFiles

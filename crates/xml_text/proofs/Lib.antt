@@ -1,0 +1,6 @@
+mod Levels
+mod Loops
+mod PlaceLaws
+mod ReadLaws
+mod SaidLaws
+mod WordLaws

@@ -1,0 +1,10 @@
+use Rattle.std.proofs.Common.{◌≡◌, ◌+◌, ◌-◌, ◌≤◌, length, drop}
+use Rattle.std.specs.List.{prefix_len}
+use Rattle.xml_text.specs.Words.{is_of_name}
+use Rattle.xml_text.proofs.words.name_at.Given as goal
+
+abbrev pub invariant-loop-at : goal.invariant-loop-at
+invariant-loop-at l = (prefix_len is_of_name l.bytes ≡ l.at + prefix_len is_of_name (drop l.at l.bytes)) × (l.at ≤ length l.bytes)
+
+abbrev pub decreases-loop-at : goal.decreases-loop-at
+decreases-loop-at l = length l.bytes - l.at
