@@ -72,6 +72,15 @@ extern "C" {
 #define ROSKEVAD_UNLIKE (SIZE_MAX - 11)              /* made finite, the map would not come back as it was */
 #define ROSKEVAD_TOO_MANY_FRACTIONS (SIZE_MAX - 12)  /* the map has more than 200,000 fractions */
 
+/* Why a map in XML is not read, or not written. */
+#define ROSKEVAD_NOT_XML (SIZE_MAX - 13)             /* the bytes begin as XML, and are none that is read */
+#define ROSKEVAD_NOT_A_TMX (SIZE_MAX - 14)           /* the XML is no map, or no tileset, that is read */
+#define ROSKEVAD_NO_TMX (SIZE_MAX - 15)              /* the map has what XML can't say */
+
+/* The kinds of files. */
+#define ROSKEVAD_FILE_JSON ROSKEVAD_CAST(size_t, 0)         /* JSON, as in .tmj */
+#define ROSKEVAD_FILE_TMX ROSKEVAD_CAST(size_t, 1)          /* XML, as in .tmx */
+
 /* How a text is laid out. */
 #define ROSKEVAD_LAYOUT_TILED ROSKEVAD_CAST(size_t, 0)      /* as Tiled does: members on lines of their own, all cells of a layer on one */
 #define ROSKEVAD_LAYOUT_ROWS ROSKEVAD_CAST(size_t, 1)       /* the same, but each row of cells on a line of its own */
@@ -252,15 +261,19 @@ void roskevad_close(roskevad_editor *editor);
 size_t roskevad_set_aside(const uint8_t *bytes, size_t length, uint8_t *text, size_t room);
 size_t roskevad_put_back(const uint8_t *bytes, size_t length, uint8_t *text, size_t room);
 size_t roskevad_put_back_like(const uint8_t *bytes, size_t length, const uint8_t *source, size_t source_length, uint8_t *text, size_t room);
+size_t roskevad_put_back_as(const uint8_t *bytes, size_t length, const uint8_t *source, size_t source_length, size_t kind, uint8_t *text, size_t room);
 size_t roskevad_lay_out(const uint8_t *bytes, size_t length, size_t layout, uint8_t *text, size_t room);
 size_t roskevad_map_fault(const uint8_t *bytes, size_t length, uint8_t *text, size_t room);
+size_t roskevad_tmx_fault(const uint8_t *bytes, size_t length, uint8_t *text, size_t room);
+size_t roskevad_tileset_file(const uint8_t *bytes, size_t length, uint8_t *text, size_t room);
+size_t roskevad_tileset_fault(const uint8_t *bytes, size_t length, uint8_t *text, size_t room);
 size_t roskevad_word_fault(const uint8_t *line, size_t line_length, roskevad_faulty_word *word, uint8_t *text, size_t room);
 size_t roskevad_word_fault_for(size_t edits, const uint8_t *line, size_t line_length, roskevad_faulty_word *word, uint8_t *text, size_t room);
 size_t roskevad_version(uint8_t *version, size_t room);
 
 /* ---- what to call */
 /* Whether an answer says why nothing is given, set aside or put back. ROSKEVAD_NONE is no such answer: there is nothing then. */
-#define ROSKEVAD_IS_FAULT(answer) ((answer) >= ROSKEVAD_TOO_MANY_FRACTIONS && (answer) < ROSKEVAD_NONE)
+#define ROSKEVAD_IS_FAULT(answer) ((answer) >= ROSKEVAD_NO_TMX && (answer) < ROSKEVAD_NONE)
 
 /* What an answer says, in English, for messages. The text is the library's, and stays. */
 static inline const char *roskevad_words_of(size_t answer)
@@ -279,8 +292,11 @@ static inline const char *roskevad_words_of(size_t answer)
         "the layers would have more than 16,777,216 cells",
         "the map would not come back as it was",
         "the map has more than 200,000 fractions",
+        "this begins as XML, and is none that is read",
+        "this XML is no map, or no tileset, that is read",
+        "the map has what XML can't say",
     };
-    return answer >= ROSKEVAD_TOO_MANY_FRACTIONS ? words[ROSKEVAD_NONE - answer] : "it is done";
+    return answer >= ROSKEVAD_NO_TMX ? words[ROSKEVAD_NONE - answer] : "it is done";
 }
 
 /* Where bytes stand that are read, or that are written: never null, but the address of a byte of the header's own where there
@@ -568,9 +584,9 @@ static inline void roskevad_editor_close(roskevad_editor *editor)
 }
 
 /* The text of a map with what the editor's format refuses set aside: fractions, that it is infinite, and how zlib or gzip packs its
- * layers. Put that text under a name, and `open` reads it; docs/map-files.md says what becomes of a map. The text's size;
- * ROSKEVAD_NONE where there is nothing to set aside, so that the bytes themselves can be read; ROSKEVAD_NO_MEMORY; or
- * ROSKEVAD_NOT_JSON and what follows it above.
+ * layers. A map in XML, as `.tmx` files are, becomes JSON. Put that text under a name, and `open` reads it; docs/map-files.md says
+ * what becomes of a map. The text's size; ROSKEVAD_NONE where there is nothing to set aside, so that the bytes themselves can be
+ * read; ROSKEVAD_NO_MEMORY; or ROSKEVAD_NOT_JSON and what follows it above.
  *
  * No editor keeps the text, so a call with a larger buffer makes it anew. Twice the length and 65,536 bytes are room enough for most
  * maps; one of many fractions, or an infinite one whose chunks lie far apart, may need more. */
@@ -592,13 +608,22 @@ static inline size_t roskevad_editor_put_back(const void *bytes, size_t length, 
  * the packed data of a layer with the source's cells; an array of a tile layer has the format that the layer has in the source, or
  * else the source's first tile layer. Where that is the source's tree, the text is the source. Else each value that the source has too
  * keeps its bytes, and what is new is laid out as its neighbours are. A source of no bytes, or of bytes that are no map, counts for
- * nothing: then the text is in Tiled's layout. The
- * text's size; ROSKEVAD_NO_MEMORY, ROSKEVAD_NOT_JSON or ROSKEVAD_TOO_DEEP. It is made anew at each call; the length of both and 65,536
- * bytes are room enough for most maps. */
+ * nothing: then the text is in Tiled's layout. Of a source in XML the text is XML, too. The text's size; ROSKEVAD_NO_MEMORY,
+ * ROSKEVAD_NOT_JSON or ROSKEVAD_TOO_DEEP; of XML ROSKEVAD_NO_TMX, where the map has what XML can't say. It is made anew at each call;
+ * the length of both and 65,536 bytes are room enough for most maps. */
 static inline size_t roskevad_editor_put_back_like(const void *bytes, size_t length, const void *source, size_t source_length,
                                                    void *text, size_t room)
 {
     return roskevad_put_back_like(roskevad_bytes_at(bytes), length, roskevad_bytes_at(source), source_length, roskevad_room_at(text), room);
+}
+
+/* That text as a file of a kind, ROSKEVAD_FILE_JSON or ROSKEVAD_FILE_TMX, whichever kind its source is of: so a map that was opened
+ * from one kind is saved as the other. Of another kind than the source, the text is in Tiled's layout. The text's size; ROSKEVAD_TOO_GREAT
+ * where no kind has the number; else as `roskevad_editor_put_back_like`. */
+static inline size_t roskevad_editor_put_back_as(const void *bytes, size_t length, const void *source, size_t source_length,
+                                                 size_t kind, void *text, size_t room)
+{
+    return roskevad_put_back_as(roskevad_bytes_at(bytes), length, roskevad_bytes_at(source), source_length, kind, roskevad_room_at(text), room);
 }
 
 /* A text in JSON in one of the layouts, ROSKEVAD_LAYOUT_TILED and what follows it, with the same tree. The text's size;
@@ -608,12 +633,35 @@ static inline size_t roskevad_editor_lay_out(const void *bytes, size_t length, s
     return roskevad_lay_out(roskevad_bytes_at(bytes), length, layout, roskevad_room_at(text), room);
 }
 
-/* Why the bytes of a file are refused as a map, and where: a text in JSON, whose members docs/library.md lists. The map is the one that
- * `open` reads where `roskevad_editor_set_aside` has set aside what it can. The text's size, ROSKEVAD_NONE where that map is read, or
+/* Why the bytes of a file, in JSON or in XML, are refused as a map, and where: a text in JSON, whose members docs/library.md lists. The
+ * map is the one that `open` reads where `roskevad_editor_set_aside` has set aside what it can. The text's size, ROSKEVAD_NONE where that map is read, or
  * ROSKEVAD_NO_MEMORY. No editor keeps the text, so a call with a larger buffer makes it anew. Most texts have fewer than 1,000 bytes. */
 static inline size_t roskevad_editor_map_fault(const void *bytes, size_t length, char *text, size_t room)
 {
     return roskevad_map_fault(roskevad_bytes_at(bytes), length, roskevad_room_at(text), room);
+}
+
+/* Where a map has what XML can't say: the way to the first such member, as `layers[0].name`, in the JSON that the map is saved as.
+ * Ask for it where a save as XML answers ROSKEVAD_NO_TMX. The text's size; ROSKEVAD_NONE where XML says all; where that is not known,
+ * ROSKEVAD_NOT_XML, ROSKEVAD_NOT_A_TMX, ROSKEVAD_NOT_JSON, ROSKEVAD_TOO_DEEP or ROSKEVAD_NO_MEMORY. */
+static inline size_t roskevad_editor_tmx_fault(const void *bytes, size_t length, char *text, size_t room)
+{
+    return roskevad_tmx_fault(roskevad_bytes_at(bytes), length, roskevad_room_at(text), room);
+}
+
+/* The text in JSON of a tileset's file in XML, as Tiled's own export has it, but for what docs/map-files.md says. The text's size;
+ * ROSKEVAD_NONE where the file is an object of JSON, so that its bytes are that text; ROSKEVAD_NOT_JSON, ROSKEVAD_NO_MEMORY, and of XML
+ * ROSKEVAD_NOT_XML and ROSKEVAD_NOT_A_TMX. It is made anew at each call. */
+static inline size_t roskevad_editor_tileset_file(const void *bytes, size_t length, void *text, size_t room)
+{
+    return roskevad_tileset_file(roskevad_bytes_at(bytes), length, roskevad_room_at(text), room);
+}
+
+/* Why the bytes of a file are refused as a tileset, and where: a text in JSON, whose members docs/library.md lists. The text's size,
+ * ROSKEVAD_NONE where the tileset is read, or ROSKEVAD_NO_MEMORY. It is made anew at each call. Texts have fewer than 300 bytes. */
+static inline size_t roskevad_editor_tileset_fault(const void *bytes, size_t length, char *text, size_t room)
+{
+    return roskevad_tileset_fault(roskevad_bytes_at(bytes), length, roskevad_room_at(text), room);
 }
 
 /* The word at which a line is refused as 3 or 4, and what is wrong with it in words: `word 1 is not a command`. The text's size, fewer

@@ -1,6 +1,6 @@
 // SPDX-License-Identifier: MIT OR Apache-2.0
 // The declarations of documents and of what they have. Written by tools/reference from tools/calls.py.
-import type { Editor } from "./roskevad.js";
+import type { Data, Editor } from "./roskevad.js";
 
 /** A layer, its id, or the name of the first one of that name. */
 export type LayerLike = number | string | Layer;
@@ -16,6 +16,8 @@ export type Work<Given> = ((document: Document) => Given) & (Given extends Promi
 export type SelectionMode = "replace" | "add" | "subtract" | "intersect";
 /** How the text of a map is laid out: as Tiled does, with rows of cells on lines of their own, or without lines and spaces. */
 export type Layout = "tiled" | "rows" | "compact";
+/** The kind of the file of a map: JSON, as in `.tmj`, or XML, as in `.tmx`. */
+export type FileKind = "json" | "tmx";
 /** The kinds of layers, and those that are added, which are all. */
 export type LayerKind = "tile" | "object" | "group" | "image";
 export type AddedLayerKind = LayerKind;
@@ -302,9 +304,11 @@ export class Document {
   outline(): Members;
   /**
    * The map as the bytes of a file, in its own layout, or in one that is named: "tiled", "rows" or
-   * "compact"; it counts as saved then. Throws RangeError, Refused (20).
+   * "compact"; of the kind that it was opened from or saved as last, or of one that is named:
+   * "json", or "tmx", which is XML and has no such layout. It counts as saved then. Throws
+   * RangeError, Refused (20).
    */
-  saveBytes(options?: { layout?: Layout }): Promise<Uint8Array>;
+  saveBytes(options?: { layout?: Layout; kind?: FileKind }): Promise<Uint8Array>;
   /** Closes it. Throws Refused (13). */
   close(): void;
   /** Closes it, and drops unsaved changes. */
@@ -707,6 +711,11 @@ export class Tileset {
   removeMember(key: string): boolean;
   /** Its tiles by their ids, at most 1,048,576, where the map has it in itself; else null. */
   readonly tiles: TilesetTile[] | null;
+  /**
+   * Its tiles by their ids, as its file has them, of which these are the bytes, in XML or in JSON.
+   * Throws TypeError, BadTileset.
+   */
+  tilesIn(data: Data): TilesetTile[];
   /**
    * The value of a cell with a tile of this ID in Tiled. Whether the tileset has that tile is not
    * looked at. Throws TypeError, RangeError.

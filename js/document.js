@@ -2,6 +2,7 @@
 // A document of an editor, in the words of its caller.
 import { Closed, Refused, refusedCall } from "./faults.js";
 import * as json from "./json_values.js";
+import { kindNamed } from "./file_kinds.js";
 import { layoutOf } from "./layouts.js";
 import { MAX_COORDINATE, MAX_OPEN_MACROS } from "./limits.js";
 import { savedMap } from "./map_files.js";
@@ -130,6 +131,10 @@ export class Document extends WithOwnMembers {
 
   // What a call of the library says of a thing, with all put back that was set aside; null where there is none.
   _read(name, ...given) {
+    return this.#read(name, given, false);
+  }
+
+  #read(name, given, keepsXmlNotes) {
     this._enter();
     const text = this.#editor._text(name, ...given);
     if (text === null) {
@@ -140,7 +145,7 @@ export class Document extends WithOwnMembers {
       return value;
     }
     // Objects alone have places.
-    const told = restored(value, name === "object" ? this._noteNow() : {});
+    const told = restored(value, name === "object" ? this._noteNow() : {}, keepsXmlNotes);
     return name === "layer" ? withoutPacking([told])[0] : told;
   }
 
@@ -149,6 +154,12 @@ export class Document extends WithOwnMembers {
     // A line that is said within would take the name's place.
     this._enter();
     return this.#editor._module.given(name, (at, size) => this._read(call, ...given, at, size));
+  }
+
+  // The same with what is noted of XML.
+  _readNoted(name, call, ...given) {
+    this._enter();
+    return this.#editor._module.given(name, (at, size) => this.#read(call, [...given, at, size], true));
   }
 
   // What its map says of how it was made finite: columns that come at its left move that.
@@ -705,8 +716,8 @@ export class Document extends WithOwnMembers {
   // ---- its file
 
   async saveBytes(options) {
-    const { layout } = words.options(options, { layout: null });
-    const said = layoutOf(layout);
+    const { layout, kind } = words.options(options, { layout: null, kind: null });
+    const said = { layout: layoutOf(layout), kind: kindNamed(kind) };
     this._enter();
     return savedMap(this.#editor, "saveBytes()", said);
   }

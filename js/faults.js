@@ -24,7 +24,7 @@ export class OtherType extends Error {
   name = "OtherType";
 }
 
-/** A tileset in a map does not say which tiles it has. */
+/** A tileset in a map, or its file, does not say which tiles it has, or the file is no tileset. */
 export class BadTileset extends Error {
   name = "BadTileset";
 }

@@ -26,5 +26,5 @@ export function faultOfFile(module, code, bytes) {
     return { code, why: null, placeInMap: null };
   }
   const { path, exact, shown, text, line, column, why } = told;
-  return { code, why, placeInMap: { path, isExact: exact, shown, text, line, column } };
+  return { code, why, placeInMap: text === null ? null : { path, isExact: exact, shown, text, line, column } };
 }

@@ -1,6 +1,7 @@
 // SPDX-License-Identifier: MIT OR Apache-2.0
 // Maps as the bytes of files: how they are opened, and how they are saved.
 import { Refused, refusedCall } from "./faults.js";
+import { kindNumber, kindOf } from "./file_kinds.js";
 import { laidOut } from "./layouts.js";
 import { faultOfFile, isOfMap } from "./map_faults.js";
 import { bytesOf, textOf } from "./module.js";
@@ -38,10 +39,10 @@ function mayBePath(data) {
 }
 
 /**
- * The active document's map as the bytes of a file, in a layout, or in that of its source; its index is the clean one
- * at once. Throws Refused with the call.
+ * The active document's map as the bytes of a file, in a layout, or in that of its source; of a kind, or of that of its
+ * source. Its index is the clean one at once. Throws Refused with the call; RangeError for a layout of XML.
  */
-export async function savedMap(editor, call, layout = null) {
+export async function savedMap(editor, call, { layout = null, kind = null } = {}) {
   editor._events.refuse(call);
   if (editor._waits()) {
     throw refusedCall(20, call);
@@ -50,11 +51,18 @@ export async function savedMap(editor, call, layout = null) {
   const name = editor._activeName();
   const document = editor._handle(name);
   const { _source: source } = document;
-  const isAside = hasAside(shown);
-  const text = isAside ? putBack(editor, shown, source, call) : shown;
+  const wanted = kind ?? kindOf(source);
+  if (wanted === "tmx" && layout !== null) {
+    throw new RangeError(`"${layout}" is a layout of JSON, and this is saved as XML`);
+  }
+  const isOfXml = wanted === "tmx" || kindOf(source) === "tmx";
+  const isAside = isOfXml || hasAside(shown);
+  const text = isOfXml ? putBackAs(editor, shown, source, wanted, call) : isAside ? putBack(editor, shown, source, call) : shown;
   editor._replyTo("clean", call);
   try {
-    const bytes = isAside && layout === null ? text : laidOut(editor._module, text, { layout, source });
+    // What is laid out as its source has the new layers packed as those of the source.
+    const like = isAside ? text : laidOut(editor._module, text, { layout: null, source });
+    const bytes = layout === null ? like : laidOut(editor._module, like, { layout, source });
     document._keepSource(bytes.slice());
     return bytes;
   } catch (fault) {
@@ -68,11 +76,21 @@ function putBack(editor, text, source, call) {
   return editor._module.putBackLike(text, source) ?? made(editor, "put_back", text, call);
 }
 
+// The same as a file of a kind, where that or the source is in XML.
+function putBackAs(editor, text, source, kind, call) {
+  const { text: made, why } = editor._module.putBackAs(text, source, kindNumber(kind));
+  if (why !== null) {
+    throw refusedCall(STORE_FAILED, call, { why });
+  }
+  return made;
+}
+
 // What a call of the library makes of the text of a map; the same bytes where it makes none.
 function made(editor, name, bytes, call) {
   const { text, why } = editor._module.made(name, bytes);
   if (why !== null) {
-    throw refusedCall(STORE_FAILED, call, { why });
+    const told = kindOf(bytes) === "tmx" ? faultOfFile(editor._module, STORE_FAILED, bytes) : {};
+    throw refusedCall(STORE_FAILED, call, { why: told.why ?? why, placeInMap: told.placeInMap ?? null });
   }
   return text ?? bytes;
 }

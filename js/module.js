@@ -20,6 +20,7 @@ export const OWNERS = { map: 1, layer: 2, object: 3 };
 /** The kinds of layers by their numbers. */
 export const KINDS = { 1: "tile", 2: "object", 3: "group", 4: "image" };
 const NOT_JSON = NONE - 5;
+const NO_TMX = NONE - 15;
 // Why a map is not set aside, or put back: what the calls answer, and the words of the program.
 const ASIDE_FAULTS = new Map([
   [NONE - 6, 'a member has a reserved name, "roskevad" or "roskevad_packed"'],
@@ -29,6 +30,9 @@ const ASIDE_FAULTS = new Map([
   [NONE - 10, "its layers have more than 16,777,216 cells"],
   [NONE - 11, "made finite, it would not come back as it was"],
   [NONE - 12, "it has more than 200,000 fractions"],
+  [NONE - 13, "it begins as XML, and is none that is read"],
+  [NONE - 14, "it is no map that is read"],
+  [NO_TMX, "it has what XML can't say: save it as JSON, or undo that"],
 ]);
 // The longest text that is made, as in the program.
 const TOO_LONG = `set aside or put back, it would be longer than ${MAX_FILE_BYTES.toLocaleString("en-US")} bytes`;
@@ -259,6 +263,27 @@ export class Module {
     return this.putBackLike(text, source) ?? text;
   }
 
+  /**
+   * The text of a map in which what was set aside is put back, as a file of the kind of this number, by its source: the
+   * text, null where there is none; and why not, in words, else null. Throws NoMemory.
+   */
+  putBackAs(text, source, kind) {
+    const { put_back_as: call } = this.#calls;
+    const [size, sourceSize] = [text.length, source.length];
+    const came = this.#made([text, source], size + sourceSize, (at, to, room) => call(at, size, at + size, sourceSize, kind, to, room));
+    if (came.text !== null) {
+      return { text: came.text, why: null };
+    }
+    return { text: null, why: came.size === NO_TMX ? this.#whyNoTmx(text) : ASIDE_FAULTS.get(came.size) ?? TOO_LONG };
+  }
+
+  // Why a map is not saved as XML, with the way to what XML can't say, where it is known.
+  #whyNoTmx(given) {
+    const { text: path } = this.made("tmx_fault", given);
+    const why = ASIDE_FAULTS.get(NO_TMX);
+    return path === null ? why : `in ${decoder.decode(path)} ${why}`;
+  }
+
   /** The same; null where it can't be laid out. */
   putBackLike(text, source) {
     const { put_back_like: call } = this.#calls;
@@ -296,11 +321,30 @@ export class Module {
 
   /** What the library tells of the first fault of the bytes of a file; null where their map is read. Throws NoMemory. */
   mapFault(given) {
+    return this.#faultOf(this.#calls.map_fault, given);
+  }
+
+  #faultOf(call, given) {
     const text = this.holding(given.length, (at) => {
       this.bytes().set(given, at);
-      return this.copyText((to, room) => this.#calls.map_fault(at, given.length, to, room));
+      return this.copyText((to, room) => call(at, given.length, to, room));
     });
     return text === null ? null : JSON.parse(text);
+  }
+
+  /**
+   * The text in JSON of the bytes of a tileset's file: these bytes, where they are JSON; null where they are no tileset, or the text is
+   * longer than a file may be. Throws NoMemory.
+   */
+  tilesetFile(given) {
+    const { tileset_file: call } = this.#calls;
+    const { size, text } = this.#made([given], 4 * given.length, (at, to, room) => call(at, given.length, to, room));
+    return size === null ? given : text;
+  }
+
+  /** What the library tells of why the bytes of a file are no tileset; null where they are one. Throws NoMemory. */
+  tilesetFault(given) {
+    return this.#faultOf(this.#calls.tileset_fault, given);
   }
 
   /**

@@ -5,12 +5,26 @@ import * as json from "./json_values.js";
 import { MAX_LINE } from "./limits.js";
 import { putLine } from "./new_objects.js";
 import { partsOf } from "./rows.js";
+import { PACKED } from "./tiled_maps.js";
 
 const MEMBERS = "the members of a layer";
 const encoder = new TextEncoder();
 
-/** A layer as a file has it. Throws TypeError, RangeError. */
-export const plain = (members) => JSON.parse(json.membersSaid(members, MEMBERS));
+/** A layer as a file has it. Throws TypeError; RangeError, also for the note of how a layer was packed, by which a save would pack it. */
+export function plain(members) {
+  const layer = JSON.parse(json.membersSaid(members, MEMBERS));
+  refusePacking(layer);
+  return layer;
+}
+
+function refusePacking(layer) {
+  if (layer !== null && typeof layer === "object") {
+    if (Object.hasOwn(layer, PACKED)) {
+      throw new RangeError(`${MEMBERS} have a reserved name: "${PACKED}"`);
+    }
+    (Array.isArray(layer.layers) ? layer.layers : []).forEach(refusePacking);
+  }
+}
 
 /** The lines that add a layer to a map of that size, in a group, or in none where that is 0, at a place there. */
 export function linesOf(group, at, layer, size) {

@@ -4,6 +4,7 @@ import { NotFound, OtherType } from "./faults.js";
 import * as json from "./json_values.js";
 import { OWNERS } from "./module.js";
 import { WithOwnNames } from "./own_names.js";
+import { withKeptNote } from "./tiled_maps.js";
 import * as words from "./words.js";
 
 const NAME = "the name of a property";
@@ -138,7 +139,8 @@ export class Properties extends WithOwnNames {
     if (plain !== null) {
       return `prop set${merge ? "+" : ""} ${this.#owner} ${name} ${plain}`;
     }
-    const whole = { ...this._named(name), ...members, ...(className === null ? {} : { [CLASS]: className }) };
+    const there = this.#document._readNoted(name, "property", ...this.#place) ?? {};
+    const whole = withKeptNote({ ...there, ...members, ...(className === null ? {} : { [CLASS]: className }) }, there);
     if (className === "") {
       delete whole[CLASS];
     }

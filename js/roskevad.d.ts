@@ -1,9 +1,9 @@
 // SPDX-License-Identifier: MIT OR Apache-2.0
-import type { Document, Layer, Rows, StepRow, Told } from "./document.js";
+import type { Document, FileKind, Layer, Rows, StepRow, Told } from "./document.js";
 
 export { Document, Layer, Layers, MapObject, Objects, Properties, Selection, Tileset, Tilesets } from "./document.js";
 export type {
-  AddedLayerKind, CellArea, Corners, LayerKind, LayerLike, Layout, Members, ObjectLike, PropertyType, PropertyValue, Rows, Run,
+  AddedLayerKind, CellArea, Corners, FileKind, LayerKind, LayerLike, Layout, Members, ObjectLike, PropertyType, PropertyValue, Rows, Run,
   SelectionMode, SetPropertyType, SetPropertyValue, Status, Step, StepRow, Subject, Tile, TilesetLike, TilesetTile, Told, Work,
 } from "./document.js";
 
@@ -315,7 +315,7 @@ export class Editor {
   files(): string[];
 
   /**
-   * Opens a document of that name with any map that Tiled saves as JSON, given as the bytes of a file: what
+   * Opens a document of that name with any map that Tiled saves, given as the bytes of a file, in JSON or in XML: what
    * the editor's format refuses is set aside, and layers are unpacked. Gives the reply to `open`. Throws
    * Refused; its `why` says why a map is not set aside or unpacked.
    */
@@ -323,9 +323,10 @@ export class Editor {
   /**
    * The active document's map as the bytes of a file, with all put back that was set aside, packed as it was, and in
    * the layout of the bytes that were opened or saved last; in that of Tiled where it is new. Its index is the clean one at once: what is done until the promise is kept is not called saved.
-   * Where the promise is broken, no index is clean. Throws Refused.
+   * Where the promise is broken, no index is clean. It is of the kind of these bytes, or of the one that is named: "json" or "tmx".
+   * Throws Refused, RangeError.
    */
-  saveMap(): Promise<Uint8Array>;
+  saveMap(options?: { kind?: FileKind }): Promise<Uint8Array>;
 
   /** The active document's map, as `show` gives it, with its fractions put back as numbers. Throws Refused. */
   map(): Record<string, unknown>;

@@ -8,6 +8,7 @@ import { joined } from "./bytes.js";
 import { beginsMacros, partsOf, rangesOf } from "./caller_lines.js";
 import { Document } from "./document.js";
 import { Closed, NoMemory, NotFound, Refused, refusedCall } from "./faults.js";
+import { kindNamed } from "./file_kinds.js";
 import { MAX_FILE_NAME, MAX_LIMIT } from "./limits.js";
 import { openedMap, savedMap } from "./map_files.js";
 import { ALL_EDITS_WITH_FRACTIONS, BAD_NAME, DONE, Module, NONE, OWNERS, bytesOf, textOf } from "./module.js";
@@ -369,7 +370,7 @@ export class Editor {
   // ---- maps as bytes
 
   /**
-   * Opens a document of that name with any map that Tiled saves as JSON, given as the bytes of a file: what
+   * Opens a document of that name with any map that Tiled saves, given as the bytes of a file, in JSON or in XML: what
    * the editor's format refuses is set aside, and layers are unpacked. Gives the reply to `open`. Throws
    * Refused; its `why` says why a map is not set aside or unpacked.
    */
@@ -380,10 +381,12 @@ export class Editor {
   /**
    * The active document's map as the bytes of a file, with all put back that was set aside, packed as it was, and in
    * the layout of the bytes that were opened or saved last; in that of Tiled where it is new. Its index is the clean one at once: what is done until the promise is kept is not called saved.
-   * Where the promise is broken, no index is clean. Throws Refused.
+   * Where the promise is broken, no index is clean. It is of the kind of these bytes, or of the one that is named: "json" or "tmx".
+   * Throws Refused, RangeError.
    */
-  async saveMap() {
-    return savedMap(this, "saveMap()");
+  async saveMap(options) {
+    const { kind } = words.options(options, { kind: null });
+    return savedMap(this, "saveMap()", { kind: kindNamed(kind) });
   }
 
   // The active document's map as the editor holds it: it stands behind the first word of the reply.

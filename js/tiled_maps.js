@@ -1,9 +1,12 @@
 // SPDX-License-Identifier: MIT OR Apache-2.0
 // What the library sets aside of a map, in its tree.
 
-// The name under which it stands, in the map, in layers and objects, and the one under which a layer notes how it was packed.
+// The name under which it stands, in the map, in layers and objects.
 const RESERVED = "roskevad";
-const PACKED = "roskevad_packed";
+/** The name under which a layer notes how it was packed. */
+export const PACKED = "roskevad_packed";
+// The name under which it notes what JSON can't say of a map in XML.
+const XML_NOTE = "roskevad_tmx";
 // The names of an object's place, with what it was moved by, and of its size.
 const MOVED = [["x", "movedx"], ["y", "movedy"], ["width", null], ["height", null]];
 const HALF = 2 ** 32;
@@ -23,19 +26,19 @@ export function notesOne(text, names) {
 }
 
 /**
- * The tree of a map, or of a thing of it, in which fractions are numbers again, and no note is left. The tree
- * itself is changed. `note` is that of the map.
+ * The tree of a map, or of a thing of it, in which fractions are numbers again, and no note is left, but of XML those
+ * that are to be kept. The tree itself is changed. `note` is that of the map.
  */
-export function restored(value, note) {
+export function restored(value, note, keepsXmlNotes = false) {
   if (Array.isArray(value)) {
     for (let at = 0; at < value.length; at++) {
       if (typeof value[at] === "object") {
-        value[at] = restored(value[at], note);
+        value[at] = restored(value[at], note, keepsXmlNotes);
       }
     }
     return value;
   }
-  return value !== null && typeof value === "object" ? restoredMembers(value, note) : value;
+  return value !== null && typeof value === "object" ? restoredMembers(value, note, keepsXmlNotes) : value;
 }
 
 /** Layers of which nothing notes any more how they were packed, nor those in them. */
@@ -47,6 +50,40 @@ export function withoutPacking(layers) {
     }
   }
   return layers;
+}
+
+/** A property of a class with what XML has noted of an old one: of each member whose value is of the same type still. */
+export function withKeptNote(property, old) {
+  const areClasses = isObject(property.value) && isObject(old.value);
+  return withNote(property, areClasses ? keptNote(property.value, old.value, old[XML_NOTE] ?? {}) : {});
+}
+
+function withNote({ [XML_NOTE]: _, ...members }, note) {
+  return Object.keys(note).length === 0 ? members : { ...members, [XML_NOTE]: note };
+}
+
+function keptNote(value, was, note) {
+  const kept = {};
+  for (const [name, own] of Object.entries(note)) {
+    if (Object.hasOwn(value, name) && Object.hasOwn(was, name) && fits(value[name], was[name], own.type)) {
+      put(kept, name, isObject(value[name]) ? withNote(own, keptNote(value[name], was[name], own[XML_NOTE] ?? {})) : own);
+    }
+  }
+  return kept;
+}
+
+// Whether a new value is of the type that is noted.
+function fits(value, was, noted) {
+  const [one, other] = [shownType(value), shownType(was)];
+  return one === other || noted === "float" && [one, other].every((type) => ["int", "float"].includes(type));
+}
+
+function shownType(value) {
+  return typeof value === "number" ? Number.isInteger(value) ? "int" : "float" : isObject(value) ? "class" : typeof value;
+}
+
+function isObject(value) {
+  return value !== null && typeof value === "object" && !Array.isArray(value);
 }
 
 /** The layers in drawing order, those that stand in a group behind it. */
@@ -71,12 +108,15 @@ export function originOf({ x = 0, y = 0 }) {
   return [x, y];
 }
 
-function restoredMembers(members, note) {
+function restoredMembers(members, note, keepsXmlNotes) {
   for (const [name, value] of Object.entries(members)) {
-    const exact = restored(value, note);
+    const exact = restored(value, note, keepsXmlNotes);
     if (exact !== value) {
       put(members, name, exact);
     }
+  }
+  if (!keepsXmlNotes) {
+    delete members[XML_NOTE];
   }
   const notes = members[RESERVED] ?? null;
   if (Array.isArray(notes)) {

@@ -5,6 +5,7 @@ import { BadTileset, NotFound, refusedCall } from "./faults.js";
 import * as json from "./json_values.js";
 import { Owner, WithOwnMembers, setMember, setOrRemove } from "./own_members.js";
 import { BASE } from "./rows.js";
+import { tilesetIn } from "./tileset_files.js";
 import * as words from "./words.js";
 
 // The flags of a value, as a tile tells them.
@@ -37,6 +38,18 @@ function tileOfSet(id, { type, class: kind, properties, objectgroup } = {}) {
   const named = objectsOf(properties).filter(({ name }) => typeof name === "string").map(({ name, value }) => [name, value]);
   const shapes = Object.freeze(objectsOf(objectgroup?.objects));
   return Object.freeze({ localId: id, type: String(type || kind || ""), properties: Object.freeze(Object.fromEntries(named)), shapes });
+}
+
+// The tiles of a tileset, by its members. Throws BadTileset where it has too many, or does not say how many.
+function tilesOf({ tilecount = 0, tiles, image }) {
+  if (!Number.isInteger(tilecount) || tilecount < 0 || tilecount > MOST_TILES) {
+    throw new BadTileset(`a tileset has 0 to ${MOST_TILES} tiles, and this one says: ${words.quoted(tilecount)}`);
+  }
+  const said = new Map(objectsOf(tiles).filter(({ id }) => Number.isInteger(id)).map((tile) => [tile.id, tile]));
+  // A collection of images has the tiles that it lists, whose ids may have gaps.
+  const isCollection = image === undefined && [...said.values()].some((tile) => tile.image !== undefined);
+  const ids = isCollection ? [...said.keys()].sort((one, other) => one - other) : [...Array(tilecount).keys()];
+  return ids.map((id) => tileOfSet(id, said.get(id)));
 }
 
 /**
@@ -111,18 +124,16 @@ export class Tileset extends WithOwnMembers {
    * where it has too many, or does not say how many.
    */
   get tiles() {
-    const { source, tilecount = 0, tiles, image } = this._members;
-    if (source !== undefined) {
-      return null;
-    }
-    if (!Number.isInteger(tilecount) || tilecount < 0 || tilecount > MOST_TILES) {
-      throw new BadTileset(`a tileset has 0 to ${MOST_TILES} tiles, and this one says: ${words.quoted(tilecount)}`);
-    }
-    const said = new Map(objectsOf(tiles).filter(({ id }) => Number.isInteger(id)).map((tile) => [tile.id, tile]));
-    // A collection of images has the tiles that it lists, whose ids may have gaps.
-    const isCollection = image === undefined && [...said.values()].some((tile) => tile.image !== undefined);
-    const ids = isCollection ? [...said.keys()].sort((one, other) => one - other) : [...Array(tilecount).keys()];
-    return ids.map((id) => tileOfSet(id, said.get(id)));
+    const members = this._members;
+    return members.source === undefined ? tilesOf(members) : null;
+  }
+
+  /**
+   * Its tiles by their ids, as its file has them, of which these are the bytes or the text, in XML or in JSON. Throws TypeError;
+   * BadTileset where they are no tileset, with the reason and the place.
+   */
+  tilesIn(data) {
+    return tilesOf(tilesetIn(this.#document.editor._module, data, this.toString()));
   }
 
   /** The value of a cell with its tile of this id, which Tiled shows as the tile's ID. */

@@ -41,6 +41,17 @@ def test_layers_of_each_kind():
         see(2, len(document.layers))
 
 
+def test_layers_with_a_note():
+    """A layer with the note of how one was packed would be packed by it: it is refused, also in a group."""
+    with Editor() as editor:
+        document = made(editor)
+        for name in ('roskevad_packed', 'roskevad_compression'):
+            layer = {'type': 'tilelayer', 'id': 9, name: 'zlib'}
+            raised(ValueError, document.layers.put, layer)
+            raised(ValueError, document.layers.put, {'type': 'group', 'id': 8, 'layers': [layer]})
+        see(2, document.status.count)
+
+
 # ---- objects
 
 SHAPES = [

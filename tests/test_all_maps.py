@@ -40,7 +40,7 @@ from lib.json_texts import text_behind, tree_of
 from lib.maps import new_map, objects_in, property_of, text_of, thing, things, tiles
 from lib.places import EXAMPLE_MAPS, TILE_EDITOR
 from lib.refusals import refusal
-from lib.sessions import all_runs, fault_of_reasons, fault_of_replies, heard
+from lib.sessions import all_runs, fault_of_reasons, fault_of_replies, has_xml, heard
 
 IS_LONG = True
 PACKAGES = ('tiled',)
@@ -215,9 +215,9 @@ def fault_of_session(run):
 
 
 def test_sessions_with_the_option():
-    """All but those in which a map is refused for a fraction, or since it is infinite."""
+    """All but those in which a map is refused for a fraction, since it is infinite, or since it is XML."""
     opened = [refusal(code).encode() for code in (61, 64)]
-    runs = [run for run in all_runs() if not any(reply in run.replies for reply in opened)]
+    runs = [run for run in all_runs() if not has_xml(run) and not any(reply in run.replies for reply in opened)]
     check_each(map(with_option, runs), fault_of_session, CORES)
 
 

@@ -239,6 +239,8 @@ tiles = own.tiles
 assert len(tiles) == 2 and tiles[0] == (0, '', {{}}, []) and tiles[1][:3] == (1, 'Wall', {{'solid': True}}), tiles
 assert tiles[1].shapes[0]['width'] == 4 and other.tiles is None and other.members == {{'source': 'b.tsx'}}
 assert own.members['tilecount'] == 2 and 'firstgid' not in own.members
+assert other.tiles_in(b'<tileset tilecount="1" columns="1"><tile id="0" type="Mud"/></tileset>') == [(0, 'Mud', {{}}, [])]
+assert other.tiles_in(b'{{"tilecount":1}}') == [(0, '', {{}}, [])]
 groups.discard()
 editor.active = document""", f"""const groups = await editor.open({json.dumps(GROUPED)});
 const [own, other] = groups.tilesets;
@@ -247,6 +249,9 @@ const came = JSON.stringify([own.tiles.length, first, second.type, second.proper
 const wanted = [2, {{ localId: 0, type: '', properties: {{}}, shapes: [] }}, 'Wall', {{ solid: true }}, 4, null, {{ source: 'b.tsx' }}];
 if (came !== JSON.stringify(wanted)) throw new Error(came);
 if (own.members.tilecount !== 2 || 'firstgid' in own.members) throw new Error('members');
+const inXml = other.tilesIn('<tileset tilecount="1" columns="1"><tile id="0" type="Mud"/></tileset>');
+if (JSON.stringify(inXml) !== '[{{"localId":0,"type":"Mud","properties":{{}},"shapes":[]}}]') throw new Error(JSON.stringify(inXml));
+if (other.tilesIn('{{"tilecount":1}}').length !== 1) throw new Error('in JSON');
 groups.discard();
 editor.active = document;""", []),
     # ---- strokes

@@ -149,6 +149,18 @@ def test_first_ids_that_are_counted_anew():
         see(('tileset number 33 40',), found.lines)
 
 
+def test_a_move_where_first_ids_are_counted_anew():
+    """By how much all was moved is found by the tiles of tilesets, not by values."""
+    with Editor() as editor:
+        one, other = two(editor, 'two_tilesets.tmj')
+        other.tilesets.renumber(33, 40)
+        other.tilesets.renumber(1, 3)
+        other.extend(left=1, top=1)
+        see(['map: 8 by 6 cells -> 9 by 7, all moved by 1, 1', 'tileset tiles.tsx: first id 1 -> 3', 'tileset tiles: first id 33 -> 40'],
+            [str(each) for each in one.difference(other)])
+        done(editor)
+
+
 def test_layers_that_come_back():
     """Each in one line, at its place and with all in it; one in a group that comes back is in that line."""
     with Editor() as editor:

@@ -126,7 +126,7 @@ def test_names_that_are_not_there():
 
 
 def test_tiles_of_files():
-    """Those of a tileset's file as JSON, beside the document's own; none where it is not there, and none of other files."""
+    """Those of a tileset's file, beside the document's own; none where it is not there, and none of other files."""
     tiles = [{'id': 2, 'properties': [{'name': 'slow', 'type': 'int', 'value': 3}], 'class': 'Mud'}]
     with tempfile.TemporaryDirectory() as folder, Editor(folder=folder) as editor:
         made = editor.new('made', 2, 2, 8, 8, 'sets/mud.tsj')
@@ -152,8 +152,14 @@ def test_tiles_of_files():
         path.write_text('[' * 100_000)
         raised(ValueError, lambda: made.tilesets[1].tiles)
         made.tilesets.add(9, 'sets/mud.tsx')
-        (path.parent / 'mud.tsx').write_text('<tileset/>')
-        see(None, made.tilesets[9].tiles)
+        for text in ('<tileset/>', '<map tilecount="1" columns="1"/>', '<tileset tilecount="-1" columns="1"/>', '<tileset tilecount="1" columns="1">'):
+            (path.parent / 'mud.tsx').write_text(text)
+            raised(ValueError, lambda: made.tilesets[9].tiles)
+        (path.parent / 'mud.tsx').write_text('<tileset tilecount="2" columns="1"><tile id="1" type="Mud"/></tileset>')
+        see([(0, '', {}, []), (1, 'Mud', {}, [])], [tuple(tile) for tile in made.tilesets[9].tiles])
+        made.tilesets.add(20, 'sets/mud.txt')
+        (path.parent / 'mud.txt').write_text('<tileset tilecount="2" columns="1"/>')
+        see(None, made.tilesets[20].tiles)
 
 
 def test_properties_of_other_types():

@@ -3,10 +3,14 @@
 all that it owned, each once. That is a box, texts, layers, objects, properties, tilesets and cells:
 each kind of edit is let go of in each way, and at once. native/blocks.c counts, and has a program
 crash that uses what it gave back. Pushes that are refused for want of memory are in
-`library_growths`."""
+`library_growths`.
+
+A step that sets a member of a tileset holds that member, and not the tileset: bytes are counted
+behind steps on one of half a million."""
 import functools
 
-from lib.cases import CORES, Case, check_each, unlike
+from lib.cases import CORES, Case, check_each, passed, unlike
+from lib.maps import map_of, text_of, tiles
 from lib.native import interposed
 from lib.sessions import heard
 
@@ -106,6 +110,29 @@ VANISHED = [
 ]
 
 
+# A tileset that stands in its map with half a million bytes of tiles, and has a name and no class.
+LARGE = {
+    'columns': 8,
+    'firstgid': 1,
+    'name': 'art',
+    'tilecount': 8192,
+    'tiles': [{'id': at, 'type': f'tile {at:050}'} for at in range(7000)],
+}
+# Steps on a member that the tileset has; and on one that it has not, or on several, whose steps hold all of it.
+LEAN = [
+    ['member set tileset:1 name "Walls"'],
+    ['member set tileset:1 name "Walls"', 'member set+ tileset:1 name "Doors"'],
+    ['member set tileset:1 name "Walls"', 'undo', 'redo', 'undo'],
+    ['member set tileset:1 name {"of":[1,2]}', 'member set tileset:1 tilecount 9000'],
+    ['begin M', 'member set tileset:1 columns 9', 'end', 'goto 0'],
+]
+WHOLE = [
+    ['member set tileset:1 class "stone"'],
+    ['member remove tileset:1 name'],
+    ['member put tileset:1 {"name":"Walls"}'],
+]
+
+
 @functools.cache
 def counted(*lines):
     """How many blocks there are behind lines on the document, none of which may be refused. What
@@ -115,7 +142,7 @@ def counted(*lines):
     refused = [reply for reply in done.stdout.splitlines() if reply.startswith(b'no ')]
     fault = unlike((0, []), (done.returncode, refused))
     assert not fault, f'{lines}: {fault}'
-    return int(done.stderr.splitlines()[-1])
+    return int(done.stderr.split()[-2])
 
 
 def fault_of(case):
@@ -164,3 +191,30 @@ def test_that_steps_are_seen():
         return None if standing > cleared else told
 
     check_each([Case(edit, edit, None) for edit in EDITS], fault_of_step, CORES)
+
+
+@functools.cache
+def held(*lines):
+    """How many bytes there are behind lines for all edits on a map with the large tileset."""
+    session = ''.join(f'{line}\n' for line in ['open m m.tmj', *lines])
+    before = {'m.tmj': text_of(map_of(tiles(1), tilesets=[LARGE]))}
+    env = {'LD_PRELOAD': interposed('blocks.c')}
+    done, _ = heard(session.encode(), before, ['--all-edits'], env)
+    refused = [reply for reply in done.stdout.splitlines() if reply.startswith(b'no ')]
+    fault = unlike((0, []), (done.returncode, refused))
+    assert not fault, f'{lines}: {fault}'
+    return int(done.stderr.split()[-1])
+
+
+def test_that_a_tilesets_member_is_held_alone():
+    large = len(text_of(LARGE))
+    assert large > 500_000, large
+    for lines in LEAN:
+        more = held(*lines) - held()
+        assert more < 2_000, f'{lines}: {more} bytes more'
+        passed()
+    # A head that is held whole is seen.
+    for lines in WHOLE:
+        more = held(*lines) - held()
+        assert more > large / 2, f'{lines}: {more} bytes more'
+        passed()

@@ -44,6 +44,12 @@ TRIALS = [
     ('document.properties.put({"name": "a"})', 'document.properties.put({ name: "a" })', ['Refused', 'Error'], '62 member missing'),
     ('document.properties.set("sky", "blue")', 'document.properties.set("sky", "blue")', TYPES, 'is a color'),
     ('document.tilesets[1].tiles', 'document.tilesets.get(1).tiles', ['BadTileset', 'Error', 'ValueError'], 'and this one says: -1'),
+    ('document.tilesets[1].tiles_in(b"<map/>")', 'document.tilesets.get(1).tilesIn("<map/>")', ['BadTileset', 'Error', 'ValueError'],
+     'is no tileset: its root is no tileset'),
+    ('document.tilesets[1].tiles_in(b"<tileset>")', 'document.tilesets.get(1).tilesIn("<tileset>")', ['BadTileset', 'Error', 'ValueError'],
+     'an element with no end (line 1, column 9)'),
+    ('document.tilesets[1].tiles_in(b"{1}")', 'document.tilesets.get(1).tilesIn("{1}")', ['BadTileset', 'Error', 'ValueError'],
+     'no JSON in UTF-8 (line 1, column 2)'),
     ('document.stamp(9, 0, 0, [[1]])', 'document.stamp(9, 0, 0, [[1]])', ['Refused', 'Error'], '30 no such layer'),
     ('editor.open(b"{")', 'await editor.open("{")', ['Refused', 'Error'], '60 not JSON'),
     # What is wrong whatever the map is.

@@ -2,6 +2,7 @@
 """Brings two sides of a map together by the Python package: the words of each conflict, 200 random pairs of histories with a checker that
 shares nothing with the merge, and merges behind merges. A merge with what both began with gives the other side; one undo gives ours back."""
 import json
+import os
 import random
 import sys
 
@@ -15,7 +16,9 @@ import roskevad  # noqa: E402
 from roskevad import Editor, merge  # noqa: E402
 
 MAPS = TOP / 'examples' / 'maps'
-SEED, PAIRS, MOST, LONG = 20261201, 200, 10, 40
+# So many pairs in the gate; by hand 2,000 once, by ROSKEVAD_PAIRS.
+SEED, PAIRS, MOST, LONG = 20261201, int(os.environ.get('ROSKEVAD_PAIRS', 200)), 10, 40
+RESERVED = '"roskevad"', '"roskevad_packed"', '"roskevad_compression"'
 FILES = ('town', 'house', 'groups', 'objects', 'infinite', 'layers', 'properties', 'two_tilesets', 'zlib', 'base64', 'flips')
 
 
@@ -309,6 +312,31 @@ def test_first_ids_that_are_counted_anew_where_ours_cuts():
         done(editor)
 
 
+def test_first_ids_that_are_counted_anew_where_theirs_cuts():
+    """The rows that are cut off stay as they are where the size is that of ours, and so they do where ours has counted anew; of a tileset that
+    ours has removed nothing is left in them."""
+    for counted, other in ((2, 1), (1, 2)):
+        with Editor() as editor:
+            documents = three(editor, 'two_tilesets.tmj')
+            documents[counted].tilesets.renumber(33, 40)
+            documents[1].extend(right=1)
+            documents[2].resize(documents[2].width, documents[2].height - 1)
+            found = merge(*documents)
+            see(['map/size'], [each.key for each in found.conflicts])
+            see([], [each for each in found.changes if each.what == 'cells'])
+            done(editor)
+    with Editor() as editor:
+        base, ours, theirs = three(editor, 'two_tilesets.tmj')
+        ours.erase(1, 0, 0, 8, 6)
+        for each in [*ours.objects]:
+            each.tile = None
+        ours.tilesets[33].remove()
+        theirs.resize(theirs.width, theirs.height - 1)
+        see(['map/size'], [each.key for each in merge(base, ours, theirs, offset={'theirs': (0, 0)}).conflicts])
+        see({0}, {*ours.layers[1].cells()})
+        done(editor)
+
+
 # ---- infinite maps, sizes
 
 
@@ -410,30 +438,44 @@ def test_documents_that_are_none():
 # ---- random histories
 
 
-def pair(seed, most=MOST):
-    """A file, two files that come of random edits of it, and by how much all was moved with them."""
+def pair(seed, most=MOST, kind='json'):
+    """A file of a kind, two files that come of random edits of it, and by how much all was moved with them."""
     chosen = random.Random(seed)
     name = chosen.choice(FILES)
-    data, sides, offsets = with_classes(MAPS / f'{name}.tmj'), [], []
+    data, sides, offsets = with_classes(MAPS / f'{name}.tmj', kind), [], []
     for _ in range(2):
         with Editor() as editor:
             document = editor.open(data, 'side')
-            offset = history(chosen, document, most, ('cut',) if name == 'infinite' else ())
+            offset = history(chosen, document, most, ('cut',) if name == 'infinite' else (), kind)
             # All in an infinite map stays where it is on its plane.
             offsets.append((0, 0) if name == 'infinite' else offset)
             sides.append(document.save_bytes())
     return data, sides, offsets
 
 
-def with_classes(path):
-    """A map that has properties of a class."""
+def with_classes(path, kind):
+    """A map that has properties of a class, as a file of a kind."""
     with Editor() as editor:
         document = editor.open(path, 'base')
         for owner in [document, *[*document.objects][:2]]:
             owner.properties.set('link', {'to': 1, 'by': 2}, type='class', property_type='Link')
-        data = document.save_bytes()
+        data = document.save_bytes(kind=kind)
         document.mark_clean()
         return data
+
+
+def tree_of(data):
+    """The tree of a file, without what is noted of XML."""
+    if data.startswith(b'{'):
+        return json.loads(data)
+    with Editor() as editor:
+        return without_notes(json.loads(editor.open(data).save_bytes(kind='json')))
+
+
+def without_notes(value):
+    if isinstance(value, list):
+        return [without_notes(each) for each in value]
+    return {name: without_notes(each) for name, each in value.items() if name != 'roskevad_tmx'} if isinstance(value, dict) else value
 
 
 def merged_files(base, ours, theirs, offset=None):
@@ -462,14 +504,16 @@ def fault_at(seed):
     return fault_of(seed, LONG if is_long else MOST, is_long)
 
 
-def fault_of(seed, most, is_said=False):
+def fault_of(seed, most, is_said=False, kind='json'):
     """How a merge of two histories is not as it must be, or None. By how much all was moved may be said, and is guessed else."""
-    data, sides, offsets = pair(seed, most)
+    data, sides, offsets = pair(seed, most, kind)
     said_offset = {name: by for name, by, side in zip(('ours', 'theirs'), offsets, sides) if any(by) and (is_said or leaves_nothing(data, side))}
     found, result, origin, after = merged_files(data, *sides, said_offset)
     if after != sides[0]:
         return 'one undo does not give ours back'
-    trees = [json.loads(each) for each in (data, *sides, result)]
+    if any(name in line for line in found.lines for name in RESERVED):
+        return f'a line has a reserved name: {found.lines}'
+    trees = [tree_of(each) for each in (data, *sides, result)]
     fault, offset = fault_of_size(trees, offsets, found.conflicts)
     known = Table(trees[0]).rows
     tables = [Table(tree, by, known) for tree, by in zip(trees, ((0, 0), *offsets, offset))]
@@ -481,7 +525,7 @@ def fault_of(seed, most, is_said=False):
 
 def leaves_nothing(base, side):
     """Whether a side has removed all layers that have cells or objects: then nothing tells by how much all was moved."""
-    kept = [{layer['id'] for layer, _ in layers_of(json.loads(data)) if layer['type'] in ('tilelayer', 'objectgroup')} for data in (base, side)]
+    kept = [{layer['id'] for layer, _ in layers_of(tree_of(data)) if layer['type'] in ('tilelayer', 'objectgroup')} for data in (base, side)]
     return kept[0].isdisjoint(kept[1])
 
 
@@ -512,7 +556,7 @@ def fault_of_same(base, sides):
 
 def whole(data):
     """A map as a text, but for how its cells are written."""
-    tree = json.loads(data)
+    tree = tree_of(data)
     table = Table(tree)
     return json.dumps([sorted((str(key), table.whole(key)) for key in table.rows if key != 'map'), table.rows['map'], table.named,
                        [tree[name] for name in ('nextlayerid', 'nextobjectid')],

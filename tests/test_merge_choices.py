@@ -427,7 +427,21 @@ def test_choices_by_the_command():
 
         check_each([Case(name, (words, given), wanted) for name, words, given, *wanted in rows], fault_of)
         see((2, '', 'roskevad merge: no conflict has this key: object:9/x\n'), command('merge', base, ours, theirs, '-o', out, '--take', 'ours:object:9/x'))
-        see(True, 'invalid' in command('merge', base, ours, theirs, '-o', out, '--take', 'both')[2])
+        for words, fault in ((('--take', 'both'), "argument --take: a side is ours or theirs: 'both'"),
+                             (('--offset', 'theirs:2'), "argument --offset: ours or theirs, columns to the right and rows down, as theirs:2,-1, and none "
+                              "past 4096: 'theirs:2'")):
+            status, told, said = command('merge', base, ours, theirs, '-o', out, *words)
+            see((2, '', f'roskevad merge: error: {fault}'), (status, told, said.splitlines()[-1]))
+
+
+def test_what_cannot_be_told():
+    """Then nothing is written."""
+    with tempfile.TemporaryDirectory() as folder:
+        base, ours, theirs = (saved(folder, f'{name}.tmj', script) for name, script in (('base', 'pass'), ('ours', 'pass'), ('theirs', f'{INN}.x = 96')))
+        words = sys.executable, '-m', 'roskevad', 'merge', base, ours, theirs, '-o', Path(folder, 'out.tmj')
+        with open('/dev/full', 'wb') as full:
+            done = subprocess.run([*words, '--name', 'town.tmj', '--offset', 'ours:0,0'], cwd=TOP / 'python', stdout=full, stderr=subprocess.PIPE)
+        see((2, False), (done.returncode, Path(folder, 'out.tmj').exists()))
 
 
 def test_answers_for_each_cell():

@@ -20,18 +20,22 @@ MOST_SECONDS = 5
 
 
 def files(folder):
-    """The map that both began with, and both sides, each with other tiles in one half."""
+    """The map that both began with; both sides, each with other tiles in one half; and one with a column less, and other first ids."""
     chosen = random.Random(1)
     cells = [chosen.randrange(1, 30) for _ in range(SIDE * SIDE)]
     half = len(cells) // 2
-    sides = {'base': cells, 'ours': [chosen.randrange(1, 30) for _ in range(half)] + cells[half:],
-             'theirs': cells[:half] + [chosen.randrange(1, 30) for _ in range(half)]}
-    for name, data in sides.items():
-        layer = {'data': data, 'height': SIDE, 'id': 1, 'name': 'Ground', 'opacity': 1, 'type': 'tilelayer', 'visible': True, 'width': SIDE, 'x': 0, 'y': 0}
-        tree = {'height': SIDE, 'infinite': False, 'layers': [layer], 'nextlayerid': 2, 'nextobjectid': 1, 'orientation': 'orthogonal',
-                'renderorder': 'right-down', 'tileheight': 16, 'tilesets': [{'firstgid': 1, 'source': 'a.tsj'}], 'tilewidth': 16, 'type': 'map',
-                'version': '1.10', 'width': SIDE}
-        Path(folder, name).write_text(json.dumps(tree))
+    write(folder, 'base', cells)
+    write(folder, 'ours', [chosen.randrange(1, 30) for _ in range(half)] + cells[half:])
+    write(folder, 'theirs', cells[:half] + [chosen.randrange(1, 30) for _ in range(half)])
+    write(folder, 'cut', [value + 39 for at, value in enumerate(cells, 1) if at % SIDE], SIDE - 1, 40)
+
+
+def write(folder, name, data, width=SIDE, first=1):
+    layer = {'data': data, 'height': SIDE, 'id': 1, 'name': 'Ground', 'opacity': 1, 'type': 'tilelayer', 'visible': True, 'width': width, 'x': 0, 'y': 0}
+    tree = {'height': SIDE, 'infinite': False, 'layers': [layer], 'nextlayerid': 2, 'nextobjectid': 1, 'orientation': 'orthogonal',
+            'renderorder': 'right-down', 'tileheight': 16, 'tilesets': [{'firstgid': first, 'source': 'a.tsj'}], 'tilewidth': 16, 'type': 'map',
+            'version': '1.10', 'width': width}
+    Path(folder, name).write_text(json.dumps(tree))
 
 
 def fault_of_costs(case):
@@ -50,5 +54,6 @@ def fault_of_costs(case):
 
 def test_costs():
     check_each([Case('a merge', ('merge', '{0}/base', '{0}/ours', '{0}/theirs', '-o', '{0}/out'), 0),
+                Case('one with a cut', ('merge', '{0}/base', '{0}/ours', '{0}/cut', '-o', '{0}/out'), 1),
                 Case('a difference', ('diff', '{0}/base', '{0}/ours'), 1), Case('its lines', ('diff', '--lines', '{0}/base', '{0}/ours'), 1),
                 Case('its picture', ('diff', '--png', '{0}/a.png', '{0}/base', '{0}/ours'), 1)], fault_of_costs)

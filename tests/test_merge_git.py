@@ -2,12 +2,14 @@
 """Has git merge, rebase, pick and revert maps by the Python package, in repositories: with conflicts, a broken map, a map that both sides have
 added, and lines that end as on Windows. Settles conflicts from the versions that git keeps, by words, by git's mergetool and by hand; and looks
 at what git tells of differences, and how it is told to run the package."""
+import os
 import random
 import shutil
 import sys
 import tempfile
 from pathlib import Path
 
+from lib import tiled_package
 from lib.cases import see
 from lib.histories import history
 from lib.places import TOP
@@ -16,6 +18,7 @@ from lib.repositories import ATTRIBUTES, MAPS, Repository, enabled
 sys.path.insert(0, str(TOP / 'python'))
 from roskevad import Editor  # noqa: E402
 
+PACKAGES = ('tiled',)
 INN = 'map.objects["Inn"]'
 WHERE = 'map.objects["Inn"].x, map.objects["Inn"].y, map.layers["Ground"].cells(0, 0, 1, 1)[0]'
 
@@ -79,11 +82,13 @@ def test_what_git_is_told():
     with tempfile.TemporaryDirectory() as folder:
         found = Repository(folder)
         see((0, 'off for this repository\n', ''), found.roskevad('git'))
-        line = 'not yet of any map: .gitattributes needs the line: *.tmj merge=roskevad diff=roskevad\n'
-        see((0, f'{ON}\n{line}', ''), found.roskevad('git', '--enable'))
+        lines = [f'*.{end} merge=roskevad diff=roskevad\n' for end in ('tmj', 'tmx')]
+        see((0, f'{ON}\nnot yet of any map: .gitattributes needs\n  {"  ".join(lines)}', ''), found.roskevad('git', '--enable'))
         for name in ('merge.roskevad.driver', 'diff.roskevad.command', 'diff.roskevad.textconv', 'mergetool.roskevad.cmd'):
             see((name, True), (name, sys.executable in found.git('config', name)[1]))
-        Path(found.folder, '.gitattributes').write_text('*.tmj merge=roskevad diff=roskevad\n')
+        Path(found.folder, '.gitattributes').write_text(lines[0])
+        see((0, f'{ON}\nnot yet of *.tmx: .gitattributes needs\n  {lines[1]}', ''), found.roskevad('git'))
+        Path(found.folder, '.gitattributes').write_text(''.join(lines))
         see((0, f'{ON}\nits .gitattributes says so of maps\n', ''), found.roskevad('git'))
         found.git('config', 'merge.roskevad.driver', 'false')
         found.git('config', '--unset', 'mergetool.roskevad.cmd')
@@ -153,6 +158,33 @@ def test_resolve_by_hand():
         see((1, TOLD[1:]), resolved(found))
         see(0, resolved(found, '--take', 'theirs')[0])
         see((50, 9, 8), found.told(f'{LEFT}, map.objects["Lake"].y'))
+
+
+UNMERGED = 'note: the file had nothing of what theirs has changed, as where git could not run this program; that is merged now'
+
+
+def test_resolve_where_the_driver_was_killed():
+    """The file is that of ours then: what theirs has changed is merged into it, and what was done by hand stays."""
+    for script in ('pass', f'{INN}.x = 50\nmap.objects["Lake"].y = 8'):
+        with tempfile.TemporaryDirectory() as folder:
+            found = enabled(folder)
+            found.git('config', 'merge.roskevad.driver', 'kill -9 $$')
+            found.edit('left', f'{INN}.x = 96\nmap.stamp("Ground", 0, 0, [[7]])')
+            found.edit('right', f'{INN}.x = 32\nmap.stamp("Ground", 0, 0, [[9]])\nmap.stamp("Ground", 5, 5, [[9]])\nmap.objects["key"].remove()')
+            found.git('checkout', '-q', 'left')
+            before = Path(found.folder, 'town.tmj').read_bytes()
+            see((1, True), (found.git('merge', '--no-edit', 'right')[0], before == Path(found.folder, 'town.tmj').read_bytes()))
+            with Editor(folder=found.folder) as editor:
+                document = editor.open('town.tmj')
+                exec(script, {'map': document})
+                document.save()
+            left = TOLD if script == 'pass' else TOLD[1:]
+            see((1, [UNMERGED, *left]), resolved(found))
+            see((1, left), resolved(found))
+            see(0, resolved(found, '--take', 'theirs')[0])
+            wanted = (32, 9, 9, False) if script == 'pass' else (50, 9, 9, False, 8)
+            more = '' if script == 'pass' else ', map.objects["Lake"].y'
+            see(wanted, found.told(f'{LEFT}, map.layers["Ground"].cells(5, 5, 1, 1)[0], "key" in map.objects{more}'))
 
 
 def test_resolve_by_marks():
@@ -261,20 +293,20 @@ def test_git_shows_maps_as_texts():
 
 # ---- branches
 
-#: How many branches are merged in the gate.
-BRANCHES = 4
+# So many branches in the gate; by hand 300 once, of each kind of file, by ROSKEVAD_BRANCHES, which Tiled opened all.
+BRANCHES = int(os.environ.get('ROSKEVAD_BRANCHES', 4))
 
 
-def branches(folder, count, seed, opened=None):
-    """A repository in which so many branches with random edits are merged, rebased and reverted, each by one of the three in turn; what is in
-    conflict is taken of theirs. `opened` is called with the map behind each. Gives how many there were without a conflict."""
-    found, chosen, clean = enabled(folder), random.Random(seed), 0
-    path = found.folder / 'town.tmj'
+def branches(folder, count, seed, opened, name='town.tmj'):
+    """A repository in which so many branches with random edits are merged, rebased, picked and reverted, each in one of these ways in turn; what is
+    in conflict is taken of theirs. `opened` is called with the map behind each. Gives how many there were without a conflict."""
+    found, chosen, clean = enabled(folder, name), random.Random(seed), 0
+    path = found.folder / name
     for number in range(count):
         found.git('checkout', '-q', '-b', f'branch{number}', f'main~{chosen.randint(0, 3)}' if number > 4 else 'main')
         with Editor() as editor:
             document = editor.open(path)
-            history(chosen, document, 5)
+            history(chosen, document, 5, (), name[-3:])
             document.save(path)
         found.git('commit', '-q', '-a', '--allow-empty', '-m', f'Branch {number}')
         way = ('merge', 'rebase', 'pick', 'revert')[number % 4]
@@ -295,8 +327,7 @@ def branches(folder, count, seed, opened=None):
         see('', found.git('status', '--short')[1])
         with Editor() as editor:
             editor.open(path)
-        if opened is not None:
-            opened(path)
+        opened(path)
     return clean
 
 
@@ -304,18 +335,26 @@ def settled(found, status, told, then):
     """Whether git has stopped at no conflict; where it has, theirs is taken."""
     if status == 0:
         return 1
-    if 'town.tmj: conflict: ' not in told:
+    if f'{found.name}: conflict: ' not in told:
         assert 'nothing to commit' in told or 'is now empty' in told or 'nothing added' in told, told
         found.git('commit', '-q', '--allow-empty', '--no-edit')
         return 1
-    status, told, fault = found.roskevad('merge', '--resolve', 'town.tmj', '--take', 'theirs')
+    status, told, fault = found.roskevad('merge', '--resolve', found.name, '--take', 'theirs')
     assert status in (0, 1) and not fault, fault
-    found.git('add', 'town.tmj')
+    found.git('add', found.name)
     status, told = found.git(*then)
     see(0, status)
     return 0
 
 
+def see_in_tiled(path):
+    """That Tiled opens a map."""
+    goal = path.parent.parent / 'opened.json'
+    tiled_package.export('json', path, goal)
+    assert goal.exists(), f'Tiled does not open {path}'
+    goal.unlink()
+
+
 def test_branches():
     with tempfile.TemporaryDirectory() as folder:
-        branches(folder, BRANCHES, 20261201)
+        branches(folder, BRANCHES, 20261201, opened=see_in_tiled)

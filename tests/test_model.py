@@ -2,8 +2,8 @@
 """Compares the plain model of the editor, by which other steps tell what must come, with the
 session files, whose replies were written by the rules: it must give the same replies and leave the
 same files. Lines that the model does not read are left out, those that are refused for how they are
-spelled, and maps that are refused or can't be written; and so are long sessions and large maps, for
-which it is slow."""
+spelled, and maps that are refused or can't be written; and so are maps in XML, long sessions, and
+large maps, for which it is slow."""
 import re
 
 from lib.asides import TiledEditor, fault_of_tiled_files
@@ -11,7 +11,7 @@ from lib.cases import check_in_processes
 from lib.json_words import set_fractions_aside
 from lib.members import read_members
 from lib.model import Editor
-from lib.sessions import ALL_MAPS, all_runs, answered, fault_of_files, fault_of_replies, joined, runs_for_all_edits
+from lib.sessions import ALL_MAPS, all_runs, answered, fault_of_files, fault_of_replies, has_xml, joined, runs_for_all_edits
 from lib.whole_things import read_whole_things
 
 # The longest session that it hears, in bytes, and a line that makes a map of many columns or rows.
@@ -52,7 +52,7 @@ def test_replies_of_sessions():
         [
             run
             for run in runs
-            if len(run.session) <= LONGEST and not MAKES_LARGE.search(run.session)
+            if len(run.session) <= LONGEST and not MAKES_LARGE.search(run.session) and not has_xml(run)
         ],
         fault_of,
     )

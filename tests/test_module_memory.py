@@ -1,5 +1,5 @@
 # SPDX-License-Identifier: MIT OR Apache-2.0
-"""Sees that the memory of the module grows by at most 1.25 times as much in a session as the library
+"""Sees that the memory of the module grows by at most 1.3 times as much in a session as the library
 takes of the heap, and that 10,000,000 lines take no more than 1,000,000."""
 import json
 import subprocess
@@ -14,7 +14,8 @@ from module.node import ran
 
 ALONE = True
 PACKAGES = ('nodejs',)
-MOST_RATIO = 1.25
+# The memory grows by a 32nd at a time.
+MOST_RATIO = 1.3
 WRAPPED = '-Wl,--wrap=malloc,--wrap=realloc,--wrap=free'
 SIDE, LAYERS = 1024, 4
 # The lines of a turn that is made again and again, and how many turns.

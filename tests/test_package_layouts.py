@@ -209,6 +209,19 @@ def test_new_maps():
     passed(5)
 
 
+def test_new_layers():
+    """A layer that is added is packed as the others of its file are, in each layout."""
+    for name in ('base64', 'zlib', 'town'):
+        with Editor(folder=EXAMPLE_MAPS) as editor:
+            document = editor.open(f'{name}.tmj')
+            document.layers.add('tile', 'New')
+            for layout in (None, 'tiled', 'rows', 'compact'):
+                layers = [each for each in json.loads(document.save_bytes(layout=layout))['layers'] if each['type'] == 'tilelayer']
+                formats = {(each.get('encoding'), each.get('compression') or None, type(each['data'])) for each in layers}
+                assert len(formats) == 1, f'{name} in {layout}: {formats}'
+                passed()
+
+
 def test_new_maps_in_node():
     """JavaScript writes what Python does."""
     with Editor() as editor:
@@ -276,8 +289,7 @@ def test_files():
             document.save('n.tmj')
             assert (Path(folder) / 'n.tmj').read_bytes() == data
             document.save('n.tmj', layout='compact')
-            tree = {**json.loads(data), 'version': '1.10'}
-            assert (Path(folder) / 'n.tmj').read_bytes() == text_of(tree)
+            assert (Path(folder) / 'n.tmj').read_bytes() == text_of(json.loads(data))
     passed(5)
 
 

@@ -491,7 +491,7 @@ def test_dialogs():
         assert page.find('dialog [name=width]').get_attribute('value') == '5000'
         page.fill_in('Cancel')
         page.find('#save-as').click()
-        page.fill_in(file='field.tmx')
+        page.fill_in(file='field.tsx')
         assert '.tmj' in page.find('dialog .fault').text
         page.fill_in('Cancel')
         page.click('#macro')

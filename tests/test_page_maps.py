@@ -3,7 +3,7 @@
 tabs, the list of maps to open, and what each map keeps: zoom, place, layer, tool, stamp and panels."""
 import json
 
-from lib.places import EXAMPLE_MAPS
+from lib.places import EXAMPLE_MAPS, EXAMPLES
 from page.bench import Bench, choose, standing, take_tile
 from page.browser import Keys
 from selenium.webdriver.support.ui import Select
@@ -134,14 +134,8 @@ def test_files_that_are_no_maps():
     beside a map, and with a word where no map is there."""
     bench = Bench(empty=True)
     with bench as page:
-        for name, text in (('cave.tmx', '<map/>'), ('notes.txt', 'x'), ('rules.json', '{"a": 1}'), ('set.json', '{"tilewidth": 16}')):
+        for name, text in (('notes.txt', 'x'), ('rules.json', '{"a": 1}'), ('set.json', '{"tilewidth": 16}')):
             (bench.folder / name).write_text(text)
-        page.choose_files(bench.folder / 'cave.tmx')
-        [told] = page.notices()
-        assert told.startswith('cave.tmx') and 'save it as JSON' in told, told
-        page.click('#open')
-        assert 'cave.tmx' in page.find('#in-xml').text and 'save it as JSON' in page.find('#in-xml').text
-        page.fill_in('Cancel')
         page.choose_files(*(bench.folder / name for name in ('town.tmj', 'notes.txt', 'rules.json', 'set.json')))
         [told] = page.notices()
         assert 'notes.txt, rules.json.' in told and 'set.json' not in told and active(page) == 'town', told
@@ -153,6 +147,32 @@ def test_files_that_are_no_maps():
         page.choose_files(bench.folder / 'tiles.png')
         page.wait(lambda: 'No map is among the chosen files' in page.find('#start-hint').text, 'that no map is there')
         assert page.notices() == ['tiles.png is a picture.\nMake a map with it\nOK']
+
+
+def test_maps_in_xml():
+    """A map in XML is listed and opened, and what is wrong with one is said. A save keeps the kind of the file that is there; a new one is of
+    the kind of its name. Where name and file disagree, the page says so."""
+    bench = Bench('town.tmj', served=True)
+    source = (EXAMPLES / 'layers.tmx').read_bytes().replace(b'maps/', b'')
+    with bench as page:
+        for name, data in (('cave.tmx', source), ('broken.tmx', b'<map>\n <layer'), ('odd.tmj', source)):
+            (bench.folder / name).write_bytes(data)
+        page.js('roskevad.documents.openPath("broken.tmx")')
+        page.wait(lambda: 'Line 2, column 7: a tag is spelled wrong.' in page.bubble(), 'it is refused')
+        page.ctrl('o')
+        page.fill_in(file='cave.tmx')
+        assert active(page) == 'cave' and page.notices() == []
+        page.js('return roskevad.bench.act(["stamp 1 0 0 1 9", "undo"])')
+        page.ctrl('s')
+        assert (bench.folder / 'cave.tmx').read_bytes() == source
+        for name, is_xml in (('new.tmj', False), ('new.tmx', True)):
+            page.find('#save-as').click()
+            page.fill_in(file=name)
+            page.wait((bench.folder / name).exists, f'{name} is saved')
+            assert (bench.folder / name).read_bytes().startswith(b'<') == is_xml
+        page.js('roskevad.documents.openPath("odd.tmj")')
+        page.wait(lambda: page.notices(), 'it is told')
+        assert 'odd.tmj has XML in it, and its name says JSON' in page.notices()[0]
 
 
 def edge(page, css):

@@ -29,7 +29,7 @@ def broken_maps():
     del wide['tilewidth']
     large = {**json.loads(HOUSE), 'height': 99_999_999}
     return {
-        'cut.tmj': (cut, [f'Line {cut.count(chr(10)) + 1}, column ', 'ends too early', 'a copy of it', 'as JSON (.tmj)']),
+        'cut.tmj': (cut, [f'Line {cut.count(chr(10)) + 1}, column ', 'ends too early', 'a copy of it', 'anew in Tiled']),
         'wide.tmj': (json.dumps(wide), ['Line 1, column 1', 'tilewidth is absent', 'with a current Tiled']),
         'large.tmj': (json.dumps(large), ['Line 1, column ', 'height is 99999999', 'more than the page takes', '4,096 columns']),
         'list.tmj': ('[]', ['Line 1, column 1', 'the root is an array', 'no map', 'Open the map, not its tileset']),

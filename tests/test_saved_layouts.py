@@ -229,7 +229,7 @@ def fault_of_no_map(case):
 def test_files_that_are_no_maps():
     texts = {
         'nothing': b'',
-        'no JSON': b'<map/>',
+        'no JSON': b'{"layers":',
         'another tree': b'{"version":2}',
         'a list': b'[1, 2]',
         'a text': b'"layers"',

@@ -9,7 +9,7 @@ from lib.places import TOP
 #: A name, the module, what stands there, and what is put in its place.
 WRONG = [
     ('cells: theirs always', 'merged_maps', 'if mine == old and other >= 0:', 'if other >= 0:'),
-    ('what refers to a new id is not renumbered', 'class_types', "if type_ == 'object' and type(value) is int:", "if type_ == 'object' and value is None:"),
+    ('what refers to a new id is not renumbered', 'class_types', "typed.type == 'object' and type(value) is int:", "typed.type == 'object' and value is None:"),
     ('first ids clash', 'merged_tilesets', 'found[first_id(each.theirs)] = first_id(each.theirs) + by', 'found[first_id(each.theirs)] = first_id(each.theirs)'),
     ('a conflict of members is not told', 'three_ways', '        return choose(Clash(name, base, ours, theirs))\n', '        return ours\n'),
     ('groups: ours always', 'merged_maps', 'if theirs in (ours, base):', 'if theirs in (ours, base) or ours == base:'),

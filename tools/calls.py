@@ -20,7 +20,7 @@ LINES = [
 FAULTS = {
     'type': ('TypeError', 'TypeError'), 'value': ('ValueError', 'RangeError'), 'key': ('NotFound', 'NotFound'),
     'other type': ('OtherType', 'OtherType'),
-    'closed': ('Closed', 'Closed'), 'busy': ('RuntimeError', ''),
+    'bad tileset': ('BadTileset', 'BadTileset'), 'closed': ('Closed', 'Closed'), 'busy': ('RuntimeError', ''),
 }
 #: What calls give, in Python and in TypeScript.
 GIVEN = {
@@ -37,6 +37,7 @@ GIVEN = {
     'Layer?': ('Layer or None', 'Layer | null'), 'MapObject?': ('MapObject or None', 'MapObject | null'),
     'own members': ('OwnMembers', 'Members'), 'lines': ('tuple of str or None', ''), 'changes': ('tuple of Change', ''),
     'Tileset?': ('Tileset or None', 'Tileset | null'), 'tiles': ('list of TilesetTile or None', 'TilesetTile[] | null'),
+    'all tiles': ('list of TilesetTile', 'TilesetTile[]'),
 }
 #: The types of arguments in TypeScript, by their names.
 ARGUMENTS = {
@@ -67,7 +68,7 @@ COSTS = {
     'OwnMembers': {'1; of a layer answer': 'set put update delete'},
     'Properties': {'answer': 'size keys to_json'},
     'Tilesets': {'map': 'add put add_from_image renumber', 'answer': 'to_json'},
-    'Tileset': {'map': 'remove', 'answer': 'members tiles'},
+    'Tileset': {'map': 'remove', 'answer': 'members tiles tiles_in'},
     'Selection': {'answer': 'runs size'},
     'Difference': {'map': 'lines left picture'},
 }
@@ -280,11 +281,12 @@ DOCUMENT = Kind('Document', 'A map, its selection and its steps. A call makes th
          'named; it counts as saved then. A file whose bytes are not those that it has read or saved last is refused, unless it is to `force` them.',
          'save FILE', raises={'value': 'document.save()', 'refused 20': 'after("begin A") and document.save("/dev/shm/none/a.tmj")',
                  'refused 51': 'document.save("/dev/null/a.tmj")'}, only='python'),
-    Call('save_bytes', '; layout=None', 'The map as the bytes of a file, in its own layout, or in one that is named: "tiled", "rows" or "compact"; '
-         'it counts as saved then.', 'save FILE', 'bytes!',
+    Call('save_bytes', '; layout=None, kind=None', 'The map as the bytes of a file, in its own layout, or in one that is named: "tiled", "rows" or '
+         '"compact"; of the kind that it was opened from or saved as last, or of one that is named: "json", or "tmx", which is XML and has no such '
+         'layout. It counts as saved then.', 'save FILE', 'bytes!',
          {'value': ('document.save_bytes(layout="xml")', 'await document.saveBytes({ layout: "xml" })'),
           'refused 20': ('after("begin A") and document.save_bytes()', 'after("begin A") && await document.saveBytes()')},
-         written=('document.save_bytes(layout=None)', 'await document.saveBytes({ layout })')),
+         written=('document.save_bytes(layout=None, kind=None)', 'await document.saveBytes({ layout, kind })'), types={'kind': 'FileKind'}),
     Call('close', '', 'Closes it.', 'close DOC', '', {'refused 13': 'document.close()'}),
     Call('discard', '', 'Closes it, and drops unsaved changes.', 'discard DOC'),
     to_json('document', 'members', 'What JSON has of it: `document.outline()`.'),
@@ -550,6 +552,11 @@ TILESET = Kind('Tileset', 'A tileset, by its first id. Where it was removed, a c
     value('members', 'own members', 'All that the map says of it, but for its first id: a copy{own_members}.'),
     *member_calls(A_TILESET, 'the tileset', 'its first id', {'41': ('firstgid', '7'), '63': ('source', '5')}),
     value('tiles', 'tiles', 'Its tiles by their ids, at most 1,048,576, where the map has it in itself{file}; else {None}.'),
+    Call('tiles_in', 'data', 'Its tiles by their ids, as its file has them, of which these are the bytes, in XML or in JSON.', gives='all tiles',
+         types={'data': 'Data'}, raises={
+             'type': ('document.tilesets[1].tiles_in(5)', 'document.tilesets.get(1).tilesIn(5)'),
+             'bad tileset': ('document.tilesets[1].tiles_in(b"{")', 'document.tilesets.get(1).tilesIn("{")'),
+         }),
     Call('value', 'local_id; flipped_horizontally=False, flipped_vertically=False, flipped_diagonally=False, turned=False',
          'The value of a cell with a tile of this ID in Tiled. Whether the tileset has that tile is not looked at.', gives='int',
          raises={'type': 'document.tilesets{1}.value("a")', 'value': 'document.tilesets{1}.value(-1)'}),
@@ -645,8 +652,9 @@ LINE_CALLS = [
          raises={'refused': 'await editor.openMap("town", "{}")'}),
     Call('save_map', '; all_maps=False', 'The active map as bytes; it counts as saved then.', gives='bytes', only='python',
          raises={'refused 10': 'after("use -") and editor.save_map()'}),
-    Call('save_map', '', 'The active map as bytes; it counts as saved then.', gives='bytes!', only='javascript',
-         raises={'refused 10': 'after("use -") && await editor.saveMap()'}),
+    Call('save_map', '; kind=None', 'The active map as bytes, of the kind that is named; it counts as saved then.', gives='bytes!', only='javascript',
+         raises={'refused 10': 'after("use -") && await editor.saveMap()', 'value': 'await editor.saveMap({ kind: "xml" })'},
+         types={'kind': 'FileKind'}),
     value('origin', 'place', 'Where the corner of the active map lies that was infinite.', only='python'),
     Call('origin', '', 'Where the corner of the active map lies that was infinite.', gives='place', only='javascript'),
     Call('open_file', 'path, name=None', 'Opens a document with the map of a file.', gives='str', only='python',

@@ -8,13 +8,15 @@ import { FileList } from "../files/file_list.js";
 import { MapProbe } from "../files/map_probe.js";
 import { lastOf } from "../files/names.js";
 import { OutsideChanges } from "../files/outside_changes.js";
-import { IN_XML, isXmlMapName } from "../files/places.js";
 import { saidOf } from "./refusals.js";
 import { thrownWords } from "./thrown_words.js";
 import { whyTooMany } from "../panels/new_map.js";
+import { notice } from "../panels/notice_bars.js";
 import { resizeFields } from "../panels/resize_fields.js";
 import { Tabs, titleOf } from "../panels/tabs.js";
 
+// What a notice is about that a file is not as its name says.
+const UNLIKE = "unlike";
 // What may be answered where a document is closed.
 const SAVE = "Save and close";
 const DISCARD = destroying("Discard");
@@ -36,6 +38,7 @@ export class Documents {
       iconButton("resize", "Resize", "Resize: another size of the map", () => this.resize(), { id: "resize" }),
     );
     this.tabs = new Tabs(bench, this);
+    this.editor.addEventListener("unlike", ({ detail }) => notice(UNLIKE, detail, [["OK", () => {}]], "mild"));
     this.outside = new OutsideChanges(bench, document => this.saveAs(document), new MapProbe());
   }
 
@@ -65,23 +68,14 @@ export class Documents {
     const maps = await place.maps().catch(fault => this.bench.say(`The files cannot be listed: ${thrownWords(fault)}.`) ?? []);
     const known = new Map(this.editor.documents().map(each => [each.path, "open"]));
     const probe = new MapProbe();
-    const inXml = await this.namesInXml();
-    const fields = inXml ? [element("p", { id: "in-xml", textContent: inXml })] : [];
-    const path = await new FileList("Open a map", maps, { known, look: path => probe.look(place, path), none: "There is no map here.", fields }).ask();
+    const path = await new FileList("Open a map", maps, { known, look: path => probe.look(place, path), none: "There is no map here." }).ask();
     if (path) await this.openPath(path);
   }
 
   // The same, where the place has a map: else there is nothing to choose from.
   async openAny() {
     const maps = await this.editor.place.maps().catch(() => null);
-    if (!maps || maps.length || (await this.namesInXml())) await this.open();
-  }
-
-  // What is said of the maps in XML that the place has; "" where it has none.
-  async namesInXml() {
-    const names = (await this.editor.place.names().catch(() => [])).map(each => each.path).filter(isXmlMapName);
-    const [first, ...others] = names;
-    return first ? `Not listed: ${first}${others.length ? ` and ${others.length} more` : ""}, ${IN_XML}` : "";
+    if (!maps || maps.length) await this.open();
   }
 
   // Opens a file, or shows the document that has it already.

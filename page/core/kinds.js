@@ -104,7 +104,7 @@ export const KINDS = {
   cells: wholeKind(1, MAX_SIDE),
   bool: matched(/^(true|false)$/, "true or false"),
   colour: matched(/^#([0-9a-f]{6}|[0-9a-f]{8})$/, "#rrggbb or #aarrggbb, in digits of 0-9 and a-f", text => text.trim().toLowerCase()),
-  path: matched(/^(?!.*\.(tmx|tsx|xml)$).*[^/]$/i, "the name of a file that is not .tmx: maps are saved as .tmj"),
+  path: matched(/^(?!.*\.(tsx|tx|xml)$).*[^/]$/i, "the name of a file: .tmj saves the map in JSON, .tmx in XML"),
   document: named(MAX_DOCUMENT_NAME),
   file: named(MAX_FILE_NAME),
 };

@@ -18,7 +18,7 @@ const WHY = {
 };
 const FROM_TILED = "Save the map anew with a current Tiled.";
 const TO_DO = {
-  60: "Take the file from a copy of it, or save the map anew in Tiled as JSON (.tmj). A .tmx file is XML.",
+  60: "Take the file from a copy of it, or save the map anew in Tiled.",
   61: FROM_TILED,
   62: FROM_TILED,
   63: FROM_TILED,
@@ -42,5 +42,5 @@ export function whyRefused({ code, placeInMap, why }) {
 
 const capital = words => words[0].toUpperCase() + words.slice(1);
 
-// The same, with what to do about it.
-export const wordsOfFault = fault => `${capital(whyRefused(fault))}. ${TO_DO[fault.code]}`;
+// The same, with what to do about it, where that is known.
+export const wordsOfFault = fault => [`${capital(whyRefused(fault))}.`, TO_DO[fault.code]].filter(Boolean).join(" ");

@@ -3,7 +3,8 @@
 //
 // Lines are done at once, in the order in which they come. Of `open` and `save` the file is read and written beside them: these lines are
 // read before they are done, and those that close a document, so that none is closed whose save has not ended.
-import { Editor, FORMS, NoMemory, VERSION, documentName } from "../../js/roskevad.js";
+import { Editor, FORMS, NoMemory, Refused, VERSION, documentName } from "../../js/roskevad.js";
+import { kindOf, kindOfName } from "../../js/file_kinds.js";
 import { noteOf } from "../../js/tiled_maps.js";
 import { OWNERS } from "../../js/module.js";
 import { Changes } from "./changes.js";
@@ -47,6 +48,14 @@ function endOfPart(lines, from) {
   return end;
 }
 
+// How the name of a file does not fit what is in it, in words; "" where it does.
+function unlikeWords(path, bytes) {
+  const [own, named] = [kindOf(bytes), kindOfName(path)];
+  if (own === named) return "";
+  if (own === "json") return `${path} has JSON in it, and its name ends in .tmx: it is saved as JSON.`;
+  return /\.(tmj|json)$/i.test(path) ? `${path} has XML in it, and its name says JSON: it is saved as XML.` : "";
+}
+
 // Why a map cannot be shown, by what was thrown.
 function whyNotShown(fault) {
   const isMemory = fault instanceof NoMemory || fault instanceof RangeError;
@@ -68,6 +77,7 @@ class NotReplaced extends Said {}
 //   state      how the documents and the steps stand, once the journal has it
 //   broken     the engine has ended the editor
 //   unopened   a map was not opened, since it cannot be shown; the detail is { path, why }
+//   unlike     a file was opened that its name does not fit; the detail says how, in words
 //   unshown    the detail is the active document, where its map cannot be shown, and why: { document, why }; null where it is shown
 export class PageEditor extends EventTarget {
   constructor(module, limit) {
@@ -348,7 +358,17 @@ export class PageEditor extends EventTarget {
   async runFileLine(line) {
     await this.ready();
     const [, name, source] = OPEN.exec(line) ?? [];
-    return name ? this.open(name, source) : this.save(SAVE.exec(line)[1]);
+    if (name) return this.open(name, source);
+    const [, word] = SAVE.exec(line);
+    return this.save(word, await this.kindFor(this.names.pathOf(word)));
+  }
+
+  // The kind of a file that is saved under a path: that of the file that is there, or else that of its name.
+  async kindFor(path) {
+    const names = await this.place.names().catch(() => []);
+    const isThere = names.some(each => each.path === path);
+    const bytes = isThere ? await this.place.bytes(path).catch(() => null) : null;
+    return bytes?.length ? kindOf(bytes) : kindOfName(path);
   }
 
   // Resolves when the journal is not beginning anew.
@@ -398,6 +418,8 @@ export class PageEditor extends EventTarget {
     if (!refusal) {
       this.take({ line, reply, file: { path: isMade ? null : path, bytes, ...mark }, ...(instead && { instead }), ...(gesture && { gesture }) });
       this.changes = new Changes(true);
+      const unlike = isMade ? "" : unlikeWords(path, bytes);
+      if (unlike) this.tell("unlike", unlike);
     }
     this.settle();
     return { replies: [reply], isAccepted: refusal === null, refusal, why };
@@ -458,27 +480,27 @@ export class PageEditor extends EventTarget {
 
   // Saves a document into a file: the one that was asked for, whichever is active by now.
   saveInto(document, path) {
-    return this.during(this.wordOf(path).then(async word => {
+    return this.during(Promise.all([this.wordOf(path), this.kindFor(path)]).then(async ([word, kind]) => {
       await this.ready();
       const { active } = this.openDocuments;
       if (this.isBroken) return { ...NOT_ACCEPTED, barred: this.barred };
       if (!this.openDocuments.isOpen(document)) return NOT_ACCEPTED;
-      if (document.name === active) return this.save(word);
+      if (document.name === active) return this.save(word, kind);
       this.doLines([`use ${document.name}`]);
-      const saved = this.save(word);
+      const saved = this.save(word, kind);
       this.doLines([`use ${active ?? "-"}`]);
       return saved;
     }));
   }
 
-  // Writes the active map into a file. The clean mark is set first, so that no later edit goes into the step that is written; where the
+  // Writes the active map into a file of a kind. The clean mark is set first, so that no later edit goes into the step that is written; where the
   // file cannot be written it is taken away.
-  async save(word) {
+  async save(word, kind) {
     const [line, path, { document }] = [`save ${word}`, this.names.pathOf(word), this.openDocuments];
     const { depth } = this.stand();
     if (document === null) return this.failed(line, refused(10, "no active document"));
     if (depth) return this.failed(line, refused(20, "macro open"));
-    const saved = this.editor.saveMap();
+    const saved = this.editor.saveMap({ kind });
     this.take({ line, reply: SAVED });
     // Saves of one file come one behind the other.
     const turn = Promise.all([saved, this.writes.get(path)]).then(([bytes]) => this.write(document, path, word, bytes), fault => fault);
@@ -504,7 +526,7 @@ export class PageEditor extends EventTarget {
     }
     this.settle();
     const done = { replies: [answer.reply], isAccepted: isWritten, refusal: answer.refusal, isKept: came instanceof NotReplaced };
-    return { ...done, why: isWritten ? null : `${path}: ${thrownWords(came)}` };
+    return { ...done, why: isWritten ? null : `${path}: ${(came instanceof Refused && came.why) || thrownWords(came)}` };
   }
 
   // Writes bytes, and gives how many they are. The journal has their hash before the file does, so that they are known where the page ends

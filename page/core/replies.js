@@ -42,6 +42,6 @@ export async function opened(editor, name, bytes) {
   try {
     return { ...accepted(await editor.openMap(name, bytes)), why: null };
   } catch (fault) {
-    return { ...ofFault(fault), why: fault instanceof Refused && isOfMap(fault.code) ? wordsOfFault(fault) : null };
+    return { ...ofFault(fault), why: fault instanceof Refused && (isOfMap(fault.code) || fault.why) ? wordsOfFault(fault) : null };
   }
 }

@@ -13,6 +13,7 @@
 //   fileOf(path)      a text that tells the file of a path from all others that the page has seen, here and in other places
 //   write(path, bytes, mark)  writes a file whole, and gives its new mark. `mark` tells what must be there: null that no file is.
 //   advice(path)      what to do where a tileset is not there
+import { kindOf } from "../../js/file_kinds.js";
 import { Said, thrownWords } from "../core/thrown_words.js";
 import { FoundFiles } from "./found_files.js";
 import { hashOf } from "./hashes.js";
@@ -21,12 +22,8 @@ import { joined, lastOf, plainPath } from "./names.js";
 // The longest file that is read.
 export const LONGEST_FILE = 64 * 1024 * 1024;
 
-export const isMapName = name => /\.(tmj|json)$/i.test(name);
-export const isXmlMapName = name => /\.tmx$/i.test(name);
+export const isMapName = name => /\.(tmx|tmj|json)$/i.test(name);
 export const isTilesetName = name => /\.(tsx|tsj)$/i.test(name);
-
-// What is said of maps in XML.
-export const IN_XML = "a map in XML, which the page does not open. In Tiled save it as JSON: 'Save As', with the name .tmj; then choose that.";
 
 // The file is not what it must be: it was changed by another program, or a file has come.
 export class Changed extends Said {}
@@ -123,7 +120,7 @@ export class ChosenFiles {
   }
 
   async write(path, bytes) {
-    download(lastOf(path), bytes);
+    download(lastOf(path), bytes, kindOf(bytes) === "tmx" ? "application/xml" : "application/json");
     const time = Date.now();
     this.files.set(path, { bytes: bytes.slice(), time, file: null, isSaved: true });
     return markOf(bytes, time);

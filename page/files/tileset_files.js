@@ -1,48 +1,44 @@
 // SPDX-License-Identifier: MIT OR Apache-2.0
 // What the files of tilesets tell, `.tsx` or `.tsj`: read with care, since a file may claim anything.
 import { Wrong, grouped } from "./image_files.js";
-import { GRID, ODD, OddMembers, TILESET, isRecord } from "./members.js";
-import { looksInXml, looksOf, present } from "./tileset_looks.js";
+import { GRID, ODD, OddMembers, TILESET } from "./members.js";
+import { looksOf } from "./tileset_looks.js";
+import { loadModule } from "../core/own_module.js";
+import { NoMemory } from "../../js/roskevad.js";
+import { tilesetFile } from "../../js/tileset_files.js";
 
-// The longest file of a tileset that is read, and the longest side of a tile that is drawn.
+// From how many bytes on a file of a tileset is long, the longest one that is read, and the longest side of a tile that is drawn.
+const LONG = 1024 * 1024;
 const LONGEST = 16 * 1024 * 1024;
 const LONGEST_SIDE = 4096;
 const LONGEST_NAME = 80;
 const NUMBERS = Object.keys(GRID);
-const NO_XML = "its file is no tileset in XML";
-const decoder = new TextDecoder();
 
 // ---- the file
-// What a file tells, with the members that a tileset in JSON has: each as it stands there.
-export function readTileset(path, bytes) {
+// The module that reads files of tilesets, with a memory of its own, once one was read. It goes behind a long file, since it keeps what memory
+// that took.
+let loading = null;
+
+function forget(fault = null) {
+  loading = null;
+  if (fault) throw fault;
+}
+
+const readingModule = () => (loading ??= loadModule().catch(forget));
+
+// What a file tells, in XML or in JSON, with the members that a tileset in JSON has: each as it stands there. Throws Wrong.
+export async function readTileset(bytes) {
   if (bytes.length > LONGEST) throw new Wrong(`its file has more than ${LONGEST / 1024 / 1024} MiB`);
-  const text = decoder.decode(bytes);
-  return /\.tsx$/i.test(path) ? readXml(text) : readJson(text);
-}
-
-function readXml(text) {
-  // An entity may stand for a text of any length, or for a file; Tiled writes none.
-  if (text.includes("<!ENTITY")) throw new Wrong("its file declares entities, which are not read");
-  // A file that is cut short; of others the browser tells.
-  if (!/(<\/tileset>|\/>)\s*$/.test(text)) throw new Wrong(NO_XML);
-  const root = new DOMParser().parseFromString(text, "application/xml").documentElement;
-  if (root.tagName !== "tileset" || root.querySelector("parsererror")) throw new Wrong(NO_XML);
-  const children = name => [...root.children].filter(child => child.tagName === name);
-  const numbers = NUMBERS.filter(name => root.hasAttribute(name)).map(name => [name, Number(root.getAttribute(name))]);
-  const [image] = children("image");
-  const members = present({ name: root.getAttribute("name"), image: image?.getAttribute("source") });
-  return { ...Object.fromEntries(numbers), ...members, ...looksInXml(root, image, children("tile")) };
-}
-
-function readJson(text) {
-  let members;
+  const module = await readingModule();
   try {
-    members = JSON.parse(text);
-  } catch {
-    throw new Wrong("its file is broken, or no tileset");
+    const { members, why } = tilesetFile(module, bytes);
+    if (members) return members;
+    throw new Wrong(`its file is no tileset: ${why}`);
+  } catch (fault) {
+    throw fault instanceof NoMemory ? new Wrong("there is not memory enough for its file") : fault;
+  } finally {
+    if (module.isBroken || bytes.length > LONG) forget();
   }
-  if (!isRecord(members)) throw new Wrong("its file is no tileset");
-  return members;
 }
 
 // ---- what is told
@@ -72,7 +68,7 @@ const shownNumber = value => (Number.isNaN(value) ? "no number" : JSON.stringify
 export async function wordsOfTileset(place, path) {
   const bytes = await place.bytes(path);
   if (!bytes) return { words: "the file is not there", isRefused: true };
-  const { tilecount, tilewidth, tileheight, image } = checked(readTileset(path, bytes));
+  const { tilecount, tilewidth, tileheight, image } = checked(await readTileset(bytes));
   return { words: `${tilecount ?? "?"} tiles of ${tilewidth ?? "?"} × ${tileheight ?? "?"}${image ? "" : ", not of one image"}`, isRefused: false };
 }
 

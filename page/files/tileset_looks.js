@@ -9,28 +9,6 @@ const MOST_PICTURES = 2000;
 
 const moved = (number = 0) => Math.max(-FARTHEST, Math.min(FARTHEST, Math.round(number)));
 
-// What a tileset in XML tells of this, with the members that one in JSON has.
-export function looksInXml(root, image, tiles) {
-  const offset = [...root.children].find(child => child.tagName === "tileoffset");
-  return present({
-    tileoffset: offset && present({ x: numberIn(offset, "x"), y: numberIn(offset, "y") }),
-    objectalignment: root.getAttribute("objectalignment"),
-    transparentcolor: image?.getAttribute("trans"),
-    tiles: tiles.map(tileInXml),
-  });
-}
-
-function tileInXml(tile) {
-  const frame = tile.querySelector(":scope > animation > frame");
-  const animation = frame && [present({ tileid: numberIn(frame, "tileid") })];
-  return present({ id: numberIn(tile, "id"), image: tile.querySelector(":scope > image")?.getAttribute("source"), animation });
-}
-
-const numberIn = (at, name) => (at.hasAttribute(name) ? Number(at.getAttribute(name)) : null);
-
-// The members that are there.
-export const present = members => Object.fromEntries(Object.entries(members).filter(([, value]) => value !== null && value !== undefined));
-
 // { offset, alignment, frames, clear, pictures }, of what a tileset tells.
 export function looksOf({ tiles = [], tileoffset, objectalignment = "unspecified", transparentcolor }) {
   const known = tiles.filter(({ id }) => id !== undefined);

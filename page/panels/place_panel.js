@@ -3,7 +3,7 @@
 import { ask, byId, element } from "./dom.js";
 import { iconButton } from "./icons.js";
 import { endNotice, notice } from "./notice_bars.js";
-import { ChosenFiles, Failed, FolderFiles, IN_XML, chosen, isMapName, isTilesetName, isXmlMapName } from "../files/places.js";
+import { ChosenFiles, Failed, FolderFiles, chosen, isMapName, isTilesetName } from "../files/places.js";
 import { isTemplateName } from "../files/templates.js";
 import { isSameSource, sourceOf, wordsOf } from "../files/sources.js";
 import { findLost } from "./lost_files.js";
@@ -250,11 +250,7 @@ function isForMaps({ path, bytes, file }) {
 // What is said of chosen files that are neither maps nor for maps; "" where there is none.
 function wordsOfOthers(taken) {
   const others = taken.filter(each => !isMap(each.path, each.bytes) && !isForMaps(each)).map(each => each.path);
-  const [inXml, unknown] = [others.filter(isXmlMapName), others.filter(path => !isXmlMapName(path))];
-  const sentences = [];
-  if (inXml.length) sentences.push(`${listOf(inXml)}: ${IN_XML}`);
-  if (unknown.length) sentences.push(`Passed over: ${listOf(unknown)}. The page opens maps that are saved as JSON (.tmj or .json), with their tilesets and images.`);
-  return sentences.join(" ");
+  return others.length ? `Passed over: ${listOf(others)}. The page opens maps (.tmx, .tmj or .json), with their tilesets and images.` : "";
 }
 
 // The first of some names, and how many more there are.

@@ -75,7 +75,7 @@ export class TilesField {
       const picture = await pictureIn(this.place, path);
       return { path, picture, sides: [likelySide(picture), likelySide(picture)] };
     }
-    const { tilewidth, tileheight } = checked(readTileset(path, await this.place.bytes(path)));
+    const { tilewidth, tileheight } = checked(await readTileset(await this.place.bytes(path)));
     return { path, picture: null, sides: tilewidth && tileheight ? [tilewidth, tileheight] : null };
   }
 

@@ -227,7 +227,7 @@ export class Tilesets {
   // What the file of a tileset tells; null where there is none.
   async readFile(path, found) {
     const bytes = await this.bytesOf(path, found);
-    return bytes ? readTileset(path, bytes) : null;
+    return bytes ? readTileset(bytes) : null;
   }
 
   async readImage({ files, members }, id, path, found) {

@@ -12,7 +12,7 @@ from .document import Document, Status, Step
 from .editor import Editor
 from .faults import BadTileset, Closed, Error, InCallback, NotFound, OtherType, Refused
 from .views import Layer, Layers, MapObject, Objects
-from .kinds import AddedLayerKind, Corners, LayerKind, Layout, PropertyType, Rows, SelectionMode, SetPropertyType
+from .kinds import AddedLayerKind, Corners, FileKind, LayerKind, Layout, PropertyType, Rows, SelectionMode, SetPropertyType
 from .library import VERSION as __version__
 from .map_faults import MapPlace
 from .names import document_name
@@ -31,7 +31,7 @@ if TYPE_CHECKING:
     from .merging import Conflict, Merge, merge
 
 __all__ = [
-    'AddedLayerKind', 'BadTileset', 'CellArea', 'Change', 'Closed', 'Conflict', 'Corners', 'Difference', 'Document', 'Editor', 'Error', 'InCallback',
+    'AddedLayerKind', 'BadTileset', 'CellArea', 'Change', 'Closed', 'Conflict', 'Corners', 'Difference', 'Document', 'Editor', 'Error', 'FileKind', 'InCallback',
     'Layer', 'LayerKind', 'Layers', 'Layout', 'MapObject', 'MapPlace', 'Merge', 'NotFound', 'Objects', 'OtherType', 'OwnMembers', 'Properties',
     'PropertyType', 'Refused', 'Rows', 'Run', 'Selection', 'SelectionMode', 'SetPropertyType', 'Status', 'Step', 'StepRow', 'Subject',
     'Tile', 'Tileset', 'TilesetTile', 'Tilesets', 'Told', 'Watch', 'WordAtFault', '__version__', 'document_name', 'flipped_horizontally',

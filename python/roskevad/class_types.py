@@ -5,6 +5,7 @@ import os
 from pathlib import Path
 from typing import Any, Callable, Iterator, Mapping, NamedTuple, Optional, Union
 
+from .class_notes import note_in, noted, type_noted
 from .tiled_maps import Members
 
 #: What is done with the id of an object that a value means.
@@ -19,6 +20,19 @@ class _Member(NamedTuple):
     class_name: str
 
 
+class _Typed(NamedTuple):
+    """A type, the name of its class, and what is noted of its members."""
+
+    type: str
+    class_name: str
+    note: Members
+
+
+def _typed(each: Members) -> _Typed:
+    """That of a property, or of what stands in a list."""
+    return _Typed(str(each.get('type', '')), str(each.get('propertytype', '')), note_in(each))
+
+
 class ClassTypes:
     """The classes that are known, each with its members. Of a class that is not known it isn't known what its numbers mean."""
 
@@ -29,24 +43,31 @@ class ClassTypes:
 
     def renumbered(self, each: Members, renumber: Renumber) -> Members:
         """A property in which all that is known to mean objects is renumbered."""
-        found = self._value(str(each.get('type', '')), str(each.get('propertytype', '')), each.get('value'), renumber)
+        found = self._value(_typed(each), each.get('value'), renumber)
         return each if found is each.get('value') else {**each, 'value': found}
 
-    def _value(self, type_: str, class_name: str, value: Any, renumber: Renumber) -> Any:
-        if type_ == 'object' and type(value) is int:
+    def _value(self, typed: _Typed, value: Any, renumber: Renumber) -> Any:
+        if typed.type == 'object' and type(value) is int:
             return renumber(value)
-        if type_ == 'class' and isinstance(value, dict) and class_name in self._classes:
-            known = self._classes[class_name]
-            return {name: self._value(*known[name], inner, renumber) if name in known else inner for name, inner in value.items()}
-        if type_ == 'list' and isinstance(value, list):
+        if typed.type == 'class' and isinstance(value, dict):
+            members = {name: self._member(typed, name) for name in value}
+            return {name: inner if (member := members[name]) is None else self._value(member, inner, renumber) for name, inner in value.items()}
+        if typed.type == 'list' and isinstance(value, list):
             return [self._item(each, renumber) for each in value]
         return value
+
+    def _member(self, typed: _Typed, name: str) -> Optional[_Typed]:
+        """What a member of a class is, by the project, or by what XML has noted; None where neither says so."""
+        known, own = self._classes.get(typed.class_name, {}).get(name), noted(typed.note, name)
+        if known is not None:
+            return _Typed(*known, note_in(own))
+        return _Typed(type_noted(typed.note, name), str(own.get('propertytype', '')), note_in(own)) if typed.note else None
 
     def _item(self, item: Any, renumber: Renumber) -> Any:
         """What stands in a list, which says its type."""
         if not isinstance(item, dict) or 'value' not in item:
             return item
-        return {**item, 'value': self._value(str(item.get('type', '')), str(item.get('propertytype', '')), item['value'], renumber)}
+        return {**item, 'value': self._value(_typed(item), item['value'], renumber)}
 
     def meant(self, each: Members) -> list[int]:
         """The ids of objects that a property is known to mean."""
@@ -61,21 +82,18 @@ class ClassTypes:
 
     def unknown(self, each: Members) -> Iterator[int]:
         """The numbers in a property of a class, or in a list, of which it isn't known whether they mean objects."""
-        return self._unknown(str(each.get('type', '')), str(each.get('propertytype', '')), each.get('value'))
+        return self._unknown(_typed(each), each.get('value'))
 
-    def _unknown(self, type_: str, class_name: str, value: Any) -> Iterator[int]:
-        known = self._classes.get(class_name)
-        if type_ == 'list' and isinstance(value, list):
+    def _unknown(self, typed: _Typed, value: Any) -> Iterator[int]:
+        if typed.type == 'list' and isinstance(value, list):
             for each in value:
-                if isinstance(each, dict) and 'value' in each:
-                    yield from self._unknown(str(each.get('type', '')), str(each.get('propertytype', '')), each['value'])
-                else:
-                    yield from _numbers(each)
-        elif type_ == 'class' and (known is None or not isinstance(value, dict)):
-            yield from _numbers(value)
-        elif type_ == 'class' and known is not None:
+                yield from self._unknown(_typed(each), each['value']) if isinstance(each, dict) and 'value' in each else _numbers(each)
+        elif typed.type == 'class' and isinstance(value, dict):
             for name, inner in value.items():
-                yield from self._unknown(*known[name], inner) if name in known else _numbers(inner)
+                member = self._member(typed, name)
+                yield from _numbers(inner) if member is None else self._unknown(member, inner)
+        elif typed.type == 'class':
+            yield from _numbers(value)
 
 
 def _numbers(value: Any) -> Iterator[int]:

@@ -5,8 +5,11 @@ import json
 from bisect import bisect_left
 from typing import TYPE_CHECKING, Any, Iterator, NamedTuple, Optional
 
+from .class_notes import keep_notes_of_classes
 from .faults import Refused
-from .tiled_maps import Members, drawn, set_aside
+from .rows import BASE
+from .same_tilesets import first_id, paired_tilesets
+from .tiled_maps import XML_NOTE, Members, drawn, set_aside
 
 if TYPE_CHECKING:
     from .document import Document
@@ -45,7 +48,7 @@ def copied(*maps: Held) -> 'Iterator[list[Document]]':
 
 
 def said(value: Any) -> str:
-    """A value as a text that is the same for the same value of JSON: true is not 1, and 2.0 is 2."""
+    """A value as a text that is the same for the same value of JSON: true is not 1, and 2.0 is 2. What is noted of XML is none."""
     return json.dumps(_plain(value), sort_keys=True, ensure_ascii=False)
 
 
@@ -54,7 +57,7 @@ def _plain(value: Any) -> Any:
         return int(value) if value.is_integer() else value
     if isinstance(value, list):
         return [_plain(each) for each in value]
-    return {name: _plain(each) for name, each in value.items()} if isinstance(value, dict) else value
+    return {name: _plain(each) for name, each in value.items() if name != XML_NOTE} if isinstance(value, dict) else value
 
 
 def are_saved_alike(one: 'Document', other: 'Document') -> bool:
@@ -118,7 +121,7 @@ class Stand(NamedTuple):
 
 
 class MapNow:
-    """A map as it is now: its outline, and its layers and objects by their ids, in drawing order."""
+    """A map as it is now: its outline, with what is noted of classes in it, and its layers and objects by their ids, in drawing order."""
 
     __slots__ = 'document', 'tree', 'layers', 'objects', 'values'
 
@@ -127,7 +130,9 @@ class MapNow:
 
     def __init__(self, document: 'Document'):
         self.document = document
-        self.tree = document.outline()
+        editor = document._editor
+        self.tree = document._do(lambda: editor._tree(editor._copied('outline', 'outline()'), keeps_xml_notes=True))
+        keep_notes_of_classes(self.tree)
         self.layers: dict[int, Stand] = {}
         self.objects: dict[int, Stand] = {}
         self._note(self.tree['layers'], 0)
@@ -203,7 +208,11 @@ def shift_of(before: MapNow, behind: MapNow) -> Shift:
     infinite maps lie at other places, it is known. One that takes a thing past its limit is none."""
     (left, top), (other_left, other_top) = before.document.origin, behind.document.origin
     known = Shift(left - other_left, top - other_top)
-    tries = [known] if any(known) else sorted(dict.fromkeys(_shifts(before, behind)), key=lambda shift: _unlike(before, behind, shift))
+    if any(known):
+        tries = [known]
+    else:
+        cells = [*_cells_of_both(before, behind)]
+        tries = sorted(dict.fromkeys(_shifts(before, behind)), key=lambda shift: _unlike(before, behind, shift, cells))
     return next((shift for shift in tries if _can_be(before.document, behind, shift)), Shift(0, 0))
 
 
@@ -238,17 +247,42 @@ def _at(map: MapNow, id: int, name: str) -> float:
     return float(map.objects[id].members.get(name, 0))
 
 
-def _unlike(before: MapNow, behind: MapNow, shift: Shift) -> int:
+def _cells_of_both(before: MapNow, behind: MapNow) -> Iterator[tuple[list[int], list[int]]]:
+    """The cells of each tile layer that both maps have, as numbers that are the same for the same tile."""
+    tiles = [_Tiles(before, behind, at) for at in (0, 1)]
+    for id, stand in behind.layers.items():
+        if stand.members['type'] == 'tilelayer' and before.has(id, stand):
+            yield tiles[0].numbers(before.cells(id).tolist()), tiles[1].numbers(behind.cells(id).tolist())
+
+
+class _Tiles:
+    """The tiles of one of two maps, by the tilesets of both."""
+
+    __slots__ = '_firsts', '_known'
+
+    def __init__(self, before: MapNow, behind: MapNow, at: int):
+        pairs = [*paired_tilesets(before.tree['tilesets'], behind.tree['tilesets'])]
+        self._firsts = sorted((first_id(each), place) for place, pair in enumerate(pairs, 1) if (each := pair[at]) is not None)
+        self._known = {0: 0}
+
+    def numbers(self, values: list[int]) -> list[int]:
+        known = self._known
+        for value in {*values} - known.keys():
+            first, place = max((pair for pair in self._firsts if pair[0] <= value & BASE), default=(0, 0))
+            known[value] = (place << 32) + value - first
+        return [known[value] for value in values]
+
+
+def _unlike(before: MapNow, behind: MapNow, shift: Shift, cells: list[tuple[list[int], list[int]]]) -> int:
     """How many cells and objects differ where all was moved so."""
-    layers = [id for id, stand in behind.layers.items() if stand.members['type'] == 'tilelayer' and before.has(id, stand)]
     steps = [(name, by * before.tree[side]) for (name, side), by in zip(_SIDES, shift)]
     objects = before.objects.keys() & behind.objects.keys()
     moved = sum(any(_at(behind, id, name) != _at(before, id, name) + step for name, step in steps) for id in objects)
-    return moved + sum(_unlike_cells(before, behind, id, shift) for id in layers)
+    return moved + sum(_unlike_cells(before, behind, old, new, shift) for old, new in cells)
 
 
-def _unlike_cells(before: MapNow, behind: MapNow, layer: int, shift: Shift) -> int:
-    old, new, count = before.cells(layer).tolist(), behind.cells(layer).tolist(), 0
+def _unlike_cells(before: MapNow, behind: MapNow, old: list[int], new: list[int], shift: Shift) -> int:
+    count = 0
     wide, high, goal_wide = before.tree['width'], before.tree['height'], behind.tree['width']
     for y in range(behind.tree['height']):
         row = [0] * goal_wide

@@ -32,7 +32,7 @@ def main(given: list[str]) -> int:
     if given[:1] == ['--git'] and len(given) > 1:
         return _tell_git(given[1], [Path(each) for each in given[2:_WORDS_OF_GIT:3]])
     parser = argparse.ArgumentParser(prog='roskevad diff', description='Tells what differs between two maps.')
-    parser.add_argument('before', metavar='A', type=Path, help='a map that Tiled saves as JSON')
+    parser.add_argument('before', metavar='A', type=Path, help='a map that Tiled saves, in JSON or XML')
     parser.add_argument('after', metavar='B', type=Path, nargs='?', help='another one')
     ways = parser.add_mutually_exclusive_group()
     ways.add_argument('--json', action='store_true', help='writes the changes as JSON')

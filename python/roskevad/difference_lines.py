@@ -4,6 +4,7 @@ import json
 from typing import TYPE_CHECKING, Any, Iterable, Iterator, Optional
 
 from . import json_values
+from .class_notes import with_some_note
 from .compared_maps import MapNow, Shift, said, staying
 from .faults import Refused
 from .limits import MAX_LINE
@@ -275,9 +276,11 @@ def _set_listed(way: Way, owner: str, old: list[Members], new: list[Members]) ->
     same = next((at for at, (one, other) in enumerate(zip(kept, names)) if one != other), min(len(kept), len(names)))
     for name in [*(name for name in known if name not in names), *kept[same:]]:
         way.say(f'prop take {owner} {_json(name)}')
+    there = {each['name']: each for each in old}
     for at, each in enumerate(new):
         if at >= same or known[each['name']] != said(each):
-            way.say(f'prop put {owner} {_json(each)}')
+            # A map in JSON notes no types of members: then they are those that are there.
+            way.say(f'prop put {owner} {_json(with_some_note(each, there.get(each["name"], {})))}')
 
 
 # ---- tilesets, and what a map counts

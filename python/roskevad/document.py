@@ -8,7 +8,7 @@ from typing import TYPE_CHECKING, Any, Callable, ContextManager, Iterator, Named
 
 from . import json_values, logs, words
 from .faults import Closed, Refused, refused_call
-from .kinds import Layout, Rows, SelectionMode
+from .kinds import FileKind, Layout, Rows, SelectionMode
 from .library import LAYER_ROW, LayerRow, MapSizes, SelectionRun
 from .limits import MAX_COORDINATE, MAX_OPEN_MACROS
 from .own_members import OTHERS, Owner, OwnMembers, set_member, set_or_remove
@@ -164,7 +164,7 @@ class Document:
         return None
 
     # ---- what is there, in a turn, one thing at a time
-    def _read(self, name: str, *words: Any) -> Any:
+    def _read(self, name: str, *words: Any, keeps_xml_notes: bool = False) -> Any:
         """What a call of the library says of a thing, with all put back that was set aside; None where there is no such thing."""
         text = self._editor._copy_bytes(name, *words)
         if text is None:
@@ -173,7 +173,7 @@ class Document:
         if not (has_aside(text) and self._sets_aside):
             return value
         # Objects alone have places.
-        value = restored(value, self._note_now() if name == 'object' else {})
+        value = restored(value, self._note_now() if name == 'object' else {}, keeps_xml_notes)
         return without_packing([value])[0] if name == 'layer' else value
 
     def _note_now(self) -> Members:
@@ -750,19 +750,20 @@ class Document:
         noted = self._written.get(os.path.abspath(path))
         return noted is None or data is not None and _hash_of(data) in noted
 
-    def _save(self, path: 'Path', force: bool, layout: Optional[str]) -> None:
+    def _save(self, path: 'Path', force: bool, layout: Optional[str], kind: Optional[str] = None) -> None:
         try:
-            self._do(lambda: self._editor._saved_file(path, 'save', is_careful=not force, layout=layout))
+            self._do(lambda: self._editor._saved_file(path, 'save', is_careful=not force, layout=layout, kind=kind))
         except Refused as refusal:
             raise refusal._of(f'save({os.fspath(path)!r})') from refusal.__cause__
         self._path = path
         logs.info('%s: saved to %s', self._name, path)
 
-    def save_bytes(self, layout: Optional[Layout] = None) -> bytes:
-        """The map as the bytes of a file, in a layout as `save` has it; it counts as saved then. Raises ValueError for a layout that there
-        is not; Refused: 20 while a macro is open."""
-        said = words.layout(layout)
-        return self._do(lambda: self._editor._saved_bytes('save_bytes()', said))
+    def save_bytes(self, layout: Optional[Layout] = None, kind: Optional[FileKind] = None) -> bytes:
+        """The map as the bytes of a file, in a layout as `save` has it; it counts as saved then. `kind` is json or tmx, which is XML; without
+        it that of the file that was opened or saved last. Raises ValueError for a layout or a kind that there is not, and for a layout of
+        XML; Refused: 20 while a macro is open, 51 where the map has what XML can't say."""
+        said, of_kind = words.layout(layout), words.file_kind(kind)
+        return self._do(lambda: self._editor._saved_bytes('save_bytes()', said, of_kind))
 
     def close(self) -> None:
         """Closes it. Raises Refused: 13 where it has unsaved changes."""

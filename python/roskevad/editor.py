@@ -14,6 +14,7 @@ from typing import TYPE_CHECKING, Any, Callable, ContextManager, Iterable, Itera
 from . import library, logs, words
 from .document import Document
 from .faults import Closed, InCallback, NotFound, Refused, reason_of, refused_call, refused_file
+from .file_kinds import kind_at, kind_of
 from .folder_files import read, refuse_unknown
 from .library import LIBRARY, OWNERS, CEditor, DocumentStatus, LinesDone, SelectionRun
 from .limits import MAX_FILE_NAME, MAX_LIMIT
@@ -22,7 +23,7 @@ from .map_faults import refused_map
 from .names import document_name
 from .refusals import REFUSALS
 from .rooms import Room
-from .tiled_maps import Members, has_aside, note_of, origin_of, restored, saved_text, set_aside, without_packing
+from .tiled_maps import Members, has_aside, has_taken_name, note_of, origin_of, restored, saved_text, set_aside, without_packing
 from .told import DOCUMENTS, STEP_ROW, StepRow, Told, step_of, told_of
 from .turns import busy_fault, fork_fault, forks, turn
 from .unsettled import ActiveDocument, TemporaryFile, Unsettled
@@ -332,7 +333,7 @@ class Editor:
     @turn
     def open_map(self, name: str, data: 'ReadableBuffer', *, all_maps: bool = False) -> str:
         """Opens a document of that name with a map that is given as the bytes of a file, in a bytes-like object; with `all_maps`
-        any map that Tiled saves as JSON, as `open_file` does. Raises Refused."""
+        any map that Tiled saves, in JSON or in XML, as `open_file` does. Raises Refused."""
         given, call = data_of(data, 'open_map'), f'open_map({name!r})'
         return self._open_any(name, given, call) if all_maps else self._open_text(name, given, given, None, call)
 
@@ -348,10 +349,10 @@ class Editor:
         self._reply_to('clean', call)
         return data
 
-    def _saved_bytes(self, call: str, layout: Optional[str] = None) -> bytes:
+    def _saved_bytes(self, call: str, layout: Optional[str] = None, kind: Optional[str] = None) -> bytes:
         """What `save_map` gives of all maps, in a turn, of a call."""
         self._refuse_save(call)
-        data, document = self._whole(call, layout)
+        data, document = self._whole(call, layout, kind)
         self._reply_to('clean', call)
         document._source = data
         return data
@@ -360,16 +361,17 @@ class Editor:
         """The active document's map as the editor holds it: it stands behind the first word of the reply."""
         return self._reply_to('show', call)[len(b'map '):]
 
-    def _whole(self, call: str, layout: Optional[str]) -> tuple[bytes, Document]:
-        """What a file has of the active document's map, as `saved_text` tells, and the document."""
+    def _whole(self, call: str, layout: Optional[str], kind: Optional[str]) -> tuple[bytes, Document]:
+        """What a file of a kind, or of that of its source, has of the active document's map, as `saved_text` tells, and the document."""
         data, document = self._shown(call), self._handle(self._active_name())
-        return saved_text(data, document._sets_aside, document._source, layout, call), document
+        source = document._source
+        return saved_text(data, document._sets_aside, source, layout, kind or kind_of(source), call), document
 
-    def _tree(self, text: bytes) -> Members:
+    def _tree(self, text: bytes, keeps_xml_notes: bool = False) -> Members:
         """The tree of a map that the editor holds, in which nothing is set aside."""
         tree: Members = json.loads(text)
         if has_aside(text) and self._sets_aside():
-            tree = restored(tree, note_of(tree))
+            tree = restored(tree, note_of(tree), keeps_xml_notes)
             without_packing(tree['layers'])
         return tree
 
@@ -379,7 +381,7 @@ class Editor:
         return handle is None or handle._sets_aside
 
     def _open_any(self, document: str, data: bytes, call: str) -> str:
-        """Opens a document with any map that Tiled saves as JSON: layers are unpacked, and what the format refuses is set aside."""
+        """Opens a document with any map that Tiled saves: layers are unpacked, and what the format refuses is set aside."""
         text, unpacked = set_aside(data, call)
         reply = self._open_text(document, text, data, unpacked, call)
         self._handle(document)._sets_aside = True
@@ -393,7 +395,7 @@ class Editor:
         except Refused as refusal:
             raise refused_map(refusal, data, unpacked, call) from None
         handle = self._handle(document)
-        handle._source, handle._sets_aside = data, not has_aside(text)
+        handle._source, handle._sets_aside = data, not has_taken_name(text)
         return reply
 
     def _open(self, document: str, data: Optional[bytes], call: str) -> str:
@@ -415,7 +417,7 @@ class Editor:
     # ---- maps of a folder
     @turn
     def open_file(self, path: Union[str, 'os.PathLike[str]'], name: Optional[str] = None) -> str:
-        """Opens a document with the map of a file, any that Tiled saves as JSON: what the editor's format refuses is set aside, as
+        """Opens a document with the map of a file, any that Tiled saves, in JSON or in XML: what the editor's format refuses is set aside, as
         fractions, and layers are unpacked. Its name is the one that `document_name` makes from the file's, where none is given.
         Raises Refused: 50 where there is no such file, 51 where it cannot be read or set aside; `why` has the reason then."""
         call = f'open_file({os.fspath(path)!r})' if name is None else f'open_file({os.fspath(path)!r}, {name!r})'
@@ -442,14 +444,15 @@ class Editor:
         return self._saved_file(path, f'save_file({os.fspath(path)!r})')
 
     def _saved_file(
-        self, path: Union[str, 'os.PathLike[str]'], call: str, is_careful: bool = False, layout: Optional[str] = None
+        self, path: Union[str, 'os.PathLike[str]'], call: str, is_careful: bool = False, layout: Optional[str] = None, kind: Optional[str] = None
     ) -> str:
-        """The same, in a turn, of a call, perhaps in a layout. One that is careful replaces nothing that the document has not read or saved."""
+        """The same, in a turn, of a call, perhaps in a layout, or as a file of a kind. One that is careful replaces nothing that the document has
+        not read or saved."""
         self._refuse_save(call)
         from .saving import Saving
 
-        data, document = self._whole(call, layout)
         place = self.folder / path
+        data, document = self._whole(call, layout, kind or kind_at(place))
 
         def see(is_locked: bool) -> None:
             if is_careful:

@@ -5,6 +5,7 @@ import stat
 from typing import TYPE_CHECKING, Optional
 
 from .faults import refused_call
+from .file_kinds import kind_of
 from .limits import MAX_FILE_BYTES
 
 if TYPE_CHECKING:
@@ -24,6 +25,24 @@ def read(path: 'Path') -> tuple[Optional[bytes], Optional[OSError]]:
             return (data, None) if len(data) <= MAX_FILE_BYTES else (None, OSError(f'{path} is too long'))
     except OSError as fault:
         return None, fault
+
+
+def replace(path: 'Path', data: bytes) -> None:
+    """Writes a file as a save does: it is the old or the new one, whole, whatever falls in between. Raises OSError."""
+    from .saving import Saving
+
+    saving = Saving(path, data, lambda: None, True)
+    try:
+        saving.write()
+    finally:
+        saving.settle()
+    if saving.fault is not None:
+        raise saving.fault
+
+
+def save_as_opened(document: 'Document', path: 'Path') -> None:
+    """Saves a map to a file of the kind that it was opened from or saved to last, whatever is there. Raises Refused."""
+    document._save(path, False, None, kind_of(document._source))
 
 
 def refuse_unknown(document: 'Document', path: 'Path', data: bytes, call: str) -> None:

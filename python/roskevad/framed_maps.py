@@ -14,6 +14,7 @@ if TYPE_CHECKING:
     from .document import Document
 
 _CUT = 'lies outside the map of ours'
+_THEIRS = 2
 
 
 class Frame(NamedTuple):
@@ -63,10 +64,10 @@ class Framed(NamedTuple):
     goal: Frame
     is_infinite: bool
 
-    def uncut(self, side: int, map: MapNow) -> MapNow:
-        """A side by its number, with what lies outside its map, and not outside that of all, as the base has it. Outside of an infinite map
-        nothing lies."""
-        return map if self.is_infinite else UncutMap(self.maps[0], map, self.frames[side], self.goal)
+    def uncut(self, side: int, base: MapNow, map: MapNow) -> MapNow:
+        """A side by its number, with what lies outside its map, and not outside that of all, as the base has it, whose tiles are counted alike.
+        Outside of an infinite map nothing lies."""
+        return map if self.is_infinite else UncutMap(base, map, self.frames[side], self.goal, side == _THEIRS)
 
 
 Shifts = Mapping[Side, Shift]
@@ -89,8 +90,7 @@ def frame(documents: 'tuple[Document, Document, Document]', choices: Choices, sh
     goal = _cut_off(maps, frames, goal, found)
     lines = [[*_resized(document, each.line(goal, all(infinite)))] for document, each in zip(documents, frames)]
     base, ours, theirs = (MapNow(each) for each in documents)
-    framed = Framed(lines[1], (base, ours, theirs), notices, found, frames, goal, all(infinite))
-    return framed._replace(maps=(base, framed.uncut(1, ours), framed.uncut(2, theirs)))
+    return Framed(lines[1], (base, ours, theirs), notices, found, frames, goal, all(infinite))
 
 
 def _moves(frames: list[Frame], shifts: Shifts) -> Iterator[str]:
@@ -154,12 +154,12 @@ def _comes_back(layer: int, maps: tuple[MapNow, MapNow, MapNow], choices: Choice
 
 
 class UncutMap(MapNow):
-    """A map of another size, with what lies outside it as the base has it."""
+    """A map of another size, with what lies outside it as the base has it; tiles that the merged map has no room for are below 0, or left out."""
 
-    __slots__ = '_base', '_inner', '_frame', '_goal'
+    __slots__ = '_base', '_inner', '_frame', '_goal', '_has_others'
 
-    def __init__(self, base: MapNow, inner: MapNow, frame: Frame, goal: Frame):
-        self._base, self._inner, self._frame, self._goal = base, inner, frame, goal
+    def __init__(self, base: MapNow, inner: MapNow, frame: Frame, goal: Frame, has_others: bool):
+        self._base, self._inner, self._frame, self._goal, self._has_others = base, inner, frame, goal, has_others
         self.document, self.tree, self.layers, self.objects = inner.document, inner.tree, inner.layers, inner.objects
 
     def cells(self, layer: int) -> memoryview:
@@ -167,13 +167,15 @@ class UncutMap(MapNow):
         is_whole = all(self._frame.has(*corner) for corner in _corners(goal))
         if is_whole or not self._base.has(layer, self.layers[layer]):
             return found
-        uncut = array('I', self._base.cells(layer))
+        base = self._base.cells(layer)
+        kind = 'I' if base.format == found.format == 'I' else 'q'
+        uncut = array(kind, base)
         left, right = (min(max(x - goal.x, 0), goal.width) for x in (self._frame.x, self._frame.right))
         for y in range(goal.height):
             if self._frame.has(self._frame.x, y + goal.y):
                 row = slice(y * goal.width + left, y * goal.width + right)
-                uncut[row] = array('I', found[row])
-        return memoryview(uncut)
+                uncut[row] = array(kind, found[row])
+        return memoryview(uncut if self._has_others or kind == 'I' else array('I', [max(value, 0) for value in uncut]))
 
 
 def _goal(maps: tuple[MapNow, MapNow, MapNow], frames: list[Frame], found: Found) -> Frame:
@@ -198,28 +200,34 @@ def _outside(
     base: MapNow, side: MapNow, frames: list[Frame], goal: Frame, whole: Collection[int] = (),
 ) -> Iterator[tuple[int, list[tuple[int, int]]]]:
     """What a side has changed of each tile layer outside a frame, by places in the base; of some layers all that they have."""
-    if all(goal.has(*corner) for corner in _corners(frames[1])):
-        return
-    pairs = [*paired_tilesets(base.tree['tilesets'], side.tree['tilesets'])]
+    places = [*_places_outside(frames[1], goal)]
+    pairs = [*paired_tilesets(base.tree['tilesets'], side.tree['tilesets'])] if places else []
     was, now = Tiles(pairs, 0), Tiles(pairs, 1)
-    for id, stand in side.layers.items():
+    for id, stand in side.layers.items() if places else ():
         if stand.members['type'] == 'tilelayer':
-            old = _values(base, id, frames[0]) if base.has(id, stand) and id not in whole else {}
-            new = _values(side, id, frames[1])
-            outside = [at for at in sorted({**old, **new}, key=lambda at: at[::-1]) if frames[1].has(*at) and not goal.has(*at)]
-            changed = [at for at in outside if was.name(old.get(at, 0)) != now.name(new.get(at, 0))]
+            old = base.cells(id) if base.has(id, stand) and id not in whole else None
+            new = side.cells(id)
+            changed = [at for at in places if was.name(_value(old, frames[0], at)) != now.name(_value(new, frames[1], at))]
             if changed:
                 yield id, changed
 
 
+def _places_outside(frame: Frame, goal: Frame) -> Iterator[tuple[int, int]]:
+    """The cells of one frame that are in no other one, by rows."""
+    columns = range(frame.x, frame.right)
+    beside = [x for x in columns if not goal.x <= x < goal.right]
+    for y in range(frame.y, frame.bottom):
+        yield from ((x, y) for x in (beside if goal.y <= y < goal.bottom else columns))
+
+
+def _value(cells: Optional[memoryview], frame: Frame, at: tuple[int, int]) -> int:
+    """The value of a cell of a layer, by its place in the base; 0 outside its map."""
+    x, y = at
+    return 0 if cells is None or not frame.has(x, y) else int(cells[(y - frame.y) * frame.width + x - frame.x])
+
+
 def _corners(frame: Frame) -> list[tuple[int, int]]:
     return [(frame.x, frame.y), (frame.right - 1, frame.bottom - 1)]
-
-
-def _values(map: MapNow, layer: int, frame: Frame) -> dict[tuple[int, int], int]:
-    """The cells of a layer that are not empty, by places in the base."""
-    wide = frame.width
-    return {(at % wide + frame.x, at // wide + frame.y): value for at, value in enumerate(map.cells(layer)) if value}
 
 
 def _cut_off(maps: tuple[MapNow, MapNow, MapNow], frames: list[Frame], goal: Frame, found: Found) -> Frame:

@@ -8,10 +8,11 @@ import shlex
 import subprocess
 import sys
 from pathlib import Path
+from typing import Iterable, Iterator
 
 _TROUBLE = 2
-#: What says in a repository which files are maps.
-ATTRIBUTES = '*.tmj merge=roskevad diff=roskevad'
+# The files that are maps, and what a repository says of them.
+_MAPS, _ATTRIBUTE = ('*.tmj', '*.tmx'), 'merge=roskevad diff=roskevad'
 # The sections that git has of a driver for merges, of one for differences, and of a tool for conflicts.
 _SECTIONS = 'merge.roskevad', 'diff.roskevad', 'mergetool.roskevad'
 
@@ -108,7 +109,14 @@ def _told(git: _Git, scope: str) -> list[str]:
     told = [f'on for {where}: merges, differences, texts in logs, and mergetool --tool=roskevad']
     told += [f'set otherwise: {name} = {value}' if value else f'not set: {name}' for name, value in set_now.items() if value != wanted[name]]
     if not git.is_repository():
-        return [*told, f'each repository needs a file .gitattributes with the line: {ATTRIBUTES}']
-    attributes = git.tells('check-attr', 'merge', 'diff', '--', 'a.tmj')
-    has_all = attributes.count(': roskevad') == 2
-    return [*told, 'its .gitattributes says so of maps' if has_all else f'not yet of any map: .gitattributes needs the line: {ATTRIBUTES}']
+        return [*told, 'each repository needs a file .gitattributes with', *_lines_of(_MAPS)]
+    missing = [each for each in _MAPS if git.tells('check-attr', 'merge', 'diff', '--', each.replace('*', 'a')).count(': roskevad') < 2]
+    if not missing:
+        return [*told, 'its .gitattributes says so of maps']
+    of = 'any map' if len(missing) == len(_MAPS) else ' and '.join(missing)
+    return [*told, f'not yet of {of}: .gitattributes needs', *_lines_of(missing)]
+
+
+def _lines_of(maps: Iterable[str]) -> Iterator[str]:
+    """The lines that say it of maps."""
+    return (f'  {each} {_ATTRIBUTE}' for each in maps)

@@ -9,6 +9,8 @@ AddedLayerKind = LayerKind
 SelectionMode = Literal['replace', 'add', 'subtract', 'intersect']
 #: How the text of a map is laid out.
 Layout = Literal['tiled', 'rows', 'compact']
+#: The kinds of files: JSON, as in `.tmj`, and XML, as in `.tmx`.
+FileKind = Literal['json', 'tmx']
 #: The types of properties, and those that are set, which are all.
 PropertyType = Literal['string', 'int', 'float', 'bool', 'color', 'file', 'object', 'class', 'list']
 SetPropertyType = PropertyType

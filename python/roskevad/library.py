@@ -25,6 +25,10 @@ OVERLAP = 2**64 - 10
 TOO_LARGE = 2**64 - 11
 UNLIKE = 2**64 - 12
 TOO_MANY_FRACTIONS = 2**64 - 13
+# Why a map in XML is not read, or not written.
+NOT_XML = 2**64 - 14
+NOT_A_TMX = 2**64 - 15
+NO_TMX = 2**64 - 16
 
 
 class CEditor(ctypes.Structure):
@@ -143,8 +147,12 @@ _PARAMETERS = {
     'set_aside': [_BYTES, _SIZE, _ROOM, _SIZE],
     'put_back': [_BYTES, _SIZE, _ROOM, _SIZE],
     'put_back_like': [_BYTES, _SIZE, _BYTES, _SIZE, _ROOM, _SIZE],
+    'put_back_as': [_BYTES, _SIZE, _BYTES, _SIZE, _SIZE, _ROOM, _SIZE],
     'lay_out': [_BYTES, _SIZE, _SIZE, _ROOM, _SIZE],
     'map_fault': [_BYTES, _SIZE, _ROOM, _SIZE],
+    'tmx_fault': [_BYTES, _SIZE, _ROOM, _SIZE],
+    'tileset_file': [_BYTES, _SIZE, _ROOM, _SIZE],
+    'tileset_fault': [_BYTES, _SIZE, _ROOM, _SIZE],
     'word_fault': [_BYTES, _SIZE, ctypes.POINTER(FaultyWord), _ROOM, _SIZE],
     'word_fault_for': [_SIZE, _BYTES, _SIZE, ctypes.POINTER(FaultyWord), _ROOM, _SIZE],
     'version': [_ROOM, _SIZE],

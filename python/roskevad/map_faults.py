@@ -14,7 +14,7 @@ if TYPE_CHECKING:
 
 # The codes of a map that is read and refused, and some of them.
 _CODES = range(60, 70)
-_NOT_JSON, _COMPRESSED, _BAD_DATA = 60, 65, 66
+_STORE_FAILED, _NOT_JSON, _COMPRESSED, _BAD_DATA = 51, 60, 65, 66
 # Most of what is told is shorter.
 _ROOM = 4096
 # The most letters of a text that are shown.
@@ -24,15 +24,16 @@ _SHOWN = 40
 class MapPlace(NamedTuple):
     """Where in a file a map has its fault."""
 
-    #: The way from the root to it: names of members and indexes of entries; `None` where the file is no JSON.
+    #: The way from the root to it: names of members and indexes of entries, of a map in XML those of its JSON; `None` where the file is
+    #: neither JSON nor XML.
     path: 'Optional[Path]'
     #: Whether the fault is there, and not somewhere in what stands there.
     is_exact: bool
-    #: What stands there, short, as `an array of length 3`; `None` where the file is no JSON.
+    #: What stands there, short, as `an array of length 3`; `None` where the file is neither.
     shown: Optional[str]
     #: The place in words, with what stands there, as `layers[0].id is absent`.
     text: str
-    #: Where it begins in the file, from 1 and in bytes; `None` where layers of the map were unpacked.
+    #: Where it begins in the file, from 1 and in bytes; `None` where layers of the map were unpacked, or it is in XML.
     line: Optional[int]
     column: Optional[int]
 
@@ -60,7 +61,15 @@ def _place_of(told: dict[str, Any]) -> MapPlace:
 def _told_as(data: bytes, code: int) -> tuple[Optional[MapPlace], Optional[str]]:
     """Where the bytes of a file have the fault of that code, and why; `None` where another code is told of them."""
     told = told_of(data)
-    return (_place_of(told), told['why']) if told is not None and told['code'] == code else (None, None)
+    if told is None or told['code'] != code:
+        return None, None
+    return None if told['text'] is None else _place_of(told), told['why']
+
+
+def refused_xml(data: bytes, call: str) -> Refused:
+    """How the bytes of a file in XML are refused that are no map."""
+    place, why = _told_as(data, _STORE_FAILED)
+    return refused_call(_STORE_FAILED, call, why, place)
 
 
 def place_in(data: bytes, code: int) -> Optional[MapPlace]:

@@ -8,10 +8,10 @@
 import argparse
 import contextlib
 import os
-import shutil
+import re
 import sys
 from pathlib import Path
-from typing import Callable, NamedTuple, Optional, Sequence
+from typing import Callable, NamedTuple, Optional, Sequence, cast
 
 from .choices import Choices, Side, said_side
 from .class_types import project_of, types_of
@@ -19,8 +19,10 @@ from .conflict_marks import mark
 from .difference_command import opened, write
 from .document import Document
 from .editor import Editor
-from .faults import Error
+from .faults import Error, Refused
+from .folder_files import replace, save_as_opened
 from .git_stages import NotInConflict
+from .limits import MAX_SIDE
 from .merging import Conflict, Merge, do_merge, merge, merged
 from .resolving import Resolving
 from .settling import is_merged_as_text, not_as_merged
@@ -32,6 +34,7 @@ _USAGE = '''roskevad merge BASE OURS THEIRS -o OUT [--take SIDE[:KEY]].. [--ask]
 _WAYS = 'wanted are BASE OURS THEIRS -o OUT, or --resolve FILE, or --check BASE OURS THEIRS RESULT'
 _BOTH_ADDED = 'both sides have added this map, and there is none that both began with; it is as {} has it'
 _KEY_OF_BOTH, _KEY_OF_SIZE = 'map/added', 'map/size'
+_OFFSET = re.compile('(ours|theirs):(-?[0-9]{1,9}),(-?[0-9]{1,9})')
 
 
 class _Trouble(Exception):
@@ -47,10 +50,12 @@ def main(given: list[str]) -> int:
         return _trouble('write failed')
     try:
         with contextlib.closing(Editor()) as editor:
-            status, told = _way(parser, chosen)(editor, chosen)
-        front = '' if chosen.name is None else f'{chosen.name}: '
-        write(''.join(f'{front}{each}\n' for each in told))
-        return status
+            told = _way(parser, chosen)(editor, chosen)
+            front = '' if chosen.name is None else f'{chosen.name}: '
+            write(''.join(f'{front}{each}\n' for each in told.lines))
+            # What could not be told is not written either.
+            told.finish()
+        return told.status
     except (Error, OSError, MemoryError, ValueError, NotInConflict, _Trouble) as fault:
         return _trouble(str(fault) or 'no memory is left')
 
@@ -62,7 +67,7 @@ def _parser() -> argparse.ArgumentParser:
     parser.add_argument('-o', metavar='OUT', dest='out', type=Path, help='the file to write')
     parser.add_argument('--resolve', metavar='FILE', type=Path, help='a map that is in conflict in git: tells what is left, and settles what is said')
     parser.add_argument('--check', action='store_true', help='writes nothing, and tells where RESULT is not what a merge gives')
-    parser.add_argument('--take', metavar='SIDE[:KEY]', type=said_side, action='append', default=[],
+    parser.add_argument('--take', metavar='SIDE[:KEY]', type=_taken, action='append', default=[],
                         help='takes ours or theirs in all conflicts, or in one by its key, which is told in brackets')
     parser.add_argument('--ask', action='store_true', help='asks at the terminal which side to take in each conflict')
     parser.add_argument('--marks', action='store_true', help='puts a layer of rectangles on the map, one for each conflict that is left')
@@ -73,18 +78,29 @@ def _parser() -> argparse.ArgumentParser:
     return parser
 
 
+def _taken(word: str) -> tuple[str, Side]:
+    """A key with its side. Raises ArgumentTypeError."""
+    try:
+        return said_side(word)
+    except ValueError as fault:
+        raise argparse.ArgumentTypeError(str(fault)) from None
+
+
 def _offset(word: str) -> tuple[Side, tuple[int, int]]:
-    """A side with columns and rows. Raises ValueError."""
-    by, side = said_side(word)
-    x, y = by.split(',')
-    return side, (int(x), int(y))
+    """A side with columns and rows. Raises ArgumentTypeError."""
+    found = _OFFSET.fullmatch(word)
+    x, y = map(int, found.groups()[1:]) if found else (MAX_SIDE + 1, 0)
+    if found is None or max(abs(x), abs(y)) > MAX_SIDE:
+        raise argparse.ArgumentTypeError(f'ours or theirs, columns to the right and rows down, as theirs:2,-1, and none past {MAX_SIDE}: {word!r}')
+    return cast(Side, found[1]), (x, y)
 
 
 class _Told(NamedTuple):
-    """The status, and what is told."""
+    """The status, what is told, and what is done behind that."""
 
     status: int
     lines: list[str]
+    finish: Callable[[], object] = lambda: None
 
 
 _Way = Callable[[Editor, argparse.Namespace], _Told]
@@ -133,11 +149,21 @@ def _merged(editor: Editor, chosen: argparse.Namespace) -> _Told:
     is_marked = chosen.marks and bool(found.conflicts)
     if is_marked:
         mark(ours, found.conflicts, corner)
-    if found.lines or is_marked:
-        ours.save(chosen.out.absolute())
-    else:
-        _keep(chosen.maps[1], chosen.out)
-    return _Told(_IN_CONFLICT if found.conflicts else _MERGED, [*notes, *told_of(found, chosen.name is None)])
+
+    def finish() -> None:
+        if found.lines or is_marked:
+            _save(ours, chosen.out)
+        else:
+            _keep(chosen.maps[1], chosen.out)
+
+    return _Told(_IN_CONFLICT if found.conflicts else _MERGED, [*notes, *told_of(found, chosen.name is None)], finish)
+
+
+def _save(ours: Document, out: Path) -> None:
+    try:
+        save_as_opened(ours, out.absolute())
+    except Refused as refusal:
+        raise refusal._of(str(out)) from None
 
 
 def _asked(found: Merge, take: dict[str, Side], attempt: _Attempt) -> Merge:
@@ -178,12 +204,15 @@ def _told_of_both(chosen: argparse.Namespace, take: dict[str, Side], are_alike: 
         raise _Trouble(f'no conflict has this key: {missing}')
     side = take.get(_KEY_OF_BOTH, take.get(''))
     side = _asked_of_both() if side is None and chosen.ask and not are_alike else side
-    keep(side)
+
+    def finish() -> None:
+        keep(side)
+
     if are_alike:
-        return _Told(_MERGED, [])
+        return _Told(_MERGED, [], finish)
     words = f'map: {_BOTH_ADDED.format(side or "ours")}'
     key = '' if chosen.name is not None else f' [{_KEY_OF_BOTH}]'
-    return _Told(_IN_CONFLICT, [f'conflict: {words}{key}']) if side is None else _Told(_MERGED, [f'{side}: {words}'])
+    return _Told(_IN_CONFLICT, [f'conflict: {words}{key}'], finish) if side is None else _Told(_MERGED, [f'{side}: {words}'], finish)
 
 
 def _asked_of_both() -> Optional[Side]:
@@ -223,7 +252,7 @@ def told_of(found: Merge, has_keys: bool) -> list[str]:
 def _keep(ours: Path, out: Path) -> None:
     """Has the file to write have the bytes of another one."""
     if not (out.exists() and os.path.samefile(ours, out)):
-        shutil.copyfile(ours, out)
+        replace(out.absolute(), ours.read_bytes())
 
 
 # ---- a map that is in conflict in git
@@ -243,9 +272,8 @@ def _resolved(editor: Editor, chosen: argparse.Namespace) -> _Told:
     found = attempt(take)
     _see_keys(take, found)
     found = _asked(found, take, attempt) if chosen.ask else found
-    job.settle(found, chosen.marks)
     done = [] if found.conflicts else [f'note: all is settled; git add {chosen.resolve} tells git so']
-    return _Told(_IN_CONFLICT if found.conflicts else _MERGED, [*notes, *told_of(found, True), *done])
+    return _Told(_IN_CONFLICT if found.conflicts else _MERGED, [*notes, *told_of(found, True), *done], lambda: job.settle(found, chosen.marks))
 
 
 # ---- a look at what was merged elsewhere

@@ -4,6 +4,7 @@ from array import array
 from typing import Any, Callable, Iterable, Iterator, NamedTuple, Optional
 
 from .choices import Choices, Side
+from .class_notes import note_in, noted, with_note, with_some_note
 from .compared_maps import MapNow, Stand, said
 from .difference import COUNTED, MAP, called, head_of, layer_named, own_of, plainly, shown_value
 from .merged_tilesets import Shared
@@ -329,7 +330,8 @@ class Joined:
         base, ours, theirs = sides
         if all(map(_is_of_a_class, sides)) and len({said([each.get(name) for name in ('type', 'propertytype')]) for each in sides}) == 1:
             value = merged_members(base['value'], ours['value'], theirs['value'], lambda clash: self._member_of_class(subject, name, clash))
-            return {**ours, 'value': value}
+            notes = note_in(ours), note_in(with_some_note(theirs, ours))
+            return with_note({**ours, 'value': value}, _note_of(value, ours['value'], theirs['value'], *notes))
         told = ['none' if each is ABSENT else shown_value(each['value']) for each in sides]
         if told[1] == told[2]:
             told = ['none' if each is ABSENT else f'{text} ({each.get("propertytype") or each.get("type", "string")})' for each, text in zip(sides, told)]
@@ -454,6 +456,18 @@ def _numbers(version: Any) -> list[int]:
 def _kept(tileset: Members) -> str:
     """Where a tileset is kept, in words."""
     return f'in the file {plainly(tileset["source"])}' if 'source' in tileset else 'in the map' if tileset else 'nowhere'
+
+
+def _note_of(merged: Members, ours: Members, theirs: Members, mine: Members, other: Members) -> Members:
+    """What is noted of the merged members of a class: of each that of the side whose value it has."""
+    found: Members = {}
+    for name, value in merged.items():
+        one, another, own = ours.get(name, ABSENT), theirs.get(name, ABSENT), noted(mine, name)
+        if all(isinstance(each, dict) for each in (value, one, another)):
+            found[name] = with_note(own, _note_of(value, one, another, note_in(own), note_in(noted(other, name))))
+        else:
+            found[name] = own if is_same(value, one) else noted(other, name)
+    return {name: own for name, own in found.items() if own}
 
 
 def _is_of_a_class(each: Any) -> bool:

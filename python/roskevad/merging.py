@@ -133,8 +133,8 @@ class _Merging:
         for old, new in renumbered:
             if self._way.say(f'tileset number {old} {new}'):
                 self._notices.append(f'the tileset of the first id {old} has the first id {new} now, and its tiles go along')
-        ours = framed.uncut(1, MapNow(self._ours)) if renumbered else ours
-        joined, goal = self._joined(base, ours, theirs)
+        ours = MapNow(self._ours) if renumbered else ours
+        joined, goal = self._joined(framed, base, ours, theirs)
         known = {(each.subject, each.what) for each in self._conflicts if each.what == 'removed'}
         # What lies outside the map of ours is not told of a layer that is not there.
         gone = {each.subject for each in joined.found.conflicts if each.what == 'added'}
@@ -143,13 +143,14 @@ class _Merging:
         self._tell_dangling(goal, ours, theirs)
         return goal
 
-    def _joined(self, base: MapNow, ours: MapNow, theirs: MapNow) -> tuple[Joined, MergedMap]:
+    def _joined(self, framed: Framed, base: MapNow, ours: MapNow, theirs: MapNow) -> tuple[Joined, MergedMap]:
         """What comes of the three. Where theirs is taken of what ours has removed, that is there again as if theirs had added it."""
         tilesets, known = set[int](), set[Subject]()
         while True:
             shared = shared_tilesets(base, ours, theirs)
             firsts = added_firsts(shared, ours, theirs, tilesets)
-            joined = Joined(*_counted_alike(base, ours, theirs, shared, firsts), _Named(shared, firsts).tile, self._choices)
+            old, other = _counted_alike(base, theirs, shared, firsts)
+            joined = Joined(old, framed.uncut(1, old, ours), framed.uncut(2, old, other), _Named(shared, firsts).tile, self._choices)
             goal = joined.merged(shared, firsts)
             self._settled.update((each.key, (each, side)) for each, side in joined.found.settled)
             missing = {first_id(each.theirs) for each in shared if each.theirs and not each.ours} - firsts.keys()
@@ -299,13 +300,11 @@ def _resized(before: dict[str, Any], ours: 'Document', framed: Framed) -> Iterat
 # ---- tiles
 
 
-def _counted_alike(
-    base: MapNow, ours: MapNow, theirs: MapNow, shared: list[Shared], firsts: dict[int, int],
-) -> tuple[MapNow, MapNow, MapNow]:
-    """The maps whose tiles are counted as the merged one counts them."""
+def _counted_alike(base: MapNow, theirs: MapNow, shared: list[Shared], firsts: dict[int, int]) -> tuple[MapNow, MapNow]:
+    """The base and theirs, whose tiles are counted as the merged map counts them, in which ours has its own."""
     goals = [_goal_of(each, firsts) for each in shared]
     sides = [counting([each[at] for each in shared], goals) for at in (0, 2)]
-    return counted(base, sides[0]), ours, counted(theirs, sides[1])
+    return counted(base, sides[0]), counted(theirs, sides[1])
 
 
 def _goal_of(shared: Shared, firsts: dict[int, int]) -> Optional[int]:

@@ -9,15 +9,27 @@ from . import json_values, new_objects
 from .limits import MAX_LINE
 from .rows import parts_of
 from .selection import Run
-from .tiled_maps import Members
+from .tiled_maps import PACKING, Members
 
 _MEMBERS = 'the members of a layer'
 
 
 def plain(members: Mapping[str, Any]) -> Members:
-    """A layer as a file has it. Raises TypeError, ValueError."""
+    """A layer as a file has it. Raises TypeError; ValueError, also for the note of how a layer was packed, by which a save would pack it."""
     layer: Members = json.loads(json_values.members_said(members, _MEMBERS))
+    taken = next((name for name in PACKING if any(name in each for each in _with_inner(layer))), None)
+    if taken is not None:
+        raise ValueError(f'{_MEMBERS} have a reserved name: {taken!r}')
     return layer
+
+
+def _with_inner(layer: Any) -> Iterator[Members]:
+    """A layer, and all that stand in it."""
+    if isinstance(layer, dict):
+        yield layer
+        inner = layer.get('layers')
+        for each in inner if isinstance(inner, list) else ():
+            yield from _with_inner(each)
 
 
 def lines_of(group: int, at: int, layer: Members, size: tuple[int, int]) -> Iterator[str]:

@@ -3,6 +3,7 @@
 from typing import TYPE_CHECKING, Any, Iterator, Mapping, MutableMapping, Optional, Union, cast
 
 from . import json_values, words
+from .class_notes import with_kept_note
 from .faults import NotFound, OtherType
 from .kinds import PropertyType, SetPropertyType
 from .library import OWNERS
@@ -38,10 +39,10 @@ class Properties(MutableMapping[str, Any]):
             raise self._thing._missing()
         return listed or []
 
-    def _one_now(self, key: object) -> Optional[Members]:
+    def _one_now(self, key: object, keeps_xml_notes: bool = False) -> Optional[Members]:
         """The one of a name, in a turn; None where there is none."""
         name = words.looked_up(key)
-        return cast(Optional[Members], self._document._read('property', *self._place, name, len(name)))
+        return cast(Optional[Members], self._document._read('property', *self._place, name, len(name), keeps_xml_notes=keeps_xml_notes))
 
     def _one(self, key: object) -> Optional[Members]:
         """The same. Raises Refused where what has them was removed."""
@@ -140,7 +141,8 @@ class Properties(MutableMapping[str, Any]):
         plain = words.plain_setting(value, kind) if class_name is None and words.is_key(name) else None
         if plain is not None:
             return f'prop set{"+" if merge else ""} {self._owner} {name} {plain}'
-        whole = {**(self._one_now(name) or {}), **members, **({} if class_name is None else {_CLASS: class_name})}
+        there = self._one_now(name, keeps_xml_notes=True) or {}
+        whole = with_kept_note({**there, **members, **({} if class_name is None else {_CLASS: class_name})}, there)
         if class_name == '':
             del whole[_CLASS]
         return f'prop put {self._owner} {json_values.said(whole, f"the property {name!r}")}'

@@ -149,9 +149,11 @@ class CountedMap(MapNow):
     def cells(self, layer: int) -> memoryview:
         """The values; those without room are below 0."""
         found, known = self._inner.cells(layer), self._known
-        for value in {*found} - known.keys():
+        values = {*found}
+        for value in values - known.keys():
             known[value] = self._counting.value(value)
-        return memoryview(array('q', [known[value] for value in found]))
+        has_room = all(known[value] >= 0 for value in values)
+        return memoryview(array('I' if has_room else 'q', map(known.__getitem__, found)))
 
 
 def counted(map: MapNow, counting: Counting) -> MapNow:

@@ -15,7 +15,6 @@ if TYPE_CHECKING:
 _SIZES = ('width', 'height', 'tilewidth', 'tileheight', 'nextlayerid', 'nextobjectid')
 # What an object is drawn as, where it has a member of that name and is no tile.
 _SHAPES = ('ellipse', 'point', 'polygon', 'polyline', 'text')
-_NO_JSON = 60
 
 
 def report(source: 'Union[str, os.PathLike[str], ReadableBuffer]') -> Members:
@@ -43,9 +42,9 @@ def _places(refusal: Refused) -> list[Members]:
     place = refusal.place_in_map
     if place is None:
         return []
-    if refusal.code == _NO_JSON:
+    if place.path is None:
         return [{'line': place.line, 'column': place.column, 'text': place.text}]
-    return [{'path': list(place.path or ()), 'text': place.text}]
+    return [{'path': list(place.path), 'text': place.text}]
 
 
 # ---- a map that is opened

@@ -11,9 +11,13 @@ from .difference_command import opened
 from .document import Document
 from .editor import Editor
 from .faults import Refused
+from .folder_files import replace, save_as_opened
 from .git_stages import NotInConflict, stages_of
 from .merging import Conflict, Merge, Offsets, do_merge, merge, merged
 from .settling import cells_are_settled, is_of
+
+
+_UNMERGED = 'the file had nothing of what theirs has changed, as where git could not run this program; that is merged now'
 
 
 class Resolving:
@@ -31,6 +35,7 @@ class Resolving:
         self._now, self._marked = self._file()
         self._first: Optional[Document] = None
         self._by_hand: list[Change] = []
+        self._is_unmerged = False
         self._kept: dict[str, Side] = {}
 
     def _opened(self, data: bytes, name: str) -> Document:
@@ -59,7 +64,7 @@ class Resolving:
     def write(self, side: Optional[Side]) -> None:
         """Writes the map of one side, as it was, if one is taken."""
         if side is not None:
-            self._path.write_bytes(self._other if side == 'theirs' else self._data)
+            replace(self._path.absolute(), self._other if side == 'theirs' else self._data)
 
     def attempt(self, take: dict[str, Side], offset: Offsets, project: Optional[Path]) -> Merge:
         """What a merge with these sides would do, with those conflicts that are left: but for what was settled by hand, which stays unless a
@@ -68,11 +73,23 @@ class Resolving:
         if self._first is None:
             first = merged(self.base, self._ours, self._theirs, Choices(), {}, project)
             self._first = self._done(first, 'first')
-            self._by_hand = [*self._first.difference(self._now)] if self._now is not None else []
+            self._see_file(self._first)
             self._kept = {each.key: 'ours' for each in first.conflicts if not self._is_left(each)}
         found = merged(self.base, self._ours, self._theirs, Choices({**self._kept, **take}), offset, project)
         return found._replace(conflicts=tuple(each for each in found.conflicts if each.key not in self._kept),
-                              settled=tuple(each for each in found.settled if each[0].key in take or each[0].key not in self._kept))
+                              settled=tuple(each for each in found.settled if each[0].key in take or each[0].key not in self._kept),
+                              notices=(*([_UNMERGED] if self._is_unmerged else ()), *found.notices))
+
+    def _see_file(self, first: Document) -> None:
+        """Finds what was done by hand in the file. Where git's driver has not merged, as one that was killed, that is done in it now."""
+        if self._now is None:
+            return
+        self._by_hand = [*first.difference(self._now)]
+        of_theirs, missing = ({(each.subject, each.what) for each in map.difference(first)} for map in (self._ours, self._now))
+        if self._marked is None and of_theirs and of_theirs <= missing:
+            self._is_unmerged = True
+            merge(self._ours, self._now, first, take='ours')
+            self._by_hand = [*first.difference(self._now)]
 
     def _is_left(self, conflict: Conflict) -> bool:
         """Whether nobody has settled a conflict of the first merge by hand: its mark is there, or, where the map has no marks, all that it is
@@ -95,7 +112,7 @@ class Resolving:
         assert self._first is not None
         result = self._done(found, 'second')
         left = found.conflicts if is_marked or self._marked is not None else ()
-        is_new = self._now is None or {each.key for each in left} != (self._marked or set())
+        is_new = self._now is None or self._is_unmerged or {each.key for each in left} != (self._marked or set())
         corner = self._ours.origin
         if self._now is not None and self._by_hand:
             corner = self._now.origin
@@ -106,4 +123,4 @@ class Resolving:
         if is_new and left:
             mark(result, left, corner)
         if is_new:
-            result.save(self._path.absolute())
+            save_as_opened(result, self._path.absolute())

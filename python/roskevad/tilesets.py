@@ -3,8 +3,10 @@
 import json
 from typing import TYPE_CHECKING, Any, Iterator, Mapping, NamedTuple, Optional, TypeVar, Union, cast
 
-from . import json_values, words
+from . import json_values, library, words
 from .faults import BadTileset, NotFound, refused_call
+from .limits import MAX_FILE_BYTES
+from .made_texts import made
 from .own_members import OwnMembers, Owner, set_member, set_or_remove
 from .rows import BASE, DIAGONALLY, HORIZONTALLY, TURNED, VERTICALLY
 from .tiled_maps import Members
@@ -17,8 +19,8 @@ if TYPE_CHECKING:
 _Default = TypeVar('_Default')
 
 
-#: How the names of tilesets as JSON end.
-TILESET_ENDS = ('.tsj', '.json')
+#: How the names of tilesets end, in XML and in JSON.
+TILESET_ENDS = ('.tsx', '.tsj', '.json')
 #: The most tiles that are listed.
 MOST_TILES = 1_048_576
 _FIRST_ID = 'the first id of a tileset'
@@ -89,14 +91,20 @@ class Tileset:
 
     @property
     def tiles(self) -> 'Optional[list[TilesetTile]]':
-        """Its tiles by their ids, as the map has them, or its file as JSON, beside the file that the document was opened from or saved to
-        last; None where no such file is there. Raises Refused; BadTileset where the file is no tileset."""
+        """Its tiles by their ids, as the map has them, or its file, in XML or in JSON, beside the file that the document was opened from or
+        saved to last; None where no such file is there. Raises Refused; BadTileset where the file is no tileset, with the reason and the
+        place."""
         said, path = self._members(), self._document.path
         source: Optional[str] = said.get('source')
         if source is None:
             return tiles_of(said)
         members = None if path is None else tileset_file(path.parent / source)
         return None if members is None else tiles_of(members)
+
+    def tiles_in(self, data: bytes) -> 'list[TilesetTile]':
+        """Its tiles by their ids, as its file has them, of which these are the bytes, in XML or in JSON. Raises TypeError; BadTileset where
+        they are no tileset, with the reason and the place."""
+        return tiles_of(members_in(data, repr(self)))
 
     @property
     def name(self) -> Optional[str]:
@@ -159,18 +167,40 @@ class TilesetTile(NamedTuple):
 
 
 def tileset_file(path: 'Path') -> Optional[Members]:
-    """The tileset of a file as JSON; None where there is none. Raises BadTileset where it is no tileset."""
+    """What JSON has of the tileset of a file, in XML or in JSON; None where there is none. Raises BadTileset where it is no tileset."""
     if path.suffix not in TILESET_ENDS:
         return None
     try:
-        members = json.loads(path.read_bytes())
+        data = path.read_bytes()
     except OSError:
         return None
-    except (ValueError, RecursionError) as fault:
-        raise BadTileset(f'{path} is no tileset: {fault}') from fault
-    if not isinstance(members, dict) or 'tilecount' not in members:
-        raise BadTileset(f'{path} is no tileset: it does not say how many tiles there are')
+    return members_in(data, str(path))
+
+
+def members_in(data: bytes, file: str) -> Members:
+    """What JSON has of a tileset, by the bytes of its file. Raises TypeError; BadTileset where they are no tileset, or do not say how many
+    tiles there are."""
+    given = bytes(memoryview(data))
+    text = made('tileset_file', 4 * len(given), given, len(given))
+    if not isinstance(text, bytes) and text != library.NONE:
+        raise BadTileset(f'{file} is no tileset: {_why_no_tileset(given)}')
+    try:
+        members: Members = json.loads(text if isinstance(text, bytes) else given)
+    except ValueError as fault:
+        raise BadTileset(f'{file} is no tileset: {fault}') from fault
+    if 'tilecount' not in members:
+        raise BadTileset(f'{file} is no tileset: it does not say how many tiles there are')
     return members
+
+
+def _why_no_tileset(data: bytes) -> str:
+    """Why the bytes of a file are no tileset, and where."""
+    text = made('tileset_fault', 0, data, len(data))
+    if not isinstance(text, bytes):
+        return f'its text would be longer than {MAX_FILE_BYTES:,} bytes'
+    told = json.loads(text)
+    place = '' if told['line'] is None else f' (line {told["line"]}, column {told["column"]})'
+    return f'{told["why"]}{place}'
 
 
 def tiles_of(members: Members) -> list[TilesetTile]:

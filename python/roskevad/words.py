@@ -4,6 +4,7 @@ import operator
 import re
 from typing import Any, Callable, Mapping, Optional
 
+from .file_kinds import KINDS
 from .layouts import LAYOUTS
 from .limits import MAX_COORDINATE, MAX_NUMBER, MAX_TEXT
 from .names import is_document_name
@@ -139,6 +140,11 @@ def one_of(word: object, words: tuple[str, ...], what: str) -> str:
 def layout(word: object) -> Optional[str]:
     """The name of a layout; `None` where none is named. Raises ValueError for any other word."""
     return None if word is None else one_of(word, LAYOUTS, 'the layout of a map')
+
+
+def file_kind(word: object) -> Optional[str]:
+    """The kind of a file; `None` where none is named. Raises ValueError for any other word."""
+    return None if word is None else one_of(word, tuple(KINDS), 'the kind of a file')
 
 
 # ---- properties

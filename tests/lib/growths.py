@@ -56,7 +56,7 @@ class Session:
         self.answered = [
             at for at, line in enumerate(lines) if line.strip(b' ') and not line.startswith(b'#')
         ]
-        done, _ = refuser.heard(lines)
+        done, self.files = refuser.heard(lines)
         self.replies, self.growths = done.stdout.split(b'\n')[:-1], count_of(b'growths', done)
         is_right = len(self.replies) == len(self.answered) and REFUSED not in self.replies
         assert is_right, f'{name}: not each line has a reply of its own'
@@ -69,8 +69,8 @@ class Session:
 
     def refused_at(self, growth):
         """The place of the line that has no memory where a growth is refused, or None where the run
-        ends. All else must be right: the answer in either case, the other replies, and the
-        files."""
+        ends, or where all is as it is with that growth, which was for speed or for less memory. All
+        else must be right: the answer in either case, the other replies, and the files."""
         done, files = self.refuser.heard(self.lines, growth)
         if done.returncode == 1:
             is_right = (
@@ -85,6 +85,8 @@ class Session:
             )
             return None
         given = done.stdout.split(b'\n')[:-1]
+        if (done.returncode, given, files) == (0, self.replies, self.files):
+            return None
         self.see(
             done.returncode == 0 and given.count(REFUSED) == 1,
             growth,

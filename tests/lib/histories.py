@@ -6,7 +6,7 @@ from lib.merges import layers_of
 from lib.places import TOP
 
 sys.path.insert(0, str(TOP / 'python'))
-from roskevad import Error  # noqa: E402
+from roskevad import Error, Refused  # noqa: E402
 
 NAMES = 'door', 'guard', 'key', ''
 #: A tileset that is kept in the map, but for its name.
@@ -175,9 +175,21 @@ def edit(chosen, document, offset, without=()):
     return kind
 
 
-def history(chosen, document, most, without=()):
-    """Up to so many edits: by how much all was moved with them."""
+def history(chosen, document, most, without=(), kind='json'):
+    """Up to so many edits: by how much all was moved with them. What a file of a kind can't say is undone."""
     offset = [0, 0]
     for _ in range(chosen.randint(1, most)):
+        before, index = list(offset), document.status.index
         edit(chosen, document, offset, without)
+        if kind == 'tmx' and not is_said_in_xml(document):
+            document.goto(index)
+            offset = before
     return tuple(offset[:2])
+
+
+def is_said_in_xml(document):
+    try:
+        document.save_bytes(kind='tmx')
+    except Refused:
+        return False
+    return True

@@ -301,9 +301,9 @@ class Checked:
         """What theirs has added in what ours has removed, or with a tile of a tileset that is."""
         found = []
         for key in [each for each in self.theirs.rows if each not in self.base.rows]:
-            lacks = [each for each in self.theirs.above(key) if each in self.base.rows and each not in self.ours.rows]
+            holder = next((each for each in self.theirs.above(key) if each in self.base.rows), None)
             tile = self.theirs.rows[key].get('gid')
-            if lacks or tile and self.has_no_tileset(json.loads(tile)[0]):
+            if holder is not None and holder not in self.ours.rows or tile and self.has_no_tileset(json.loads(tile)[0]):
                 found.append(key)
         return found
 

@@ -13,7 +13,7 @@ sys.path.insert(0, str(TOP / 'python'))
 from roskevad import Editor  # noqa: E402
 
 MAPS = TOP / 'examples' / 'maps'
-ATTRIBUTES = '*.tmj merge=roskevad diff=roskevad\n'
+ATTRIBUTES = ''.join(f'*.{end} merge=roskevad diff=roskevad\n' for end in ('tmj', 'tmx'))
 
 
 def command(*words, given=None, cwd=TOP / 'python'):
@@ -33,16 +33,21 @@ def saved(folder, name, script, file='town.tmj'):
 
 
 class Repository:
-    """A repository with a map, in which git merges by the package where that is enabled."""
+    """A repository with a map, in which git merges by the package where that is enabled. `name` is that of its file: in `.tmx` it is in XML."""
 
-    def __init__(self, folder):
+    def __init__(self, folder, name='town.tmj'):
+        self.name = name
         self.folder = Path(folder, 'repository')
         self.folder.mkdir()
         self.env = {**os.environ, 'HOME': str(folder), 'GIT_CONFIG_NOSYSTEM': '1', 'PYTHONPATH': str(TOP / 'python'),
                     **{f'GIT_{who}_{what}': value for who in ('AUTHOR', 'COMMITTER') for what, value in (('NAME', 'a'), ('EMAIL', 'a@b'))}}
         self.git('init', '-q', '-b', 'main')
-        for name in ('town.tmj', 'tiles.tsx', 'tiles.png'):
-            shutil.copy(MAPS / name, self.folder)
+        for each in ('tiles.tsx', 'tiles.png'):
+            shutil.copy(MAPS / each, self.folder)
+        if name.endswith('.tmj'):
+            shutil.copy(MAPS / 'town.tmj', self.folder / name)
+        else:
+            saved(self.folder, name, 'pass')
         self.commit('The map')
 
     def git(self, *words, given=None):
@@ -63,18 +68,18 @@ class Repository:
         if self.git('checkout', '-q', branch)[0] != 0:
             self.git('checkout', '-q', '-b', branch, 'main')
         with Editor(folder=self.folder) as editor:
-            document = editor.open('town.tmj')
+            document = editor.open(self.name)
             exec(script, {'map': document})
             document.save()
         self.commit(script)
 
     def told(self, script):
         with Editor(folder=self.folder) as editor:
-            return eval(script, {'map': editor.open('town.tmj')})
+            return eval(script, {'map': editor.open(self.name)})
 
 
-def enabled(folder):
-    found = Repository(folder)
+def enabled(folder, name='town.tmj'):
+    found = Repository(folder, name)
     see(0, found.roskevad('git', '--enable')[0])
     Path(found.folder, '.gitattributes').write_text(ATTRIBUTES)
     found.commit('Attributes')

@@ -174,8 +174,13 @@ def runs_of_files():
 
 
 def all_runs():
-    """Those of the plain lines, which each editor reads."""
-    return [run for run in runs_of_files() if ALL_EDITS not in run.options]
+    """Those of the plain lines and of maps that each editor reads."""
+    return [run for run in runs_of_files() if not {ALL_EDITS, ALL_MAPS} & {*run.options}]
+
+
+def has_xml(run):
+    """Whether a file of a run is in XML."""
+    return any(data.lstrip().startswith(b'<') for data in [*run.before.values(), *run.after.values()] if data)
 
 
 def runs_for_all_edits():

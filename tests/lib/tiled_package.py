@@ -16,11 +16,21 @@ def exported(source, folder, name):
     """The bytes of a map as Tiled exports it to JSON into a folder, or None where Tiled does not load
     it. Paths of tilesets are those from there."""
     goal = Path(folder) / name
-    env = {**os.environ, 'QT_QPA_PLATFORM': 'offscreen', 'HOME': str(folder)}
-    subprocess.run(
-        ['tiled', '--export-map', 'json', source, goal], env=env, capture_output=True, timeout=120
-    )
+    export('json', source, goal)
     return goal.read_bytes() if goal.exists() else None
+
+
+def export(form, source, goal, what='--export-map'):
+    """Has Tiled export a map, or what that option says, in a form of its own. Paths of tilesets are those from there."""
+    env = {**os.environ, 'QT_QPA_PLATFORM': 'offscreen', 'HOME': str(goal.parent)}
+    words = ['tiled', what, form, source, goal]
+    return subprocess.run(words, env=env, capture_output=True, timeout=120)
+
+
+def as_exported(value):
+    """A number, or another value that is no list and no dict, as Tiled writes it: numbers that are long have 15 digits."""
+    is_long = isinstance(value, float) or isinstance(value, int) and abs(value) >= 10**15
+    return float(f'{value:.15g}') if is_long else value
 
 
 def unlike_exports(source, saved):

@@ -90,7 +90,8 @@ int main(void)
     roskevad_lines_done done = {0, 0, 0, 0};
     const size_t told[] = {ROSKEVAD_DONE, ROSKEVAD_NONE, ROSKEVAD_IS_CLOSED, ROSKEVAD_NO_MEMORY, ROSKEVAD_TOO_GREAT, ROSKEVAD_BAD_NAME};
     const size_t faults[] = {ROSKEVAD_NOT_JSON, ROSKEVAD_NAME_TAKEN, ROSKEVAD_TOO_DEEP, ROSKEVAD_BAD_CHUNK, ROSKEVAD_OVERLAP,
-                             ROSKEVAD_TOO_LARGE, ROSKEVAD_UNLIKE, ROSKEVAD_TOO_MANY_FRACTIONS};
+                             ROSKEVAD_TOO_LARGE, ROSKEVAD_UNLIKE, ROSKEVAD_TOO_MANY_FRACTIONS, ROSKEVAD_NOT_XML, ROSKEVAD_NOT_A_TMX,
+                             ROSKEVAD_NO_TMX};
     size_t sum = told[0] + faults[0] + sizeof ROSKEVAD_VERSION;
     if (ROSKEVAD_IS_FAULT(faults[1]))
         sum += roskevad_words_of(faults[1])[0] == 'a' ? 1u : 0u;
@@ -118,9 +119,13 @@ int main(void)
     sum += roskevad_editor_set_aside(line, sizeof line - 1, room, sizeof room);
     sum += roskevad_editor_put_back(ROSKEVAD_NULL, 0, ROSKEVAD_NULL, 0);
     sum += roskevad_editor_put_back_like(line, sizeof line - 1, ROSKEVAD_NULL, 0, room, sizeof room);
+    sum += roskevad_editor_put_back_as(line, sizeof line - 1, ROSKEVAD_NULL, 0, ROSKEVAD_FILE_JSON + ROSKEVAD_FILE_TMX, room, sizeof room);
     sum += roskevad_editor_lay_out(line, sizeof line - 1, ROSKEVAD_LAYOUT_TILED, room, sizeof room);
     sum += ROSKEVAD_LAYOUT_ROWS + ROSKEVAD_LAYOUT_MINIMIZED + ROSKEVAD_LAYOUT_COMPACT;
     sum += roskevad_editor_map_fault(line, sizeof line - 1, room, sizeof room);
+    sum += roskevad_editor_tmx_fault(line, sizeof line - 1, room, sizeof room);
+    sum += roskevad_editor_tileset_file(line, sizeof line - 1, room, sizeof room);
+    sum += roskevad_editor_tileset_fault(line, sizeof line - 1, room, sizeof room);
     sum += lines_told(room, sizeof room);
     sum += word_told(line, sizeof line - 1, room, sizeof room);
     sum += roskevad_editor_version(room, sizeof room);

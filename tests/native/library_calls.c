@@ -106,12 +106,13 @@ static void check_closed(roskevad_editor *editor)
 static void check_words(void)
 {
     const size_t faults[] = {ROSKEVAD_IS_CLOSED, ROSKEVAD_NO_MEMORY, ROSKEVAD_TOO_GREAT, ROSKEVAD_BAD_NAME, ROSKEVAD_NOT_JSON, ROSKEVAD_NAME_TAKEN,
-                             ROSKEVAD_TOO_DEEP, ROSKEVAD_BAD_CHUNK, ROSKEVAD_OVERLAP, ROSKEVAD_TOO_LARGE, ROSKEVAD_UNLIKE, ROSKEVAD_TOO_MANY_FRACTIONS};
+                             ROSKEVAD_TOO_DEEP, ROSKEVAD_BAD_CHUNK, ROSKEVAD_OVERLAP, ROSKEVAD_TOO_LARGE, ROSKEVAD_UNLIKE, ROSKEVAD_TOO_MANY_FRACTIONS,
+                             ROSKEVAD_NOT_XML, ROSKEVAD_NOT_A_TMX, ROSKEVAD_NO_TMX};
     const char *const words[] = {"closed", "memory", "undo limit", "name of a file", "JSON", "reserved", "too deep", "has no place", "overlap",
-                                 "16,777,216", "come back", "200,000"};
+                                 "16,777,216", "come back", "200,000", "begins as XML", "no tileset, that is read", "what XML"};
     for (size_t at = 0; at < sizeof faults / sizeof *faults; at++)
         WANT(ROSKEVAD_IS_FAULT(faults[at]) && strstr(roskevad_words_of(faults[at]), words[at]));
-    WANT(!ROSKEVAD_IS_FAULT(ROSKEVAD_DONE) && !ROSKEVAD_IS_FAULT(ROSKEVAD_NONE) && !ROSKEVAD_IS_FAULT(ROSKEVAD_TOO_MANY_FRACTIONS - 1));
+    WANT(!ROSKEVAD_IS_FAULT(ROSKEVAD_DONE) && !ROSKEVAD_IS_FAULT(ROSKEVAD_NONE) && !ROSKEVAD_IS_FAULT(ROSKEVAD_NO_TMX - 1));
     WANT(strcmp(roskevad_words_of(ROSKEVAD_NONE), "there is none") == 0 && strcmp(roskevad_words_of(ROSKEVAD_DONE), "it is done") == 0);
     WANT(strcmp(roskevad_words_of(12), "it is done") == 0);
 }
@@ -581,6 +582,29 @@ static size_t put_back_like_none(const void *given, size_t length, void *text, s
     return roskevad_editor_put_back_like(given, length, NULL, 0, text, room);
 }
 
+#define TMX_HEAD "<map orientation=\"orthogonal\" width=\"1\" height=\"1\" tilewidth=\"16\" tileheight=\"16\""
+#define TMX "<?xml version=\"1.0\"?>\n<!-- a map --> " TMX_HEAD " />\n"
+
+static size_t put_back_like_tmx(const void *given, size_t length, void *text, size_t room)
+{
+    return roskevad_editor_put_back_like(given, length, TMX, sizeof TMX - 1, text, room);
+}
+
+static size_t put_back_as_tmx(const void *given, size_t length, void *text, size_t room)
+{
+    return roskevad_editor_put_back_as(given, length, TMX, sizeof TMX - 1, ROSKEVAD_FILE_TMX, text, room);
+}
+
+static size_t put_back_as_json(const void *given, size_t length, void *text, size_t room)
+{
+    return roskevad_editor_put_back_as(given, length, TMX, sizeof TMX - 1, ROSKEVAD_FILE_JSON, text, room);
+}
+
+static size_t put_back_as_none(const void *given, size_t length, void *text, size_t room)
+{
+    return roskevad_editor_put_back_as(given, length, TMX, sizeof TMX - 1, ROSKEVAD_FILE_TMX + 1, text, room);
+}
+
 static size_t laid_out_as_tiled(const void *given, size_t length, void *text, size_t room)
 {
     return roskevad_editor_lay_out(given, length, ROSKEVAD_LAYOUT_TILED, text, room);
@@ -616,6 +640,33 @@ static void check_layouts(void)
     check_unmade(laid_out_as_tiled, "{", ROSKEVAD_NOT_JSON);
 }
 
+/* A map whose layer has a member that Tiled has no attribute for. */
+#define NOT_OF_TMX "{\"infinite\":false,\"layers\":[{\"glow\":1,\"type\":\"imagelayer\"}],\"orientation\":\"orthogonal\",\"type\":\"map\"}"
+
+static size_t told_of_tmx(const void *given, size_t length, void *text, size_t room)
+{
+    return roskevad_editor_tmx_fault(given, length, text, room);
+}
+
+/* A map in XML: its JSON, and its very bytes again; the same as JSON, and what is no such map. */
+static void check_tmx(void)
+{
+    static char json[4096], back[4096];
+    const size_t size = roskevad_editor_set_aside(TMX, sizeof TMX - 1, json, sizeof json);
+    WANT(size < sizeof json && json[0] == '{');
+    WANT(put_back_like_tmx(json, size, back, sizeof back) == sizeof TMX - 1 && memcmp(back, TMX, sizeof TMX - 1) == 0);
+    WANT(put_back_as_tmx(json, size, back, sizeof back) == sizeof TMX - 1 && memcmp(back, TMX, sizeof TMX - 1) == 0);
+    WANT(!ROSKEVAD_IS_FAULT(put_back_as_json(json, size, back, sizeof back)) && memcmp(back, "{ \"compressionlevel\":-1,\n", 25) == 0);
+    WANT(put_back_as_none(json, size, back, sizeof back) == ROSKEVAD_TOO_GREAT);
+    check_unmade(put_back_as_tmx, "{\"a\":1", ROSKEVAD_NOT_JSON);
+    check_unmade(put_back_as_tmx, "{\"a\":1}", ROSKEVAD_NO_TMX);
+    check_made(told_of_tmx, NOT_OF_TMX, "layers[0].glow");
+    check_unmade(told_of_tmx, "{\"a\":1", ROSKEVAD_NOT_JSON);
+    WANT(told_of_tmx(json, size, back, sizeof back) == ROSKEVAD_NONE);
+    check_unmade(roskevad_editor_set_aside, " <map>", ROSKEVAD_NOT_XML);
+    check_unmade(roskevad_editor_set_aside, "<tileset/>", ROSKEVAD_NOT_A_TMX);
+}
+
 #define CHUNK(more) "{\"data\":[1],\"height\":1,\"width\":1,\"x\":0,\"y\":0" more "}"
 #define INFINITE(layers) "{\"infinite\":true,\"layers\":[" layers "]}"
 
@@ -649,6 +700,12 @@ static void check_asides(void)
     check_unmade(roskevad_editor_set_aside, strcat(large, "]}"), ROSKEVAD_TOO_LARGE);
 }
 
+/* What is told of a tileset that is refused. */
+static size_t tileset_fault(const void *bytes, size_t length, void *text, size_t room)
+{
+    return roskevad_editor_tileset_fault(bytes, length, text, room);
+}
+
 #define SIDES "\"height\":1,\"tileheight\":1,\"tilewidth\":1,\"type\":\"map\",\"width\":1"
 #define NO_NEXT_ID                                                                                                                        \
     "{\"code\":62,\"words\":\"member missing\",\"why\":null,\"path\":[\"nextlayerid\"],\"exact\":true,\"shown\":\"absent\","            \
@@ -665,6 +722,27 @@ static void check_map_faults(void)
     WANT(roskevad_editor_map_fault(GIVEN, sizeof GIVEN - 1, room, size) == size && memcmp(room, NO_NEXT_ID, size) == 0 && room[size] == 'x');
     WANT(roskevad_editor_map_fault(READ, sizeof READ - 1, room, sizeof room) == ROSKEVAD_NONE && room[size] == 'x');
     WANT(roskevad_editor_map_fault(NULL, 0, NULL, 0) < ROSKEVAD_NO_MEMORY);
+}
+
+#define TSX "<tileset name=\"a\" tilecount=\"1\" columns=\"1\"/>"
+#define TSJ "{\"columns\":1,\"margin\":0,\"name\":\"a\",\"spacing\":0,\"tilecount\":1,\"tileheight\":0,\"tilewidth\":0,\"type\":\"tileset\"}"
+#define NO_TSX "{\"why\":\"its root is no tileset\",\"line\":null,\"column\":null}"
+#define CUT_TSX "{\"why\":\"an element with no end\",\"line\":1,\"column\":9}"
+
+/* Files of tilesets, in XML and in JSON, and why others are none. */
+static void check_tilesets(void)
+{
+    check_made(roskevad_editor_tileset_file, TSX, TSJ);
+    check_unmade(roskevad_editor_tileset_file, TSJ, ROSKEVAD_NONE);
+    check_unmade(roskevad_editor_tileset_file, "{}", ROSKEVAD_NONE);
+    check_unmade(roskevad_editor_tileset_file, "[]", ROSKEVAD_NOT_JSON);
+    check_unmade(roskevad_editor_tileset_file, "<map/>", ROSKEVAD_NOT_A_TMX);
+    check_unmade(roskevad_editor_tileset_file, "<tileset>", ROSKEVAD_NOT_XML);
+    WANT(roskevad_editor_tileset_file(NULL, 0, NULL, 0) == ROSKEVAD_NOT_JSON);
+    check_made(tileset_fault, "<map/>", NO_TSX);
+    check_made(tileset_fault, "<tileset>", CUT_TSX);
+    check_unmade(tileset_fault, TSX, ROSKEVAD_NONE);
+    check_unmade(tileset_fault, TSJ, ROSKEVAD_NONE);
 }
 
 /* The word at which a line is refused. */
@@ -739,7 +817,9 @@ static void run_random(size_t lines)
     check_edges(&editor);
     check_asides();
     check_layouts();
+    check_tmx();
     check_map_faults();
+    check_tilesets();
     check_word_faults();
     check_word_faults_for();
     check_what_lines_did();

@@ -42,6 +42,8 @@ INLINE = [
     for word in ('-mllvm', f'-max-store-{call}={MOST_STORES}')
 ]
 TRAPS = ('-mllvm', '-trap-unreachable')
+# Functions with the same code are one.
+MERGED = ('-Xclang', '-fmerge-functions')
 # At least four times what the deepest lines and maps need: tests/module/deep_cases.mjs measures it.
 STACK = 1_048_576
 # A clang that keeps the module that it is given, which must be one alone, and then is the kit's. It
@@ -81,7 +83,7 @@ def compile_module(clang, bitcode, folder):
     run(clang, f'--target={retarget.FROM}', *plain, folder=folder)
     text = retarget.retargeted((folder / 'given.ll').read_text())
     (folder / 'module.ll').write_text(text)
-    words = [*WORDS, *COMPILER, *INLINE, *TRAPS, '-O3', '-c', '-x', 'ir']
+    words = [*WORDS, *MERGED, *COMPILER, *INLINE, *TRAPS, '-O3', '-c', '-x', 'ir']
     run(clang, *words, 'module.ll', '-o', 'module.o', folder=folder)
 
 

@@ -72,6 +72,15 @@ def see_declared(text):
             raise Unknown(f'the outer function {name}')
 
 
+# Functions that are to be short rather than fast: what these crates do is done once for a file, for a refusal or for a member. Loops over
+# cells are fast.
+SMALL = re.compile(
+    r'^(define [^@\n]*@"(?:fractions|map_faults|member_commands|tiled_files|tmx_maps|tmx_tree|tmx_writer|xml_text)::'
+    r'(?!cells::|merged_cells::|same_map::)[^\n]*) \{$',
+    re.MULTILINE,
+)
+
+
 def attributes(row):
     """A group of attributes without those of x86-64."""
 
@@ -101,6 +110,7 @@ def retargeted(text):
     text = replaced_once('^target triple = ".*"$', f'target triple = "{TARGET}"', text)
     text = re.sub(r'^(attributes #\d+ = \{)(.*)\}$', attributes, text, flags=re.MULTILINE)
     text = re.sub(r'^(define (?!internal )[^@\n]*@"?([^"(\s]+)"?\(.*) \{$', export, text, flags=re.MULTILINE)
+    text = SMALL.sub(r'\1 minsize optsize {', text)
     declared = re.escape(f'@{CHOICE}(')
     text = re.sub(rf'^declare [^\n]*{declared}.*$', lambda _: CHOSEN, text, flags=re.MULTILINE)
     return text.replace(f'@{CHOICE}(', '@"retarget::choice"(')

@@ -15,11 +15,11 @@ from ..saving import Saving, Taken, holder_of
 LONGEST_FILE = 64 * 1024 * 1024
 #: What the files are that are given, by the ends of their names; those of maps are also taken.
 KINDS = {
-    '.tmj': 'application/json', '.json': 'application/json', '.tsx': 'application/xml', '.tsj': 'application/json',
+    '.tmx': 'application/xml', '.tmj': 'application/json', '.json': 'application/json', '.tsx': 'application/xml', '.tsj': 'application/json',
     '.tx': 'application/xml', '.tj': 'application/json', '.png': 'image/png',
     '.jpg': 'image/jpeg', '.jpeg': 'image/jpeg', '.gif': 'image/gif', '.bmp': 'image/bmp', '.webp': 'image/webp',
 }
-MAPS = ('.tmj', '.json')
+MAPS = ('.tmx', '.tmj', '.json')
 TILESETS = ('.tsx', '.tsj')
 # How many files are listed at most, how many names are looked at for them, and how deep folders are looked into.
 _MOST_FILES, _MOST_NAMES, _DEEPEST = 2000, 50_000, 8
