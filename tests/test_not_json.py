@@ -92,7 +92,6 @@ FILES = [
     (b'[01,"\xff"]', (1, 6)),
     (b'["\xed\xa0\x80"]', (1, 3)),
     (b'\xff', (1, 1)),
-    (b'<?xml version="1.0"?>\n<map/>', (1, 1)),
     (b'[' * 200, (1, 128)),
     (b'\xef\xbb\xbf{}', (1, 1)),
     (b'[1 2]', (1, 4)),
@@ -173,3 +172,14 @@ def test_files_that_end_too_early():
 
 def test_files():
     check_each([not_json(*row) for row in FILES], fault_of, CORES)
+
+
+def test_xml():
+    """A map in XML also gets what `--all-maps` makes of it, and that its name doesn't fit."""
+    lines = [
+        f'{refusal(60)}: line 1, column 1',
+        'with --all-maps: its orientation is none that Tiled knows',
+        'its name says JSON, and it is XML',
+    ]
+    case = report('XML', b'<?xml version="1.0"?>\n<map/>', '\n  '.join(lines))
+    check_each([case], fault_of, CORES)

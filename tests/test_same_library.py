@@ -1,10 +1,10 @@
 # SPDX-License-Identifier: MIT OR Apache-2.0
 """Compares the library in `lib/` and its WebAssembly module in `js/` with those that
 `tools/build_library` builds over what `rt ci` has proved, byte for byte. The bytes of the archive and
-of the shared library depend on the binutils: those in `lib/` are of 2.40, of Debian 12. Besides, it
-sees which glibc the library needs, that it gives out no names but its own, and that the module has
-the calls of the header. If the library has changed, look at the change and run
-`tools/build_library lib`."""
+of the shared library depend on the binutils: those in `lib/` are of 2.40, of Debian 12. Those of the
+module depend on binaryen: they are of its version 108, of Debian 12, too. Besides, it sees which
+glibc the library needs, that it gives out no names but its own, and that the module has the calls
+of the header. If the library has changed, look at the change and run `tools/build_library lib`."""
 import re
 import subprocess
 import sys
@@ -19,6 +19,7 @@ sys.path.insert(0, str(TOP / 'tools'))
 from wasm import lower  # noqa: E402
 
 IS_LONG = True
+PACKAGES = ('binaryen',)
 SHARED = LIB / 'libroskevad.so'
 # The C library that it needs, as docs/library.md says.
 GLIBC = re.search(r'glibc ([0-9.]+) or later', (TOP / 'docs' / 'library.md').read_text())[1]

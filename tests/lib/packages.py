@@ -13,6 +13,7 @@ ZSTANDARD = 'python3-zstandard'
 OF_DEBIAN = {SELENIUM: 'selenium', ZSTANDARD: 'zstandard'}
 # The command that each package brings.
 COMMANDS = {
+    'binaryen': 'wasm-opt',
     'chromium': 'chromium',
     'chromium-driver': 'chromedriver',
     'esbuild': 'esbuild',
