@@ -179,6 +179,8 @@ def text(inside, head=HEAD):
 
 
 SMALL = text(TILES + GROUND.format('1,2'))
+OBJECT = '<objectgroup id="2"><object id="1" {}</objectgroup>'
+THING = OBJECT.format('x="8" y="0.5"/>').replace('id="2"', 'id="2" name="Things"')
 
 
 def kept(files, *lines):
@@ -216,15 +218,20 @@ def test_unsaid():
     see(f'tile_editor: /a.tmx: in own {NO_TMX}\ntile_editor: /b.tmx: in own {NO_TMX}\n', errors)
     see({'a.tmx', 'b.tmj', 'c.tmx'}, set(files))
     see(SMALL, files['a.tmx'])
-    with Editor() as editor:
-        document = editor.open(SMALL)
-        document.members['own'] = 5
-        try:
-            document.save_bytes()
-        except Refused as refusal:
-            see((51, f'in own {NO_TMX}'), (refusal.code, refusal.why))
-        else:
-            raise AssertionError('it was saved')
+    for data, owner, place in ((SMALL, lambda document: document, 'own'), (text(GROUND.format('1,2') + THING), thing_of, 'layers[1].objects[0].own')):
+        with Editor() as editor:
+            document = editor.open(data)
+            owner(document).members['own'] = 5
+            try:
+                document.save_bytes()
+            except Refused as refusal:
+                see((51, f'in {place} {NO_TMX}'), (refusal.code, refusal.why))
+            else:
+                raise AssertionError('it was saved')
+
+
+def thing_of(document):
+    return document.objects[1]
 
 
 # ---- faults
@@ -236,6 +243,25 @@ FAULTS = {
     'an entity': (b'<!DOCTYPE map [<!ENTITY a "b">]><map/>', 'a DOCTYPE with a subset or a public name, or one that is spelled wrong', None),
     'another encoding': (b'<?xml version="1.0" encoding="latin1"?><map/>', 'its encoding is not UTF-8', None),
     'behind the map': (SMALL + b'<map/>', 'something stands behind its root', None),
+    'no UTF-8': (b'<a>\xff</a>', 'no XML in UTF-8', '1:4'),
+    'a control character': (b'<a>\x01</a>', 'a character that XML forbids', '1:4'),
+    'U+FFFF': ('<a>\uffff</a>'.encode(), 'a character that XML forbids', '1:4'),
+    'XML 1.1': (b'<?xml version="1.1"?><a/>', 'its XML declaration is not of version 1.0, or is spelled wrong', '1:6'),
+    'two dashes': (b'<!-- a -- b --><a/>', 'a comment with "--" in it, or with no end', '1:10'),
+    'an instruction': (b'<a><?XML b?></a>', 'a processing instruction named "xml", or with no end', '1:6'),
+    'no name': (b'<1/>', 'a name is missing', '1:2'),
+    'no blank': (b'<a b="c"d="e"/>', 'a tag is spelled wrong', '1:9'),
+    'an opened value': (b'<a b="<"/>', 'an attribute is spelled wrong', '1:4'),
+    'an entity of HTML': (b'<a>&nbsp;</a>', 'an entity that is none of the five, or no character', '1:5'),
+    'half a character': (b'<a>&#xD800;</a>', 'an entity that is none of the five, or no character', '1:5'),
+    'an open section': (b'<a><![CDATA[b</a>', 'a CDATA section with no end', '1:13'),
+    'the end of a section': (b'<a>b]]></a>', '"]]>" in a text', '1:4'),
+    'another end': (b'<a><b></a></b>', 'the end tag of another element', '1:9'),
+    'no end tag': (b'<a>b', 'an element with no end', '1:4'),
+    'no root': (b'<!-- a -->', 'there is no element, or something stands before it', None),
+    'before the root': (b'<!-- a -->b<a/>', 'there is no element, or something stands before it', '1:11'),
+    '64 deep': (b'<a>' * 64 + b'</a>' * 64, 'its root is no map', ''),
+    '65 deep': (b'<a>' * 65 + b'</a>' * 65, 'elements nest deeper than 64', '1:194'),
     'a tileset': (b'<tileset/>', 'its root is no map', ''),
     'another orientation': (SMALL.replace(b'orthogonal', b'round'), 'its orientation is none that Tiled knows', ''),
     'a cell less': (SMALL.replace(b'1,2', b'1'), 'the data of a layer are not a number for each cell, or are more than 16,777,216', ''),
@@ -277,7 +303,6 @@ def test_report():
 
 # ---- traps
 
-OBJECT = '<objectgroup id="2"><object id="1" {}</objectgroup>'
 # The attribute of an object or a property, and the member of its JSON.
 TRAPS = {
     'six digits': (OBJECT.format('x="123456789" y="0.1"/>'), ('layers', 0, 'objects', 0, 'x'), 123456789),
@@ -287,6 +312,10 @@ TRAPS = {
         '<properties><property name="a">one\n two</property></properties>', ('properties', 0, 'value'), 'one\n two',
     ),
     'entities': ('<properties><property name="a" value="&lt;&#x41;&amp;&quot;"/></properties>', ('properties', 0, 'value'), '<A&"'),
+    'a CDATA section': ('<properties><property name="a">1\n<!-- b --><![CDATA[<&]]></property></properties>', ('properties', 0, 'value'), '1\n<&'),
+    'a tab in a value': ('<properties><property name="a" value="1\t2&#9;3&#x1F600;"/></properties>', ('properties', 0, 'value'), '1 2\t3\U0001f600'),
+    'ends of lines': ('<properties><property name="a">x\r\ny\rz&quot;</property></properties>', ('properties', 0, 'value'), 'x\ny\nz"'),
+    'ends of lines in a value': ("<properties><property name='a' value='1\r\n2\r3'/></properties>", ('properties', 0, 'value'), '1 2 3'),
     'a short color': (
         '<properties><property name="a" type="color" value="#336699"/></properties>', ('properties', 0, 'value'), '#ff336699',
     ),
@@ -296,6 +325,7 @@ TRAPS = {
     ),
     'no id': ('<layer name="a" width="2" height="1"><data encoding="csv">0,0</data></layer>', ('layers', 0, 'id'), 9),
     'a DOCTYPE': ('', ('width',), 2),
+    'a byte order mark': ('', ('width',), 2),
 }
 
 
@@ -305,6 +335,8 @@ def test_traps():
         data = text(inside)
         if name == 'a DOCTYPE':
             data = data.replace(b'?>\n', b'?>\r\n<!DOCTYPE map SYSTEM "http://mapeditor.org/dtd/1.0/map.dtd">\r\n')
+        if name == 'a byte order mark':
+            data = '\ufeff'.encode() + data.replace(b'"UTF-8"', b"'utf-8' standalone='yes' ")
         with Editor() as editor:
             document = editor.open(data)
             document.properties['zzz'] = 1
@@ -315,6 +347,24 @@ def test_traps():
                 came = came[step]
             assert came == wanted, f'{name}: {came!r}'
         passed()
+
+
+# An edit, the bytes that it changes, and what they are then.
+CHANGES = {
+    'a cell': (lambda document: document.stamp('Ground', 1, 0, [[7]]), '1,2', '1,7'),
+    'a place': (lambda document: setattr(document.objects[1], 'x', 123456.5), 'x="8"', 'x="123456.5"'),
+    'a name': (lambda document: setattr(document.layers['Things'], 'name', 'A & "B"'), '"Things"', '"A &amp; &quot;B&quot;"'),
+}
+
+
+def test_changes():
+    """A save over a file changes the bytes of what changed, and no others."""
+    given = text(TILES + GROUND.format('1,2') + THING)
+    for name, (edit, old, new) in CHANGES.items():
+        with Editor() as editor:
+            document = editor.open(given)
+            edit(document)
+            see((name, given.replace(old.encode(), new.encode())), (name, document.save_bytes()))
 
 
 def test_types_of_members():

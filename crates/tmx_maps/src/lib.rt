@@ -1,4 +1,4 @@
-//! Maps in Tiled's XML as texts of JSON, and back; tilesets in XML as texts of JSON.
+//! Maps in Tiled's XML as texts of JSON, and trees of maps as XML; tilesets in XML as texts of JSON.
 #![tactic(auto)]
 
 mod fault;
@@ -13,12 +13,9 @@ mod usual;
 
 pub use fault::Fault;
 pub use reading::json_of;
-pub use saving::{tmx_of, tmx_of_tree};
+pub use saving::tmx_of_tree;
 pub use source::{TmxSource, read_source};
 pub use tilesets::tileset_json_of;
 pub use tmx_tree::Refusal;
 pub use untold::where_untold;
 pub use xml_text::Flaw;
-
-#[cfg(test)]
-mod tests;

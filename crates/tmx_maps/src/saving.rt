@@ -1,15 +1,15 @@
-// A map's tree, or its text of JSON, as XML.
+// A map's tree as XML.
 ghost use Rattle.std.specs.Prelude.{◌≡◌, option_map, Some, IfOk, IfSome, IsTrue};
 ghost use Rattle.serde_json.specs.View.{view as data_of};
 ghost use Rattle.tmx_maps.specs.Maps.{tmx_data};
 ghost use Rattle.tmx_maps.specs.SameMap.{IsSameMap};
-ghost use Rattle.tmx_maps.specs.Texts.{IsTmxOf, IsKept, IsTold, IsToldAs};
+ghost use Rattle.tmx_maps.specs.Texts.{IsTold, IsToldAs};
 
 use crate::fault::Fault;
 use crate::reading::tree_in;
 use crate::same_map::is_same_map;
-use crate::source::{TmxSource, read_source};
-use map_layout::{discard, read_tree};
+use crate::source::TmxSource;
+use map_layout::discard;
 use serde_json::Value;
 use std::alloc::Global;
 use tmx_writer::{Ids, Source, written, written_into};
@@ -113,16 +113,4 @@ pub fn tmx_of_tree(
         Some(read) => told_over(alloc, map, source, read),
         None => told_anew(alloc, map, source),
     }
-}
-
-/// A map's text of JSON as XML, as `tmx_of_tree` tells its tree. `NotJson` comes where it has none. An empty source counts for nothing.
-pub fn tmx_of(alloc: Global, json: &[u8], source: &[u8]) -> Result<Vec<u8>, Fault>
-    ensures answer { IfOk result (λ text. IsTmxOf json.now text.items) }
-    ensures kept { IfOk result (λ text. IsKept json.now source.now text.items) }
-{
-    let Some(map) = read_tree(alloc, json)? else {
-        return Err(Fault::NotJson);
-    };
-    let read = read_source(alloc, source)?;
-    tmx_of_tree(alloc, &map, source, read.as_ref())
 }

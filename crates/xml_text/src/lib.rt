@@ -14,6 +14,3 @@ mod words;
 pub use fault::{Fault, Flaw};
 pub use reading::read;
 pub use tree::{Attribute, Element, Node, Span, Text};
-
-#[cfg(test)]
-mod tests;
