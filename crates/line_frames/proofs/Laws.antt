@@ -1,0 +1,125 @@
+-- The frame law of each edit.
+use Rattle.std.proofs.Common.{◌≡◌, ℕ, nat_eq, ◌&&◌, Bool, true, false, cond, is_some, Option, Some, None, option_and_then, refl, sym, ap, ◌∙◌, subst}
+use Rattle.std.specs.Prelude.{Result, Ok, Err}
+use Rattle.std.specs.List.{list_all}
+use Rattle.refusals.specs.declared.edit_fault.EditFault.TheVariants.{UnknownTile}
+use Rattle.map_model.specs.declared.heads.LayerHead.{LayerHead}
+use Rattle.map_model.specs.declared.heads.MapHead.{MapHead}
+use Rattle.map_model.specs.declared.heads.TilesetHead.{TilesetHead}
+use Rattle.map_model.specs.declared.owner.MemberOwner.TheVariants as members
+use Rattle.map_model.specs.Document.{DocumentParts, with_map}
+use Rattle.map_model.specs.Heads.{head_of_map, layer_head_with_id, tileset_head_with_id}
+use Rattle.map_model.specs.Lookups.{layer_of}
+use Rattle.map_model.specs.Refusing.{◌>>◌, check}
+use Rattle.map_model.proofs.HeadLaws.{layer_head-laws, map_head-laws, tileset_head-laws}
+use Rattle.map_model.proofs.LensLaws.{some-eq}
+use Rattle.edits.specs.declared.area.Area.{Area}
+use Rattle.edits.specs.Blocks.{ValueBlock, erase_over, in_area, stamp_over}
+use Rattle.edits.specs.Covering.{covered_map, where_selected}
+use Rattle.edits.specs.Refusals.{is_known, tiles_or_fault}
+use Rattle.edits.specs.Stamping.{after_erase, after_stamp}
+use Rattle.line_frames.proofs.Members.{is_layer, is_map, is_tileset, layer-outside, map-outside, put-done, put-get, tileset-outside}
+use Rattle.line_frames.proofs.Merging.{first_true}
+use Rattle.line_frames.proofs.Tiles.{and_first, covered-inside, covered-outside, lies_over, none-selected, same_number}
+use Rattle.line_frames.specs.Frames.{Erase, InsideLaw, LayerMembers, MapMembers, OutsideLaw, Stamp, TilesetMembers, done, touches}
+use Rattle.line_frames.specs.Places.{AgreeAt, Cell, MembersOf, Place, Selection, content}
+
+-- ---- what is done
+then-done : {A B E : Type 0} (r : Result A E) (next : Result B E) (x : B) → done (r >> next) ≡ Some x → done next ≡ Some x
+then-done (Ok y) next x e = e
+then-done (Err fault) next x e = cc
+
+-- the document that a stamp gives
+stamped : (layer : ℕ) (block : ValueBlock) (d n : DocumentParts) → done (after_stamp d layer block) ≡ Some n
+    → with_map (covered_map layer (where_selected d.selection (stamp_over block))) d ≡ n
+stamped layer block d n e =
+    let m = with_map (covered_map layer (where_selected d.selection (stamp_over block))) d in
+    some-eq m n
+    (then-done (check (list_all (is_known d.map) block.values) UnknownTile) (Ok m) n
+    (then-done (tiles_or_fault (layer_of d.map layer)) (check (list_all (is_known d.map) block.values) UnknownTile >> Ok m) n e))
+
+-- and the one that an erase gives
+erased : (layer : ℕ) (area : Area) (d n : DocumentParts) → done (after_erase d layer area) ≡ Some n
+    → with_map (covered_map layer (where_selected d.selection (erase_over area))) d ≡ n
+erased layer area d n e =
+    let m = with_map (covered_map layer (where_selected d.selection (erase_over area))) d in
+    some-eq m n (then-done (tiles_or_fault (layer_of d.map layer)) (Ok m) n e)
+
+-- ---- what is touched
+stamp-touches : (layer : ℕ) (block : ValueBlock) (place : Place) → touches (Stamp layer block) place ≡ lies_over layer (stamp_over block) place
+stamp-touches layer block (Cell id x y) = refl
+stamp-touches layer block place = refl
+
+erase-touches : (layer : ℕ) (area : Area) (place : Place) → touches (Erase layer area) place ≡ lies_over layer (erase_over area) place
+erase-touches layer area (Cell id x y) = ap (λ b. nat_eq id layer && b) (by_test (in_area area x y))
+  where
+    by_test : (b : Bool) → b ≡ is_some {T = ℕ} (cond b (Some 0) None)
+    by_test true = refl
+    by_test false = refl
+erase-touches layer area place = refl
+
+layer-touches : (id : ℕ) (change : LayerHead → Option LayerHead) (place : Place) → touches (LayerMembers id change) place ≡ is_layer id place
+layer-touches id change (MembersOf (members.Layer own)) = refl
+layer-touches id change place = refl
+
+tileset-touches : (first_id : ℕ) (change : TilesetHead → Option TilesetHead) (place : Place) → touches (TilesetMembers first_id change) place ≡ is_tileset first_id place
+tileset-touches first_id change (MembersOf (members.Tileset own)) = refl
+tileset-touches first_id change place = refl
+
+map-touches : (change : MapHead → Option MapHead) (place : Place) → touches (MapMembers change) place ≡ is_map place
+map-touches change (MembersOf members.Map) = refl
+map-touches change place = refl
+
+-- ---- the laws
+pub outside-law : OutsideLaw
+outside-law (Stamp layer block) d n leads place e =
+    ap (content place) (sym (stamped layer block d n leads.is))
+    ∙ covered-outside layer (where_selected d.selection (stamp_over block)) d place
+      (none-selected d.selection layer (stamp_over block) place (sym (stamp-touches layer block place) ∙ e))
+outside-law (Erase layer area) d n leads place e =
+    ap (content place) (sym (erased layer area d n leads.is))
+    ∙ covered-outside layer (where_selected d.selection (erase_over area)) d place
+      (none-selected d.selection layer (erase_over area) place (sym (erase-touches layer area place) ∙ e))
+outside-law (MapMembers change) d n leads place e =
+    let made = put-done head_of_map change d n leads.is in
+    ap (content place) (sym made.1) ∙ map-outside made.0 d place (sym (map-touches change place) ∙ e)
+outside-law (LayerMembers id change) d n leads place e =
+    let made = put-done (layer_head_with_id id) change d n leads.is in
+    ap (content place) (sym made.1) ∙ layer-outside id made.0 d place (sym (layer-touches id change place) ∙ e)
+outside-law (TilesetMembers first_id change) d n leads place e =
+    let made = put-done (tileset_head_with_id first_id) change d n leads.is in
+    ap (content place) (sym made.1) ∙ tileset-outside first_id made.0 d place (sym (tileset-touches first_id change place) ∙ e)
+
+pub inside-law : InsideLaw
+inside-law (Stamp layer block) d n e k a b agree (Cell id x y) t =
+    ap (content (Cell id x y)) (sym (stamped layer block d n a.is))
+    ∙ covered-inside layer (stamp_over block) d e (agree Selection refl) id x y (and_first (nat_eq id layer) (is_some (stamp_over block x y)) t)
+      (agree (Cell id x y) (first_true (touches (Stamp layer block) (Cell id x y)) false t))
+    ∙ ap (content (Cell id x y)) (stamped layer block e k b.is)
+inside-law (Stamp layer block) d n e k a b agree place t = cc
+inside-law (Erase layer area) d n e k a b agree (Cell id x y) t =
+    ap (content (Cell id x y)) (sym (erased layer area d n a.is))
+    ∙ covered-inside layer (erase_over area) d e (agree Selection refl) id x y (and_first (nat_eq id layer) (in_area area x y) t)
+      (agree (Cell id x y) (first_true (touches (Erase layer area) (Cell id x y)) false t))
+    ∙ ap (content (Cell id x y)) (erased layer area e k b.is)
+inside-law (Erase layer area) d n e k a b agree place t = cc
+inside-law (MapMembers change) d n e k a b agree (MembersOf members.Map) t =
+    put-get head_of_map change d n map_head-laws a.is ∙ ap (option_and_then change) (agree (MembersOf members.Map) refl)
+    ∙ sym (put-get head_of_map change e k map_head-laws b.is)
+inside-law (MapMembers change) d n e k a b agree place t = cc
+inside-law (LayerMembers id change) d n e k a b agree (MembersOf (members.Layer own)) t =
+    let is = same_number own id t in
+    subst (λ o. AgreeAt (MembersOf (members.Layer o)) n k) (sym is)
+    (put-get (layer_head_with_id id) change d n (layer_head-laws id) a.is
+    ∙ ap (option_and_then change) (subst (λ o. AgreeAt (MembersOf (members.Layer o)) d e) is
+      (agree (MembersOf (members.Layer own)) (first_true (nat_eq own id) false t)))
+    ∙ sym (put-get (layer_head_with_id id) change e k (layer_head-laws id) b.is))
+inside-law (LayerMembers id change) d n e k a b agree place t = cc
+inside-law (TilesetMembers first_id change) d n e k a b agree (MembersOf (members.Tileset own)) t =
+    let is = same_number own first_id t in
+    subst (λ o. AgreeAt (MembersOf (members.Tileset o)) n k) (sym is)
+    (put-get (tileset_head_with_id first_id) change d n (tileset_head-laws first_id) a.is
+    ∙ ap (option_and_then change) (subst (λ o. AgreeAt (MembersOf (members.Tileset o)) d e) is
+      (agree (MembersOf (members.Tileset own)) (first_true (nat_eq own first_id) false t)))
+    ∙ sym (put-get (tileset_head_with_id first_id) change e k (tileset_head-laws first_id) b.is))
+inside-law (TilesetMembers first_id change) d n e k a b agree place t = cc
