@@ -1,28 +1,38 @@
 -- The frame law of each edit.
-use Rattle.std.proofs.Common.{◌≡◌, ℕ, nat_eq, ◌&&◌, Bool, true, false, cond, is_some, Option, Some, None, option_and_then, refl, sym, ap, ◌∙◌, subst}
+use Rattle.std.proofs.Common.{◌≡◌, ℕ, List, nat_eq, ◌&&◌, Bool, true, false, cond, is_some, Option, Some, None, option_and_then, refl, sym, ap, ◌∙◌, subst}
 use Rattle.std.specs.Prelude.{Result, Ok, Err}
+use Rattle.std.proofs.lemmas.Slice.Eq.{bytes_eq-Decides}
 use Rattle.std.specs.List.{list_all}
+use Rattle.std.specs.Str.{bytes_eq}
 use Rattle.refusals.specs.declared.edit_fault.EditFault.TheVariants.{UnknownTile}
 use Rattle.map_model.specs.declared.heads.LayerHead.{LayerHead}
 use Rattle.map_model.specs.declared.heads.MapHead.{MapHead}
+use Rattle.map_model.specs.declared.heads.ObjectHead.{ObjectHead}
 use Rattle.map_model.specs.declared.heads.TilesetHead.{TilesetHead}
 use Rattle.map_model.specs.declared.owner.MemberOwner.TheVariants as members
+use Rattle.map_model.specs.declared.owner.Owner.{Owner}
+use Rattle.map_model.specs.declared.parts.Property.{Property}
+use Rattle.map_model.specs.declared.setting.Setting.{Setting}
 use Rattle.map_model.specs.Document.{DocumentParts, with_map}
-use Rattle.map_model.specs.Heads.{head_of_map, layer_head_with_id, tileset_head_with_id}
+use Rattle.map_model.specs.Heads.{head_of_map, head_with_id, layer_head_with_id, tileset_head_with_id}
 use Rattle.map_model.specs.Lookups.{layer_of}
+use Rattle.map_model.specs.Properties.{has_name, new_property, property_with_setting}
 use Rattle.map_model.specs.Refusing.{◌>>◌, check}
-use Rattle.map_model.proofs.HeadLaws.{layer_head-laws, map_head-laws, tileset_head-laws}
+use Rattle.map_model.specs.WellFormed.{IsWellFormed}
+use Rattle.map_model.proofs.HeadLaws.{head_with_id-laws, layer_head-laws, map_head-laws, tileset_head-laws}
 use Rattle.map_model.proofs.LensLaws.{some-eq}
 use Rattle.edits.specs.declared.area.Area.{Area}
 use Rattle.edits.specs.Blocks.{ValueBlock, erase_over, in_area, stamp_over}
 use Rattle.edits.specs.Covering.{covered_map, where_selected}
 use Rattle.edits.specs.Refusals.{is_known, tiles_or_fault}
 use Rattle.edits.specs.Stamping.{after_erase, after_stamp}
-use Rattle.line_frames.proofs.Members.{is_layer, is_map, is_tileset, layer-outside, map-outside, put-done, put-get, tileset-outside}
+use Rattle.line_frames.proofs.Members.{is_layer, is_map, is_object, is_tileset, layer-outside, map-outside, object-outside, put-done, put-get, tileset-outside}
 use Rattle.line_frames.proofs.Merging.{first_true}
+use Rattle.line_frames.proofs.Named.{put_found, same_text}
+use Rattle.line_frames.proofs.Properties.{IsPut, is_named, put-outside, put-own, same-owner, set-put, whole-put}
 use Rattle.line_frames.proofs.Tiles.{and_first, covered-inside, covered-outside, lies_over, none-selected, same_number}
-use Rattle.line_frames.specs.Frames.{Erase, InsideLaw, LayerMembers, MapMembers, OutsideLaw, Stamp, TilesetMembers, done, touches}
-use Rattle.line_frames.specs.Places.{AgreeAt, Cell, MembersOf, Place, Selection, content}
+use Rattle.line_frames.specs.Frames.{Erase, InsideLaw, LayerMembers, MapMembers, ObjectMembers, OutsideLaw, PutProperty, SetProperty, Stamp, TilesetMembers, done, same_owner, touches}
+use Rattle.line_frames.specs.Places.{AgreeAt, Cell, MembersOf, Place, PropertyOf, Selection, content}
 
 -- ---- what is done
 then-done : {A B E : Type 0} (r : Result A E) (next : Result B E) (x : B) → done (r >> next) ≡ Some x → done next ≡ Some x
@@ -70,6 +80,41 @@ map-touches : (change : MapHead → Option MapHead) (place : Place) → touches 
 map-touches change (MembersOf members.Map) = refl
 map-touches change place = refl
 
+object-touches : (id : ℕ) (change : ObjectHead → Option ObjectHead) (place : Place) → touches (ObjectMembers id change) place ≡ is_object id place
+object-touches id change (MembersOf (members.Object own)) = refl
+object-touches id change place = refl
+
+set-touches : (owner : Owner) (name : List ℕ) (setting : Setting) (place : Place) → touches (SetProperty owner name setting) place ≡ is_named owner name place
+set-touches owner name setting (PropertyOf own other) = refl
+set-touches owner name setting place = refl
+
+put-touches : (owner : Owner) (property : Property) (place : Place) → touches (PutProperty owner property) place ≡ is_named owner property.name place
+put-touches owner property (PropertyOf own other) = refl
+put-touches owner property place = refl
+
+-- ---- properties
+own_name : (name : List ℕ) → bytes_eq name name ≡ true
+own_name name = (bytes_eq-Decides name name).1 refl
+
+-- two documents with the same property of a name have the same one behind an edit that puts it
+same-put : (owner : Owner) (name : List ℕ) (f : Property → Property) (new : Property) → has_name name new ≡ true
+    → ((p : Property) → has_name name p ≡ true → has_name name (f p) ≡ true)
+    → (d n e k : DocumentParts) → IsPut owner name f new d n → IsPut owner name f new e k → IsWellFormed d.map → IsWellFormed e.map
+    → (own : Owner) (other : List ℕ) → (same_owner own owner && bytes_eq other name) ≡ true → AgreeAt (PropertyOf own other) d e
+    → AgreeAt (PropertyOf own other) n k
+same-put owner name f new named keeps d n e k a b h j own other t agree =
+    let same = same-owner own owner (and_first (same_owner own owner) (bytes_eq other name) t) in
+    let text = same_text other name (and_second_true (same_owner own owner) (bytes_eq other name) t) in
+    let here : AgreeAt (PropertyOf owner name) d e = subst (λ q. AgreeAt (PropertyOf owner q) d e) text
+    (subst (λ (o : Owner). AgreeAt (PropertyOf o other) d e) same agree) in
+    subst (λ (o : Owner). AgreeAt (PropertyOf o other) n k) (sym same)
+    (subst (λ q. AgreeAt (PropertyOf owner q) n k) (sym text)
+    (put-own owner name f new named keeps d n a h ∙ ap (put_found f new) here ∙ sym (put-own owner name f new named keeps e k b j)))
+  where
+    and_second_true : (s t : Bool) → (s && t) ≡ true → t ≡ true
+    and_second_true true t e = e
+    and_second_true false t e = cc
+
 -- ---- the laws
 pub outside-law : OutsideLaw
 outside-law (Stamp layer block) d n leads place e =
@@ -89,6 +134,15 @@ outside-law (LayerMembers id change) d n leads place e =
 outside-law (TilesetMembers first_id change) d n leads place e =
     let made = put-done (tileset_head_with_id first_id) change d n leads.is in
     ap (content place) (sym made.1) ∙ tileset-outside first_id made.0 d place (sym (tileset-touches first_id change place) ∙ e)
+outside-law (ObjectMembers id change) d n leads place e =
+    let made = put-done (head_with_id id) change d n leads.is in
+    ap (content place) (sym made.1) ∙ object-outside id made.0 d leads.well_formed place (sym (object-touches id change place) ∙ e)
+outside-law (SetProperty owner name setting) d n leads place e =
+    put-outside owner name (property_with_setting setting) (new_property name setting) (own_name name) (λ p h. h) d n
+    (set-put owner name setting d n leads.is) leads.well_formed place (sym (set-touches owner name setting place) ∙ e)
+outside-law (PutProperty owner property) d n leads place e =
+    put-outside owner property.name (λ own. property) property (own_name property.name) (λ p h. own_name property.name) d n
+    (whole-put owner property d n leads.is) leads.well_formed place (sym (put-touches owner property place) ∙ e)
 
 pub inside-law : InsideLaw
 inside-law (Stamp layer block) d n e k a b agree (Cell id x y) t =
@@ -123,3 +177,21 @@ inside-law (TilesetMembers first_id change) d n e k a b agree (MembersOf (member
       (agree (MembersOf (members.Tileset own)) (first_true (nat_eq own first_id) false t)))
     ∙ sym (put-get (tileset_head_with_id first_id) change e k (tileset_head-laws first_id) b.is))
 inside-law (TilesetMembers first_id change) d n e k a b agree place t = cc
+inside-law (ObjectMembers id change) d n e k a b agree (MembersOf (members.Object own)) t =
+    let is = same_number own id t in
+    subst (λ o. AgreeAt (MembersOf (members.Object o)) n k) (sym is)
+    (put-get (head_with_id id) change d n (head_with_id-laws id) a.is
+    ∙ ap (option_and_then change) (subst (λ o. AgreeAt (MembersOf (members.Object o)) d e) is
+      (agree (MembersOf (members.Object own)) (first_true (nat_eq own id) false t)))
+    ∙ sym (put-get (head_with_id id) change e k (head_with_id-laws id) b.is))
+inside-law (ObjectMembers id change) d n e k a b agree place t = cc
+inside-law (SetProperty owner name setting) d n e k a b agree (PropertyOf own other) t =
+    same-put owner name (property_with_setting setting) (new_property name setting) (own_name name) (λ p h. h) d n e k
+    (set-put owner name setting d n a.is) (set-put owner name setting e k b.is) a.well_formed b.well_formed own other t
+    (agree (PropertyOf own other) (first_true (touches (SetProperty owner name setting) (PropertyOf own other)) false t))
+inside-law (SetProperty owner name setting) d n e k a b agree place t = cc
+inside-law (PutProperty owner property) d n e k a b agree (PropertyOf own other) t =
+    same-put owner property.name (λ own. property) property (own_name property.name) (λ p h. own_name property.name) d n e k
+    (whole-put owner property d n a.is) (whole-put owner property e k b.is) a.well_formed b.well_formed own other t
+    (agree (PropertyOf own other) (first_true (touches (PutProperty owner property) (PropertyOf own other)) false t))
+inside-law (PutProperty owner property) d n e k a b agree place t = cc

@@ -3,5 +3,8 @@ pub mod Cells
 pub mod Kept
 pub mod Tiles
 pub mod Members
+pub mod OneObject
+pub mod Named
+pub mod Properties
 pub mod Merging
 pub mod Laws

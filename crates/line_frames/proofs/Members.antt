@@ -1,20 +1,28 @@
 -- What stands in a document of which an owner has other members.
 use Rattle.std.proofs.Common.{◌≡◌, ℕ, List, [], ◌∷◌, nat_eq, Bool, true, false, cond, find, map, Option, Some, None, option_map, option_and_then}
-use Rattle.std.proofs.Common.{refl, sym, ap, ◌∙◌}
+use Rattle.std.proofs.Common.{refl, sym, ap, ◌∙◌, arith}
+use Rattle.std.proofs.lemmas.Bool.Decides.{nat_tests}
 use Rattle.map_model.specs.declared.heads.LayerHead.{LayerHead}
 use Rattle.map_model.specs.declared.heads.MapHead.{MapHead}
+use Rattle.map_model.specs.declared.heads.ObjectHead.{ObjectHead}
 use Rattle.map_model.specs.declared.heads.TilesetHead.{TilesetHead}
 use Rattle.map_model.specs.declared.owner.MemberOwner.TheVariants as members
 use Rattle.map_model.specs.declared.owner.Owner.TheVariants as owners
 use Rattle.map_model.specs.declared.parts.Tileset.{Tileset}
-use Rattle.map_model.specs.Document.{DocumentParts}
-use Rattle.map_model.specs.Heads.{head_of_map, layer_head_with_id, layer_with_head, tileset_head, tileset_head_with_id, tileset_with_head}
-use Rattle.map_model.specs.Lens.{IsLawfulLens, Lens, put}
+use Rattle.map_model.specs.declared.place.ObjectPlace.{ObjectPlace}
+use Rattle.map_model.specs.Document.{DocumentParts, with_map}
+use Rattle.map_model.specs.Heads.{head, head_of_map, head_with_id, layer_head_with_id, layer_with_head, object_head, object_with_head, tileset_head, tileset_head_with_id, tileset_with_head}
+use Rattle.map_model.specs.Lens.{IsLawfulLens, Lens, of_object, put, update_found}
 use Rattle.map_model.specs.Lists.{change_first}
+use Rattle.map_model.specs.Objects.{object_place, with_object}
+use Rattle.map_model.specs.Properties.{object_properties}
 use Rattle.map_model.specs.Tilesets.{has_first_id}
+use Rattle.map_model.specs.WellFormed.{IsWellFormed}
 use Rattle.map_model.proofs.Changes.{map-change_first}
 use Rattle.map_model.proofs.LensLaws.{some-eq}
 use Rattle.line_frames.proofs.Kept.{cell-kept, layer_head-kept, layer_property-kept, layer_of_object-kept, object_members-kept, object_property-kept, outline-kept}
+use Rattle.line_frames.proofs.OneObject.{object_cell-kept, object_head-kept, object_layer_members-kept, object_layer_of-kept, object_layer_property-kept}
+use Rattle.line_frames.proofs.OneObject.{object_outline-kept, object_properties-kept, placed-apart, read-at, read-other, read-same}
 use Rattle.line_frames.proofs.Tiles.{other_number}
 use Rattle.line_frames.specs.Frames.{with_members}
 use Rattle.line_frames.specs.Places.{AgreeAt, Cell, LayerOf, MembersOf, Outline, Place, PropertyOf, Selection, outline_of}
@@ -122,3 +130,42 @@ module _ (h : MapHead) (d : DocumentParts) where
   map-outside (LayerOf own) e = refl
   map-outside Selection e = refl
   map-outside Outline e = refl
+
+-- ---- objects
+-- whether a place has the members of this object
+abbrev pub is_object : ℕ → Place → Bool
+is_object id (MembersOf (members.Object own)) = nat_eq own id
+is_object id place = false
+
+module _ (id : ℕ) (h : ObjectHead) (d : DocumentParts) where
+  -- where the object stands, its members are changed
+  module _ (k : ObjectPlace) (stands : object_place d.map id ≡ Some k) (well_formed : IsWellFormed d.map) where
+    placed-outside : (place : Place) → is_object id place ≡ false → AgreeAt place (with_map (with_object k (object_with_head h)) d) d
+    placed-outside (Cell own x y) e = object_cell-kept k (object_with_head h) (λ o. refl) d own x y
+    placed-outside (MembersOf members.Map) e = refl
+    placed-outside (MembersOf (members.Layer own)) e = object_layer_members-kept k (object_with_head h) (λ o. refl) d own
+    placed-outside (MembersOf (members.Object own)) e =
+        object_head-kept k (object_with_head h) (λ o. refl) d own
+        (λ place there. read-other k (object_with_head h) (λ o. Some (object_head o)) d.map place
+        (λ same. other own e (placed-apart d.map own id place k there stands well_formed same)))
+      where
+        other : (own : ℕ) → nat_eq own id ≡ false → own ≡ id → ⊥
+        other own e same = grind (arith, nat_tests)
+    placed-outside (MembersOf (members.Tileset own)) e = refl
+    placed-outside (PropertyOf owners.Map name) e = refl
+    placed-outside (PropertyOf (owners.Layer own) name) e = object_layer_property-kept k (object_with_head h) (λ o. refl) d own name
+    placed-outside (PropertyOf (owners.Object own) name) e =
+        object_properties-kept k (object_with_head h) (λ o. refl) d own name
+        (λ place there. read-at object_properties (with_object k (object_with_head h) d.map) place
+        ∙ read-same k (object_with_head h) (λ o. Some (object_properties o)) (λ o. refl) d.map place ∙ sym (read-at object_properties d.map place))
+    placed-outside (LayerOf own) e = object_layer_of-kept k (object_with_head h) (λ o. refl) d own
+    placed-outside Selection e = refl
+    placed-outside Outline e = object_outline-kept k (object_with_head h) (λ o. refl) d
+
+  pub object-outside : IsWellFormed d.map → (place : Place) → is_object id place ≡ false → AgreeAt place (put (head_with_id id) h d) d
+  object-outside well_formed place e = by_place (object_place d.map id) refl
+    where
+      by_place : (o : Option ObjectPlace) → object_place d.map id ≡ o
+          → AgreeAt place (update_found (λ k. of_object k head) (λ own. h) d o) d
+      by_place None q = refl
+      by_place (Some k) q = placed-outside k q well_formed place e

@@ -1,28 +1,40 @@
 -- The frame law of edits: which places an edit touches, and what it does at them and at all others.
 use Rattle.std.specs.Prelude.{◌≡◌, ℕ, List, [], ◌∷◌, Bool, true, false, ◌&&◌, ◌||◌, nat_eq, is_some, Option, Some, None, option_and_then, Result, Ok, Err}
 use Rattle.std.specs.Option.{option_map}
+use Rattle.std.specs.Str.{bytes_eq}
 use Rattle.map_model.specs.declared.heads.LayerHead.{LayerHead}
 use Rattle.map_model.specs.declared.heads.MapHead.{MapHead}
+use Rattle.map_model.specs.declared.heads.ObjectHead.{ObjectHead}
 use Rattle.map_model.specs.declared.heads.TilesetHead.{TilesetHead}
 use Rattle.map_model.specs.declared.owner.MemberOwner.TheVariants as members
+use Rattle.map_model.specs.declared.owner.Owner.{Owner}
+use Rattle.map_model.specs.declared.owner.Owner.TheVariants as owners
+use Rattle.map_model.specs.declared.parts.Property.{Property}
+use Rattle.map_model.specs.declared.setting.Setting.{Setting}
 use Rattle.map_model.specs.Document.{DocumentParts}
-use Rattle.map_model.specs.Heads.{head_of_map, layer_head_with_id, tileset_head_with_id}
+use Rattle.map_model.specs.Heads.{head_of_map, head_with_id, layer_head_with_id, tileset_head_with_id}
 use Rattle.map_model.specs.Lens.{Lens, put}
 use Rattle.map_model.specs.WellFormed.{IsWellFormed}
 use Rattle.edits.specs.declared.area.Area.{Area}
 use Rattle.edits.specs.Blocks.{ValueBlock, in_area, stamp_over}
+use Rattle.edits.specs.PropertyEdits.{after_set_property}
 use Rattle.edits.specs.Stamping.{after_erase, after_stamp}
-use Rattle.line_frames.specs.Places.{AgreeAt, Place, Cell, MembersOf, Selection}
+use Rattle.property_commands.specs.PutEdits.{after_put_property}
+use Rattle.line_frames.specs.Places.{AgreeAt, Place, Cell, MembersOf, PropertyOf, Selection}
 
 -- ---- edits
--- a stamp of a block of values in the layer with an id; an erase of an area there; own members of the map, of the layer with an id
--- or of the tileset with a first id, which become what the edit makes of them, where it makes any
+-- a stamp of a block of values in the layer with an id; an erase of an area there; own members of the map, of the layer with an id,
+-- of the tileset with a first id or of the object with an id, which become what
+-- the edit makes of them, where it makes any; a property of an owner, by its name, that gets a type and a value, or is put in whole
 pub data Edit : Type 0 where
   Stamp : ℕ → ValueBlock → Edit
   Erase : ℕ → Area → Edit
   MapMembers : (MapHead → Option MapHead) → Edit
   LayerMembers : ℕ → (LayerHead → Option LayerHead) → Edit
   TilesetMembers : ℕ → (TilesetHead → Option TilesetHead) → Edit
+  ObjectMembers : ℕ → (ObjectHead → Option ObjectHead) → Edit
+  SetProperty : Owner → List ℕ → Setting → Edit
+  PutProperty : Owner → Property → Edit
 
 abbrev pub done : {A E : Type 0} → Result A E → Option A
 done (Ok x) = Some x
@@ -39,6 +51,9 @@ after (Erase layer area) d = done (after_erase d layer area)
 after (MapMembers change) d = with_members head_of_map change d
 after (LayerMembers id change) d = with_members (layer_head_with_id id) change d
 after (TilesetMembers first_id change) d = with_members (tileset_head_with_id first_id) change d
+after (ObjectMembers id change) d = with_members (head_with_id id) change d
+after (SetProperty owner name setting) d = done (after_set_property d owner name setting.kind setting.value)
+after (PutProperty owner property) d = done (after_put_property d owner property)
 
 -- an edit of a well-formed document gives the other one
 pub record Leads (edit : Edit) (d n : DocumentParts) : Type 0 where
@@ -51,6 +66,13 @@ AllLead [] d n = n ≡ d
 AllLead (edit ∷ edits) d n = (mid : DocumentParts) × Leads edit d mid × AllLead edits mid n
 
 -- ---- where they do that
+-- whether two owners are the same
+abbrev pub same_owner : Owner → Owner → Bool
+same_owner owners.Map owners.Map = true
+same_owner (owners.Layer a) (owners.Layer b) = nat_eq a b
+same_owner (owners.Object a) (owners.Object b) = nat_eq a b
+same_owner a b = false
+
 -- the places that an edit touches
 abbrev pub touches : Edit → Place → Bool
 touches (Stamp layer block) (Cell id x y) = nat_eq id layer && is_some (stamp_over block x y)
@@ -58,6 +80,9 @@ touches (Erase layer area) (Cell id x y) = nat_eq id layer && in_area area x y
 touches (MapMembers change) (MembersOf members.Map) = true
 touches (LayerMembers id change) (MembersOf (members.Layer own)) = nat_eq own id
 touches (TilesetMembers first_id change) (MembersOf (members.Tileset own)) = nat_eq own first_id
+touches (ObjectMembers id change) (MembersOf (members.Object own)) = nat_eq own id
+touches (SetProperty owner name setting) (PropertyOf own other) = same_owner own owner && bytes_eq other name
+touches (PutProperty owner property) (PropertyOf own other) = same_owner own owner && bytes_eq other property.name
 touches edit place = false
 
 -- the places that it looks at beside those
