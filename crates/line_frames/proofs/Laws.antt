@@ -29,9 +29,9 @@ use Rattle.edits.specs.Stamping.{after_erase, after_stamp}
 use Rattle.line_frames.proofs.Members.{is_layer, is_map, is_object, is_tileset, layer-outside, map-outside, object-outside, put-done, put-get, tileset-outside}
 use Rattle.line_frames.proofs.Merging.{first_true}
 use Rattle.line_frames.proofs.Named.{put_found, same_text}
-use Rattle.line_frames.proofs.Properties.{IsPut, is_named, put-outside, put-own, same-owner, set-put, whole-put}
+use Rattle.line_frames.proofs.Properties.{IsPut, is_named, put-outside, put-own, remove-taken, same-owner, set-put, take-outside, take-own, whole-put}
 use Rattle.line_frames.proofs.Tiles.{and_first, covered-inside, covered-outside, lies_over, none-selected, same_number}
-use Rattle.line_frames.specs.Frames.{Erase, InsideLaw, LayerMembers, MapMembers, ObjectMembers, OutsideLaw, PutProperty, SetProperty, Stamp, TilesetMembers, done, same_owner, touches}
+use Rattle.line_frames.specs.Frames.{Erase, InsideLaw, LayerMembers, MapMembers, ObjectMembers, OutsideLaw, PutProperty, RemoveProperty, SetProperty, Stamp, TilesetMembers, done, same_owner, touches}
 use Rattle.line_frames.specs.Places.{AgreeAt, Cell, MembersOf, Place, PropertyOf, Selection, content}
 
 -- ---- what is done
@@ -92,9 +92,25 @@ put-touches : (owner : Owner) (property : Property) (place : Place) → touches 
 put-touches owner property (PropertyOf own other) = refl
 put-touches owner property place = refl
 
+remove-touches : (owner : Owner) (name : List ℕ) (place : Place) → touches (RemoveProperty owner name) place ≡ is_named owner name place
+remove-touches owner name (PropertyOf own other) = refl
+remove-touches owner name place = refl
+
 -- ---- properties
 own_name : (name : List ℕ) → bytes_eq name name ≡ true
 own_name name = (bytes_eq-Decides name name).1 refl
+
+and_second : (s t : Bool) → (s && t) ≡ true → t ≡ true
+and_second true t e = e
+and_second false t e = cc
+
+-- a property that is touched is the owner's of that name
+the-property : (owner own : Owner) (name other : List ℕ) (d n : DocumentParts) → (same_owner own owner && bytes_eq other name) ≡ true
+    → AgreeAt (PropertyOf owner name) d n → AgreeAt (PropertyOf own other) d n
+the-property owner own name other d n t agree =
+    let same = same-owner own owner (and_first (same_owner own owner) (bytes_eq other name) t) in
+    let text = same_text other name (and_second (same_owner own owner) (bytes_eq other name) t) in
+    subst (λ (o : Owner). AgreeAt (PropertyOf o other) d n) (sym same) (subst (λ q. AgreeAt (PropertyOf owner q) d n) (sym text) agree)
 
 -- two documents with the same property of a name have the same one behind an edit that puts it
 same-put : (owner : Owner) (name : List ℕ) (f : Property → Property) (new : Property) → has_name name new ≡ true
@@ -104,16 +120,11 @@ same-put : (owner : Owner) (name : List ℕ) (f : Property → Property) (new : 
     → AgreeAt (PropertyOf own other) n k
 same-put owner name f new named keeps d n e k a b h j own other t agree =
     let same = same-owner own owner (and_first (same_owner own owner) (bytes_eq other name) t) in
-    let text = same_text other name (and_second_true (same_owner own owner) (bytes_eq other name) t) in
+    let text = same_text other name (and_second (same_owner own owner) (bytes_eq other name) t) in
     let here : AgreeAt (PropertyOf owner name) d e = subst (λ q. AgreeAt (PropertyOf owner q) d e) text
     (subst (λ (o : Owner). AgreeAt (PropertyOf o other) d e) same agree) in
-    subst (λ (o : Owner). AgreeAt (PropertyOf o other) n k) (sym same)
-    (subst (λ q. AgreeAt (PropertyOf owner q) n k) (sym text)
-    (put-own owner name f new named keeps d n a h ∙ ap (put_found f new) here ∙ sym (put-own owner name f new named keeps e k b j)))
-  where
-    and_second_true : (s t : Bool) → (s && t) ≡ true → t ≡ true
-    and_second_true true t e = e
-    and_second_true false t e = cc
+    the-property owner own name other n k t
+    (put-own owner name f new named keeps d n a h ∙ ap (put_found f new) here ∙ sym (put-own owner name f new named keeps e k b j))
 
 -- ---- the laws
 pub outside-law : OutsideLaw
@@ -143,6 +154,8 @@ outside-law (SetProperty owner name setting) d n leads place e =
 outside-law (PutProperty owner property) d n leads place e =
     put-outside owner property.name (λ own. property) property (own_name property.name) (λ p h. own_name property.name) d n
     (whole-put owner property d n leads.is) leads.well_formed place (sym (put-touches owner property place) ∙ e)
+outside-law (RemoveProperty owner name) d n leads place e =
+    take-outside owner name d n (remove-taken owner name d n leads.is) leads.well_formed place (sym (remove-touches owner name place) ∙ e)
 
 pub inside-law : InsideLaw
 inside-law (Stamp layer block) d n e k a b agree (Cell id x y) t =
@@ -195,3 +208,7 @@ inside-law (PutProperty owner property) d n e k a b agree (PropertyOf own other)
     (whole-put owner property d n a.is) (whole-put owner property e k b.is) a.well_formed b.well_formed own other t
     (agree (PropertyOf own other) (first_true (touches (PutProperty owner property) (PropertyOf own other)) false t))
 inside-law (PutProperty owner property) d n e k a b agree place t = cc
+inside-law (RemoveProperty owner name) d n e k a b agree (PropertyOf own other) t =
+    the-property owner own name other n k t
+    (take-own owner name d n (remove-taken owner name d n a.is) a.well_formed ∙ sym (take-own owner name e k (remove-taken owner name e k b.is) b.well_formed))
+inside-law (RemoveProperty owner name) d n e k a b agree place t = cc

@@ -6,5 +6,6 @@ pub mod Members
 pub mod OneObject
 pub mod Named
 pub mod Properties
+pub mod MemberLines
 pub mod Merging
 pub mod Laws

@@ -3,7 +3,7 @@ use Rattle.std.proofs.Common.{◌≡◌, ℕ, suc, ◌+◌, ◌-◌, ◌≤◌, 
 use Rattle.std.proofs.Common.{arith}
 use Rattle.std.proofs.lemmas.Iterator.Adapters.{position_from-zero}
 use Rattle.std.proofs.lemmas.Slice.Eq.{bytes_eq-Decides}
-use Rattle.std.specs.List.{insert, position, position_from}
+use Rattle.std.specs.List.{insert, position, position_from, remove}
 use Rattle.std.specs.Str.{bytes_eq}
 use Rattle.map_model.specs.Lists.{change_at}
 use Rattle.map_model.proofs.LensLaws.{some-eq}
@@ -76,6 +76,42 @@ module _ {X : Type 0} (p : X → Bool) (f : X → X) (new : X) where
       by_test true e later = rw ((apart x e).1, (apart x e).0) refl
       by_test false e later = ap (λ o. cond (q x) (Some x) o) later
 
+-- ---- the first element that passes the test taken out
+abbrev pub take_first : {X : Type 0} → (X → Bool) → List X → List X
+take_first p [] = []
+take_first p (x ∷ xs) = cond (p x) xs (x ∷ take_first p xs)
+
+module _ {X : Type 0} (p : X → Bool) where
+  removed_from : (xs : List X) (i j : ℕ) → position_from p i xs ≡ Some j → (i ≤ j) × (remove xs (j - i) ≡ take_first p xs)
+  removed_from [] i j e = cc
+  removed_from (x ∷ xs) i j e = by_test (p x) e (removed_from xs (i + 1) j)
+    where
+      by_test : (b : Bool) → cond b (Some i) (position_from p (i + 1) xs) ≡ Some j
+          → (position_from p (i + 1) xs ≡ Some j → (i + 1 ≤ j) × (remove xs (j - (i + 1)) ≡ take_first p xs))
+          → (i ≤ j) × (remove (x ∷ xs) (j - i) ≡ cond b xs (x ∷ take_first p xs))
+      by_test true q later =
+          let same = some-eq i j q in
+          let none : j - i ≡ 0 = omega (arith, same) in
+          (omega (arith, same), ap (remove (x ∷ xs)) none)
+      by_test false q later =
+          let rest = later q in
+          let next : j - i ≡ suc (j - (i + 1)) = omega (arith, rest.0) in
+          (omega (arith, rest.0), ap (remove (x ∷ xs)) next ∙ ap (λ ys. x ∷ ys) rest.1)
+
+  pub taken-first : (xs : List X) (at : ℕ) → position p xs ≡ Some at → remove xs at ≡ take_first p xs
+  taken-first xs at e =
+      let start : at ≡ at - 0 = omega arith in
+      ap (remove xs) start ∙ (removed_from xs 0 at (sym (position_from-zero p xs) ∙ e)).1
+
+  pub other-taken : (q : X → Bool) → ((x : X) → p x ≡ true → q x ≡ false) → (xs : List X) → find q (take_first p xs) ≡ find q xs
+  other-taken q apart [] = refl
+  other-taken q apart (x ∷ xs) = by_test (p x) refl (other-taken q apart xs)
+    where
+      by_test : (b : Bool) → p x ≡ b → find q (take_first p xs) ≡ find q xs → find q (cond b xs (x ∷ take_first p xs)) ≡ cond (q x) (Some x) (find q xs)
+      by_test true e later = rw (apart x e) refl
+      by_test false e later = ap (λ o. cond (q x) (Some x) o) later
+
+-- ---- texts
 -- a text that is one is not the other
 pub other-text : (text name other : List ℕ) → bytes_eq other name ≡ false → bytes_eq text name ≡ true → bytes_eq text other ≡ false
 other-text text name other e h = by_test (bytes_eq text other) refl

@@ -1,13 +1,13 @@
 -- What stands in a document of which an owner has other properties.
-use Rattle.std.proofs.Common.{◌≡◌, ℕ, List, nat_eq, ◌&&◌, Bool, true, false, find, length, Option, Some, None, option_map, option_and_then}
+use Rattle.std.proofs.Common.{◌≡◌, ◌≢◌, ℕ, List, [], ◌∷◌, cond, nat_eq, ◌&&◌, Bool, true, false, find, length, Option, Some, None, option_map, option_and_then}
 use Rattle.std.proofs.Common.{refl, sym, ap, ◌∙◌, subst, arith}
 use Rattle.std.proofs.lemmas.Bool.Decides.{nat_tests}
 use Rattle.std.specs.Prelude.{Result, Ok, Err, nat_lt, ⊤}
-use Rattle.std.specs.List.{insert, position}
+use Rattle.std.specs.List.{flat_map, insert, position, remove}
 use Rattle.std.specs.Option.{ok_or}
 use Rattle.std.specs.Str.{bytes_eq}
 use Rattle.refusals.specs.declared.edit_fault.EditFault.{EditFault}
-use Rattle.refusals.specs.declared.edit_fault.EditFault.TheVariants.{NoSuchLayer, NoSuchObject, TooMany}
+use Rattle.refusals.specs.declared.edit_fault.EditFault.TheVariants.{NoSuchLayer, NoSuchObject, NoSuchProperty, TooMany}
 use Rattle.map_model.specs.declared.limits.TheConstants.{MAX_PROPERTIES}
 use Rattle.map_model.specs.declared.owner.MemberOwner.TheVariants as members
 use Rattle.map_model.specs.declared.owner.Owner.{Owner}
@@ -22,23 +22,24 @@ use Rattle.map_model.specs.declared.place.OwnerPlace.TheVariants as places
 use Rattle.map_model.specs.declared.setting.Setting.{Setting}
 use Rattle.map_model.specs.Document.{DocumentParts, with_map}
 use Rattle.map_model.specs.Heads.{object_head}
-use Rattle.map_model.specs.Lists.{change_at, or_empty}
+use Rattle.map_model.specs.Lists.{Distinct, Each, change_at, or_empty}
 use Rattle.map_model.specs.Lookups.{layer_of}
 use Rattle.map_model.specs.Objects.{layer_with_objects, object_place, with_object}
 use Rattle.map_model.specs.Properties.{has_name, layer_properties, layer_with_properties, new_property, object_properties, object_with_properties, owner_place}
-use Rattle.map_model.specs.Properties.{properties_of, property_place, property_with_setting, with_properties, with_property, with_property_at}
+use Rattle.map_model.specs.Properties.{properties_of, property_place, property_with_setting, with_properties, with_property, with_property_at, without_property_at}
 use Rattle.map_model.specs.Refusing.{◌>>=◌, ◌>>◌, check}
-use Rattle.map_model.specs.WellFormed.{IsWellFormed}
+use Rattle.map_model.specs.WellFormed.{IsWellFormed, names_of_property}
 use Rattle.map_model.proofs.LensLaws.{some-eq}
 use Rattle.map_model.proofs.Lookups.{found-with_layer}
 use Rattle.map_model.proofs.ObjectKeeps.{group_in-objects}
+use Rattle.map_model.proofs.PropertyKeeps.{AreProperties-of}
 use Rattle.map_model.proofs.PropertyLaws.{properties-laws}
 use Rattle.map_model.proofs.StayPut.{object_place-with_object}
-use Rattle.edits.specs.PropertyEdits.{after_set_at, after_set_property, count_of, owner_or_fault, property_count}
+use Rattle.edits.specs.PropertyEdits.{after_remove_property, after_set_at, after_set_property, count_of, owner_or_fault, property_count}
 use Rattle.property_commands.specs.PutEdits.{after_put_at, after_put_property}
 use Rattle.line_frames.proofs.Kept.{cell-kept, layer_head-kept, layer_property-kept, layer_of_object-kept, object_members-kept, object_property-kept, object_place-kept, of_layer-properties, outline-kept}
 use Rattle.line_frames.proofs.Kept.{properties_by}
-use Rattle.line_frames.proofs.Named.{added-last, changed-first, found-put, other-put, other-text, put_first, put_found}
+use Rattle.line_frames.proofs.Named.{added-last, changed-first, found-put, other-put, other-taken, other-text, put_first, put_found, same_text, take_first, taken-first}
 use Rattle.line_frames.proofs.OneObject.{object_cell-kept, object_head-kept, object_layer_members-kept, object_layer_of-kept, object_layer_property-kept}
 use Rattle.line_frames.proofs.OneObject.{object_outline-kept, object_properties-kept, placed-apart, placed-id, read-at, read-other, read-same}
 use Rattle.line_frames.proofs.Tiles.{other_number, same_number}
@@ -189,12 +190,61 @@ module _ (g : List Property → List Property) (d : DocumentParts) where
   elsewhere (owners.Object id) (places.Layer own) is h p e = absurd is
   elsewhere (owners.Object id) (places.Object k) is h p e = object-elsewhere id k is h p e
 
--- ---- a property that is put
+-- ---- the list of an owner changed
+-- n is the document with g of the owner's properties
+record IsChanged (owner : Owner) (g : List Property → List Property) (d n : DocumentParts) : Type 0 where
+  place : OwnerPlace
+  there : owner_place d.map owner ≡ Some place
+  is : with_map (with_properties place g) d ≡ n
+
 -- whether a place has the property of this name
 abbrev pub is_named : Owner → List ℕ → Place → Bool
 is_named owner name (PropertyOf own other) = same_owner own owner && bytes_eq other name
 is_named owner name place = false
 
+module _ (owner : Owner) (d : DocumentParts) (place : OwnerPlace) (there : owner_place d.map owner ≡ Some place) (well_formed : IsWellFormed d.map) where
+  -- what is found by a name
+  found-before : (ps : List Property) → properties_of d.map place ≡ Some ps → (other : List ℕ) → property_named d.map owner other ≡ find (has_name other) ps
+  found-before ps are other =
+      ap (λ o. option_and_then (find (has_name other)) (option_and_then (properties_of d.map) o)) there
+      ∙ ap (option_and_then (find (has_name other))) are
+
+module _ (owner : Owner) (g : List Property → List Property) (d n : DocumentParts) (changed : IsChanged owner g d n) (well_formed : IsWellFormed d.map) where
+  found-behind : (ps : List Property) → properties_of d.map changed.place ≡ Some ps → (other : List ℕ)
+      → property_named n.map owner other ≡ find (has_name other) (g ps)
+  found-behind ps are other =
+      let made = with_map (with_properties changed.place g) d in
+      ap (λ (e : DocumentParts). property_named e.map owner other) (sym changed.is)
+      ∙ ap (λ o. option_and_then (find (has_name other)) (option_and_then (properties_of made.map) o))
+        (owner-stays g d owner changed.place ∙ changed.there)
+      ∙ ap (option_and_then (find (has_name other))) ((properties-laws changed.place).get-update g ps d are)
+
+  -- a change that the property of one name alone shows is at no other place
+  changed-outside : (name : List ℕ) → ((other : List ℕ) → bytes_eq other name ≡ false → (ps : List Property) → properties_of d.map changed.place ≡ Some ps
+      → find (has_name other) (g ps) ≡ find (has_name other) ps) → (p : Place) → is_named owner name p ≡ false → AgreeAt p n d
+  changed-outside name same p e = by_place p e
+    where
+      away : (p : Place) → is_property_of owner p ≡ false → AgreeAt p n d
+      away p e = ap (content p) (sym changed.is)
+          ∙ elsewhere g d owner changed.place (place-of d.map owner changed.place changed.there) well_formed p e
+
+      by_test : (own : Owner) (other : List ℕ) (b : Bool) → same_owner own owner ≡ b → (b && bytes_eq other name) ≡ false → AgreeAt (PropertyOf own other) n d
+      by_test own other true q h =
+          let has = properties-there d.map owner changed.place changed.there well_formed in
+          subst (λ (o : Owner). property_named n.map o other ≡ property_named d.map o other) (sym (same-owner own owner q))
+          (found-behind has.0 has.1 other ∙ same other h has.0 has.1
+          ∙ sym (found-before owner d changed.place changed.there well_formed has.0 has.1 other))
+      by_test own other false q h = away (PropertyOf own other) q
+
+      by_place : (p : Place) → is_named owner name p ≡ false → AgreeAt p n d
+      by_place (PropertyOf own other) h = by_test own other (same_owner own owner) refl h
+      by_place (Cell id x y) h = away (Cell id x y) refl
+      by_place (MembersOf own) h = away (MembersOf own) refl
+      by_place (LayerOf id) h = away (LayerOf id) refl
+      by_place Selection h = away Selection refl
+      by_place Outline h = away Outline refl
+
+-- ---- a property that is put
 -- the document with f of the property at a place among the owner's, or with a new one, which goes last
 abbrev pub put_at : (Property → Property) → Property → DocumentParts → OwnerPlace → Option ℕ → DocumentParts
 put_at f new d place (Some at) = with_map (with_property place at f) d
@@ -207,17 +257,18 @@ pub record IsPut (owner : Owner) (name : List ℕ) (f : Property → Property) (
   pub is : put_at f new d place (property_place d.map place name) ≡ n
 
 -- such a change is one of the owner's list
-record IsListed (name : List ℕ) (f : Property → Property) (new : Property) (d n : DocumentParts) (place : OwnerPlace) (ps : List Property) : Type 0 where
+record IsListed (owner : Owner) (name : List ℕ) (f : Property → Property) (new : Property) (d n : DocumentParts) (place : OwnerPlace)
+    (ps : List Property) : Type 0 where
   g : List Property → List Property
   is : with_map (with_properties place g) d ≡ n
   gives : g ps ≡ put_first (has_name name) f new ps
 
 module _ (owner : Owner) (name : List ℕ) (f : Property → Property) (new : Property) (named : has_name name new ≡ true)
     (keeps : (p : Property) → has_name name p ≡ true → has_name name (f p) ≡ true) (d n : DocumentParts) (put : IsPut owner name f new d n) where
-  listed : (ps : List Property) → properties_of d.map put.place ≡ Some ps → IsListed name f new d n put.place ps
+  listed : (ps : List Property) → properties_of d.map put.place ≡ Some ps → IsListed owner name f new d n put.place ps
   listed ps are = by_place (position (has_name name) ps) refl
     where
-      by_place : (o : Option ℕ) → position (has_name name) ps ≡ o → IsListed name f new d n put.place ps
+      by_place : (o : Option ℕ) → position (has_name name) ps ≡ o → IsListed owner name f new d n put.place ps
       by_place (Some at) e = record {
         g = change_at at f;
         is = ap (put_at f new d put.place) (sym (ap (option_and_then (position (has_name name))) are ∙ e)) ∙ put.is;
@@ -230,55 +281,76 @@ module _ (owner : Owner) (name : List ℕ) (f : Property → Property) (new : Pr
       }
 
   module _ (well_formed : IsWellFormed d.map) where
-    -- what is found by a name
-    found-before : (ps : List Property) → properties_of d.map put.place ≡ Some ps → (other : List ℕ)
-        → property_named d.map owner other ≡ find (has_name other) ps
-    found-before ps are other =
-        ap (λ o. option_and_then (find (has_name other)) (option_and_then (properties_of d.map) o)) put.there
-        ∙ ap (option_and_then (find (has_name other))) are
-
-    found-behind : (ps : List Property) (are : properties_of d.map put.place ≡ Some ps) (other : List ℕ)
-        → property_named n.map owner other ≡ find (has_name other) (put_first (has_name name) f new ps)
-    found-behind ps are other =
-        let l = listed ps are in
-        let made = with_map (with_properties put.place l.g) d in
-        ap (λ (e : DocumentParts). property_named e.map owner other) (sym l.is)
-        ∙ ap (λ o. option_and_then (find (has_name other)) (option_and_then (properties_of made.map) o)) (owner-stays l.g d owner put.place ∙ put.there)
-        ∙ ap (option_and_then (find (has_name other))) ((properties-laws put.place).get-update l.g ps d are)
-        ∙ ap (find (has_name other)) l.gives
-
     -- the property of the name is what the edit makes of it
     pub put-own : property_named n.map owner name ≡ put_found f new (property_named d.map owner name)
     put-own =
         let has = properties-there d.map owner put.place put.there well_formed in
-        found-behind has.0 has.1 name ∙ found-put (has_name name) f new named keeps has.0 ∙ sym (ap (put_found f new) (found-before has.0 has.1 name))
-
-    put-other : (other : List ℕ) → bytes_eq other name ≡ false → property_named n.map owner other ≡ property_named d.map owner other
-    put-other other apart =
-        let has = properties-there d.map owner put.place put.there well_formed in
-        found-behind has.0 has.1 other
-        ∙ other-put (has_name name) f new (has_name other) (other-text new.name name other apart named)
-          (λ p e. (other-text p.name name other apart e, other-text (f p).name name other apart (keeps p e))) has.0
-        ∙ sym (found-before has.0 has.1 other)
-
-    put-elsewhere : (p : Place) → is_property_of owner p ≡ false → AgreeAt p n d
-    put-elsewhere p e =
-        let has = properties-there d.map owner put.place put.there well_formed in
         let l = listed has.0 has.1 in
-        ap (content p) (sym l.is) ∙ elsewhere l.g d owner put.place (place-of d.map owner put.place put.there) well_formed p e
+        found-behind owner l.g d n (record { place = put.place; there = put.there; is = l.is }) well_formed has.0 has.1 name
+        ∙ ap (find (has_name name)) l.gives ∙ found-put (has_name name) f new named keeps has.0
+        ∙ sym (ap (put_found f new) (found-before owner d put.place put.there well_formed has.0 has.1 name))
 
     -- nothing else changes
     pub put-outside : (p : Place) → is_named owner name p ≡ false → AgreeAt p n d
-    put-outside (PropertyOf own other) e = by_test (same_owner own owner) refl e
-      where
-        by_test : (b : Bool) → same_owner own owner ≡ b → (b && bytes_eq other name) ≡ false → AgreeAt (PropertyOf own other) n d
-        by_test true q h = subst (λ (o : Owner). property_named n.map o other ≡ property_named d.map o other) (sym (same-owner own owner q)) (put-other other h)
-        by_test false q h = put-elsewhere (PropertyOf own other) q
-    put-outside (Cell id x y) e = put-elsewhere (Cell id x y) refl
-    put-outside (MembersOf own) e = put-elsewhere (MembersOf own) refl
-    put-outside (LayerOf id) e = put-elsewhere (LayerOf id) refl
-    put-outside Selection e = put-elsewhere Selection refl
-    put-outside Outline e = put-elsewhere Outline refl
+    put-outside =
+        let has = properties-there d.map owner put.place put.there well_formed in
+        let l = listed has.0 has.1 in
+        changed-outside owner l.g d n (record { place = put.place; there = put.there; is = l.is }) well_formed name
+        (λ other apart ps are.
+        let same : has.0 ≡ ps = some-eq has.0 ps (sym has.1 ∙ are) in
+        subst (λ qs. find (has_name other) (l.g qs) ≡ find (has_name other) qs) same
+        (ap (find (has_name other)) l.gives
+        ∙ other-put (has_name name) f new (has_name other) (other-text new.name name other apart named)
+          (λ p e. (other-text p.name name other apart e, other-text (f p).name name other apart (keeps p e))) has.0))
+
+-- ---- a property that is taken out
+-- no other property has the name
+none-named : (name : List ℕ) (ps : List Property) → Each (λ other. name ≢ other) (flat_map names_of_property ps) → find (has_name name) ps ≡ None
+none-named name [] h = refl
+none-named name (p ∷ ps) h = by_test (bytes_eq p.name name) refl (none-named name ps h.1)
+  where
+    by_test : (b : Bool) → bytes_eq p.name name ≡ b → find (has_name name) ps ≡ None → cond b (Some p) (find (has_name name) ps) ≡ None
+    by_test true e later = absurd (h.0 (sym (same_text p.name name e)))
+    by_test false e later = later
+
+taken-own : (name : List ℕ) (ps : List Property) → Distinct (flat_map names_of_property ps) → find (has_name name) (take_first (has_name name) ps) ≡ None
+taken-own name [] h = refl
+taken-own name (p ∷ ps) h = by_test (bytes_eq p.name name) refl (taken-own name ps h.1)
+  where
+    by_test : (b : Bool) → bytes_eq p.name name ≡ b → find (has_name name) (take_first (has_name name) ps) ≡ None
+        → find (has_name name) (cond b ps (p ∷ take_first (has_name name) ps)) ≡ None
+    by_test true e later = none-named name ps (subst (λ text. Each (λ other. text ≢ other) (flat_map names_of_property ps)) (same_text p.name name e) h.0)
+    by_test false e later = rw e later
+
+-- n is the document without the owner's property of this name
+pub record IsTaken (owner : Owner) (name : List ℕ) (d n : DocumentParts) : Type 0 where
+  pub place : OwnerPlace
+  pub at : ℕ
+  pub there : owner_place d.map owner ≡ Some place
+  pub found : property_place d.map place name ≡ Some at
+  pub is : with_map (without_property_at place at) d ≡ n
+
+module _ (owner : Owner) (name : List ℕ) (d n : DocumentParts) (taken : IsTaken owner name d n) (well_formed : IsWellFormed d.map) where
+  taken-is : IsChanged owner (λ ps. remove ps taken.at) d n
+  taken-is = record { place = taken.place; there = taken.there; is = taken.is }
+
+  taken-gives : (ps : List Property) → properties_of d.map taken.place ≡ Some ps → remove ps taken.at ≡ take_first (has_name name) ps
+  taken-gives ps are = taken-first (has_name name) ps taken.at (sym (ap (option_and_then (position (has_name name))) are) ∙ taken.found)
+
+  pub take-own : property_named n.map owner name ≡ None
+  unfolding taken-is
+  take-own =
+      let has = properties-there d.map owner taken.place taken.there well_formed in
+      found-behind owner (λ ps. remove ps taken.at) d n taken-is well_formed has.0 has.1 name
+      ∙ ap (find (has_name name)) (taken-gives has.0 has.1)
+      ∙ taken-own name has.0 (AreProperties-of taken.place has.0 d.map has.1 well_formed).distinct
+
+  pub take-outside : (p : Place) → is_named owner name p ≡ false → AgreeAt p n d
+  unfolding taken-is
+  take-outside = changed-outside owner (λ ps. remove ps taken.at) d n taken-is well_formed name
+      (λ other apart ps are.
+      ap (find (has_name other)) (taken-gives ps are)
+      ∙ other-taken (has_name name) (has_name other) (λ p e. other-text p.name name other apart e) ps)
 
 -- ---- edits
 found-owner : (m : MapParts) (owner : Owner) (place : OwnerPlace) → owner_or_fault m owner ≡ Ok place → owner_place m owner ≡ Some place
@@ -328,3 +400,13 @@ whole-put owner p d n e =
     by_place : (place : OwnerPlace) (o : Option ℕ) → done (after_put_at d p place o) ≡ Some n → put_at (λ own. p) p d place o ≡ n
     by_place place (Some at) q = some-eq _ n q
     by_place place None q = checked (nat_lt (property_count d.map place) MAX_PROPERTIES) TooMany _ n q
+
+pub remove-taken : (owner : Owner) (name : List ℕ) (d n : DocumentParts) → done (after_remove_property d owner name) ≡ Some n → IsTaken owner name d n
+remove-taken owner name d n e =
+    let found = at-owner owner d n (λ place. ok_or (property_place d.map place name) NoSuchProperty >>= λ at. Ok (with_map (without_property_at place at) d)) e in
+    by_place found.0 found.1.0 (property_place d.map found.0 name) refl found.1.1
+  where
+    by_place : (place : OwnerPlace) → owner_place d.map owner ≡ Some place → (o : Option ℕ) → property_place d.map place name ≡ o
+        → done (ok_or o NoSuchProperty >>= λ at. Ok (with_map (without_property_at place at) d)) ≡ Some n → IsTaken owner name d n
+    by_place place there None f q = cc
+    by_place place there (Some at) f q = record { place = place; at = at; there = there; found = f; is = some-eq _ n q }

@@ -17,7 +17,7 @@ use Rattle.map_model.specs.Lens.{Lens, put}
 use Rattle.map_model.specs.WellFormed.{IsWellFormed}
 use Rattle.edits.specs.declared.area.Area.{Area}
 use Rattle.edits.specs.Blocks.{ValueBlock, in_area, stamp_over}
-use Rattle.edits.specs.PropertyEdits.{after_set_property}
+use Rattle.edits.specs.PropertyEdits.{after_remove_property, after_set_property}
 use Rattle.edits.specs.Stamping.{after_erase, after_stamp}
 use Rattle.property_commands.specs.PutEdits.{after_put_property}
 use Rattle.line_frames.specs.Places.{AgreeAt, Place, Cell, MembersOf, PropertyOf, Selection}
@@ -25,7 +25,7 @@ use Rattle.line_frames.specs.Places.{AgreeAt, Place, Cell, MembersOf, PropertyOf
 -- ---- edits
 -- a stamp of a block of values in the layer with an id; an erase of an area there; own members of the map, of the layer with an id,
 -- of the tileset with a first id or of the object with an id, which become what
--- the edit makes of them, where it makes any; a property of an owner, by its name, that gets a type and a value, or is put in whole
+-- the edit makes of them, where it makes any; a property of an owner, by its name, that gets a type and a value, is put in whole, or is taken out
 pub data Edit : Type 0 where
   Stamp : ℕ → ValueBlock → Edit
   Erase : ℕ → Area → Edit
@@ -35,6 +35,7 @@ pub data Edit : Type 0 where
   ObjectMembers : ℕ → (ObjectHead → Option ObjectHead) → Edit
   SetProperty : Owner → List ℕ → Setting → Edit
   PutProperty : Owner → Property → Edit
+  RemoveProperty : Owner → List ℕ → Edit
 
 abbrev pub done : {A E : Type 0} → Result A E → Option A
 done (Ok x) = Some x
@@ -54,6 +55,7 @@ after (TilesetMembers first_id change) d = with_members (tileset_head_with_id fi
 after (ObjectMembers id change) d = with_members (head_with_id id) change d
 after (SetProperty owner name setting) d = done (after_set_property d owner name setting.kind setting.value)
 after (PutProperty owner property) d = done (after_put_property d owner property)
+after (RemoveProperty owner name) d = done (after_remove_property d owner name)
 
 -- an edit of a well-formed document gives the other one
 pub record Leads (edit : Edit) (d n : DocumentParts) : Type 0 where
@@ -83,6 +85,7 @@ touches (TilesetMembers first_id change) (MembersOf (members.Tileset own)) = nat
 touches (ObjectMembers id change) (MembersOf (members.Object own)) = nat_eq own id
 touches (SetProperty owner name setting) (PropertyOf own other) = same_owner own owner && bytes_eq other name
 touches (PutProperty owner property) (PropertyOf own other) = same_owner own owner && bytes_eq other property.name
+touches (RemoveProperty owner name) (PropertyOf own other) = same_owner own owner && bytes_eq other name
 touches edit place = false
 
 -- the places that it looks at beside those
