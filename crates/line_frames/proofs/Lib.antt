@@ -8,4 +8,5 @@ pub mod Named
 pub mod Properties
 pub mod MemberLines
 pub mod Merging
+pub mod LineLaws
 pub mod Laws

@@ -1,7 +1,8 @@
-//! The frame law of edits, as functions that do nothing.
+//! The frame law of lines, as functions that do nothing.
 #![tactic(auto)]
 
 ghost use Rattle.line_frames.specs.Frames.{InsideLaw, MergeLaw, OrderLaw, OutsideLaw};
+ghost use Rattle.line_frames.specs.Lines.{LineLaw, MoreLineLaw};
 
 /// States that an edit changes nothing outside the places that it touches.
 pub fn edits_stay_inside()
@@ -21,4 +22,14 @@ pub fn edits_apart_are_done_in_any_order()
 /// States that a merge by edits that look at nothing that ours changed holds each change of both sides.
 pub fn merges_hold_both_sides()
     ensures { MergeLaw }
+{}
+
+/// States that a stamp, an erase, and a line that sets or removes a property is an edit of the law.
+pub fn lines_are_edits()
+    ensures { LineLaw }
+{}
+
+/// States that so is a line of own members, and one that puts in or takes out a property that it says in JSON.
+pub fn lines_for_all_edits_are_edits()
+    ensures { MoreLineLaw }
 {}
