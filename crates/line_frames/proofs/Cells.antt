@@ -1,5 +1,5 @@
 -- The cells of a layer that takes what an edit puts over them.
-use Rattle.std.proofs.Common.{◌≡◌, ◌≢◌, ℕ, zero, suc, ◌+◌, ◌*◌, ◌/◌, ◌%◌, ◌<◌, List, [], ◌∷◌, nat_eq, nat_lt, ◌&&◌, Bool, true, false, cond, Option, Some, None, option_map}
+use Rattle.std.proofs.Common.{◌≡◌, ℕ, zero, suc, ◌+◌, ◌*◌, ◌/◌, ◌%◌, ◌<◌, List, [], ◌∷◌, nat_lt, ◌&&◌, Bool, true, false, cond, Option, Some, None, option_map}
 use Rattle.std.proofs.Common.{option_and_then, refl, sym, ap, ◌∙◌, arith}
 use Rattle.std.specs.List.{slice_get}
 use Rattle.std.proofs.lemmas.Nat.{mod-mul-add, div-mul-add}
@@ -10,11 +10,9 @@ use Rattle.map_model.specs.declared.parts.Body.TheVariants.{Tiles}
 use Rattle.map_model.specs.declared.parts.Layer.{Layer}
 use Rattle.map_model.specs.declared.parts.MapParts.{MapParts}
 use Rattle.map_model.specs.Bodies.{body_with_tiles, tile_at}
-use Rattle.map_model.specs.Groups.{bare, has_id, inside}
-use Rattle.map_model.specs.Lookups.{cell_of, layer_of, layer_with_tiles, with_tiles}
+use Rattle.map_model.specs.Lookups.{cell_of, layer_of, layer_with_tiles}
 use Rattle.map_model.proofs.TreeChanges.{layer_among-change_among}
 use Rattle.edits.specs.Covering.{covered, covered_map, covered_value, each_at}
-use Rattle.line_frames.proofs.OneLayer.{layer_of-kept}
 
 -- ---- lists
 each_from : (f : ℕ → ℕ → ℕ) (n : ℕ) (vs : List ℕ) (k : ℕ) → slice_get (each_at f n vs) k ≡ option_map (f (n + k)) (slice_get vs k)

@@ -1,11 +1,11 @@
 -- What stands at the places that a change of one layer does not touch.
-use Rattle.std.proofs.Common.{◌≡◌, ℕ, List, [], ◌+◌, ◌*◌, nat_eq, nat_lt, ◌&&◌, Bool, true, false, cond, find, map, Option, Some, None, option_map, option_and_then}
-use Rattle.std.proofs.Common.{refl, sym, ap, ◌∙◌, subst}
+use Rattle.std.proofs.Common.{◌≡◌, ℕ, List, [], ◌+◌, ◌*◌, nat_lt, ◌&&◌, true, cond, find, map, Option, Some, None, option_map, option_and_then}
+use Rattle.std.proofs.Common.{refl, sym, ap, ◌∙◌}
 use Rattle.std.specs.List.{slice_get, position}
 use Rattle.map_model.specs.declared.owner.MemberOwner.TheVariants as members
 use Rattle.map_model.specs.declared.owner.Owner.TheVariants as owners
 use Rattle.map_model.specs.declared.parts.Body.{Body}
-use Rattle.map_model.specs.declared.parts.Body.TheVariants.{Tiles, Objects, Group'}
+use Rattle.map_model.specs.declared.parts.Body.TheVariants.{Group'}
 use Rattle.map_model.specs.declared.parts.Layer.{Layer}
 use Rattle.map_model.specs.declared.parts.Object.{Object}
 use Rattle.map_model.specs.declared.parts.Property.{Property}
@@ -13,13 +13,13 @@ use Rattle.map_model.specs.declared.parts.MapParts.{MapParts}
 use Rattle.map_model.specs.declared.place.ObjectPlace.{ObjectPlace}
 use Rattle.map_model.specs.declared.place.OwnerPlace.{OwnerPlace}
 use Rattle.map_model.specs.declared.place.OwnerPlace.TheVariants as places
-use Rattle.map_model.specs.Bodies.{tile_at, objects_in}
+use Rattle.map_model.specs.Bodies.{tile_at}
 use Rattle.map_model.specs.Groups.{all_drawn, bare, body_with_layers, has_id, inside}
 use Rattle.map_model.specs.Document.{DocumentParts, with_map}
 use Rattle.map_model.specs.Heads.{head, layer_head, object_head}
 use Rattle.map_model.specs.Lens.{of_object}
 use Rattle.map_model.specs.Lookups.{cell_of, layer_of, with_layer}
-use Rattle.map_model.specs.Objects.{has_object_id, object_at, object_place, objects_of, place_in_layer, place_of_layer}
+use Rattle.map_model.specs.Objects.{has_object_id, object_at, object_place, objects_of, place_in_layer}
 use Rattle.map_model.specs.Properties.{has_name, layer_properties, object_properties, owner_place, properties_of}
 use Rattle.map_model.proofs.GroupBodies.{objects_in-with}
 use Rattle.line_frames.proofs.Cells.{then-kept}

@@ -1,15 +1,11 @@
 -- Lines are edits of the frame law.
-use Rattle.std.proofs.Common.{◌≡◌, ℕ, List, Option, Some, None, option_map, Result, Ok, Err, refl, sym, ap, ◌∙◌, subst}
-use Rattle.fractions.specs.declared.lines.Fractions.{Fractions}
+use Rattle.std.proofs.Common.{◌≡◌, Some, option_map, Result, Ok, Err, refl, ap, ◌∙◌, subst}
 use Rattle.map_model.specs.declared.owner.MemberOwner.TheVariants as owners
-use Rattle.map_model.specs.declared.owner.Owner.{Owner}
-use Rattle.map_model.specs.declared.parts.Property.{Property}
 use Rattle.map_model.specs.declared.place.OwnerPlace.{OwnerPlace}
 use Rattle.map_model.specs.Document.{DocumentParts}
 use Rattle.map_json.specs.Given.{given_property_at, given_text_at}
 use Rattle.map_json.specs.LayerHeads.{layer_head_at}
 use Rattle.map_json.specs.MapHeads.{map_head_said}
-use Rattle.map_json.specs.Moves.{moved_in}
 use Rattle.map_json.specs.ObjectHeads.{head_at}
 use Rattle.map_json.specs.TilesetHeads.{tileset_head_at}
 use Rattle.map_model.proofs.LensLaws.{some-eq}
@@ -27,7 +23,7 @@ use Rattle.session.specs.declared.more_line.MoreLine.TheVariants as more
 use Rattle.document_lines.specs.GivenEdits.{made}
 use Rattle.line_frames.proofs.MemberLines.{map-reads, put_line, remove_line, set_line}
 use Rattle.line_frames.specs.Frames.{Edit, PutProperty, RemoveProperty, after, done}
-use Rattle.line_frames.specs.Lines.{LineLaw, MoreLineLaw, edit_of, edited, more_edit_of}
+use Rattle.line_frames.specs.Lines.{LineLaw, MoreLineLaw}
 
 -- an edit that is the one that a line is
 is-edit : (own edit : Edit) (d n : DocumentParts) → Some own ≡ Some edit → after own d ≡ Some n → after edit d ≡ Some n

@@ -3,13 +3,12 @@ use Rattle.std.proofs.Common.{◌≡◌, ℕ, List, [], ◌∷◌, ◌++◌, nat
 use Rattle.map_model.specs.declared.limits.TheConstants.{MAX_GROUPS}
 use Rattle.map_model.specs.declared.parts.Layer.{Layer}
 use Rattle.map_model.specs.declared.parts.MapParts.{MapParts}
-use Rattle.map_model.specs.Groups.{all_drawn, bare, has_id, inside, layer_among}
+use Rattle.map_model.specs.Groups.{all_drawn, bare, has_id, inside}
 use Rattle.map_model.specs.Keeping.{layer_tier}
 use Rattle.map_model.specs.Lists.{first_some, or_else}
 use Rattle.map_model.specs.Lookups.{layer_of, with_layer}
 use Rattle.map_model.specs.Properties.{is_drawn_with}
 use Rattle.map_model.proofs.Keeps.{layer-Stands, own-IsReplaced}
-use Rattle.map_model.proofs.Listings.{IsReplaced}
 use Rattle.map_model.proofs.Lookups.{first_some-append}
 use Rattle.map_model.proofs.Trees.{change_among-none, none_among}
 

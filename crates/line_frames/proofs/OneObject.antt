@@ -1,16 +1,14 @@
 -- What a change of one object leaves as it is.
-use Rattle.std.proofs.Common.{◌≡◌, ℕ, zero, suc, List, [], ◌∷◌, nat_eq, Bool, true, false, cond, find, map, get_or, Option, Some, None, option_map, option_and_then}
-use Rattle.std.proofs.Common.{refl, sym, ap, ◌∙◌, subst, arith}
-use Rattle.std.proofs.lemmas.Bool.Decides.{nat_tests}
+use Rattle.std.proofs.Common.{◌≡◌, ℕ, zero, suc, List, [], ◌∷◌, nat_eq, true, find, get_or, Option, Some, None, option_map, option_and_then}
+use Rattle.std.proofs.Common.{refl, sym, ap, ◌∙◌, subst}
 use Rattle.std.proofs.lemmas.List.Quantifiers.{position-Some}
 use Rattle.std.proofs.lemmas.Option.{slice_get-get_or}
 use Rattle.std.specs.List.{slice_get, position}
 use Rattle.serde_json.specs.Data.{no_members}
-use Rattle.map_model.specs.declared.heads.ObjectHead.{ObjectHead}
 use Rattle.map_model.specs.declared.owner.MemberOwner.TheVariants as members
 use Rattle.map_model.specs.declared.owner.Owner.TheVariants as owners
 use Rattle.map_model.specs.declared.parts.Body.{Body}
-use Rattle.map_model.specs.declared.parts.Body.TheVariants.{Tiles, Objects, Group'}
+use Rattle.map_model.specs.declared.parts.Body.TheVariants.{Tiles, Objects}
 use Rattle.map_model.specs.declared.parts.Layer.{Layer}
 use Rattle.map_model.specs.declared.parts.MapParts.{MapParts}
 use Rattle.map_model.specs.declared.parts.Object.{Object}
@@ -19,8 +17,7 @@ use Rattle.map_model.specs.declared.place.OwnerPlace.TheVariants as places
 use Rattle.map_model.specs.Bodies.{body_with_contents, body_with_objects, objects_in, tile_at}
 use Rattle.map_model.specs.Document.{DocumentParts, with_map}
 use Rattle.map_model.specs.Groups.{all_drawn, bare, body_with_layers, inside}
-use Rattle.map_model.specs.Heads.{head, object_head, object_with_head}
-use Rattle.map_model.specs.Lens.{of_object}
+use Rattle.map_model.specs.Heads.{object_head}
 use Rattle.map_model.specs.Lists.{change_at, first_some, or_else, or_empty}
 use Rattle.map_model.specs.Lookups.{layer_of}
 use Rattle.map_model.specs.Objects.{found_at, found_in_layer, has_object_id, layer_with_objects, object_at, object_place, objects_of, place_of_layer, with_object}
@@ -33,7 +30,7 @@ use Rattle.line_frames.proofs.Cells.{then-kept}
 use Rattle.line_frames.proofs.Kept.{cell-kept, layer_head-kept, layer_property-kept, objects-alone, outline-kept, properties_by}
 use Rattle.line_frames.proofs.OneLayer.{layer_of-kept}
 use Rattle.line_frames.proofs.Tiles.{same_number}
-use Rattle.line_frames.specs.Places.{AgreeAt, Cell, LayerOf, MembersOf, Outline, Place, PropertyOf, Selection, layer_outline}
+use Rattle.line_frames.specs.Places.{AgreeAt, Cell, LayerOf, MembersOf, Outline, PropertyOf, layer_outline}
 
 -- ---- an object that stands at its place has its id
 found-id : (id : ℕ) (l : ℕ × Layer) (q : ObjectPlace × Object) → found_in_layer id l ≡ Some q → q.1.id ≡ id

@@ -7,11 +7,11 @@ use Rattle.serde_json.specs.Data.{no_members}
 use Rattle.map_model.specs.declared.owner.MemberOwner.TheVariants as members
 use Rattle.map_model.specs.declared.owner.Owner.TheVariants as owners
 use Rattle.map_model.specs.declared.parts.Body.{Body}
-use Rattle.map_model.specs.declared.parts.Body.TheVariants.{Tiles, Objects, Group'}
+use Rattle.map_model.specs.declared.parts.Body.TheVariants.{Tiles, Objects}
 use Rattle.map_model.specs.declared.parts.Layer.{Layer}
 use Rattle.map_model.specs.Bodies.{body_with_contents, body_with_tiles, objects_in}
 use Rattle.map_model.specs.Document.{DocumentParts, with_map}
-use Rattle.map_model.specs.Groups.{bare, body_with_layers, has_id, inside}
+use Rattle.map_model.specs.Groups.{bare, body_with_layers, inside}
 use Rattle.map_model.specs.Lists.{or_empty}
 use Rattle.map_model.specs.Lookups.{cell_of, layer_with_tiles}
 use Rattle.map_model.specs.Objects.{objects_of}

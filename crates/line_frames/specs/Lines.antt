@@ -1,5 +1,5 @@
 -- The lines that are edits of the frame law.
-use Rattle.std.specs.Prelude.{◌≡◌, List, ℕ, Option, Some, None, Result, Ok, Err}
+use Rattle.std.specs.Prelude.{◌≡◌, Option, Some, None, Result}
 use Rattle.std.specs.Option.{option_map}
 use Rattle.fractions.specs.declared.lines.Fractions.{Fractions}
 use Rattle.fractions.specs.declared.lines.Moved.{Moved}
