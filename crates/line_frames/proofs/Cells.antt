@@ -26,7 +26,7 @@ covered-at : (w x y : ℕ) (over : ℕ → ℕ → Option ℕ) (vs : List ℕ) �
 covered-at w x y over vs l =
     each_from (λ number old. covered_value (over (number % w) (number / w)) old) 0 vs (y * w + x)
     ∙ (let at : 0 + (y * w + x) ≡ y * w + x = omega arith in
-      ap (λ m. option_map (λ old. covered_value (over (m % w) (m / w)) old) (slice_get vs (y * w + x))) at)
+    ap (λ m. option_map (λ old. covered_value (over (m % w) (m / w)) old) (slice_get vs (y * w + x))) at)
     ∙ ap (λ n. option_map (covered_value (over n ((y * w + x) / w))) (slice_get vs (y * w + x))) (mod-mul-add y w x l)
     ∙ ap (λ n. option_map (covered_value (over x n)) (slice_get vs (y * w + x))) (div-mul-add y w x l)
 

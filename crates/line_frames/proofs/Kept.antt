@@ -120,7 +120,7 @@ module _ (own : ℕ) (f : Layer → Layer) (inner_same : (l : Layer) → inside 
         let n = with_map (with_layer own f) d in
         ap (option_and_then (λ (at : ObjectPlace). (of_object at head).get n)) (object_place-kept own f inner_same ids d.map objects_same id)
         ∙ (λ i. option_and_then (λ (at : ObjectPlace). object-kept own f inner_same ids d.map objects_same (λ o. Some (object_head o)) at i)
-          (object_place d.map id))
+        (object_place d.map id))
 
     -- its properties
     pub object_property-kept : (id : ℕ) (name : List ℕ) → AgreeAt (PropertyOf (owners.Object id) name) (with_map (with_layer own f) d) d

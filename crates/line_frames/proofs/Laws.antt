@@ -1,5 +1,5 @@
 -- The frame law of each edit.
-use Rattle.std.proofs.Common.{◌≡◌, ℕ, List, nat_eq, ◌&&◌, Bool, true, false, cond, is_some, Option, Some, None, option_and_then, refl, sym, ap, ◌∙◌, subst}
+use Rattle.std.proofs.Common.{◌≡◌, ℕ, List, nat_eq, ◌&&◌, Bool, true, false, cond, is_some, Option, Some, None, option_and_then, option_map, refl, sym, ap, ◌∙◌, subst}
 use Rattle.std.specs.Prelude.{Result, Ok, Err}
 use Rattle.std.proofs.lemmas.Slice.Eq.{bytes_eq-Decides}
 use Rattle.std.specs.List.{list_all}
@@ -11,6 +11,7 @@ use Rattle.map_model.specs.declared.heads.ObjectHead.{ObjectHead}
 use Rattle.map_model.specs.declared.heads.TilesetHead.{TilesetHead}
 use Rattle.map_model.specs.declared.owner.MemberOwner.TheVariants as members
 use Rattle.map_model.specs.declared.owner.Owner.{Owner}
+use Rattle.map_model.specs.declared.parts.Object.{Object}
 use Rattle.map_model.specs.declared.parts.Property.{Property}
 use Rattle.map_model.specs.declared.setting.Setting.{Setting}
 use Rattle.map_model.specs.Document.{DocumentParts, with_map}
@@ -29,10 +30,13 @@ use Rattle.edits.specs.Stamping.{after_erase, after_stamp}
 use Rattle.line_frames.proofs.Members.{is_layer, is_map, is_object, is_tileset, layer-outside, map-outside, object-outside, put-done, put-get, tileset-outside}
 use Rattle.line_frames.proofs.Merging.{first_true}
 use Rattle.line_frames.proofs.Named.{put_found, same_text}
+use Rattle.line_frames.proofs.ObjectEdits.{added-members, added-outside, added-tells, put-object-done, raised, remove-done, removed-outside, removed-tells}
+use Rattle.line_frames.proofs.ObjectEdits.{told-same}
 use Rattle.line_frames.proofs.Properties.{IsPut, is_named, put-outside, put-own, remove-taken, same-owner, set-put, take-outside, take-own, whole-put}
 use Rattle.line_frames.proofs.Tiles.{and_first, covered-inside, covered-outside, lies_over, none-selected, same_number}
-use Rattle.line_frames.specs.Frames.{Erase, InsideLaw, LayerMembers, MapMembers, ObjectMembers, OutsideLaw, PutProperty, RemoveProperty, SetProperty, Stamp, TilesetMembers, done, same_owner, touches}
-use Rattle.line_frames.specs.Places.{AgreeAt, Cell, MembersOf, Place, PropertyOf, Selection, content}
+use Rattle.line_frames.specs.Frames.{Erase, InsideLaw, LayerMembers, Leads, MapMembers, ObjectMembers, OutsideLaw, PutObject, PutProperty, RemoveObject, RemoveProperty, SetProperty, Stamp}
+use Rattle.line_frames.specs.Frames.{TilesetMembers, done, is_of_object, same_owner, touches}
+use Rattle.line_frames.specs.Places.{AgreeAt, Cell, LayerOf, MembersOf, Outline, Place, PropertyOf, Selection, content}
 
 -- ---- what is done
 then-done : {A B E : Type 0} (r : Result A E) (next : Result B E) (x : B) → done (r >> next) ≡ Some x → done next ≡ Some x
@@ -96,6 +100,23 @@ remove-touches : (owner : Owner) (name : List ℕ) (place : Place) → touches (
 remove-touches owner name (PropertyOf own other) = refl
 remove-touches owner name place = refl
 
+object-touches-not : (layer : ℕ) (o : Object) (place : Place) → touches (PutObject layer o) place ≡ false
+    → (is_of_object o.id place ≡ false) × (is_map place ≡ false)
+object-touches-not layer o (MembersOf members.Map) e = cc
+object-touches-not layer o (MembersOf (members.Layer own)) e = (refl, refl)
+object-touches-not layer o (MembersOf (members.Object own)) e = (e, refl)
+object-touches-not layer o (MembersOf (members.Tileset own)) e = (refl, refl)
+object-touches-not layer o (Cell own x y) e = (refl, refl)
+object-touches-not layer o (PropertyOf own name) e = (e, refl)
+object-touches-not layer o (LayerOf own) e = (e, refl)
+object-touches-not layer o Selection e = (refl, refl)
+object-touches-not layer o Outline e = (refl, refl)
+
+taken-touches : (id : ℕ) (place : Place) → touches (RemoveObject id) place ≡ is_of_object id place
+taken-touches id (MembersOf own) = refl
+taken-touches id (PropertyOf own name) = refl
+taken-touches id place = refl
+
 -- ---- properties
 own_name : (name : List ℕ) → bytes_eq name name ≡ true
 own_name name = (bytes_eq-Decides name name).1 refl
@@ -131,11 +152,11 @@ pub outside-law : OutsideLaw
 outside-law (Stamp layer block) d n leads place e =
     ap (content place) (sym (stamped layer block d n leads.is))
     ∙ covered-outside layer (where_selected d.selection (stamp_over block)) d place
-      (none-selected d.selection layer (stamp_over block) place (sym (stamp-touches layer block place) ∙ e))
+    (none-selected d.selection layer (stamp_over block) place (sym (stamp-touches layer block place) ∙ e))
 outside-law (Erase layer area) d n leads place e =
     ap (content place) (sym (erased layer area d n leads.is))
     ∙ covered-outside layer (where_selected d.selection (erase_over area)) d place
-      (none-selected d.selection layer (erase_over area) place (sym (erase-touches layer area place) ∙ e))
+    (none-selected d.selection layer (erase_over area) place (sym (erase-touches layer area place) ∙ e))
 outside-law (MapMembers change) d n leads place e =
     let made = put-done head_of_map change d n leads.is in
     ap (content place) (sym made.1) ∙ map-outside made.0 d place (sym (map-touches change place) ∙ e)
@@ -156,18 +177,30 @@ outside-law (PutProperty owner property) d n leads place e =
     (whole-put owner property d n leads.is) leads.well_formed place (sym (put-touches owner property place) ∙ e)
 outside-law (RemoveProperty owner name) d n leads place e =
     take-outside owner name d n (remove-taken owner name d n leads.is) leads.well_formed place (sym (remove-touches owner name place) ∙ e)
+outside-law (PutObject layer o) d n leads place e =
+    let parts = object-touches-not layer o place e in
+    added-outside layer o d n (put-object-done layer o d n leads.is) leads.well_formed leads.left place parts.0 parts.1
+outside-law (RemoveObject id) d n leads place e =
+    removed-outside id d n (remove-done id d n leads.is) leads.well_formed leads.left place (sym (taken-touches id place) ∙ e)
+
+-- an object that was put in is the same in two documents
+same-added : (layer : ℕ) (o : Object) (d n e k : DocumentParts) → Leads (PutObject layer o) d n → Leads (PutObject layer o) e k
+    → (place : Place) → is_of_object o.id place ≡ true → AgreeAt place n k
+same-added layer o d n e k a b =
+    told-same n k a.left b.left o.id (Some (layer, o)) (added-tells layer o d n (put-object-done layer o d n a.is) a.well_formed a.left)
+    (added-tells layer o e k (put-object-done layer o e k b.is) b.well_formed b.left)
 
 pub inside-law : InsideLaw
 inside-law (Stamp layer block) d n e k a b agree (Cell id x y) t =
     ap (content (Cell id x y)) (sym (stamped layer block d n a.is))
     ∙ covered-inside layer (stamp_over block) d e (agree Selection refl) id x y (and_first (nat_eq id layer) (is_some (stamp_over block x y)) t)
-      (agree (Cell id x y) (first_true (touches (Stamp layer block) (Cell id x y)) false t))
+    (agree (Cell id x y) (first_true (touches (Stamp layer block) (Cell id x y)) false t))
     ∙ ap (content (Cell id x y)) (stamped layer block e k b.is)
 inside-law (Stamp layer block) d n e k a b agree place t = cc
 inside-law (Erase layer area) d n e k a b agree (Cell id x y) t =
     ap (content (Cell id x y)) (sym (erased layer area d n a.is))
     ∙ covered-inside layer (erase_over area) d e (agree Selection refl) id x y (and_first (nat_eq id layer) (in_area area x y) t)
-      (agree (Cell id x y) (first_true (touches (Erase layer area) (Cell id x y)) false t))
+    (agree (Cell id x y) (first_true (touches (Erase layer area) (Cell id x y)) false t))
     ∙ ap (content (Cell id x y)) (erased layer area e k b.is)
 inside-law (Erase layer area) d n e k a b agree place t = cc
 inside-law (MapMembers change) d n e k a b agree (MembersOf members.Map) t =
@@ -179,7 +212,7 @@ inside-law (LayerMembers id change) d n e k a b agree (MembersOf (members.Layer 
     subst (λ o. AgreeAt (MembersOf (members.Layer o)) n k) (sym is)
     (put-get (layer_head_with_id id) change d n (layer_head-laws id) a.is
     ∙ ap (option_and_then change) (subst (λ o. AgreeAt (MembersOf (members.Layer o)) d e) is
-      (agree (MembersOf (members.Layer own)) (first_true (nat_eq own id) false t)))
+    (agree (MembersOf (members.Layer own)) (first_true (nat_eq own id) false t)))
     ∙ sym (put-get (layer_head_with_id id) change e k (layer_head-laws id) b.is))
 inside-law (LayerMembers id change) d n e k a b agree place t = cc
 inside-law (TilesetMembers first_id change) d n e k a b agree (MembersOf (members.Tileset own)) t =
@@ -187,7 +220,7 @@ inside-law (TilesetMembers first_id change) d n e k a b agree (MembersOf (member
     subst (λ o. AgreeAt (MembersOf (members.Tileset o)) n k) (sym is)
     (put-get (tileset_head_with_id first_id) change d n (tileset_head-laws first_id) a.is
     ∙ ap (option_and_then change) (subst (λ o. AgreeAt (MembersOf (members.Tileset o)) d e) is
-      (agree (MembersOf (members.Tileset own)) (first_true (nat_eq own first_id) false t)))
+    (agree (MembersOf (members.Tileset own)) (first_true (nat_eq own first_id) false t)))
     ∙ sym (put-get (tileset_head_with_id first_id) change e k (tileset_head-laws first_id) b.is))
 inside-law (TilesetMembers first_id change) d n e k a b agree place t = cc
 inside-law (ObjectMembers id change) d n e k a b agree (MembersOf (members.Object own)) t =
@@ -195,7 +228,7 @@ inside-law (ObjectMembers id change) d n e k a b agree (MembersOf (members.Objec
     subst (λ o. AgreeAt (MembersOf (members.Object o)) n k) (sym is)
     (put-get (head_with_id id) change d n (head_with_id-laws id) a.is
     ∙ ap (option_and_then change) (subst (λ o. AgreeAt (MembersOf (members.Object o)) d e) is
-      (agree (MembersOf (members.Object own)) (first_true (nat_eq own id) false t)))
+    (agree (MembersOf (members.Object own)) (first_true (nat_eq own id) false t)))
     ∙ sym (put-get (head_with_id id) change e k (head_with_id-laws id) b.is))
 inside-law (ObjectMembers id change) d n e k a b agree place t = cc
 inside-law (SetProperty owner name setting) d n e k a b agree (PropertyOf own other) t =
@@ -212,3 +245,13 @@ inside-law (RemoveProperty owner name) d n e k a b agree (PropertyOf own other) 
     the-property owner own name other n k t
     (take-own owner name d n (remove-taken owner name d n a.is) a.well_formed ∙ sym (take-own owner name e k (remove-taken owner name e k b.is) b.well_formed))
 inside-law (RemoveProperty owner name) d n e k a b agree place t = cc
+inside-law (PutObject layer o) d n e k a b agree (MembersOf members.Map) t =
+    added-members layer o d n (put-object-done layer o d n a.is) ∙ ap (option_map (raised o.id)) (agree (MembersOf members.Map) refl)
+    ∙ sym (added-members layer o e k (put-object-done layer o e k b.is))
+inside-law (PutObject layer o) d n e k a b agree (MembersOf (members.Object own)) t = same-added layer o d n e k a b (MembersOf (members.Object own)) t
+inside-law (PutObject layer o) d n e k a b agree (PropertyOf own name) t = same-added layer o d n e k a b (PropertyOf own name) t
+inside-law (PutObject layer o) d n e k a b agree (LayerOf own) t = same-added layer o d n e k a b (LayerOf own) t
+inside-law (PutObject layer o) d n e k a b agree place t = cc
+inside-law (RemoveObject id) d n e k a b agree place t =
+    told-same n k a.left b.left id None (removed-tells id d n (remove-done id d n a.is) a.well_formed a.left)
+    (removed-tells id e k (remove-done id e k b.is) b.well_formed b.left) place (sym (taken-touches id place) ∙ t)

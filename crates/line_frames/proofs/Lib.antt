@@ -7,6 +7,8 @@ pub mod OneObject
 pub mod Named
 pub mod Properties
 pub mod MemberLines
+pub mod ObjectLists
+pub mod ObjectEdits
 pub mod Merging
 pub mod LineLaws
 pub mod Laws

@@ -47,7 +47,7 @@ module _ {H : Type 0} (p : HeadParts H) (read : Members → Result H MapRefusal)
   put_then : {A : Type 0} (w : Result A MapRefusal) (test : A → Bool) (words : A → Members)
       → done (said w >>= λ value. check (test value) faults.MemberOfOtherLines >>= λ _. said (p.read d (words value)) >>= after_head p d id) ≡ Some n
       → option_map (λ h. put (p.lens id) h d)
-        (done (said w >>= λ value. check (test value) faults.MemberOfOtherLines >>= λ _. said (read (words value)))) ≡ Some n
+      (done (said w >>= λ value. check (test value) faults.MemberOfOtherLines >>= λ _. said (read (words value)))) ≡ Some n
   put_then (Ok value) test words e = by_test (test value) e
     where
       by_test : (b : Bool) → done (check b faults.MemberOfOtherLines >>= λ _. said (p.read d (words value)) >>= after_head p d id) ≡ Some n
@@ -59,7 +59,7 @@ module _ {H : Type 0} (p : HeadParts H) (read : Members → Result H MapRefusal)
   remove_then : (a b : Bool) (ms : Members)
       → done (check a faults.MemberOfOtherLines >>= λ _. check b faults.NoSuchMember >>= λ _. said (p.read d ms) >>= after_head p d id) ≡ Some n
       → option_map (λ h. put (p.lens id) h d)
-        (done (check a faults.MemberOfOtherLines >>= λ _. check b faults.NoSuchMember >>= λ _. said (read ms))) ≡ Some n
+      (done (check a faults.MemberOfOtherLines >>= λ _. check b faults.NoSuchMember >>= λ _. said (read ms))) ≡ Some n
   remove_then true true ms e = read_then ms e
   remove_then true false ms e = cc
   remove_then false b ms e = cc

@@ -11,7 +11,8 @@ use Rattle.map_model.specs.declared.owner.Owner.TheVariants as owners
 use Rattle.map_model.specs.declared.parts.Tileset.{Tileset}
 use Rattle.map_model.specs.declared.place.ObjectPlace.{ObjectPlace}
 use Rattle.map_model.specs.Document.{DocumentParts, with_map}
-use Rattle.map_model.specs.Heads.{head, head_of_map, head_with_id, layer_head_with_id, layer_with_head, object_head, object_with_head, tileset_head, tileset_head_with_id, tileset_with_head}
+use Rattle.map_model.specs.Heads.{head, head_of_map, head_with_id, layer_head_with_id, layer_with_head, object_head, object_with_head, tileset_head}
+use Rattle.map_model.specs.Heads.{tileset_head_with_id, tileset_with_head}
 use Rattle.map_model.specs.Lens.{IsLawfulLens, Lens, of_object, put, update_found}
 use Rattle.map_model.specs.Lists.{change_first}
 use Rattle.map_model.specs.Objects.{object_place, with_object}

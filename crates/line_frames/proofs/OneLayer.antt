@@ -13,7 +13,7 @@ use Rattle.map_model.proofs.Lookups.{first_some-append}
 use Rattle.map_model.proofs.Trees.{change_among-none, none_among}
 
 -- ---- lists of which one element has changed
-first_some-one : {X Y : Type 0} (h : X → Option Y) (prefix rest : List X) (x y : X) → h y ≡ h x
+pub first_some-one : {X Y : Type 0} (h : X → Option Y) (prefix rest : List X) (x y : X) → h y ≡ h x
     → first_some h (prefix ++ (y ∷ rest)) ≡ first_some h (prefix ++ (x ∷ rest))
 first_some-one h prefix rest x y same =
     first_some-append h prefix (y ∷ rest) ∙ ap (λ o. or_else (first_some h prefix) (or_else o (first_some h rest))) same
@@ -33,7 +33,7 @@ first_some-find : {Y : Type 0} (k : Layer → Y) (id : ℕ) (ds : List (ℕ × L
 first_some-find k id [] = refl
 first_some-find k id (d ∷ ds) =
     elim (has_id id d.1) as (λ b. or_else (cond b (Some (k d.1)) None) (first_some (of_id k id) ds)
-        ≡ option_map (λ e. k e.1) (cond b (Some d) (find (is_drawn_with id) ds)))
+    ≡ option_map (λ e. k e.1) (cond b (Some d) (find (is_drawn_with id) ds)))
     [ true ↦ refl | false ↦ first_some-find k id ds ]
 
 -- what is read of a layer without those that stand in it is read of the one in drawing order

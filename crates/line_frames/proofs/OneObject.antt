@@ -128,7 +128,7 @@ module _ (k : ObjectPlace) (g : Object → Object) where
   -- what is read of objects, where the change does not show
   read-by : {Y : Type 0} (q : Object → Option Y) (m : MapParts) (place : ObjectPlace)
       → ((l : Layer) → nat_eq l.id k.layer ≡ true → nat_eq l.id place.layer ≡ true → (os : List Object)
-          → option_and_then q (slice_get (change_at k.at g os) place.at) ≡ option_and_then q (slice_get os place.at))
+      → option_and_then q (slice_get (change_at k.at g os) place.at) ≡ option_and_then q (slice_get os place.at))
       → read q (with_object k g m) place ≡ read q m place
   read-by {Y = Y} q m place same =
       let f = layer_with_objects (change_at k.at g) in

@@ -36,9 +36,11 @@ use Rattle.map_model.proofs.PropertyLaws.{properties-laws}
 use Rattle.map_model.proofs.StayPut.{object_place-with_object}
 use Rattle.edits.specs.PropertyEdits.{after_remove_property, after_set_at, after_set_property, count_of, owner_or_fault, property_count}
 use Rattle.property_commands.specs.PutEdits.{after_put_at, after_put_property}
-use Rattle.line_frames.proofs.Kept.{cell-kept, layer_head-kept, layer_property-kept, layer_of_object-kept, object_members-kept, object_property-kept, object_place-kept, of_layer-properties, outline-kept}
+use Rattle.line_frames.proofs.Kept.{cell-kept, layer_head-kept, layer_property-kept, layer_of_object-kept, object_members-kept, object_property-kept}
+use Rattle.line_frames.proofs.Kept.{object_place-kept, of_layer-properties, outline-kept}
 use Rattle.line_frames.proofs.Kept.{properties_by}
-use Rattle.line_frames.proofs.Named.{added-last, changed-first, found-put, other-put, other-taken, other-text, put_first, put_found, same_text, take_first, taken-first}
+use Rattle.line_frames.proofs.Named.{added-last, changed-first, found-put, other-put, other-taken, other-text, put_first, put_found, same_text, take_first}
+use Rattle.line_frames.proofs.Named.{taken-first}
 use Rattle.line_frames.proofs.OneObject.{object_cell-kept, object_head-kept, object_layer_members-kept, object_layer_of-kept, object_layer_property-kept}
 use Rattle.line_frames.proofs.OneObject.{object_outline-kept, object_properties-kept, placed-apart, placed-id, read-at, read-other, read-same}
 use Rattle.line_frames.proofs.Tiles.{other_number, same_number}
@@ -168,7 +170,7 @@ module _ (g : List Property → List Property) (d : DocumentParts) where
         object_properties-kept k (object_with_properties g) (λ o. refl) d id name
         (λ place there. read-at object_properties (with_object k (object_with_properties g) d.map) place
         ∙ read-other k (object_with_properties g) (λ o. Some (object_properties o)) d.map place
-          (λ same. apart (placed-apart d.map id own place k there stands well_formed same))
+        (λ same. apart (placed-apart d.map id own place k there stands well_formed same))
         ∙ sym (read-at object_properties d.map place))
       where
         apart : id ≡ own → ⊥
@@ -215,7 +217,7 @@ module _ (owner : Owner) (g : List Property → List Property) (d n : DocumentPa
       let made = with_map (with_properties changed.place g) d in
       ap (λ (e : DocumentParts). property_named e.map owner other) (sym changed.is)
       ∙ ap (λ o. option_and_then (find (has_name other)) (option_and_then (properties_of made.map) o))
-        (owner-stays g d owner changed.place ∙ changed.there)
+      (owner-stays g d owner changed.place ∙ changed.there)
       ∙ ap (option_and_then (find (has_name other))) ((properties-laws changed.place).get-update g ps d are)
 
   -- a change that the property of one name alone shows is at no other place
@@ -300,7 +302,7 @@ module _ (owner : Owner) (name : List ℕ) (f : Property → Property) (new : Pr
         subst (λ qs. find (has_name other) (l.g qs) ≡ find (has_name other) qs) same
         (ap (find (has_name other)) l.gives
         ∙ other-put (has_name name) f new (has_name other) (other-text new.name name other apart named)
-          (λ p e. (other-text p.name name other apart e, other-text (f p).name name other apart (keeps p e))) has.0))
+        (λ p e. (other-text p.name name other apart e, other-text (f p).name name other apart (keeps p e))) has.0))
 
 -- ---- a property that is taken out
 -- no other property has the name

@@ -9,6 +9,7 @@ use Rattle.map_model.specs.declared.heads.TilesetHead.{TilesetHead}
 use Rattle.map_model.specs.declared.owner.MemberOwner.TheVariants as members
 use Rattle.map_model.specs.declared.owner.Owner.{Owner}
 use Rattle.map_model.specs.declared.owner.Owner.TheVariants as owners
+use Rattle.map_model.specs.declared.parts.Object.{Object}
 use Rattle.map_model.specs.declared.parts.Property.{Property}
 use Rattle.map_model.specs.declared.setting.Setting.{Setting}
 use Rattle.map_model.specs.Document.{DocumentParts}
@@ -17,15 +18,17 @@ use Rattle.map_model.specs.Lens.{Lens, put}
 use Rattle.map_model.specs.WellFormed.{IsWellFormed}
 use Rattle.edits.specs.declared.area.Area.{Area}
 use Rattle.edits.specs.Blocks.{ValueBlock, in_area, stamp_over}
+use Rattle.edits.specs.ObjectEdits.{after_put_object, after_remove_object}
 use Rattle.edits.specs.PropertyEdits.{after_remove_property, after_set_property}
 use Rattle.edits.specs.Stamping.{after_erase, after_stamp}
 use Rattle.property_commands.specs.PutEdits.{after_put_property}
-use Rattle.line_frames.specs.Places.{AgreeAt, Place, Cell, MembersOf, PropertyOf, Selection}
+use Rattle.line_frames.specs.Places.{AgreeAt, Place, Cell, LayerOf, MembersOf, PropertyOf, Selection}
 
 -- ---- edits
 -- a stamp of a block of values in the layer with an id; an erase of an area there; own members of the map, of the layer with an id,
 -- of the tileset with a first id or of the object with an id, which become what
--- the edit makes of them, where it makes any; a property of an owner, by its name, that gets a type and a value, is put in whole, or is taken out
+-- the edit makes of them, where it makes any; a property of an owner, by its name, that gets a type and a value, is put in whole, or is taken out; an object
+-- that has its id and goes last in the layer with an id; the object with an id taken out
 pub data Edit : Type 0 where
   Stamp : ℕ → ValueBlock → Edit
   Erase : ℕ → Area → Edit
@@ -36,6 +39,8 @@ pub data Edit : Type 0 where
   SetProperty : Owner → List ℕ → Setting → Edit
   PutProperty : Owner → Property → Edit
   RemoveProperty : Owner → List ℕ → Edit
+  PutObject : ℕ → Object → Edit
+  RemoveObject : ℕ → Edit
 
 abbrev pub done : {A E : Type 0} → Result A E → Option A
 done (Ok x) = Some x
@@ -56,11 +61,14 @@ after (ObjectMembers id change) d = with_members (head_with_id id) change d
 after (SetProperty owner name setting) d = done (after_set_property d owner name setting.kind setting.value)
 after (PutProperty owner property) d = done (after_put_property d owner property)
 after (RemoveProperty owner name) d = done (after_remove_property d owner name)
+after (PutObject layer o) d = done (after_put_object d layer true o)
+after (RemoveObject id) d = done (after_remove_object d id)
 
--- an edit of a well-formed document gives the other one
+-- an edit of a well-formed document gives the other one, which is well formed
 pub record Leads (edit : Edit) (d n : DocumentParts) : Type 0 where
   pub well_formed : IsWellFormed d.map
   pub is : after edit d ≡ Some n
+  pub left : IsWellFormed n.map
 
 -- and some edits do, one after another
 abbrev pub AllLead : List Edit → DocumentParts → DocumentParts → Type 0
@@ -75,7 +83,14 @@ same_owner (owners.Layer a) (owners.Layer b) = nat_eq a b
 same_owner (owners.Object a) (owners.Object b) = nat_eq a b
 same_owner a b = false
 
--- the places that an edit touches
+-- whether a place is one of the object with the id
+abbrev pub is_of_object : ℕ → Place → Bool
+is_of_object id (MembersOf (members.Object own)) = nat_eq own id
+is_of_object id (PropertyOf (owners.Object own) name) = nat_eq own id
+is_of_object id (LayerOf own) = nat_eq own id
+is_of_object id place = false
+
+-- the places that an edit touches; an object more may raise the map's next object id
 abbrev pub touches : Edit → Place → Bool
 touches (Stamp layer block) (Cell id x y) = nat_eq id layer && is_some (stamp_over block x y)
 touches (Erase layer area) (Cell id x y) = nat_eq id layer && in_area area x y
@@ -86,6 +101,9 @@ touches (ObjectMembers id change) (MembersOf (members.Object own)) = nat_eq own 
 touches (SetProperty owner name setting) (PropertyOf own other) = same_owner own owner && bytes_eq other name
 touches (PutProperty owner property) (PropertyOf own other) = same_owner own owner && bytes_eq other property.name
 touches (RemoveProperty owner name) (PropertyOf own other) = same_owner own owner && bytes_eq other name
+touches (PutObject layer o) (MembersOf members.Map) = true
+touches (PutObject layer o) place = is_of_object o.id place
+touches (RemoveObject id) place = is_of_object id place
 touches edit place = false
 
 -- the places that it looks at beside those

@@ -24,7 +24,8 @@ use Rattle.session.specs.declared.more_line.MoreLine.{MoreLine}
 use Rattle.session.specs.declared.more_line.MoreLine.TheVariants as more
 use Rattle.document_lines.specs.MoreRules.{after_more}
 use Rattle.document_lines.specs.Rules.{Edits, Rule, rule_of}
-use Rattle.line_frames.specs.Frames.{Edit, Erase, LayerMembers, MapMembers, ObjectMembers, PutProperty, RemoveProperty, SetProperty, Stamp, TilesetMembers, after, done}
+use Rattle.line_frames.specs.Frames.{Edit, Erase, LayerMembers, MapMembers, ObjectMembers, PutProperty, RemoveProperty, SetProperty, Stamp, TilesetMembers}
+use Rattle.line_frames.specs.Frames.{after, done}
 use Rattle.line_frames.specs.MemberLines.{put_change, remove_change, set_change}
 
 -- ---- lines that every session reads
