@@ -1,5 +1,6 @@
 -- The frame law of each edit.
-use Rattle.std.proofs.Common.{◌≡◌, ℕ, List, nat_eq, ◌&&◌, Bool, true, false, cond, is_some, Option, Some, None, option_and_then, option_map, refl, sym, ap, ◌∙◌, subst}
+use Rattle.std.proofs.Common.{◌≡◌, ℕ, List, nat_eq, ◌&&◌, Bool, true, false, cond, is_some, Option, Some, None, option_and_then, option_map, refl}
+use Rattle.std.proofs.Common.{sym, ap, ◌∙◌, subst}
 use Rattle.std.specs.Prelude.{Result, Ok, Err}
 use Rattle.std.proofs.lemmas.Slice.Eq.{bytes_eq-Decides}
 use Rattle.std.specs.List.{list_all}
@@ -34,7 +35,8 @@ use Rattle.line_frames.proofs.ObjectEdits.{added-members, added-outside, added-t
 use Rattle.line_frames.proofs.ObjectEdits.{told-same}
 use Rattle.line_frames.proofs.Properties.{IsPut, is_named, put-outside, put-own, remove-taken, same-owner, set-put, take-outside, take-own, whole-put}
 use Rattle.line_frames.proofs.Tiles.{and_first, covered-inside, covered-outside, lies_over, none-selected, same_number}
-use Rattle.line_frames.specs.Frames.{Erase, InsideLaw, LayerMembers, Leads, MapMembers, ObjectMembers, OutsideLaw, PutObject, PutProperty, RemoveObject, RemoveProperty, SetProperty, Stamp}
+use Rattle.line_frames.specs.Frames.{Erase, InsideLaw, LayerMembers, Leads, MapMembers, ObjectMembers, OutsideLaw, PutObject, PutProperty}
+use Rattle.line_frames.specs.Frames.{RemoveObject, RemoveProperty, SetProperty, Stamp}
 use Rattle.line_frames.specs.Frames.{TilesetMembers, done, is_of_object, same_owner, touches}
 use Rattle.line_frames.specs.Places.{AgreeAt, Cell, LayerOf, MembersOf, Outline, Place, PropertyOf, Selection, content}
 
@@ -76,7 +78,8 @@ layer-touches : (id : ℕ) (change : LayerHead → Option LayerHead) (place : Pl
 layer-touches id change (MembersOf (members.Layer own)) = refl
 layer-touches id change place = refl
 
-tileset-touches : (first_id : ℕ) (change : TilesetHead → Option TilesetHead) (place : Place) → touches (TilesetMembers first_id change) place ≡ is_tileset first_id place
+tileset-touches : (first_id : ℕ) (change : TilesetHead → Option TilesetHead) (place : Place)
+    → touches (TilesetMembers first_id change) place ≡ is_tileset first_id place
 tileset-touches first_id change (MembersOf (members.Tileset own)) = refl
 tileset-touches first_id change place = refl
 

@@ -1,14 +1,13 @@
 -- What stands in a document with an object more, or with one less.
-use Rattle.std.proofs.Common.{◌≡◌, ◌≢◌, ℕ, suc, ◌+◌, List, [], ◌∷◌, ◌++◌, length, nat_eq, Bool, true, false, cond, find, Option, Some, None, IsSome, option_map}
+use Rattle.std.proofs.Common.{◌≡◌, ◌≢◌, ℕ, suc, ◌+◌, List, [], ◌∷◌, ◌++◌, length, nat_eq, Bool, true, false, cond, find, Option, Some, None, option_map}
 use Rattle.std.proofs.Common.{option_and_then, refl, sym, ap, ◌∙◌, subst, arith, take, drop}
 use Rattle.std.proofs.lemmas.Bool.Decides.{nat_tests}
-use Rattle.std.specs.Prelude.{Result, Ok, Err}
+use Rattle.std.specs.Prelude.{Ok}
 use Rattle.std.specs.List.{flat_map, insert, position, position_from, remove, slice_get}
 use Rattle.std.proofs.lemmas.Iterator.Adapters.{position_from-zero}
 use Rattle.std.specs.Option.{ok_or}
 use Rattle.serde_json.specs.Data.{no_members}
-use Rattle.refusals.specs.declared.edit_fault.EditFault.{EditFault}
-use Rattle.refusals.specs.declared.edit_fault.EditFault.TheVariants.{LayerOfAnotherKind, NoSuchLayer, NoSuchObject, TooMany}
+use Rattle.refusals.specs.declared.edit_fault.EditFault.TheVariants.{LayerOfAnotherKind, NoSuchObject, TooMany}
 use Rattle.map_model.specs.declared.limits.TheConstants.{MAX_GROUPS}
 use Rattle.map_model.specs.declared.owner.MemberOwner.TheVariants as members
 use Rattle.map_model.specs.declared.owner.Owner.TheVariants as owners
@@ -23,7 +22,7 @@ use Rattle.map_model.specs.Document.{DocumentParts, with_map}
 use Rattle.map_model.specs.declared.heads.MapHead.{MapHead}
 use Rattle.map_model.specs.Heads.{object_head}
 use Rattle.map_model.specs.Properties.{has_name}
-use Rattle.map_model.specs.Groups.{all_drawn, bare, body_with_layers, has_id, inside}
+use Rattle.map_model.specs.Groups.{all_drawn, bare, body_with_layers, inside}
 use Rattle.map_model.specs.Layers.{with_next_ids}
 use Rattle.map_model.specs.Lists.{Each, first_some, or_else, or_empty}
 use Rattle.map_model.specs.Lookups.{layer_of}
@@ -77,7 +76,7 @@ with_list layer g next_layer next_object = with_map (λ m. with_next_ids next_la
 
 module _ (id layer : ℕ) (g : List Object → List Object) (a b : ℕ) (d : DocumentParts)
     (same : (own : ℕ) → nat_eq own id ≡ false → (os : List Object) → objects_of_layer d.map layer ≡ Some os
-        → find (has_object_id own) (g os) ≡ find (has_object_id own) os)
+    → find (has_object_id own) (g os) ≡ find (has_object_id own) os)
     (old : IsWellFormed d.map) (new : IsWellFormed (with_list layer g a b d).map) where
   -- all but the places of one object, and the map's members, stay
   pub list-outside : (place : Place) → is_of_object id place ≡ false → is_map place ≡ false → AgreeAt place (with_list layer g a b d) d

@@ -1,9 +1,8 @@
 -- Objects put into a layer, and taken out of one.
-use Rattle.std.proofs.Common.{◌≡◌, ◌≢◌, ℕ, zero, suc, ◌<◌, List, [], ◌∷◌, ◌++◌, length, nat_eq, Bool, true, false, cond, find, get_or, IsSome, Option, Some, None}
-use Rattle.std.proofs.Common.{is_some, option_map, option_and_then, refl, sym, ap, ◌∙◌, subst, arith, take, drop}
-use Rattle.std.proofs.lemmas.Bool.Decides.{nat_tests}
+use Rattle.std.proofs.Common.{◌≡◌, ℕ, zero, suc, List, [], ◌∷◌, length, Bool, false, cond, find, IsSome, Option, Some, None}
+use Rattle.std.proofs.Common.{option_map, option_and_then, refl, sym, ap, ◌∙◌, subst}
 use Rattle.std.proofs.lemmas.List.Quantifiers.{position-Some}
-use Rattle.std.specs.List.{flat_map, insert, position, remove, slice_get}
+use Rattle.std.specs.List.{insert, position, remove, slice_get}
 use Rattle.map_model.specs.declared.limits.TheConstants.{MAX_GROUPS}
 use Rattle.map_model.specs.declared.owner.MemberOwner.TheVariants as members
 use Rattle.map_model.specs.declared.owner.Owner.TheVariants as owners
@@ -14,12 +13,13 @@ use Rattle.map_model.specs.declared.parts.Property.{Property}
 use Rattle.map_model.specs.declared.place.ObjectPlace.{ObjectPlace}
 use Rattle.map_model.specs.declared.place.OwnerPlace.TheVariants as places
 use Rattle.map_model.specs.Document.{DocumentParts}
-use Rattle.map_model.specs.Groups.{all_drawn, bare, has_id, inside}
+use Rattle.map_model.specs.Groups.{all_drawn, bare}
 use Rattle.map_model.specs.Heads.{head, object_head}
 use Rattle.map_model.specs.Lens.{of_object}
 use Rattle.map_model.specs.Lists.{first_some, or_else, or_empty}
-use Rattle.map_model.specs.Lookups.{layer_of, with_layer}
-use Rattle.map_model.specs.Objects.{found_at, found_in_layer, has_object_id, layer_with_objects, object_at, object_place, objects_of, objects_of_layer, place_of_layer}
+use Rattle.map_model.specs.Lookups.{layer_of}
+use Rattle.map_model.specs.Objects.{found_at, found_in_layer, has_object_id, layer_with_objects, object_at, object_place, objects_of}
+use Rattle.map_model.specs.Objects.{objects_of_layer, place_of_layer}
 use Rattle.map_model.specs.Objects.{with_objects}
 use Rattle.map_model.specs.Properties.{has_name, object_properties, properties_of}
 use Rattle.map_model.specs.WellFormed.{IsWellFormed}

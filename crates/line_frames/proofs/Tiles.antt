@@ -118,10 +118,11 @@ pub covered-inside : (layer : ℕ) (over : ℕ → ℕ → Option ℕ) (d e : Do
     → AgreeAt (Cell id x y) (with_map (covered_map layer (where_selected d.selection over)) d) (with_map (covered_map layer (where_selected e.selection over)) e)
 covered-inside layer over d e selected id x y own same =
     let is = same_number id layer own in
-    subst (λ n. cell_of (covered_map layer (where_selected d.selection over) d.map) n x y ≡ cell_of (covered_map layer (where_selected e.selection over) e.map) n x y)
-    (sym is)
+    let m = covered_map layer (where_selected d.selection over) d.map in
+    let n = covered_map layer (where_selected e.selection over) e.map in
+    subst (λ q. cell_of m q x y ≡ cell_of n q x y) (sym is)
     (cell-covered layer (where_selected d.selection over) d.map x y
-    ∙ (λ i. option_map (covered_value (where_selected (selected i) over x y)) (subst (λ n. cell_of d.map n x y ≡ cell_of e.map n x y) is same i))
+    ∙ (λ i. option_map (covered_value (where_selected (selected i) over x y)) (subst (λ q. cell_of d.map q x y ≡ cell_of e.map q x y) is same i))
     ∙ sym (cell-covered layer (where_selected e.selection over) e.map x y))
 
 -- where nothing lies over a cell, nothing lies over it that the selection lets through

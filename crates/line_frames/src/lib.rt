@@ -2,7 +2,7 @@
 #![tactic(auto)]
 
 ghost use Rattle.line_frames.specs.Frames.{InsideLaw, MergeLaw, OrderLaw, OutsideLaw};
-ghost use Rattle.line_frames.specs.Lines.{LineLaw, MoreLineLaw};
+ghost use Rattle.line_frames.specs.Lines.{LineLaw, LineMergeLaw, MoreLineLaw};
 
 /// States that an edit changes nothing outside the places that it touches.
 pub fn edits_stay_inside()
@@ -24,12 +24,17 @@ pub fn merges_hold_both_sides()
     ensures { MergeLaw }
 {}
 
-/// States that a stamp, an erase, and a line that sets or removes a property is an edit of the law.
+/// States that a stamp, an erase, and a line that sets or removes a property or removes an object do what their edits do.
 pub fn lines_are_edits()
     ensures { LineLaw }
 {}
 
-/// States that so is a line of own members, and one that puts in or takes out a property that it says in JSON.
+/// States that so do lines of own members, and those that put in or take out a property, or put in an object, that they say in JSON.
 pub fn lines_for_all_edits_are_edits()
     ensures { MoreLineLaw }
+{}
+
+/// States that a merge by lines that are edits of the law, and look at nothing that ours changed, holds each change of both sides.
+pub fn merges_by_lines_hold_both_sides()
+    ensures { LineMergeLaw }
 {}
