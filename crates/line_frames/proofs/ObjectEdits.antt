@@ -6,23 +6,22 @@ use Rattle.std.specs.Prelude.{Ok}
 use Rattle.std.specs.List.{flat_map, insert, position, position_from, remove, slice_get}
 use Rattle.std.proofs.lemmas.Iterator.Adapters.{position_from-zero}
 use Rattle.std.specs.Option.{ok_or}
-use Rattle.serde_json.specs.Data.{no_members}
 use Rattle.refusals.specs.declared.edit_fault.EditFault.TheVariants.{LayerOfAnotherKind, NoSuchObject, TooMany}
 use Rattle.map_model.specs.declared.limits.TheConstants.{MAX_GROUPS}
 use Rattle.map_model.specs.declared.owner.MemberOwner.TheVariants as members
 use Rattle.map_model.specs.declared.owner.Owner.TheVariants as owners
 use Rattle.map_model.specs.declared.parts.Body.{Body}
-use Rattle.map_model.specs.declared.parts.Body.TheVariants.{Tiles, Objects}
+use Rattle.map_model.specs.declared.parts.Body.TheVariants.{Objects}
 use Rattle.map_model.specs.declared.parts.Layer.{Layer}
 use Rattle.map_model.specs.declared.parts.MapParts.{MapParts}
 use Rattle.map_model.specs.declared.parts.Object.{Object}
 use Rattle.map_model.specs.declared.place.ObjectPlace.{ObjectPlace}
-use Rattle.map_model.specs.Bodies.{body_with_contents, body_with_objects, objects_in, tile_at}
+use Rattle.map_model.specs.Bodies.{body_with_objects, objects_in}
 use Rattle.map_model.specs.Document.{DocumentParts, with_map}
 use Rattle.map_model.specs.declared.heads.MapHead.{MapHead}
 use Rattle.map_model.specs.Heads.{object_head}
 use Rattle.map_model.specs.Properties.{has_name}
-use Rattle.map_model.specs.Groups.{all_drawn, bare, body_with_layers, inside}
+use Rattle.map_model.specs.Groups.{all_drawn}
 use Rattle.map_model.specs.Layers.{with_next_ids}
 use Rattle.map_model.specs.Lists.{Each, first_some, or_else, or_empty}
 use Rattle.map_model.specs.Lookups.{layer_of}
@@ -42,32 +41,10 @@ use Rattle.edits.specs.ObjectEdits.{after_put_object, after_remove_object, has_g
 use Rattle.line_frames.proofs.Kept.{cell-kept, layer_head-kept, layer_property-kept, outline-kept}
 use Rattle.line_frames.proofs.Members.{is_map}
 use Rattle.line_frames.proofs.ObjectLists.{Tells, find-added, find-removed, first_object-kept, object-tells, tells-at, tells-none}
-use Rattle.line_frames.proofs.OneObject.{placed-id}
+use Rattle.line_frames.proofs.OneObject.{inside-objects, outline-objects, placed-id, tile-objects}
 use Rattle.line_frames.proofs.Tiles.{same_number}
 use Rattle.line_frames.specs.Frames.{done, is_of_object}
-use Rattle.line_frames.specs.Places.{AgreeAt, Cell, LayerOf, MembersOf, Outline, Place, PropertyOf, Selection, content, layer_outline}
-
--- ---- a layer with other objects
-module _ (g : List Object → List Object) where
-  inside-objects : (l : Layer) → inside (layer_with_objects g l) ≡ inside l
-  inside-objects l = ap or_empty (group_in-objects g l.body)
-
-  tile-objects : (n : ℕ) (l : Layer) → tile_at (layer_with_objects g l).body n ≡ tile_at l.body n
-  tile-objects n l = by_body l.body
-    where
-      by_body : (b : Body) → tile_at (body_with_objects g b) n ≡ tile_at b n
-      by_body (Objects os) = refl
-      by_body (Tiles e cells) = refl
-      by_body b = refl
-
-  outline-objects : (l : Layer) → layer_outline (bare (layer_with_objects g l)) ≡ layer_outline (bare l)
-  outline-objects l = ap (λ b. record l { name = []; visible = true; properties = []; kept = no_members; body = b }) (by_body l.body)
-    where
-      by_body : (b : Body) → body_with_contents (λ cells. []) (λ os. []) (body_with_layers (λ ls. []) (body_with_objects g b))
-          ≡ body_with_contents (λ cells. []) (λ os. []) (body_with_layers (λ ls. []) b)
-      by_body (Tiles e cells) = refl
-      by_body (Objects os) = refl
-      by_body b = refl
+use Rattle.line_frames.specs.Places.{AgreeAt, Cell, LayerOf, MembersOf, Outline, Place, PropertyOf, Selection, content}
 
 -- ---- the places of a document of which one layer has other objects
 -- the document with g of the objects of a layer, and with these next ids

@@ -99,32 +99,34 @@ slice-other g (x ∷ xs) zero (suc i) other = refl
 slice-other g (x ∷ xs) (suc at) zero other = refl
 slice-other g (x ∷ xs) (suc at) (suc i) other = slice-other g xs at i (λ e. other (ap suc e))
 
+-- ---- a layer with other objects
+module _ (g : List Object → List Object) where
+  pub inside-objects : (l : Layer) → inside (layer_with_objects g l) ≡ inside l
+  inside-objects l = ap or_empty (group_in-objects g l.body)
+
+  pub tile-objects : (n : ℕ) (l : Layer) → tile_at (layer_with_objects g l).body n ≡ tile_at l.body n
+  tile-objects n l = by_body l.body
+    where
+      by_body : (b : Body) → tile_at (body_with_objects g b) n ≡ tile_at b n
+      by_body (Objects os) = refl
+      by_body (Tiles e cells) = refl
+      by_body b = refl
+
+  pub outline-objects : (l : Layer) → layer_outline (bare (layer_with_objects g l)) ≡ layer_outline (bare l)
+  outline-objects l = ap (λ b. record l { name = []; visible = true; properties = []; kept = no_members; body = b }) (by_body l.body)
+    where
+      by_body : (b : Body) → body_with_contents (λ cells. []) (λ os. []) (body_with_layers (λ ls. []) (body_with_objects g b))
+          ≡ body_with_contents (λ cells. []) (λ os. []) (body_with_layers (λ ls. []) b)
+      by_body (Tiles e cells) = refl
+      by_body (Objects os) = refl
+      by_body b = refl
+
 -- ---- an object changed where it stands
 -- what q gives of the object at a place
 abbrev pub read : {Y : Type 0} → (Object → Option Y) → MapParts → ObjectPlace → Option Y
 read q m place = option_and_then (λ l. option_and_then (λ os. option_and_then q (slice_get os place.at)) (objects_of l)) (layer_of m place.layer)
 
 module _ (k : ObjectPlace) (g : Object → Object) where
-  inside-object : (l : Layer) → inside (layer_with_objects (change_at k.at g) l) ≡ inside l
-  inside-object l = ap or_empty (group_in-objects (change_at k.at g) l.body)
-
-  tile-object : (n : ℕ) (l : Layer) → tile_at (layer_with_objects (change_at k.at g) l).body n ≡ tile_at l.body n
-  tile-object n l = by_body l.body
-    where
-      by_body : (b : Body) → tile_at (body_with_objects (change_at k.at g) b) n ≡ tile_at b n
-      by_body (Objects os) = refl
-      by_body (Tiles e cells) = refl
-      by_body b = refl
-
-  outline-object : (l : Layer) → layer_outline (bare (layer_with_objects (change_at k.at g) l)) ≡ layer_outline (bare l)
-  outline-object l = ap (λ b. record l { name = []; visible = true; properties = []; kept = no_members; body = b }) (by_body l.body)
-    where
-      by_body : (b : Body) → body_with_contents (λ cells. []) (λ os. []) (body_with_layers (λ ls. []) (body_with_objects (change_at k.at g) b))
-          ≡ body_with_contents (λ cells. []) (λ os. []) (body_with_layers (λ ls. []) b)
-      by_body (Tiles e cells) = refl
-      by_body (Objects os) = refl
-      by_body b = refl
-
   -- what is read of objects, where the change does not show
   read-by : {Y : Type 0} (q : Object → Option Y) (m : MapParts) (place : ObjectPlace)
       → ((l : Layer) → nat_eq l.id k.layer ≡ true → nat_eq l.id place.layer ≡ true → (os : List Object)
@@ -135,7 +137,7 @@ module _ (k : ObjectPlace) (g : Object → Object) where
       let of : Option (List Object) → Option Y = λ o. option_and_then (λ os. option_and_then q (slice_get os place.at)) o in
       let r : Layer → Option Y = λ l. of (objects_of l) in
       then-kept r (layer_of (with_object k g m) place.layer) (layer_of m place.layer)
-      (layer_of-kept k.layer f inside-object m (λ l. refl) r (λ l. ap of (objects-alone l)) place.layer (λ l s t. by_body l.body (same l s t)))
+      (layer_of-kept k.layer f (inside-objects (change_at k.at g)) m (λ l. refl) r (λ l. ap of (objects-alone l)) place.layer (λ l s t. by_body l.body (same l s t)))
     where
       by_body : (b : Body) → ((os : List Object)
           → option_and_then q (slice_get (change_at k.at g os) place.at) ≡ option_and_then q (slice_get os place.at))
@@ -161,21 +163,21 @@ module _ (k : ObjectPlace) (g : Object → Object) where
 module _ (k : ObjectPlace) (g : Object → Object) (ids : (o : Object) → (g o).id ≡ o.id) (d : DocumentParts) where
   pub object_cell-kept : (id x y : ℕ) → AgreeAt (Cell id x y) (with_map (with_object k g) d) d
   object_cell-kept id x y =
-      cell-kept k.layer (layer_with_objects (change_at k.at g)) (inside-object k g) (λ l. refl) d.map id x y (λ n l s t. tile-object k g n l)
+      cell-kept k.layer (layer_with_objects (change_at k.at g)) (inside-objects (change_at k.at g)) (λ l. refl) d.map id x y (λ n l s t. tile-objects (change_at k.at g) n l)
 
   pub object_layer_members-kept : (id : ℕ) → AgreeAt (MembersOf (members.Layer id)) (with_map (with_object k g) d) d
   object_layer_members-kept id =
-      layer_head-kept k.layer (layer_with_objects (change_at k.at g)) (inside-object k g) (λ l. refl) d.map id (λ l s t. refl)
+      layer_head-kept k.layer (layer_with_objects (change_at k.at g)) (inside-objects (change_at k.at g)) (λ l. refl) d.map id (λ l s t. refl)
 
   pub object_layer_property-kept : (id : ℕ) (name : List ℕ) → AgreeAt (PropertyOf (owners.Layer id) name) (with_map (with_object k g) d) d
   object_layer_property-kept id name =
-      layer_property-kept k.layer (layer_with_objects (change_at k.at g)) (inside-object k g) (λ l. refl) d id name (λ l s t. refl)
+      layer_property-kept k.layer (layer_with_objects (change_at k.at g)) (inside-objects (change_at k.at g)) (λ l. refl) d id name (λ l s t. refl)
 
   pub object_layer_of-kept : (id : ℕ) → AgreeAt (LayerOf id) (with_map (with_object k g) d) d
   object_layer_of-kept id = ap (option_map (λ at. at.layer)) (object_place-with_object g ids k id d.map)
 
   pub object_outline-kept : AgreeAt Outline (with_map (with_object k g) d) d
-  object_outline-kept = outline-kept k.layer (layer_with_objects (change_at k.at g)) (inside-object k g) (λ l. refl) d (outline-object k g)
+  object_outline-kept = outline-kept k.layer (layer_with_objects (change_at k.at g)) (inside-objects (change_at k.at g)) (λ l. refl) d (outline-objects (change_at k.at g))
 
   -- the members of an object, which the change does not touch
   pub object_head-kept : (id : ℕ) → ((place : ObjectPlace) → object_place d.map id ≡ Some place
