@@ -137,7 +137,8 @@ module _ (k : ObjectPlace) (g : Object → Object) where
       let of : Option (List Object) → Option Y = λ o. option_and_then (λ os. option_and_then q (slice_get os place.at)) o in
       let r : Layer → Option Y = λ l. of (objects_of l) in
       then-kept r (layer_of (with_object k g m) place.layer) (layer_of m place.layer)
-      (layer_of-kept k.layer f (inside-objects (change_at k.at g)) m (λ l. refl) r (λ l. ap of (objects-alone l)) place.layer (λ l s t. by_body l.body (same l s t)))
+      (layer_of-kept k.layer f (inside-objects (change_at k.at g)) m (λ l. refl) r (λ l. ap of (objects-alone l)) place.layer
+      (λ l s t. by_body l.body (same l s t)))
     where
       by_body : (b : Body) → ((os : List Object)
           → option_and_then q (slice_get (change_at k.at g os) place.at) ≡ option_and_then q (slice_get os place.at))
@@ -163,7 +164,8 @@ module _ (k : ObjectPlace) (g : Object → Object) where
 module _ (k : ObjectPlace) (g : Object → Object) (ids : (o : Object) → (g o).id ≡ o.id) (d : DocumentParts) where
   pub object_cell-kept : (id x y : ℕ) → AgreeAt (Cell id x y) (with_map (with_object k g) d) d
   object_cell-kept id x y =
-      cell-kept k.layer (layer_with_objects (change_at k.at g)) (inside-objects (change_at k.at g)) (λ l. refl) d.map id x y (λ n l s t. tile-objects (change_at k.at g) n l)
+      cell-kept k.layer (layer_with_objects (change_at k.at g)) (inside-objects (change_at k.at g)) (λ l. refl) d.map id x y
+      (λ n l s t. tile-objects (change_at k.at g) n l)
 
   pub object_layer_members-kept : (id : ℕ) → AgreeAt (MembersOf (members.Layer id)) (with_map (with_object k g) d) d
   object_layer_members-kept id =
@@ -177,7 +179,8 @@ module _ (k : ObjectPlace) (g : Object → Object) (ids : (o : Object) → (g o)
   object_layer_of-kept id = ap (option_map (λ at. at.layer)) (object_place-with_object g ids k id d.map)
 
   pub object_outline-kept : AgreeAt Outline (with_map (with_object k g) d) d
-  object_outline-kept = outline-kept k.layer (layer_with_objects (change_at k.at g)) (inside-objects (change_at k.at g)) (λ l. refl) d (outline-objects (change_at k.at g))
+  object_outline-kept =
+      outline-kept k.layer (layer_with_objects (change_at k.at g)) (inside-objects (change_at k.at g)) (λ l. refl) d (outline-objects (change_at k.at g))
 
   -- the members of an object, which the change does not touch
   pub object_head-kept : (id : ℕ) → ((place : ObjectPlace) → object_place d.map id ≡ Some place
