@@ -5,9 +5,10 @@ use crate::escape::{push_attribute, push_text};
 use crate::kids::kids_of;
 use crate::layout::{Sheet, push_line};
 use crate::members::text_at;
+use crate::output::Output;
 use crate::part::{Kind, Part, element_name};
 use crate::property::{is_text_between, property_of};
-use std::alloc::{AllocError, Global};
+use std::alloc::Global;
 
 /// What stands between the tags of an element.
 #[derive(Clone, Copy, PartialEq, Eq)]
@@ -45,26 +46,21 @@ pub fn text_of<'a>(part: &Part<'a>) -> &'a str {
 }
 
 /// Pushes `</name>`.
-pub fn push_end(part: &Part<'_>, out: &mut Vec<u8>) -> Result<(), AllocError> {
-    out.extend_from_slice(b"</")?;
-    out.extend_from_slice(element_name(part.kind).as_bytes())?;
-    out.push(b'>')?;
-    Ok(())
+pub fn push_end(part: &Part<'_>, out: &mut Output) {
+    out.push_all(b"</");
+    out.push_all(element_name(part.kind).as_bytes());
+    out.push(b'>');
 }
 
 // Pushes `<name` and the attributes.
-fn push_head(
-    alloc: Global,
-    sheet: &Sheet<'_>,
-    part: &Part<'_>,
-    out: &mut Vec<u8>,
-) -> Result<(), AllocError> {
-    out.push(b'<')?;
-    out.extend_from_slice(element_name(part.kind).as_bytes())?;
-    for told in &attributes_of(alloc, sheet, part)? {
-        push_attribute(told.name, &told.value, out)?;
+fn push_head(alloc: Global, sheet: &Sheet<'_>, part: &Part<'_>, out: &mut Output) {
+    out.push(b'<');
+    out.push_all(element_name(part.kind).as_bytes());
+    let told = attributes_of(alloc, sheet, part);
+    out.note(told.has_failed);
+    for each in &told.list {
+        push_attribute(each.name, &each.value, out);
     }
-    Ok(())
 }
 
 // Pushes elements, each on a line of its own.
@@ -75,11 +71,13 @@ fn push_kids(
     part: &Part<'_>,
     level: u8,
     most: u8,
-    out: &mut Vec<u8>,
-) -> Result<(), AllocError> {
-    for kid in &kids_of(alloc, part)? {
-        push_line(sheet, level.saturating_add(1), out)?;
-        push_element(alloc, sheet, kid, level.saturating_add(1), most, out)?;
+    out: &mut Output,
+) {
+    let kids = kids_of(alloc, part);
+    out.note(kids.has_failed);
+    for kid in &kids.list {
+        push_line(sheet, level.saturating_add(1), out);
+        push_element(alloc, sheet, kid, level.saturating_add(1), most, out);
     }
     push_line(sheet, level, out)
 }
@@ -92,8 +90,8 @@ pub fn push_content(
     part: &Part<'_>,
     level: u8,
     most: u8,
-    out: &mut Vec<u8>,
-) -> Result<(), AllocError> {
+    out: &mut Output,
+) {
     match content_of(part) {
         Content::Cells => push_cells(sheet, part, level, out),
         Content::Text => push_text(text_of(part).as_bytes(), out),
@@ -101,12 +99,14 @@ pub fn push_content(
     }
 }
 
-/// Whether anything stands between the tags of an element.
-pub fn has_content(alloc: Global, part: &Part<'_>) -> Result<bool, AllocError> {
+/// Whether anything stands between the tags of an element; where memory runs out, an output fails.
+pub fn has_content(alloc: Global, part: &Part<'_>, out: &mut Output) -> bool {
     if content_of(part) != Content::Elements {
-        return Ok(true);
+        return true;
     }
-    Ok(!kids_of(alloc, part)?.is_empty())
+    let kids = kids_of(alloc, part);
+    out.note(kids.has_failed);
+    !kids.list.is_empty()
 }
 
 /// Pushes an element of this level.
@@ -117,13 +117,13 @@ pub fn push_element(
     part: &Part<'_>,
     level: u8,
     most: u8,
-    out: &mut Vec<u8>,
-) -> Result<(), AllocError> {
-    push_head(alloc, sheet, part, out)?;
-    if most == 0 || !has_content(alloc, part)? {
-        return out.extend_from_slice(b"/>");
+    out: &mut Output,
+) {
+    push_head(alloc, sheet, part, out);
+    if most == 0 || !has_content(alloc, part, out) {
+        return out.push_all(b"/>");
     }
-    out.push(b'>')?;
-    push_content(alloc, sheet, part, level, most - 1, out)?;
+    out.push(b'>');
+    push_content(alloc, sheet, part, level, most - 1, out);
     push_end(part, out)
 }

@@ -1,5 +1,5 @@
 // Texts in tags and between them.
-use std::alloc::AllocError;
+use crate::output::Output;
 
 // What stands for a byte.
 fn escape_of(byte: u8, is_value: bool) -> &'static [u8] {
@@ -15,35 +15,33 @@ fn escape_of(byte: u8, is_value: bool) -> &'static [u8] {
     }
 }
 
-fn push_escaped(text: &[u8], is_value: bool, out: &mut Vec<u8>) -> Result<(), AllocError> {
+fn push_escaped(text: &[u8], is_value: bool, out: &mut Output) {
     for byte in text {
         let escape = escape_of(*byte, is_value);
         if escape.is_empty() {
-            out.push(*byte)?;
+            out.push(*byte);
         } else {
-            out.extend_from_slice(escape)?;
+            out.push_all(escape);
         }
     }
-    Ok(())
 }
 
 /// Pushes what is to be read as this text between tags.
-pub fn push_text(text: &[u8], out: &mut Vec<u8>) -> Result<(), AllocError> {
+pub fn push_text(text: &[u8], out: &mut Output) {
     push_escaped(text, false, out)
 }
 
 /// Pushes ` name="value"`.
-pub fn push_attribute(name: &str, value: &[u8], out: &mut Vec<u8>) -> Result<(), AllocError> {
-    out.push(b' ')?;
-    out.extend_from_slice(name.as_bytes())?;
-    out.push(b'=')?;
+pub fn push_attribute(name: &str, value: &[u8], out: &mut Output) {
+    out.push(b' ');
+    out.push_all(name.as_bytes());
+    out.push(b'=');
     push_quoted(value, out)
 }
 
 /// Pushes a value between its quotes.
-pub fn push_quoted(value: &[u8], out: &mut Vec<u8>) -> Result<(), AllocError> {
-    out.push(b'"')?;
-    push_escaped(value, true, out)?;
-    out.push(b'"')?;
-    Ok(())
+pub fn push_quoted(value: &[u8], out: &mut Output) {
+    out.push(b'"');
+    push_escaped(value, true, out);
+    out.push(b'"');
 }

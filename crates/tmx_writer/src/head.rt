@@ -1,10 +1,9 @@
 // The start tag of an element of a source, with the attributes that changed told anew.
-use crate::attributes::Told;
 use crate::escape::{push_attribute, push_quoted};
 use crate::layout::Sheet;
+use crate::output::{Output, Told};
 use crate::part::{Kind, Part};
 use crate::text::Ids;
-use std::alloc::AllocError;
 use xml_text::{Attribute, Element};
 
 /// A source whose map is told anew as another.
@@ -17,15 +16,10 @@ pub struct Merge<'a> {
 }
 
 /// Pushes bytes of the source.
-pub fn push_source(
-    merge: &Merge<'_>,
-    from: usize,
-    end: usize,
-    out: &mut Vec<u8>,
-) -> Result<(), AllocError> {
+pub fn push_source(merge: &Merge<'_>, from: usize, end: usize, out: &mut Output) {
     match merge.source.get(from..end) {
-        Some(bytes) => out.extend_from_slice(bytes),
-        None => Ok(()),
+        Some(bytes) => out.push_all(bytes),
+        None => (),
     }
 }
 
@@ -82,20 +76,15 @@ fn is_told(heads: &Heads<'_>, told: &Told) -> bool {
 }
 
 // Pushes the attributes that the source does not have, and that stand in Tiled's order behind this one, or before all that it has.
-fn push_behind(
-    heads: &Heads<'_>,
-    anchor: Option<&str>,
-    out: &mut Vec<u8>,
-) -> Result<(), AllocError> {
+fn push_behind(heads: &Heads<'_>, anchor: Option<&str>, out: &mut Output) {
     let mut last: Option<&str> = None;
     for told in heads.new {
         if value_said(heads.raw, told.name).is_some() {
             last = Some(told.name);
         } else if last == anchor && is_told(heads, told) {
-            push_attribute(told.name, &told.value, out)?;
+            push_attribute(told.name, &told.value, out);
         }
     }
-    Ok(())
 }
 
 // Pushes an attribute as the source has it, with its value told anew if that changed.
@@ -104,8 +93,8 @@ fn push_attribute_of(
     heads: &Heads<'_>,
     attribute: &Attribute,
     from: usize,
-    out: &mut Vec<u8>,
-) -> Result<(), AllocError> {
+    out: &mut Output,
+) {
     let name = attribute.name.as_str();
     let now = value_of(heads.new, name);
     if value_of(heads.old, name) == now {
@@ -118,32 +107,28 @@ fn push_attribute_of(
                 from,
                 attribute.value_span.from.saturating_sub(1),
                 out,
-            )?;
+            );
             push_quoted(value, out)
         }
-        None => Ok(()),
+        None => (),
     }
 }
 
 /// Pushes a start tag up to its last attribute, and says where that ends in the source.
-pub fn push_head(
-    merge: &Merge<'_>,
-    heads: &Heads<'_>,
-    out: &mut Vec<u8>,
-) -> Result<usize, AllocError> {
+pub fn push_head(merge: &Merge<'_>, heads: &Heads<'_>, out: &mut Output) -> usize {
     let raw = heads.raw;
-    out.push(b'<')?;
-    out.extend_from_slice(raw.name.as_bytes())?;
-    push_behind(heads, None, out)?;
+    out.push(b'<');
+    out.push_all(raw.name.as_bytes());
+    push_behind(heads, None, out);
     let mut from = raw
         .span
         .from
         .saturating_add(raw.name.len())
         .saturating_add(1);
     for attribute in &raw.attributes {
-        push_attribute_of(merge, heads, attribute, from, out)?;
-        push_behind(heads, Some(attribute.name.as_str()), out)?;
+        push_attribute_of(merge, heads, attribute, from, out);
+        push_behind(heads, Some(attribute.name.as_str()), out);
         from = attribute.span.end;
     }
-    Ok(from)
+    from
 }

@@ -1,7 +1,7 @@
 // How what is told anew is laid out.
 use crate::members::{note_of, text_at};
+use crate::output::Output;
 use serde_json::Value;
-use std::alloc::AllocError;
 
 /// A map, and how what is told anew of it is laid out.
 #[derive(Clone, Copy)]
@@ -30,13 +30,12 @@ pub fn sheet_of<'a>(map: &'a Value, line: &'a [u8], indent: &'a [u8]) -> Sheet<'
 }
 
 /// Begins a line of this level.
-pub fn push_line(sheet: &Sheet<'_>, level: u8, out: &mut Vec<u8>) -> Result<(), AllocError> {
+pub fn push_line(sheet: &Sheet<'_>, level: u8, out: &mut Output) {
     if sheet.line.is_empty() {
-        return Ok(());
+        return;
     }
-    out.extend_from_slice(sheet.line)?;
+    out.push_all(sheet.line);
     for _done in 0..level {
-        out.extend_from_slice(sheet.indent)?;
+        out.push_all(sheet.indent);
     }
-    Ok(())
 }

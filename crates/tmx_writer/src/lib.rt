@@ -13,6 +13,7 @@ mod merge;
 mod merged_cells;
 mod merged_kids;
 mod number;
+mod output;
 mod part;
 mod property;
 mod same;

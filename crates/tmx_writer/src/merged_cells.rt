@@ -2,11 +2,11 @@
 use crate::cells::{packed_text, push_cells, push_element};
 use crate::head::{Merge, push_source};
 use crate::members::items_at;
+use crate::output::Output;
 use crate::part::Part;
 use itoa::Buffer;
 use json_trees::is_same;
 use serde_json::Value;
-use std::alloc::AllocError;
 use xml_text::{Element, Node};
 
 // The text of an element that holds nothing else, and no reference.
@@ -21,13 +21,13 @@ fn plain_content<'a>(merge: &Merge<'a>, raw: &Element) -> Option<&'a [u8]> {
 }
 
 // Pushes a text in place of another, between the blanks that stand around that.
-fn push_between(content: &[u8], text: &str, out: &mut Vec<u8>) -> Result<(), AllocError> {
+fn push_between(content: &[u8], text: &str, out: &mut Output) {
     let behind = content.trim_ascii_start();
     let (lead, _) = cut(content, content.len().saturating_sub(behind.len()));
     let (_, trail) = cut(behind, behind.trim_ascii_end().len());
-    out.extend_from_slice(lead)?;
-    out.extend_from_slice(text.as_bytes())?;
-    out.extend_from_slice(trail)
+    out.push_all(lead);
+    out.push_all(text.as_bytes());
+    out.push_all(trail)
 }
 
 // Both sides of a place.
@@ -67,37 +67,27 @@ fn before_comma(bytes: &[u8]) -> usize {
 }
 
 // Pushes bytes up to the number behind as many commas, and another one in its place. Gives those behind it.
-fn push_changed<'a>(
-    bytes: &'a [u8],
-    commas: usize,
-    number: u64,
-    out: &mut Vec<u8>,
-) -> Result<&'a [u8], AllocError> {
+fn push_changed<'a>(bytes: &'a [u8], commas: usize, number: u64, out: &mut Output) -> &'a [u8] {
     let (before, from) = cut(bytes, behind_commas(bytes, commas));
     let (spelled, behind) = cut(from, before_comma(from));
-    out.extend_from_slice(before)?;
-    push_between(spelled, Buffer::new().format(number), out)?;
-    Ok(behind)
+    out.push_all(before);
+    push_between(spelled, Buffer::new().format(number), out);
+    behind
 }
 
 // Pushes numbers between commas, as the source spells those that stay.
-fn push_csv(
-    content: &[u8],
-    olds: &[Value],
-    news: &[Value],
-    out: &mut Vec<u8>,
-) -> Result<(), AllocError> {
+fn push_csv(content: &[u8], olds: &[Value], news: &[Value], out: &mut Output) {
     let mut rest = content;
     let mut commas: usize = 0;
     for (old, new) in olds.iter().zip(news.iter()) {
         let number = new.as_u64();
         if old.as_u64() != number {
-            rest = push_changed(rest, commas, number.unwrap_or(0), out)?;
+            rest = push_changed(rest, commas, number.unwrap_or(0), out);
             commas = 0;
         }
         commas = commas.saturating_add(1);
     }
-    out.extend_from_slice(rest)
+    out.push_all(rest)
 }
 
 fn count_of(content: &[u8]) -> usize {
@@ -127,8 +117,8 @@ fn push_elements(
     raw: &Element,
     olds: &[Value],
     news: &[Value],
-    out: &mut Vec<u8>,
-) -> Result<(), AllocError> {
+    out: &mut Output,
+) {
     let mut from = raw.content.from;
     let mut pairs = olds.iter().zip(news.iter());
     for node in &raw.children {
@@ -139,8 +129,8 @@ fn push_elements(
             continue;
         };
         if !is_same(old, new) {
-            push_source(merge, from, tile.span.from, out)?;
-            push_element(new, out)?;
+            push_source(merge, from, tile.span.from, out);
+            push_element(new, out);
             from = tile.span.end;
         }
     }
@@ -164,26 +154,26 @@ fn push_numbers(
     raw: &Element,
     olds: &[Value],
     news: &[Value],
-    out: &mut Vec<u8>,
-) -> Result<bool, AllocError> {
+    out: &mut Output,
+) -> bool {
     if olds.len() != news.len() || olds.is_empty() {
-        return Ok(false);
+        return false;
     }
     if merge.new.is_by_elements {
         if !has_all_elements(raw, olds.len()) {
-            return Ok(false);
+            return false;
         }
-        push_elements(merge, raw, olds, news, out)?;
-        return Ok(true);
+        push_elements(merge, raw, olds, news, out);
+        return true;
     }
     let Some(content) = plain_content(merge, raw) else {
-        return Ok(false);
+        return false;
     };
     if count_of(content) != olds.len() {
-        return Ok(false);
+        return false;
     }
-    push_csv(content, olds, news, out)?;
-    Ok(true)
+    push_csv(content, olds, news, out);
+    true
 }
 
 /// Pushes the cells of a layer or a chunk in those of the source.
@@ -193,8 +183,8 @@ pub fn push_merged_cells(
     old: &Part<'_>,
     new: &Part<'_>,
     level: u8,
-    out: &mut Vec<u8>,
-) -> Result<(), AllocError> {
+    out: &mut Output,
+) {
     if let Some(text) = packed_text(new.value) {
         if packed_text(old.value).is_some() {
             if let Some(content) = plain_content(merge, raw) {
@@ -205,8 +195,8 @@ pub fn push_merged_cells(
     }
     let olds = items_at(old.value, "data");
     let news = items_at(new.value, "data");
-    if push_numbers(merge, raw, olds, news, out)? {
-        return Ok(());
+    if push_numbers(merge, raw, olds, news, out) {
+        return;
     }
     push_cells(&merge.new, new, level, out)
 }

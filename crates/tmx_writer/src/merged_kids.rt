@@ -3,6 +3,7 @@ use crate::head::value_said;
 use crate::kids::kids_of;
 use crate::members::{text_at, whole_at};
 use crate::number::push_whole;
+use crate::output::Output;
 use crate::part::{Kind, Part, element_name};
 use serde_json::Value;
 use std::alloc::{AllocError, Global};
@@ -51,34 +52,34 @@ fn pieces_of<'a>(alloc: Global, raw: &'a Element) -> Result<Vec<Piece<'a>>, Allo
 }
 
 // Pushes a member that is a number.
-fn push_number(value: &Value, name: &str, out: &mut Vec<u8>) -> Result<(), AllocError> {
+fn push_number(value: &Value, name: &str, out: &mut Output) {
     match value.get(name) {
         Some(member) => match member.as_i64() {
             Some(number) => {
                 if number < 0 {
-                    out.push(b'-')?;
+                    out.push(b'-');
                 }
                 push_whole(number.unsigned_abs(), out)
             }
             None => push_whole(whole_at(value, name), out),
         },
-        None => Ok(()),
+        None => (),
     }
 }
 
-fn push_corner(value: &Value, out: &mut Vec<u8>) -> Result<(), AllocError> {
-    push_number(value, "x", out)?;
-    out.push(b',')?;
+fn push_corner(value: &Value, out: &mut Output) {
+    push_number(value, "x", out);
+    out.push(b',');
     push_number(value, "y", out)
 }
 
 // Pushes what tells a part from its siblings of the same name.
-fn push_key(part: &Part<'_>, at: usize, out: &mut Vec<u8>) -> Result<(), AllocError> {
-    out.extend_from_slice(element_name(part.kind).as_bytes())?;
-    out.push(b' ')?;
+fn push_key(part: &Part<'_>, at: usize, out: &mut Output) {
+    out.push_all(element_name(part.kind).as_bytes());
+    out.push(b' ');
     match part.kind {
-        Kind::Property => out.extend_from_slice(text_at(part.value, "name").as_bytes()),
-        Kind::Member => out.extend_from_slice(part.key.as_bytes()),
+        Kind::Property => out.push_all(text_at(part.value, "name").as_bytes()),
+        Kind::Member => out.push_all(part.key.as_bytes()),
         Kind::Tileset => push_number(part.value, "firstgid", out),
         Kind::Layer
         | Kind::ObjectLayer
@@ -90,14 +91,14 @@ fn push_key(part: &Part<'_>, at: usize, out: &mut Vec<u8>) -> Result<(), AllocEr
         Kind::Frame | Kind::WangSet | Kind::WangColor | Kind::WangTile => push_whole(
             at as u64, out,
         ),
-        _ => Ok(()),
+        _ => (),
     }
 }
 
 fn key_of(alloc: Global, part: &Part<'_>, at: usize) -> Result<Vec<u8>, AllocError> {
-    let mut key = Vec::new(alloc);
-    push_key(part, at, &mut key)?;
-    Ok(key)
+    let mut key = Output::new(alloc);
+    push_key(part, at, &mut key);
+    key.done()
 }
 
 fn keys_of(alloc: Global, parts: &[Part<'_>]) -> Result<BTreeMap<Vec<u8>, usize>, AllocError> {
@@ -221,10 +222,11 @@ fn member_places(
     let keys = keys_of(alloc, olds)?;
     let mut places = Vec::new(alloc);
     for piece in pieces {
-        let mut key = Vec::from_slice(alloc, piece.element.name.as_bytes())?;
-        key.push(b' ')?;
-        let name = value_said(piece.element, "name").unwrap_or("");
-        key.extend_from_slice(name.as_bytes())?;
+        let mut key = Output::new(alloc);
+        key.push_all(piece.element.name.as_bytes());
+        key.push(b' ');
+        key.push_all(value_said(piece.element, "name").unwrap_or("").as_bytes());
+        let key = key.done()?;
         places.push(keys.get(key.as_slice()).copied())?;
     }
     Ok(Some(places))
@@ -279,8 +281,8 @@ pub fn matched<'a>(
     new: &Part<'a>,
 ) -> Result<Option<Kids<'a>>, AllocError> {
     let pieces = pieces_of(alloc, raw)?;
-    let olds = kids_of(alloc, old)?;
-    let news = kids_of(alloc, new)?;
+    let olds = kids_of(alloc, old).done()?;
+    let news = kids_of(alloc, new).done()?;
     let found = if are_members(&olds) {
         member_places(alloc, &pieces, &olds)?
     } else {

@@ -1,7 +1,8 @@
 // Numbers as Tiled tells them.
+use crate::output::Output;
 use ryu::Buffer;
 use serde_json::Number;
-use std::alloc::{AllocError, Global};
+use std::alloc::Global;
 
 /// As many digits as Tiled tells of a number that is no property.
 const FEW_DIGITS: usize = 6;
@@ -10,27 +11,26 @@ const FEW_DIGITS: usize = 6;
 #[derive(Drop)]
 struct Decimal {
     is_negative: bool,
-    digits: Vec<u8>,
+    digits: Output,
     point: i32,
 }
 
 // Takes one more byte of a number's text.
-fn take(decimal: &mut Decimal, is_behind: &mut bool, byte: u8) -> Result<(), AllocError> {
+fn take(decimal: &mut Decimal, is_behind: &mut bool, byte: u8) {
     if byte == b'-' {
         decimal.is_negative = true;
     } else if byte == b'.' {
         *is_behind = true;
-    } else if byte == b'0' && decimal.digits.is_empty() {
+    } else if byte == b'0' && decimal.digits.bytes.is_empty() {
         if *is_behind {
             decimal.point = decimal.point.saturating_sub(1);
         }
     } else {
-        decimal.digits.push(byte)?;
+        decimal.digits.push(byte);
         if !*is_behind {
             decimal.point = decimal.point.saturating_add(1);
         }
     }
-    Ok(())
 }
 
 fn without_zeros(digits: &mut Vec<u8>) {
@@ -45,7 +45,7 @@ fn without_zeros(digits: &mut Vec<u8>) {
     digits.truncate(length);
 }
 
-fn decimal_of(alloc: Global, x: f64) -> Result<Decimal, AllocError> {
+fn decimal_of(alloc: Global, x: f64) -> Decimal {
     let mut buffer = Buffer::new();
     let told = buffer.format(x);
     let (digits, exponent) = match told.split_once('e') {
@@ -54,71 +54,70 @@ fn decimal_of(alloc: Global, x: f64) -> Result<Decimal, AllocError> {
     };
     let mut decimal = Decimal {
         is_negative: false,
-        digits: Vec::new(alloc),
+        digits: Output::new(alloc),
         point: 0,
     };
     let mut is_behind = false;
     for byte in digits.as_bytes() {
-        take(&mut decimal, &mut is_behind, *byte)?;
+        take(&mut decimal, &mut is_behind, *byte);
     }
-    without_zeros(&mut decimal.digits);
+    without_zeros(&mut decimal.digits.bytes);
     decimal.point = decimal.point.saturating_add(exponent);
-    Ok(decimal)
+    decimal
 }
 
-fn push_zeros(count: i32, out: &mut Vec<u8>) -> Result<(), AllocError> {
+fn push_zeros(count: i32, out: &mut Output) {
     for _done in 0..count {
-        out.push(b'0')?;
+        out.push(b'0');
     }
-    Ok(())
 }
 
 // As `120`, `1.2` or `0.0012`.
-fn push_plain(decimal: &Decimal, out: &mut Vec<u8>) -> Result<(), AllocError> {
+fn push_plain(decimal: &Decimal, out: &mut Output) {
     if decimal.point <= 0 {
-        out.extend_from_slice(b"0.")?;
-        push_zeros(decimal.point.saturating_neg(), out)?;
+        out.push_all(b"0.");
+        push_zeros(decimal.point.saturating_neg(), out);
     }
     let mut place: i32 = 0;
-    for digit in &decimal.digits {
+    for digit in &decimal.digits.bytes {
         if place == decimal.point && place > 0 {
-            out.push(b'.')?;
+            out.push(b'.');
         }
-        out.push(*digit)?;
+        out.push(*digit);
         place = place.saturating_add(1);
     }
     push_zeros(decimal.point.saturating_sub(place), out)
 }
 
 // As `1.2e-05`.
-fn push_exponent(decimal: &Decimal, out: &mut Vec<u8>) -> Result<(), AllocError> {
+fn push_exponent(decimal: &Decimal, out: &mut Output) {
     let mut is_first = true;
-    for digit in &decimal.digits {
-        out.push(*digit)?;
-        if is_first && decimal.digits.len() > 1 {
-            out.push(b'.')?;
+    for digit in &decimal.digits.bytes {
+        out.push(*digit);
+        if is_first && decimal.digits.bytes.len() > 1 {
+            out.push(b'.');
         }
         is_first = false;
     }
     let exponent = decimal.point.saturating_sub(1);
-    out.extend_from_slice(if exponent < 0 { b"e-" } else { b"e+" })?;
+    out.push_all(if exponent < 0 { b"e-" } else { b"e+" });
     let size = exponent.unsigned_abs();
     if size < 10 {
-        out.push(b'0')?;
+        out.push(b'0');
     }
     push_whole(size as u64, out)
 }
 
 /// Pushes a whole number.
-pub fn push_whole(number: u64, out: &mut Vec<u8>) -> Result<(), AllocError> {
+pub fn push_whole(number: u64, out: &mut Output) {
     let mut buffer = itoa::Buffer::new();
-    out.extend_from_slice(buffer.format(number).as_bytes())
+    out.push_all(buffer.format(number).as_bytes())
 }
 
 /// Pushes a number that may be below 0.
-pub fn push_signed(number: i64, out: &mut Vec<u8>) -> Result<(), AllocError> {
+pub fn push_signed(number: i64, out: &mut Output) {
     let mut buffer = itoa::Buffer::new();
-    out.extend_from_slice(buffer.format(number).as_bytes())
+    out.push_all(buffer.format(number).as_bytes())
 }
 
 // Whether a number of so many digits is told with an exponent, where all its digits are told.
@@ -142,15 +141,16 @@ fn float_of(number: &Number) -> f64 {
     }
 }
 
-fn push_float(alloc: Global, x: f64, few: usize, out: &mut Vec<u8>) -> Result<(), AllocError> {
-    let decimal = decimal_of(alloc, x)?;
-    if decimal.digits.is_empty() {
-        return out.extend_from_slice(b"0");
+fn push_float(alloc: Global, x: f64, few: usize, out: &mut Output) {
+    let decimal = decimal_of(alloc, x);
+    out.note(decimal.digits.has_failed);
+    if decimal.digits.bytes.is_empty() {
+        return out.push_all(b"0");
     }
     if decimal.is_negative {
-        out.push(b'-')?;
+        out.push(b'-');
     }
-    let count = decimal.digits.len();
+    let count = decimal.digits.bytes.len();
     let has_exponent = if count <= few {
         is_far(decimal.point)
     } else {
@@ -164,17 +164,17 @@ fn push_float(alloc: Global, x: f64, few: usize, out: &mut Vec<u8>) -> Result<()
 }
 
 /// Pushes a number with six digits, if that is the number, else with all of its own.
-pub fn push_real(alloc: Global, number: &Number, out: &mut Vec<u8>) -> Result<(), AllocError> {
+pub fn push_real(alloc: Global, number: &Number, out: &mut Output) {
     push_float(alloc, float_of(number), FEW_DIGITS, out)
 }
 
 /// Pushes a number with all of its digits, as the value of a property.
-pub fn push_shortest(alloc: Global, number: &Number, out: &mut Vec<u8>) -> Result<(), AllocError> {
+pub fn push_shortest(alloc: Global, number: &Number, out: &mut Output) {
     push_float(alloc, float_of(number), 0, out)
 }
 
 /// Pushes a number that is to be whole.
-pub fn push_number(alloc: Global, number: &Number, out: &mut Vec<u8>) -> Result<(), AllocError> {
+pub fn push_number(alloc: Global, number: &Number, out: &mut Output) {
     if let Some(whole) = number.as_u64() {
         return push_whole(whole, out);
     }

@@ -1,10 +1,10 @@
 // Properties, and the members of classes.
-use crate::attributes::Told;
 use crate::members::{NOTE_NAME, text_at};
 use crate::number::{push_number, push_shortest};
+use crate::output::{Output, Tolds};
 use crate::part::{Kind, Part};
 use serde_json::Value;
-use std::alloc::{AllocError, Global};
+use std::alloc::Global;
 
 /// What a property, or a member of a class, is.
 #[derive(Clone, Copy)]
@@ -80,9 +80,9 @@ pub fn is_text_between(property: &Property<'_>) -> bool {
     }
 }
 
-fn push_value(alloc: Global, property: &Property<'_>, out: &mut Vec<u8>) -> Result<(), AllocError> {
+fn push_value(alloc: Global, property: &Property<'_>, out: &mut Output) {
     match property.value {
-        Value::Bool(is_set) => out.extend_from_slice(if *is_set {
+        Value::Bool(is_set) => out.push_all(if *is_set {
             b"true".as_slice()
         } else {
             b"false".as_slice()
@@ -92,37 +92,24 @@ fn push_value(alloc: Global, property: &Property<'_>, out: &mut Vec<u8>) -> Resu
         } else {
             push_number(alloc, number, out)
         },
-        Value::String(text) => out.extend_from_slice(text.as_bytes()),
-        Value::Null | Value::Array(_) | Value::Object(_) => Ok(()),
+        Value::String(text) => out.push_all(text.as_bytes()),
+        Value::Null | Value::Array(_) | Value::Object(_) => (),
     }
-}
-
-fn value_text(alloc: Global, property: &Property<'_>) -> Result<Vec<u8>, AllocError> {
-    let mut out = Vec::new(alloc);
-    push_value(alloc, property, &mut out)?;
-    Ok(out)
 }
 
 /// Pushes its attributes.
-pub fn push_property(
-    alloc: Global,
-    property: &Property<'_>,
-    told: &mut Vec<Told>,
-) -> Result<(), AllocError> {
-    told.push(Told::new(alloc, "name", property.name)?)?;
+pub fn push_property(alloc: Global, property: &Property<'_>, told: &mut Tolds) {
+    told.push_text(alloc, "name", property.name);
     if property.kind != "string" {
-        told.push(Told::new(alloc, "type", property.kind)?)?;
+        told.push_text(alloc, "type", property.kind);
     }
     if !property.class.is_empty() {
-        told.push(Told::new(alloc, "propertytype", property.class)?)?;
+        told.push_text(alloc, "propertytype", property.class);
     }
     if property.value.is_object() || is_text_between(property) {
-        return Ok(());
+        return;
     }
-    let value = value_text(alloc, property)?;
-    told.push(Told {
-        name: "value",
-        value,
-    })?;
-    Ok(())
+    let mut out = Output::new(alloc);
+    push_value(alloc, property, &mut out);
+    told.push("value", out);
 }

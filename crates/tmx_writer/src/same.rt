@@ -2,10 +2,11 @@
 use crate::anew::{Content, content_of, text_of};
 use crate::kids::kids_of;
 use crate::members::NOTE_NAME;
+use crate::output::Output;
 use crate::part::{Kind, Part};
 use json_trees::is_same;
 use serde_json::Value;
-use std::alloc::{AllocError, Global};
+use std::alloc::Global;
 
 /// What the cells of a layer are told by.
 const CELL_NAMES: [&str; 5] = ["data", "chunks", "encoding", "compression", "width"];
@@ -75,19 +76,20 @@ fn are_same_parts(olds: &[Part<'_>], news: &[Part<'_>]) -> bool {
     others.next().is_none()
 }
 
-/// Whether the same stands between the tags of two parts.
-pub fn is_same_content(alloc: Global, old: &Part<'_>, new: &Part<'_>) -> Result<bool, AllocError> {
+/// Whether the same stands between the tags of two parts; where memory runs out, an output fails.
+pub fn is_same_content(alloc: Global, old: &Part<'_>, new: &Part<'_>, out: &mut Output) -> bool {
     let content = content_of(old);
     if content != content_of(new) {
-        return Ok(false);
+        return false;
     }
     match content {
-        Content::Cells => Ok(has_same_members(&CELL_NAMES, old.value, new.value)),
-        Content::Text => Ok(text_of(old) == text_of(new)),
+        Content::Cells => has_same_members(&CELL_NAMES, old.value, new.value),
+        Content::Text => text_of(old) == text_of(new),
         Content::Elements => {
-            let olds = kids_of(alloc, old)?;
-            let news = kids_of(alloc, new)?;
-            Ok(are_same_parts(&olds, &news))
+            let olds = kids_of(alloc, old);
+            let news = kids_of(alloc, new);
+            out.note(olds.has_failed || news.has_failed);
+            are_same_parts(&olds.list, &news.list)
         }
     }
 }

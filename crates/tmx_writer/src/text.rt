@@ -3,6 +3,7 @@ use crate::anew::push_element;
 use crate::head::{Merge, push_source};
 use crate::layout::sheet_of;
 use crate::merge::{Spot, push_merged};
+use crate::output::Output;
 use crate::part::{Kind, made_part};
 use serde_json::Value;
 use std::alloc::{AllocError, Global};
@@ -43,8 +44,9 @@ fn line_end(bytes: &[u8]) -> &'static [u8] {
 /// The text of a map in Tiled's layout, with lines that end as those of a source.
 pub fn written(alloc: Global, map: &Value, source: &[u8]) -> Result<Vec<u8>, AllocError> {
     let sheet = sheet_of(map, line_end(source), b" ");
-    let mut out = Vec::from_slice(alloc, b"<?xml version=\"1.0\" encoding=\"UTF-8\"?>")?;
-    out.extend_from_slice(sheet.line)?;
+    let mut out = Output::new(alloc);
+    out.push_all(b"<?xml version=\"1.0\" encoding=\"UTF-8\"?>");
+    out.push_all(sheet.line);
     push_element(
         alloc,
         &sheet,
@@ -52,9 +54,9 @@ pub fn written(alloc: Global, map: &Value, source: &[u8]) -> Result<Vec<u8>, All
         0,
         MOST_LEVELS,
         &mut out,
-    )?;
-    out.extend_from_slice(sheet.line)?;
-    Ok(out)
+    );
+    out.push_all(sheet.line);
+    out.done()
 }
 
 // What stands before the first child of the root; before one of none a line feed and a blank.
@@ -123,9 +125,9 @@ pub fn written_into(
         new: made_part(Kind::Map, map),
         level: 0,
     };
-    let mut out = Vec::new(alloc);
-    push_source(&merge, 0, root.span.from, &mut out)?;
-    push_merged(alloc, &merge, &spot, MOST_LEVELS, &mut out)?;
-    push_source(&merge, root.span.end, source.bytes.len(), &mut out)?;
-    Ok(out)
+    let mut out = Output::new(alloc);
+    push_source(&merge, 0, root.span.from, &mut out);
+    push_merged(alloc, &merge, &spot, MOST_LEVELS, &mut out);
+    push_source(&merge, root.span.end, source.bytes.len(), &mut out);
+    out.done()
 }

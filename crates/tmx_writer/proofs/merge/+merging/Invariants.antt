@@ -17,10 +17,13 @@ abbrev pub decreases-push_reordered : goal.decreases-push_reordered
 decreases-push_reordered l = 8 * l.most + 3
 
 abbrev pub decreases-push_kids : goal.decreases-push_kids
-decreases-push_kids l = 8 * l.most + 4
+decreases-push_kids l = 8 * l.most + 5
+
+abbrev pub decreases-push_matched : goal.decreases-push_matched
+decreases-push_matched l = 8 * l.most + 4
 
 abbrev pub decreases-push_inner : goal.decreases-push_inner
-decreases-push_inner l = 8 * l.most + 5
+decreases-push_inner l = 8 * l.most + 6
 
 abbrev pub decreases-push_rest : goal.decreases-push_rest
-decreases-push_rest l = 8 * l.most + 6
+decreases-push_rest l = 8 * l.most + 7
