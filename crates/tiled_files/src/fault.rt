@@ -7,7 +7,7 @@ use crate::line_column::LineColumn;
 use crate::words::xml_words;
 
 /// Why no map is opened of a file, or saved as one.
-#[derive(Clone, Copy, Debug, PartialEq, Eq)]
+#[derive(Clone, Copy)]
 pub enum FileFault {
     /// What the file has is not set aside, or not put back.
     Aside(tiled_maps::Fault),

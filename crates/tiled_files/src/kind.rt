@@ -3,7 +3,7 @@ ghost use Rattle.std.specs.Prelude.{◌≡◌};
 ghost use Rattle.tiled_files.specs.Kinds.{begins_tag, has_mark, is_tmx_name, is_xml, kind_of, kind_of_bytes, trimmed, unmarked};
 
 /// What is in a file of a map.
-#[derive(Clone, Copy, Debug, PartialEq, Eq)]
+#[derive(Clone, Copy, PartialEq, Eq)]
 pub enum Kind {
     /// JSON, as in `.tmj` and `.json`.
     Json,

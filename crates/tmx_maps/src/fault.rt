@@ -8,7 +8,7 @@ use tmx_tree::Refusal;
 use xml_text::Flaw;
 
 /// Why no text is given for a map, or for a tileset.
-#[derive(Clone, Copy, PartialEq, Eq, Debug)]
+#[derive(Clone, Copy)]
 pub enum Fault {
     /// Out of memory.
     Memory,

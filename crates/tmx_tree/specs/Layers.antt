@@ -18,7 +18,7 @@ use Rattle.tmx_tree.specs.declared.tile_layer.ChunkList as code
 use Rattle.tmx_tree.specs.Answers.{◌>>=◌}
 use Rattle.tmx_tree.specs.Numbers.{whole_of}
 use Rattle.tmx_tree.specs.Rows.{whole_data, with_rows}
-use Rattle.tmx_tree.specs.Tables.{with_layer_rows, size_rows, place_rows, image_layer_rows, object_layer_rows}
+use Rattle.tmx_tree.specs.Tables.{layer_rows, size_rows, place_rows, image_layer_rows, object_layer_rows}
 use Rattle.tmx_tree.specs.Elements.{Attributes, attribute, attributes_of, kids_of, is_named, first_named, text_in}
 use Rattle.tmx_tree.specs.Texts.{is_one_of}
 use Rattle.tmx_tree.specs.Properties.{text_at, own_properties, with_note, is_blank}
@@ -40,7 +40,7 @@ with_offset kind attrs ms =
 -- a layer of a kind with an id, as far as all layers are alike
 unfoldable pub layer_members : List ℕ → Attributes → Children → ℤ → Result Members Refusal
 layer_members kind attrs kids id = do
-  a ← with_layer_rows attrs (put (codes "type") (string kind) (id_member id))
+  a ← with_rows layer_rows attrs (put (codes "type") (string kind) (id_member id))
   b ← with_offset kind attrs a
   own_properties kids b
 

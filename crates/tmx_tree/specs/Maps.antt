@@ -15,7 +15,7 @@ use Rattle.tmx_tree.specs.declared.fault.Fault.TheVariants.{Memory, Refused}
 use Rattle.tmx_tree.specs.Answers.{◌>>=◌}
 use Rattle.tmx_tree.specs.Numbers.{whole_of, unsigned_of}
 use Rattle.tmx_tree.specs.Rows.{with_rows, is_whole_data}
-use Rattle.tmx_tree.specs.Tables.{with_map_rows, hexagonal_rows}
+use Rattle.tmx_tree.specs.Tables.{map_rows, hexagonal_rows}
 use Rattle.tmx_tree.specs.Elements.{Attributes, attribute, attributes_of, kids_of, is_named, first_named}
 use Rattle.tmx_tree.specs.Texts.{is_one_of, one_of}
 use Rattle.tmx_tree.specs.Properties.{text_at, unless_empty, own_properties, are_none, with_note}
@@ -60,7 +60,7 @@ unfoldable pub own_members : Attributes → Result Members Refusal
 own_members attrs = do
   a ← with_orientation attrs (with_order attrs (with_stagger attrs map_type))
   b ← with_hexagons attrs a
-  c ← with_map_rows attrs b
+  c ← with_rows map_rows attrs b
   with_pair (codes "parallaxoriginx") (codes "parallaxoriginy") attrs c
 
 -- ---- the settings of the editor

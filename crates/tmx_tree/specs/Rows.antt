@@ -1,13 +1,13 @@
 -- Members that attributes are: a row of a table says which, how its text is read, and when there is a member.
 use Rattle.std.specs.Prelude.{ℕ, ℤ, pos, List, [], ◌∷◌, Bool, true, false, not, Float, Option, Some, None, option_map, option_and_then, unwrap_or, Result, Ok}
 use Rattle.std.specs.Prelude.{Err, if◌then◌else◌}
+use Rattle.std.specs.Borrow.{Bor}
 use Rattle.std.specs.Ordering.{int_eq}
 use Rattle.serde_json.specs.Data.{Num, unsigned, Data, boolean, number, string, Members}
 use Rattle.serde_json.specs.Find.{of_integer, as_number, as_integer, as_str, as_bool}
 use Rattle.json_members.specs.Members.{put_some}
 use Rattle.tmx_tree.specs.declared.fault.Refusal.{Refusal}
 use Rattle.tmx_tree.specs.declared.fault.Refusal.TheVariants.{NotFinite}
-use Rattle.tmx_tree.specs.declared.row.Row.{Row}
 use Rattle.tmx_tree.specs.declared.row.Kind.{Kind}
 use Rattle.tmx_tree.specs.declared.row.Kind.TheVariants.{Text, Whole, Unsigned, Real, Flag}
 use Rattle.tmx_tree.specs.declared.row.Shown.{Shown}
@@ -25,8 +25,8 @@ pub record Named : Type 0 where
 abbrev pub row : List ℕ → Kind → Shown → Named
 row name kind shown = record { name = name; kind = kind; shown = shown }
 
-abbrev pub row_of : Row → Named
-row_of r = row r.name.now r.kind r.shown
+abbrev pub row_of : Bor (List ℕ) × Kind × Shown → Named
+row_of r = row r.0.now r.1 r.2
 
 -- ---- one value
 abbrev pub whole_data : ℤ → Data

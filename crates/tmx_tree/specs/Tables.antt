@@ -1,12 +1,10 @@
 -- The tables: the attributes of each kind of element that are members of the same name, how each is read, and when it is a member.
-use Rattle.std.specs.Prelude.{pos, negsuc, List, [], ◌∷◌, codes, true, false, Result}
-use Rattle.serde_json.specs.Data.{Members}
-use Rattle.tmx_tree.specs.declared.fault.Refusal.{Refusal}
+use Rattle.std.specs.Prelude.{pos, negsuc, List, [], ◌∷◌, codes, true, false}
 use Rattle.tmx_tree.specs.declared.row.Kind.TheVariants.{Text, Whole, Unsigned, Real, Flag}
 use Rattle.tmx_tree.specs.declared.row.Shown.TheVariants.{Always, Given, Read, Unusual}
-use Rattle.tmx_tree.specs.Answers.{◌>>=◌}
-use Rattle.tmx_tree.specs.Elements.{Attributes}
-use Rattle.tmx_tree.specs.Rows.{Named, row, with_rows}
+use Rattle.tmx_tree.specs.declared.tables.Table.{Table}
+use Rattle.tmx_tree.specs.declared.tables.Table.TheVariants as table
+use Rattle.tmx_tree.specs.Rows.{Named, row}
 
 -- a map
 unfoldable pub map_rows : List Named
@@ -16,19 +14,12 @@ map_rows =
     ∷ row (codes "class") Text Unusual
     ∷ row (codes "compressionlevel") (Whole (negsuc 0)) Always
     ∷ row (codes "backgroundcolor") Text Unusual
-    ∷ []
-
-unfoldable pub map_size_rows : List Named
-map_size_rows =
-    row (codes "width") (Whole (pos 0)) Always
+    ∷ row (codes "width") (Whole (pos 0)) Always
     ∷ row (codes "height") (Whole (pos 0)) Always
     ∷ row (codes "tilewidth") (Whole (pos 0)) Always
     ∷ row (codes "tileheight") (Whole (pos 0)) Always
     ∷ row (codes "infinite") (Flag false) Always
     ∷ []
-
-unfoldable pub with_map_rows : Attributes → Members → Result Members Refusal
-with_map_rows attrs ms = with_rows map_rows attrs ms >>= λ more. with_rows map_size_rows attrs more
 
 -- a hexagonal map, besides
 unfoldable pub hexagonal_rows : List Named
@@ -43,19 +34,12 @@ layer_rows =
     ∷ row (codes "y") (Whole (pos 0)) Always
     ∷ row (codes "visible") (Flag true) Always
     ∷ row (codes "locked") (Flag false) Unusual
-    ∷ []
-
-unfoldable pub look_rows : List Named
-look_rows =
-    row (codes "opacity") (Real (pos 1)) Always
+    ∷ row (codes "opacity") (Real (pos 1)) Always
     ∷ row (codes "tintcolor") Text Unusual
     ∷ row (codes "parallaxx") (Real (pos 1)) Unusual
     ∷ row (codes "parallaxy") (Real (pos 1)) Unusual
     ∷ row (codes "mode") Text Unusual
     ∷ []
-
-unfoldable pub with_layer_rows : Attributes → Members → Result Members Refusal
-with_layer_rows attrs ms = with_rows layer_rows attrs ms >>= λ more. with_rows look_rows attrs more
 
 -- a tile layer of a finite map, or a chunk, besides
 unfoldable pub size_rows : List Named
@@ -123,20 +107,13 @@ tileset_rows =
     ∷ row (codes "tilecount") (Whole (pos 0)) Given
     ∷ row (codes "columns") (Whole (pos 0)) Given
     ∷ row (codes "backgroundcolor") Text Unusual
-    ∷ []
-
-unfoldable pub tileset_size_rows : List Named
-tileset_size_rows =
-    row (codes "tilewidth") (Whole (pos 0)) Always
+    ∷ row (codes "tilewidth") (Whole (pos 0)) Always
     ∷ row (codes "tileheight") (Whole (pos 0)) Always
     ∷ row (codes "spacing") (Whole (pos 0)) Always
     ∷ row (codes "margin") (Whole (pos 0)) Always
     ∷ row (codes "tilerendersize") Text Unusual
     ∷ row (codes "fillmode") Text Unusual
     ∷ []
-
-unfoldable pub with_tileset_rows : Attributes → Members → Result Members Refusal
-with_tileset_rows attrs ms = with_rows tileset_rows attrs ms >>= λ more. with_rows tileset_size_rows attrs more
 
 -- one that stands in the map, besides
 unfoldable pub embedded_rows : List Named
@@ -162,19 +139,11 @@ tile_rows =
     ∷ row (codes "type") Text Unusual
     ∷ row (codes "class") Text Unusual
     ∷ row (codes "probability") (Real (pos 1)) Unusual
-    ∷ []
-
--- the part of its picture that it is
-unfoldable pub part_rows : List Named
-part_rows =
-    row (codes "x") (Whole (pos 0)) Given
+    ∷ row (codes "x") (Whole (pos 0)) Given
     ∷ row (codes "y") (Whole (pos 0)) Given
     ∷ row (codes "width") (Whole (pos 0)) Given
     ∷ row (codes "height") (Whole (pos 0)) Given
     ∷ []
-
-unfoldable pub with_tile_rows : Attributes → Members → Result Members Refusal
-with_tile_rows attrs ms = with_rows tile_rows attrs ms >>= λ more. with_rows part_rows attrs more
 
 -- a frame of its animation
 unfoldable pub frame_rows : List Named
@@ -197,3 +166,25 @@ wang_color_rows =
 -- a tile of that, besides its colors
 unfoldable pub wang_tile_rows : List Named
 wang_tile_rows = row (codes "tileid") (Whole (pos 0)) Always ∷ []
+
+abbrev pub table_rows : Table → List Named
+table_rows table.Map = map_rows
+table_rows table.Hexagonal = hexagonal_rows
+table_rows table.Layer = layer_rows
+table_rows table.Size = size_rows
+table_rows table.Place = place_rows
+table_rows table.ImageLayer = image_layer_rows
+table_rows table.ObjectLayer = object_layer_rows
+table_rows table.Object = object_rows
+table_rows table.OwnObject = own_object_rows
+table_rows table.Instance = instance_rows
+table_rows table.Words = text_rows
+table_rows table.Tileset = tileset_rows
+table_rows table.Embedded = embedded_rows
+table_rows table.File = file_rows
+table_rows table.Turning = turning_rows
+table_rows table.Tile = tile_rows
+table_rows table.Frame = frame_rows
+table_rows table.WangSet = wang_set_rows
+table_rows table.WangColor = wang_color_rows
+table_rows table.WangTile = wang_tile_rows

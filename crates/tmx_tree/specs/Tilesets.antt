@@ -11,7 +11,7 @@ use Rattle.tmx_tree.specs.declared.fault.Refusal.{Refusal}
 use Rattle.tmx_tree.specs.declared.fault.Refusal.TheVariants.{OldTileset}
 use Rattle.tmx_tree.specs.Answers.{◌>>=◌}
 use Rattle.tmx_tree.specs.Rows.{whole_data, is_whole_data, with_rows}
-use Rattle.tmx_tree.specs.Tables.{with_tileset_rows, embedded_rows, file_rows, turning_rows, with_tile_rows, frame_rows}
+use Rattle.tmx_tree.specs.Tables.{tileset_rows, embedded_rows, file_rows, turning_rows, tile_rows, frame_rows}
 use Rattle.tmx_tree.specs.Cells.{side, whole_at}
 use Rattle.tmx_tree.specs.Elements.{Attributes, attributes_of, kids_of, is_named, first_named}
 use Rattle.tmx_tree.specs.Texts.{one_of}
@@ -118,7 +118,7 @@ with_solid x ms = collision (first_named (codes "objectgroup") (kids_of x)) (wit
 
 unfoldable pub tile_members : Xml → Result Members Refusal
 tile_members x = do
-  rows ← with_tile_rows (attributes_of x) no_members
+  rows ← with_rows tile_rows (attributes_of x) no_members
   moving ← with_frames_in x rows
   solid ← with_solid x moving
   own_properties (kids_of x) solid
@@ -165,7 +165,7 @@ with_parts x ms = do
 
 -- its attributes, and how many tiles it has, where that is known
 unfoldable pub with_attributes : Xml → Members → Result Members Refusal
-with_attributes x ms = with_tileset_rows (attributes_of x) ms >>= λ rows. Ok (with_counts x rows)
+with_attributes x ms = with_rows tileset_rows (attributes_of x) ms >>= λ rows. Ok (with_counts x rows)
 
 unfoldable pub with_whole : Xml → Members → Result Members Refusal
 with_whole x ms = with_attributes x ms >>= λ rows. with_parts x rows

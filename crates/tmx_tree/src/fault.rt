@@ -5,7 +5,7 @@ ghost use Rattle.tmx_tree.specs.declared.fault.Fault.TheVariants.{Memory, Refuse
 use std::alloc::{AllocError, AllocFailed};
 
 /// What is wrong with a map or a tileset in XML.
-#[derive(Clone, Copy, PartialEq, Eq, Debug)]
+#[derive(Clone, Copy)]
 pub enum Refusal {
     /// The root is no map.
     NotAMap,
@@ -41,7 +41,7 @@ pub enum Refusal {
 }
 
 /// Why XML gave no tree: out of memory, or what is wrong with it.
-#[derive(Clone, Copy, PartialEq, Eq, Debug)]
+#[derive(Clone, Copy)]
 pub enum Fault {
     Memory,
     Refused(Refusal),

@@ -17,7 +17,7 @@ use crate::plain_value::text_at;
 use crate::properties::put_properties;
 use crate::property::{put_notes, put_text};
 use crate::row::put_some;
-use crate::tables::{put_image_layer_rows, put_layer_rows, put_object_layer_rows};
+use crate::tables::{Table, put_table};
 use crate::texts::is_one_of;
 use crate::tile_layer::tile_layer;
 use serde_json::{Map, Value};
@@ -67,7 +67,7 @@ pub fn layer_members(
 {
     let mut members = id_member(alloc, id)?;
     put_text(alloc, &mut members, "type", kind)?;
-    put_layer_rows(alloc, attributes(element), &mut members)?;
+    put_table(alloc, Table::Layer, attributes(element), &mut members)?;
     put_offset(alloc, kind, attributes(element), &mut members)?;
     put_properties(alloc, children(element), &mut members)?;
     Ok(members)
@@ -125,7 +125,7 @@ fn object_layer_members(
         (object_layer_members (attributes_of (view element.now)) (kids_of (view element.now)) id) }
 {
     let mut members = object_group(alloc, element, id)?;
-    put_object_layer_rows(alloc, attributes(element), &mut members)?;
+    put_table(alloc, Table::ObjectLayer, attributes(element), &mut members)?;
     put_draw_order(alloc, attributes(element), &mut members)?;
     Ok(members)
 }
@@ -230,7 +230,7 @@ fn image_layer(alloc: Global, element: &Element, id: i64) -> Result<Value, Fault
         (image_layer (attributes_of (view element.now)) (kids_of (view element.now)) id) }
 {
     let mut members = layer_members(alloc, "imagelayer", element, id)?;
-    put_image_layer_rows(alloc, attributes(element), &mut members)?;
+    put_table(alloc, Table::ImageLayer, attributes(element), &mut members)?;
     put_image(alloc, first_named(children(element), "image"), &mut members)?;
     Ok(Value::from(members))
 }

@@ -19,7 +19,7 @@ use crate::properties::put_properties;
 use crate::property::{put_notes, put_text};
 use crate::row::put_some;
 use crate::settings::settings;
-use crate::tables::{put_hexagonal_rows, put_map_rows};
+use crate::tables::{Table, put_table};
 use crate::texts::{is_one_of, one_of};
 use crate::tilesets::push_tilesets;
 use json_trees::is_within;
@@ -106,7 +106,7 @@ fn put_hexagons(
         (with_hexagons (map attribute_view attributes.now.items) (members_view members.old.entries)) }
 {
     if text_at(attributes, "orientation") == "hexagonal" {
-        put_hexagonal_rows(alloc, attributes, members)
+        put_table(alloc, Table::Hexagonal, attributes, members)
     } else {
         Ok(())
     }
@@ -129,7 +129,7 @@ fn own_members(alloc: Global, attributes: &Vec<Attribute>) -> Result<Map<String,
     put_order(alloc, attributes, &mut members)?;
     put_orientation(alloc, attributes, &mut members)?;
     put_hexagons(alloc, attributes, &mut members)?;
-    put_map_rows(alloc, attributes, &mut members)?;
+    put_table(alloc, Table::Map, attributes, &mut members)?;
     put_pair_at(
         alloc,
         "parallaxoriginx",

@@ -15,7 +15,7 @@ use crate::plain_value::text_at;
 use crate::properties::put_properties;
 use crate::property::put_text;
 use crate::row::{put_some, real_in};
-use crate::tables::{put_instance_rows, put_object_rows, put_own_object_rows, put_text_rows};
+use crate::tables::{Table, put_table};
 use crate::texts::is_one_of;
 use serde_json::{Map, Number, Value};
 use std::alloc::{AllocError, Global};
@@ -204,7 +204,7 @@ fn text_of(alloc: Global, element: &Element) -> Result<Map<String, Value>, Fault
     ensures { GivesBy (λ m. members_view m.entries) result (text_of (view element.now)) }
 {
     let mut members = Map::new(alloc);
-    put_text_rows(alloc, attributes(element), &mut members)?;
+    put_table(alloc, Table::Words, attributes(element), &mut members)?;
     let content = text_in(alloc, children(element))?;
     put_words(alloc, attributes(element), content.as_str(), &mut members)?;
     Ok(members)
@@ -343,10 +343,10 @@ fn put_own(
         (with_own (map attribute_view attributes.now.items) (members_view members.old.entries)) }
 {
     if is_instance(attributes) {
-        put_instance_rows(alloc, attributes, members)?;
+        put_table(alloc, Table::Instance, attributes, members)?;
         put_size(alloc, attributes, members)
     } else {
-        put_own_object_rows(alloc, attributes, members)
+        put_table(alloc, Table::OwnObject, attributes, members)
     }
 }
 
@@ -360,7 +360,7 @@ pub fn put_object(
     ensures { Leaves result (members_view members.new.entries)
         (object_members (view element.now) (members_view members.old.entries)) }
 {
-    put_object_rows(alloc, attributes(element), members)?;
+    put_table(alloc, Table::Object, attributes(element), members)?;
     put_own(alloc, attributes(element), members)?;
     put_parts(alloc, children(element), members)?;
     put_properties(alloc, children(element), members)

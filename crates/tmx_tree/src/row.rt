@@ -43,13 +43,8 @@ pub enum Shown {
     Unusual,
 }
 
-/// An attribute, and the member of its name.
-#[derive(Clone, Copy)]
-pub struct Row {
-    pub name: &'static str,
-    pub kind: Kind,
-    pub shown: Shown,
-}
+/// An attribute, how its text is read, and when there is a member of its name.
+pub type Row = (&'static str, Kind, Shown);
 
 /// The number of a float.
 pub fn number_in(float: Option<f64>) -> Result<Option<Number>, Fault>
@@ -199,12 +194,13 @@ fn row_value(alloc: Global, row: &Row, attributes: &Vec<Attribute>) -> Result<Op
     ensures { GivesBy (option_map data_of) result
         (row_value (row_of row.now) (map attribute_view attributes.now.items)) }
 {
-    match attribute_value(attributes, row.name) {
+    let (name, kind, shown) = *row;
+    match attribute_value(attributes, name) {
         Some(text) => {
-            let read = read_as(alloc, row.kind, text)?;
-            Ok(where_given(alloc, row.shown, row.kind, read))
+            let read = read_as(alloc, kind, text)?;
+            Ok(where_given(alloc, shown, kind, read))
         }
-        None => Ok(where_absent(alloc, row.shown, row.kind)),
+        None => Ok(where_absent(alloc, shown, kind)),
     }
 }
 
@@ -234,7 +230,7 @@ fn put_row(
         (with_row (row_of row.now) (map attribute_view attributes.now.items) (members_view members.old.entries)) }
 {
     let value = row_value(alloc, row, attributes)?;
-    put_some(alloc, members, row.name, value)?;
+    put_some(alloc, members, row.0, value)?;
     Ok(())
 }
 

@@ -15,7 +15,7 @@ use crate::fault::{Fault, Refusal};
 use crate::layers::layer_members;
 use crate::plain_value::text_at;
 use crate::property::{is_blank, put_notes, put_text};
-use crate::tables::{put_place_rows, put_size_rows};
+use crate::tables::{Table, put_table};
 use serde_json::{Map, Value};
 use std::alloc::{AllocError, Global};
 use xml_text::{Attribute, Element, Node};
@@ -94,7 +94,7 @@ fn put_finite(
     ensures { Leaves result (members_view members.new.entries)
         (with_finite form (map attribute_view attributes.now.items) (option_map (λ e. view e.now) element.entry) (members_view members.old.entries)) }
 {
-    put_size_rows(alloc, attributes, members)?;
+    put_table(alloc, Table::Size, attributes, members)?;
     let count = cell_count(attributes)?;
     let cells = finite_cells(alloc, form, count, element)?;
     serde_json::put(members, alloc, "data", cells)?;
@@ -112,8 +112,8 @@ fn chunk_members(alloc: Global, attributes: &Vec<Attribute>) -> Result<Map<Strin
     ensures { GivesBy (λ m. members_view m.entries) result (chunk_members (map attribute_view attributes.now.items)) }
 {
     let mut members = Map::new(alloc);
-    put_place_rows(alloc, attributes, &mut members)?;
-    put_size_rows(alloc, attributes, &mut members)?;
+    put_table(alloc, Table::Place, attributes, &mut members)?;
+    put_table(alloc, Table::Size, attributes, &mut members)?;
     Ok(members)
 }
 
@@ -224,7 +224,7 @@ fn put_infinite(
         return Err(Fault::Refused(Refusal::NoChunks));
     }
     let mut note = Map::new(alloc);
-    put_size_rows(alloc, attributes, &mut note)?;
+    put_table(alloc, Table::Size, attributes, &mut note)?;
     let mut chunks = ChunkList {
         found: Vec::new(alloc),
         around: None,

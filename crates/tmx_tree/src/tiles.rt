@@ -12,7 +12,7 @@ use crate::layers::object_layer;
 use crate::objects::said_id;
 use crate::properties::{put_properties, unless_none};
 use crate::row::put_some;
-use crate::tables::{put_frame_rows, put_tile_rows};
+use crate::tables::{Table, put_table};
 use crate::tileset::put_picture;
 use serde_json::{Map, Value};
 use std::alloc::{AllocError, Global};
@@ -25,7 +25,7 @@ fn push_frame(alloc: Global, node: &Node, found: &mut Vec<Value>) -> Result<(), 
     match named(node, "frame") {
         Some(element) => {
             let mut members = Map::new(alloc);
-            put_frame_rows(alloc, attributes(element), &mut members)?;
+            put_table(alloc, Table::Frame, attributes(element), &mut members)?;
             found.push(Value::from(members))?;
             Ok(())
         }
@@ -112,7 +112,7 @@ fn tile_members(alloc: Global, element: &Element) -> Result<Map<String, Value>, 
     ensures { GivesBy (λ m. members_view m.entries) result (tile_members (view element.now)) }
 {
     let mut members = Map::new(alloc);
-    put_tile_rows(alloc, attributes(element), &mut members)?;
+    put_table(alloc, Table::Tile, attributes(element), &mut members)?;
     put_frames(alloc, element, &mut members)?;
     put_solid(alloc, element, &mut members)?;
     put_properties(alloc, children(element), &mut members)?;

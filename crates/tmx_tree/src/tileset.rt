@@ -18,7 +18,7 @@ use crate::plain_value::text_at;
 use crate::properties::{put_properties, unless_none};
 use crate::property::put_text;
 use crate::row::put_some;
-use crate::tables::{put_tileset_rows, put_turning_rows};
+use crate::tables::{Table, put_table};
 use crate::texts::one_of;
 use crate::tiles::push_tiles;
 use crate::wangs::wang_sets;
@@ -172,7 +172,7 @@ fn turning(alloc: Global, attributes: &Vec<Attribute>) -> Result<Option<Value>, 
         return Ok(None);
     }
     let mut members = Map::new(alloc);
-    put_turning_rows(alloc, attributes, &mut members)?;
+    put_table(alloc, Table::Turning, attributes, &mut members)?;
     Ok(Some(Value::from(members)))
 }
 
@@ -265,7 +265,7 @@ fn put_attributes(
     ensures { Leaves result (members_view members.new.entries)
         (with_attributes (view element.now) (members_view members.old.entries)) }
 {
-    put_tileset_rows(alloc, attributes(element), members)?;
+    put_table(alloc, Table::Tileset, attributes(element), members)?;
     put_counts(alloc, element, members)?;
     Ok(())
 }

@@ -11,7 +11,7 @@ use crate::element::{attributes, has_name};
 use crate::fault::{Fault, Refusal};
 use crate::map::within;
 use crate::property::put_text;
-use crate::tables::put_file_rows;
+use crate::tables::{Table, put_table};
 use crate::tileset::put_whole;
 use serde_json::{Map, Value};
 use std::alloc::{AllocError, Global};
@@ -30,7 +30,7 @@ fn file_members(alloc: Global, element: &Element) -> Result<Map<String, Value>, 
     ensures { GivesBy (λ m. members_view m.entries) result (file_members (view element.now)) }
 {
     let mut members = tileset_type(alloc)?;
-    put_file_rows(alloc, attributes(element), &mut members)?;
+    put_table(alloc, Table::File, attributes(element), &mut members)?;
     put_whole(alloc, element, &mut members)?;
     Ok(members)
 }

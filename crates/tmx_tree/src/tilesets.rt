@@ -11,7 +11,7 @@ use crate::element::{attributes, children, first_named, named};
 use crate::fault::{Fault, Refusal};
 use crate::plain_value::text_at;
 use crate::property::put_text;
-use crate::tables::put_embedded_rows;
+use crate::tables::{Table, put_table};
 use crate::tileset::put_whole;
 use crate::wangs::has_old_sets;
 use serde_json::{Map, Value};
@@ -47,7 +47,7 @@ fn embedded(alloc: Global, element: &Element) -> Result<Value, Fault>
     ensures { GivesBy data_of result (embedded (view element.now)) }
 {
     let mut members = Map::new(alloc);
-    put_embedded_rows(alloc, attributes(element), &mut members)?;
+    put_table(alloc, Table::Embedded, attributes(element), &mut members)?;
     put_whole(alloc, element, &mut members)?;
     Ok(Value::from(members))
 }

@@ -14,7 +14,7 @@ use crate::fault::{Fault, Refusal};
 use crate::plain_value::text_at;
 use crate::properties::put_properties;
 use crate::property::put_text;
-use crate::tables::{put_wang_color_rows, put_wang_set_rows, put_wang_tile_rows};
+use crate::tables::{Table, put_table};
 use crate::texts::one_of;
 use serde_json::{Map, Value};
 use std::alloc::{AllocError, Global};
@@ -26,7 +26,7 @@ fn push_color_of(alloc: Global, element: &Element, found: &mut Vec<Value>) -> Re
         (with_color_of (view element.now) (map data_of found.old.items)) }
 {
     let mut members = Map::new(alloc);
-    put_wang_color_rows(alloc, attributes(element), &mut members)?;
+    put_table(alloc, Table::WangColor, attributes(element), &mut members)?;
     put_properties(alloc, children(element), &mut members)?;
     found.push(Value::from(members))?;
     Ok(())
@@ -80,7 +80,7 @@ fn push_wang_tile_of(alloc: Global, element: &Element, found: &mut Vec<Value>) -
         (with_wang_tile_of (view element.now) (map data_of found.old.items)) }
 {
     let mut members = Map::new(alloc);
-    put_wang_tile_rows(alloc, attributes(element), &mut members)?;
+    put_table(alloc, Table::WangTile, attributes(element), &mut members)?;
     let ids = wang_ids(alloc, text_at(attributes(element), "wangid"))?;
     serde_json::put(&mut members, alloc, "wangid", ids)?;
     found.push(Value::from(members))?;
@@ -137,7 +137,7 @@ fn wang_set(alloc: Global, element: &Element) -> Result<Value, Fault>
     ensures { GivesBy data_of result (wang_set (view element.now)) }
 {
     let mut members = Map::new(alloc);
-    put_wang_set_rows(alloc, attributes(element), &mut members)?;
+    put_table(alloc, Table::WangSet, attributes(element), &mut members)?;
     put_text(alloc, &mut members, "type", wang_type(attributes(element)))?;
     let mut colors = Vec::new(alloc);
     push_colors(alloc, children(element), &mut colors)?;
