@@ -22,21 +22,16 @@ use Rattle.tmx_maps.specs.Texts.{IsJsonOf, IsTold, IsToldAs}
 abbrev pub IsJsonOfXml : List ℕ → List ℕ → Type 0
 IsJsonOfXml source json = IsJsonOf source json ⊎ ((tmx_data source ≡ None) × (json ≡ []))
 
--- the JSON of a source; one in JSON is it itself
-abbrev pub IsSourceIn : Bool → List ℕ → List ℕ → Type 0
-IsSourceIn false source json = json ≡ source
-IsSourceIn true source json = IsJsonOfXml source json
-
 -- a source, if it is XML; else no bytes
 abbrev pub xml_in : Bool → List ℕ → List ℕ
 xml_in false source = []
 xml_in true source = source
 
--- ---- the text in which what was set aside is put back, by the JSON of a source
-abbrev pub PutsBy : Bool → List ℕ → List ℕ → Result LaidText FileFault → Type 0
-PutsBy is_xml bytes source (Ok laid) = (json : List ℕ) × IsSourceIn is_xml source json × PutsBackLike bytes json (Ok laid)
-PutsBy is_xml bytes source (Err (Aside fault)) = (json : List ℕ) × IsSourceIn is_xml source json × PutsBackLike bytes json (Err fault)
-PutsBy is_xml bytes source (Err (Xml fault)) = fault ≡ Memory
+-- ---- the text in which what was set aside is put back, by the JSON of a source in XML
+abbrev pub PutsXml : List ℕ → List ℕ → Result LaidText FileFault → Type 0
+PutsXml bytes source (Ok laid) = (json : List ℕ) × IsJsonOfXml source json × PutsBackLike bytes json (Ok laid)
+PutsXml bytes source (Err (Aside fault)) = (json : List ℕ) × IsJsonOfXml source json × PutsBackLike bytes json (Err fault)
+PutsXml bytes source (Err (Xml fault)) = fault ≡ Memory
 
 -- ---- the tree in which it is put back, by the tree of a source
 -- the tree of a source, in XML or in JSON; none, if it has none
@@ -65,8 +60,8 @@ SavesJson bytes source (Err (Xml fault)) = ⊥
 
 -- as JSON, by a source in XML: that in Tiled's layout, or as it is, if there is no memory for that
 abbrev pub SavesXmlAsJson : List ℕ → List ℕ → Result LaidText FileFault → Type 0
-SavesXmlAsJson bytes source (Ok saved) = (laid : LaidText) × PutsBy true bytes source (Ok laid) × ((saved ≡ laid) ⊎ LaysOut laid.text.items (Ok saved.text))
-SavesXmlAsJson bytes source (Err fault) = PutsBy true bytes source (Err fault)
+SavesXmlAsJson bytes source (Ok saved) = (laid : LaidText) × PutsXml bytes source (Ok laid) × ((saved ≡ laid) ⊎ LaysOut laid.text.items (Ok saved.text))
+SavesXmlAsJson bytes source (Err fault) = PutsXml bytes source (Err fault)
 
 -- as XML: XML that is the map of that tree; the source itself, if it is that map
 abbrev pub SavesTmx : Bool → List ℕ → List ℕ → Result LaidText FileFault → Type 0

@@ -1,18 +1,17 @@
 // What is saved as a file.
-ghost use Rattle.std.specs.Prelude.{◌≡◌, option_map, true};
+ghost use Rattle.std.specs.Prelude.{◌≡◌, option_map};
 ghost use Rattle.serde_json.specs.View.{view as data_of};
-ghost use Rattle.tiled_files.specs.Saving.{xml_in, PutsBy, PutsTree, PutsTreeBy, Saves, SavesJson, SavesTmx, SavesXmlAsJson};
+ghost use Rattle.tiled_files.specs.Saving.{xml_in, PutsTree, PutsTreeBy, PutsXml, Saves, SavesJson, SavesTmx, SavesXmlAsJson};
 ghost use Rattle.tiled_files.specs.Kinds.{is_xml};
 ghost use Rattle.tmx_maps.specs.Maps.{tmx_data};
 
 use crate::fault::FileFault;
 use crate::kind::{Kind, is_xml};
-use crate::opening::json_in;
 use map_layout::{LaidText, Layout, LineEnd, discard, lay_out, read_tree};
 use serde_json::Value;
 use std::alloc::Global;
 use tiled_maps::{put_back_by, put_back_like};
-use tmx_maps::{Fault, TmxSource, read_source, tmx_of_tree};
+use tmx_maps::{Fault, TmxSource, json_of, read_source, tmx_of_tree};
 
 // The text in JSON in which what was set aside is put back, by a source in JSON.
 fn put_like(alloc: Global, bytes: &[u8], source: &[u8]) -> Result<LaidText, FileFault>
@@ -24,15 +23,16 @@ fn put_like(alloc: Global, bytes: &[u8], source: &[u8]) -> Result<LaidText, File
     }
 }
 
-// The same by a source in JSON or in XML.
-fn put_by(alloc: Global, bytes: &[u8], source: &[u8]) -> Result<LaidText, FileFault>
-    ensures { PutsBy (is_xml source.now) bytes.now source.now result }
+// The same by a source in XML.
+fn put_by_xml(alloc: Global, bytes: &[u8], source: &[u8]) -> Result<LaidText, FileFault>
+    ensures { PutsXml bytes.now source.now result }
 {
-    match json_in(alloc, source) {
-        Ok(None) => put_like(alloc, bytes, source),
-        Ok(Some(json)) => put_like(alloc, bytes, json.as_slice()),
-        Err(fault) if fault.is_memory() => Err(fault),
-        Err(_) => put_like(alloc, bytes, b""),
+    match json_of(alloc, source) {
+        Ok(json) => put_like(alloc, bytes, json.as_slice()),
+        Err(fault) => match fault {
+            Fault::Memory => Err(FileFault::Xml(fault)),
+            _ => put_like(alloc, bytes, b""),
+        },
     }
 }
 
@@ -90,10 +90,9 @@ fn saved_as_tmx(alloc: Global, bytes: &[u8], source: &[u8]) -> Result<LaidText, 
 }
 
 fn saved_as_json(alloc: Global, bytes: &[u8], source: &[u8]) -> Result<LaidText, FileFault>
-    requires { is_xml source.now ≡ true }
     ensures { SavesXmlAsJson bytes.now source.now result }
 {
-    let laid = put_by(alloc, bytes, source)?;
+    let laid = put_by_xml(alloc, bytes, source)?;
     match lay_out(alloc, laid.text.as_slice(), Layout::Tiled(LineEnd::Lf)) {
         Ok(text) => Ok(LaidText {
             text,
