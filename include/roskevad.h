@@ -224,6 +224,7 @@ size_t roskevad_open_for(roskevad_editor *editor, size_t limit, size_t edits);
 size_t roskevad_step(roskevad_editor *editor, const uint8_t *line, size_t line_length, uint8_t *reply, size_t room);
 size_t roskevad_reply(roskevad_editor *editor, uint8_t *reply, size_t room);
 size_t roskevad_run_lines(roskevad_editor *editor, const uint8_t *bytes, size_t length, size_t stop, uint8_t *replies, size_t room, roskevad_lines_done *done);
+size_t roskevad_stamp(roskevad_editor *editor, uint32_t layer, int32_t x, int32_t y, uint32_t width, const uint32_t *values, size_t count, size_t follows);
 size_t roskevad_put_file(roskevad_editor *editor, const uint8_t *name, size_t name_length, const uint8_t *bytes, size_t length);
 size_t roskevad_file(roskevad_editor *editor, const uint8_t *name, size_t name_length, uint8_t *bytes, size_t room);
 size_t roskevad_remove_file(roskevad_editor *editor, const uint8_t *name, size_t name_length);
@@ -351,6 +352,16 @@ static inline size_t roskevad_editor_run_lines(roskevad_editor *editor, const ch
                                                roskevad_lines_done *done)
 {
     return roskevad_run_lines(editor, roskevad_bytes_at(bytes), length, stop, roskevad_room_at(replies), room, done);
+}
+
+/* Does what the line `stamp LAYER X Y WIDTH TILES` asks for, or `stamp+` where `follows` is not 0, whose tiles are `count` values, row by
+ * row; also where that line would be longer than a line may be. No text is made of the values. It is one step, or refused whole, as the
+ * line is. The size of the reply, which `roskevad_editor_reply` gives, or ROSKEVAD_IS_CLOSED. */
+static inline size_t roskevad_editor_stamp(roskevad_editor *editor, uint32_t layer, int32_t x, int32_t y, uint32_t width,
+                                           const uint32_t *values, size_t count, size_t follows)
+{
+    static const uint32_t nothing = 0;
+    return roskevad_stamp(editor, layer, x, y, width, values ? values : &nothing, count, follows);
 }
 
 /* Puts bytes under a name, in place of those that are there. ROSKEVAD_DONE, ROSKEVAD_NO_MEMORY, ROSKEVAD_BAD_NAME or

@@ -85,7 +85,7 @@ int main(void)
 {
     const char line[] = "status";
     char room[64];
-    uint32_t cells[4];
+    uint32_t cells[4] = {0, 0, 0, 0};
     roskevad_run run = {0, 0, 0};
     roskevad_lines_done done = {0, 0, 0, 0};
     const size_t told[] = {ROSKEVAD_DONE, ROSKEVAD_NONE, ROSKEVAD_IS_CLOSED, ROSKEVAD_NO_MEMORY, ROSKEVAD_TOO_GREAT, ROSKEVAD_BAD_NAME};
@@ -101,6 +101,7 @@ int main(void)
     sum += roskevad_editor_step(&editor, line, sizeof line - 1, room, sizeof room);
     sum += roskevad_editor_reply(&editor, room, sizeof room);
     sum += roskevad_editor_run_lines(&editor, line, sizeof line - 1, 1, room, sizeof room, &done);
+    sum += roskevad_editor_stamp(&editor, 1, -1, 0, 2, cells, 4, 0) + roskevad_stamp(&editor, 1, 0, -1, 2, cells, 4, 1);
     sum += roskevad_editor_put_file(&editor, line, sizeof line - 1, ROSKEVAD_NULL, 0);
     sum += roskevad_editor_file(&editor, line, sizeof line - 1, room, sizeof room);
     sum += roskevad_editor_remove_file(&editor, line, sizeof line - 1);

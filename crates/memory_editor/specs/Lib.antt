@@ -4,6 +4,7 @@ pub mod Lookups
 pub mod ManyLines
 pub mod Parts
 pub mod Rectangles
+pub mod Stamps
 pub mod OneMore
 pub mod Unions
 pub mod Turned

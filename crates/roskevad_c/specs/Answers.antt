@@ -3,6 +3,7 @@ use Rattle.std.specs.Prelude.{◌≡◌, ◌≤◌, ◌<◌, ◌⊎◌, ℕ, nat
 use Rattle.std.specs.FinMap.{contains_key, get, insert, remove}
 use Rattle.std.specs.List.{slice_get}
 use Rattle.std.specs.Option.{option_map}
+use Rattle.edits.specs.Blocks.{ValueBlock}
 use Rattle.map_model.specs.declared.parts.MapParts.{MapParts}
 use Rattle.map_json.specs.Outlines.{outline_text}
 use Rattle.region.specs.declared.runs.Run.{Run}
@@ -16,6 +17,7 @@ use Rattle.memory_editor.specs.Buffers.{filled, written}
 use Rattle.memory_editor.specs.ManyLines.{RunsLines}
 use Rattle.memory_editor.specs.Parts.{MemoryEditorParts, StepsTo, action_text_of, active_map, is_macro_at, started_editor, AreRunsOf}
 use Rattle.memory_editor.specs.Rectangles.{cells_of}
+use Rattle.memory_editor.specs.Stamps.{StampsTo}
 use Rattle.memory_editor.specs.declared.lines_done.LinesDone.{LinesDone}
 use Rattle.roskevad_c.specs.Counts.{counts_of}
 use Rattle.roskevad_c.specs.declared.answers.TheConstants.{DONE, NONE, CLOSED, NO_MEMORY, TOO_GREAT, BAD_NAME}
@@ -99,6 +101,12 @@ abbrev pub Steps : List ℕ → Option MemoryEditorParts → Option MemoryEditor
 Steps line None new = new ≡ None
 Steps line (Some s) None = ⊥
 Steps line (Some s) (Some t) = StepsTo line s t
+
+-- a block is stamped, where the editor is open
+abbrev pub Stamps : ℕ → ValueBlock → Bool → Option MemoryEditorParts → Option MemoryEditorParts → Type 0
+Stamps layer block follows None new = new ≡ None
+Stamps layer block follows (Some s) None = ⊥
+Stamps layer block follows (Some s) (Some t) = StampsTo layer block follows s t
 
 -- a file of a name that lines can spell is put in, or there was no memory for it
 abbrev pub Stores : List ℕ → List ℕ → MemoryEditorParts → ℕ → Option MemoryEditorParts → Type 0

@@ -21,7 +21,7 @@ mod things;
 mod told;
 mod word_faults;
 
-ghost use Rattle.std.specs.Prelude.{◌≡◌, nat_le, None, Some, codes, length, slice_get, if◌then◌else◌};
+ghost use Rattle.std.specs.Prelude.{◌≡◌, nat_eq, nat_le, not, None, Some, codes, length, slice_get, if◌then◌else◌};
 ghost use Rattle.std.specs.FinMap.{keys, len};
 ghost use Rattle.std.specs.Option.{option_map};
 ghost use Rattle.undo_stack.specs.declared.limits.TheConstants.{MAX_LIMIT};
@@ -31,7 +31,7 @@ ghost use Rattle.memory_editor.specs.Buffers.{filled};
 ghost use Rattle.memory_editor.specs.Parts.{active_map, clean_index_of, has_step};
 ghost use Rattle.roskevad_c.specs.Dialects.{dialect_at};
 ghost use Rattle.roskevad_c.specs.Asides.{TellsAside, TellsBack, TellsBackAs, TellsBackLike, TellsLayout, TellsMapFault, TellsTileset, TellsTilesetFault, TellsTmxFault};
-ghost use Rattle.roskevad_c.specs.Answers.{action_at, cells_at, file_in, is_there, last_reply, macro_number_at, size_of, told_bytes, told_number, told_size, with_file, without, RunsManyLines, Opens, OpensFor, Puts, Steps, TellsCount, TellsOfStep, TellsOutline, TellsRun};
+ghost use Rattle.roskevad_c.specs.Answers.{action_at, cells_at, file_in, is_there, last_reply, macro_number_at, size_of, told_bytes, told_number, told_size, with_file, without, RunsManyLines, Opens, OpensFor, Puts, Stamps, Steps, TellsCount, TellsOfStep, TellsOutline, TellsRun};
 
 use crate::answers::{BAD_NAME, CLOSED, DONE, NO_MEMORY, NONE, TOO_GREAT};
 use crate::asides::{
@@ -46,7 +46,7 @@ use crate::runs::SelectionRun;
 use document_lines::Dialect;
 use map_faults::{map_fault, tileset_fault};
 use map_layout::lay_out;
-use memory_editor::{MemoryEditor, Rectangle};
+use memory_editor::{MemoryEditor, Rectangle, Stamp};
 use std::alloc::Global;
 use tiled_files::{kind_of_bytes, opened, saved, tileset_text, tmx_fault};
 use tiled_maps::put_back;
@@ -160,6 +160,38 @@ pub extern "C" fn roskevad_run_lines(
     *editor = CEditor::of_box(boxed);
     *done = DoneCounts::of(run);
     run.lines
+}
+
+/// Does what the line of a stamp asks for whose values are given as numbers, also where the line would be longer than one may be. It
+/// is a `stamp+` where `follows` is not 0. Answers the size of the reply, which `roskevad_reply` copies, or `CLOSED`.
+#[unsafe(no_mangle)]
+pub extern "C" fn roskevad_stamp(
+    alloc: Global,
+    editor: &mut CEditor,
+    layer: u32,
+    x: i32,
+    y: i32,
+    width: u32,
+    values: &[u32],
+    follows: usize,
+) -> usize
+    ensures step { Stamps layer (record { x = x; y = y; width = width; values = values.now }) (not (nat_eq follows 0)) editor.old.held.held_editor editor.new.held.held_editor }
+    ensures size { result ≡ told_size (option_map last_reply editor.new.held.held_editor) }
+{
+    let Some(mut boxed) = editor.take(alloc) else {
+        return CLOSED;
+    };
+    boxed.stamp(&Stamp {
+        layer,
+        x,
+        y,
+        width,
+        values,
+        follows: follows != 0,
+    });
+    let size = copy_reply(&mut boxed, &mut []);
+    *editor = CEditor::of_box(boxed);
+    size
 }
 
 /// Puts bytes under a name, in place of those that are there. Answers `DONE`, `NO_MEMORY`, `BAD_NAME` or `CLOSED`; but for
