@@ -216,9 +216,12 @@ export class Document {
   readonly tilesets: Tilesets;
   /**
    * Writes rows of values from a cell on; a value 0 leaves its cell as it is, and what lies past
-   * the map's edge is cut off. Throws TypeError, RangeError, NotFound, Refused (30, 31, 33).
+   * the map's edge is cut off. With a width the values stand row by row. Throws TypeError,
+   * RangeError, NotFound, Refused (30, 31, 33).
    */
-  stamp(layer: LayerLike, x: number, y: number, rows: Rows, options?: { merge?: boolean }): void;
+  stamp(
+    layer: LayerLike, x: number, y: number, rows: Rows | Iterable<number>, options?: { merge?: boolean; width?: number | null },
+  ): void;
   /** Empties a rectangle of cells. Throws TypeError, RangeError, NotFound, Refused (30, 31). */
   erase(
     layer: LayerLike, x: number, y: number, width: number, height: number, options?: { merge?: boolean },

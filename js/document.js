@@ -1,6 +1,6 @@
 // SPDX-License-Identifier: MIT OR Apache-2.0
 // A document of an editor, in the words of its caller.
-import { Closed, Refused, refusedCall } from "./faults.js";
+import { Closed, refusedCall } from "./faults.js";
 import * as json from "./json_values.js";
 import { kindNamed } from "./file_kinds.js";
 import { layoutOf } from "./layouts.js";
@@ -8,7 +8,7 @@ import { MAX_COORDINATE, MAX_OPEN_MACROS } from "./limits.js";
 import { savedMap } from "./map_files.js";
 import { Owner, WithOwnMembers, refuseSettings, setMember, setOrRemove } from "./own_members.js";
 import { Properties } from "./properties.js";
-import { BASE, doubtful, partsOf, rowsOf } from "./rows.js";
+import { BASE, blockOf, doubtful, rowsOf } from "./rows.js";
 import { Selection } from "./selection.js";
 import { drawn, hasAside, noteOf, restored, withoutPacking } from "./tiled_maps.js";
 import { Tilesets } from "./tilesets.js";
@@ -505,41 +505,17 @@ export class Document extends WithOwnMembers {
   }
 
   stamp(layer, x, y, rows, options) {
-    const { merge } = words.options(options, { merge: false });
-    const listed = rowsOf(rows);
-    const parts = [...partsOf(listed)];
+    const { merge, width } = words.options(options, { merge: false, width: null });
+    const block = blockOf(rows, width);
     const [left, top] = [words.coordinate(x, "x"), words.coordinate(y, "y")];
-    words.coordinate(top + parts[parts.length - 1].first, "y of the last rows");
-    const [width, height] = [listed[0].length, listed.length];
-    const area = { layer: this._idOf(layer), left, top, width, height };
-    this._beginningIf(() => this._changes(area, listed), () => this._stampParts(area, parts, listed, merge));
+    const area = { layer: this._idOf(layer), left, top, width: block.width, height: block.height };
+    this._beginningIf(() => this._changes(area, block.rows()), () => this._paint(area, block, merge, this.#stroke));
   }
 
   // Says a stamp past every map with the value of rows that is the first to be refused: it changes nothing, and begins no
   // macro.
   _tryValues(area, rows) {
     this._say(`stamp ${area.layer} ${NOWHERE} 1 ${doubtful(rows)}`);
-  }
-
-  _stampParts(area, parts, rows, merge) {
-    if (parts.length === 1) {
-      this._paint("stamp", area, ` ${parts[0].values}`, merge, this.#stroke);
-      return;
-    }
-    // A value that is refused is refused before the first part.
-    this._tryValues(area, rows);
-    const stroke = this.#stroke ?? { hasStep: false };
-    for (const [place, { first, height, values }] of parts.entries()) {
-      try {
-        this._paint("stamp", { ...area, top: area.top + first, height }, ` ${values}`, merge, stroke);
-      } catch (fault) {
-        if (!(fault instanceof Refused)) {
-          throw fault;
-        }
-        const call = `stamp: row ${first} and those below it of ${rows.length} rows; those above it stand, as a step`;
-        throw new Refused(fault.code, fault.words, call, place);
-      }
-    }
   }
 
   // The new values of the selected cells that rows would change, zeros too, or an erase, where there are none; null
@@ -593,8 +569,8 @@ export class Document extends WithOwnMembers {
     this._tryValues(area, rows);
     const news = this._differences(area, rows) ?? new Set();
     const [stamp, erase] = [
-      () => this._stampParts(area, [...partsOf(rows)], rows, false),
-      () => this._paint("erase", area, "", false, null),
+      () => this._paint(area, blockOf(rows), false, null),
+      () => this._paint(area, null, false, null),
     ];
     if (news.size === 0) {
       return;
@@ -608,17 +584,38 @@ export class Document extends WithOwnMembers {
     }
   }
 
-  // Says a stamp, with its values, or an erase.
-  _paint(word, area, values, merge, stroke) {
-    const { layer, left, top, width, height } = area;
-    const rest = `${layer} ${left} ${top} ${width}${word === "stamp" ? values : ` ${height}`}`;
-    const isMerging = merge || stroke?.hasStep === true;
-    this._edit(`${word}${isMerging ? "+" : ""} ${rest}`);
+  // Stamps a block, or erases where there is none.
+  _paint(area, block, merge, stroke) {
+    const isFollowing = merge || stroke?.hasStep === true;
+    if (block === null) {
+      const { layer, left, top, width, height } = area;
+      this._edit(`erase${isFollowing ? "+" : ""} ${layer} ${left} ${top} ${width} ${height}`);
+    } else {
+      this._stamp(area, block, isFollowing);
+    }
     if (stroke !== null && !merge) {
       // A paint that changes nothing leaves the step. Where paints have taken each other back, it is gone.
       const became = this.#editor._told[BECAME];
       stroke.hasStep = became !== GONE && (stroke.hasStep || became === ADDED || became === ADDED_AND_DROPPED);
     }
+  }
+
+  // Stamps a block, behind the begin of macros that wait for their first edit. Its lines are made only where it is refused.
+  _stamp(area, block, isFollowing) {
+    const line = () => block.lines(area, isFollowing).next().value;
+    this.#editor._behind(() => {
+      if (this.#begins.length > 0) {
+        this._beginNow();
+      }
+      this._enter();
+      if (this.#editor._events.isTelling) {
+        this.#editor._events.refuse(line());
+      }
+      this.#editor._stamped(area, block.values, isFollowing);
+      if (this.#editor._refusal !== 0) {
+        throw this.#editor._refusedLine(this.#editor._refusal, line());
+      }
+    });
   }
 
   // A rectangle of cells as far as it is on the map: its layer, its corner and its size.
@@ -635,7 +632,7 @@ export class Document extends WithOwnMembers {
     const [left, top] = [words.coordinate(x, "x"), words.coordinate(y, "y")];
     const size = { width: words.number(width, "a width"), height: words.number(height, "a height") };
     const area = { layer: this._idOf(layer), left, top, ...size };
-    this._beginningIf(() => this._changes(area, null), () => this._paint("erase", area, "", merge, this.#stroke));
+    this._beginningIf(() => this._changes(area, null), () => this._paint(area, null, merge, this.#stroke));
   }
 
   fill(layer, x, y, value) {

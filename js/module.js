@@ -178,6 +178,16 @@ export class Module {
     return given.length <= ROOM ? put(this.#line) : this.holding(given.length, put);
   }
 
+  /** Makes a call on numbers of 32 bits, with their place and how many they are. Throws NoMemory. */
+  givenNumbers(numbers, call) {
+    const put = (at) => {
+      new Uint32Array(this.#memory.buffer, at, numbers.length).set(numbers);
+      return call(at, numbers.length);
+    };
+    const size = numbers.length * Uint32Array.BYTES_PER_ELEMENT;
+    return size <= ROOM ? put(this.#line) : this.holding(size, put);
+  }
+
   // Writes a text to the place of lines, and gives its size. Most are short and plain: those are written
   // here, which is quicker than by the encoder.
   #write(text) {

@@ -224,6 +224,12 @@ export class Editor {
     }
   }
 
+  // Stamps values on a layer of the active document. What it did is noted, and the number of its refusal.
+  _stamped({ layer, left, top, width }, values, isFollowing) {
+    this.#module.givenNumbers(values, (at, count) => this._call("stamp", layer, left, top, width, at, count, isFollowing ? 1 : 0));
+    this._note(this.#cEditor);
+  }
+
   // The number of the refusal of the last line, 0 where it is done.
   get _refusal() {
     return this.#refusal;

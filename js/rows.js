@@ -1,5 +1,5 @@
 // SPDX-License-Identifier: MIT OR Apache-2.0
-// The rows of a stamp, and the parts of it that fit into lines.
+// The values of a stamp, and the lines that say them.
 import { MAX_COORDINATE, MAX_LINE, MAX_NUMBER, MAX_SIDE } from "./limits.js";
 
 // The most bytes of a stamp's line before its values.
@@ -7,6 +7,49 @@ const LONGEST_HEAD = `stamp+ ${MAX_NUMBER} -${MAX_COORDINATE} -${MAX_COORDINATE}
 const SHOWN = 100;
 /** The bits of a value that are no flags. */
 export const BASE = 0x0fff_ffff;
+
+/** The values of a stamp, row by row: its width, its height, and a Uint32Array. */
+class Block {
+  constructor(width, values) {
+    Object.assign(this, { width, height: values.length / width, values });
+  }
+
+  /** The same as arrays of the values of a row. */
+  rows() {
+    return Array.from({ length: this.height }, (_, row) =>
+      Array.from(this.values.subarray(row * this.width, (row + 1) * this.width)),
+    );
+  }
+
+  /** The lines that stamp it: all but the first follow the one before. */
+  *lines({ layer, left, top }, isFollowing) {
+    for (const { first, values } of partsOf(this.rows())) {
+      const word = isFollowing || first > 0 ? "stamp+" : "stamp";
+      yield `${word} ${layer} ${left} ${top + first} ${this.width} ${values}`;
+    }
+  }
+}
+
+/**
+ * The block of rows, or of values row by row where a row has so many: a Uint32Array is taken as it is. Throws as
+ * `rowsOf` does.
+ */
+export function blockOf(rows, width = null) {
+  if (width === null) {
+    const listed = rowsOf(rows);
+    const values = new Uint32Array(listed.length * listed[0].length);
+    listed.forEach((row, at) => values.set(row, at * row.length));
+    return new Block(listed[0].length, values);
+  }
+  if (!Number.isInteger(width) || width < 1 || width > MAX_SIDE) {
+    throw new RangeError(`a row of a stamp has from 1 to ${MAX_SIDE} values: ${String(width)}`);
+  }
+  const values = rows instanceof Uint32Array ? rows : Uint32Array.from(rowOf(rows, 0));
+  if (values.length === 0 || values.length % width !== 0) {
+    throw new RangeError(`the values of a stamp are rows of ${width}: there are ${values.length}`);
+  }
+  return new Block(width, values);
+}
 
 /**
  * Rows of values, of any nested arrays, typed arrays or other iterables of whole numbers. Throws

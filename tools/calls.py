@@ -215,12 +215,13 @@ DOCUMENT = Kind('Document', 'A map, its selection and its steps. A call makes th
     value('objects', 'Objects', 'The objects of all layers.'),
     value('properties', 'Properties', 'The properties of the map.'),
     value('tilesets', 'Tilesets', 'The tilesets.'),
-    Call('stamp', 'layer, x, y, rows; merge=False', 'Writes rows of values from a cell on; a value 0 leaves its cell as it is, '
-         'and what lies past the map\'s edge is cut off.',
+    Call('stamp', 'layer, x, y, rows; merge=False, width=None', 'Writes rows of values from a cell on; a value 0 leaves its cell as it is, '
+         'and what lies past the map\'s edge is cut off. With a width the values stand row by row.',
          'stamp LAYER X Y WIDTH TILES', '',
          {'type': 'document.stamp(1, 0, 0, [[1.5]])', 'value': 'document.stamp(1, 0, 0, [[1], [1, 2]])',
           'key': 'document.stamp("Roof", 0, 0, [[1]])', 'refused 30': 'document.stamp(9, 0, 0, [[1]])',
-          'refused 31': 'document.stamp("Things", 0, 0, [[1]])', 'refused 33': 'document.stamp(1, 0, 0, [[2147483648]])'}),
+          'refused 31': 'document.stamp("Things", 0, 0, [[1]])', 'refused 33': 'document.stamp(1, 0, 0, [[2147483648]])'},
+         types={'rows': 'Rows | Iterable<number>', 'width': 'number | null'}),
     Call('erase', 'layer, x, y, width, height; merge=False', 'Empties a rectangle of cells.', 'erase LAYER X Y WIDTH HEIGHT', '',
          {'type': 'document.erase(1, "0", 0, 1, 1)', 'value': 'document.erase(1, 0, 0, -1, 1)', 'key': 'document.erase("Roof", 0, 0, 1, 1)',
           'refused 30': 'document.erase(9, 0, 0, 1, 1)', 'refused 31': 'document.erase(2, 0, 0, 1, 1)'}),

@@ -1,5 +1,6 @@
 // SPDX-License-Identifier: MIT OR Apache-2.0
 // The map as the page knows it: its outline, and its cells where they are asked for.
+import { blockOf } from "../../js/rows.js";
 import { withTemplate } from "./inherited.js";
 import { NO_PLANE } from "./plane.js";
 import { LAYER, MAP, OBJECT, OddMembers, titleOfLayer, titleOfObject } from "../files/members.js";
@@ -225,6 +226,25 @@ export class MapModel {
       }
     }
     return "selection";
+  }
+}
+
+// The line of a block that is stamped in the active document: its values are made to text where somebody asks for that.
+export class StampLine {
+  constructor(block, follows) {
+    Object.assign(this, { block, follows, text: null });
+  }
+
+  toString() {
+    this.text ??= lineOf(this.block, this.follows);
+    return this.text;
+  }
+
+  // Stamps the block, and gives the reply.
+  stampBy(editor) {
+    const { layer, x, y, width, values } = this.block;
+    editor.active._stamp({ layer, left: x, top: y, width }, blockOf(Uint32Array.from(values), width), this.follows);
+    return editor._text("reply");
   }
 }
 

@@ -141,9 +141,10 @@ export class PageEditor extends EventTarget {
   // told of the last line, or null. Behind the time `until`, in milliseconds, no further line is begun.
   doLines(lines, { isFree = false, stroke = null, gesture = null, until = Infinity } = {}) {
     const came = { replies: [], count: 0, refusal: null, refused: null, why: null, told: null };
-    for (const line of lines) {
+    for (const said of lines) {
+      const line = `${said}`;
       if (this.isBarred(line)) return { ...NOT_ACCEPTED, replies: came.replies, count: came.count, barred: this.barred };
-      const { reply, refusal, told } = this.runLine(line, stroke !== null, gesture);
+      const { reply, refusal, told } = this.runLine(line, stroke !== null, gesture, said);
       came.count++;
       came.told = told;
       if (reply !== null) came.replies.push(reply);
@@ -194,11 +195,12 @@ export class PageEditor extends EventTarget {
     return came;
   }
 
-  // Does one line, and gives what comes of it, with what is told of it where it is accepted and does not only look.
-  runLine(line, isDrawn, gesture) {
+  // Does one line, which was said as a text or as a StampLine, and gives what comes of it, with what is told of it where it is accepted and
+  // does not only look.
+  runLine(line, isDrawn, gesture, said) {
     let [came, told] = [NO_MEMORY, null];
     try {
-      came = this.isHeld(line) ? refused(13, "unsaved changes") : answerTo(this.editor, line);
+      came = this.isHeld(line) ? refused(13, "unsaved changes") : answerTo(this.editor, said);
       if (came.reply !== null && !came.refusal && !isLook(line)) told = this.editor.told();
     } catch (fault) {
       this.break(fault);

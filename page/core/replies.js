@@ -28,10 +28,10 @@ function ofFault(fault) {
   throw fault;
 }
 
-// What comes of a line that an editor does.
+// What comes of a line that an editor does. Of a block that is stamped, the values go to the editor as numbers.
 export function answerTo(editor, line) {
   try {
-    return accepted(editor.step(line) || null);
+    return accepted(typeof line === "string" ? editor.step(line) || null : line.stampBy(editor));
   } catch (fault) {
     return ofFault(fault);
   }

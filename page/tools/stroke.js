@@ -1,6 +1,6 @@
 // SPDX-License-Identifier: MIT OR Apache-2.0
 // A stroke of the brush or of the eraser: one step, however many lines it takes.
-import { lineOf } from "../core/map_model.js";
+import { StampLine, lineOf } from "../core/map_model.js";
 
 // The longest text of the values of a line, which has at most 65,535 bytes.
 const LONGEST = 65_000;
@@ -50,8 +50,8 @@ export function cellsOnLine([fromX, fromY], [x, y]) {
 }
 
 export class Stroke {
-  // `blockAt(x, y)` is the block that the hand leaves at a cell. `runLine(line)` does a line, and gives what is told of it, or null where it
-  // was refused. The stroke begins with a line from a cell `from`, where there is one.
+  // `blockAt(x, y)` is the block that the hand leaves at a cell. `runLine(line)` does a line, or a StampLine, and gives what is told of it, or
+  // null where it was refused. The stroke begins with a line from a cell `from`, where there is one.
   constructor(map, blockAt, runLine, from = null) {
     Object.assign(this, { blockAt, runLine, from, last: null, isOver: false });
     this.begin(map);
@@ -99,7 +99,7 @@ export class Stroke {
   edit(block) {
     const changed = this.isOver ? null : this.map.changes(block);
     if (!changed?.places.length) return null;
-    const told = this.runLine(lineOf(block, this.hasStep));
+    const told = this.runLine(block.values ? new StampLine(block, this.hasStep) : lineOf(block, this.hasStep));
     if (!told) {
       this.isOver = true;
       return null;

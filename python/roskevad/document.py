@@ -8,12 +8,12 @@ from typing import TYPE_CHECKING, Any, Callable, ContextManager, Iterator, Named
 
 from . import json_values, logs, words
 from .faults import Closed, Refused, refused_call
-from .kinds import FileKind, Layout, Rows, SelectionMode
+from .kinds import FileKind, Layout, Rows, SelectionMode, Values
 from .library import LAYER_ROW, LayerRow, MapSizes, SelectionRun
 from .limits import MAX_COORDINATE, MAX_OPEN_MACROS
 from .own_members import OTHERS, Owner, OwnMembers, set_member, set_or_remove
 from .properties import Properties
-from .rows import BASE, Part, doubtful, parts_of, rows_of
+from .rows import BASE, Block, block_of, doubtful, rows_of
 from .selection import Run, Selection
 from .tiled_maps import Members, drawn, has_aside, note_of, restored, without_packing
 from .tilesets import Tilesets
@@ -504,20 +504,19 @@ class Document:
         finally:
             self._stroke = outer
 
-    def stamp(self, layer: LayerLike, x: int, y: int, rows: Rows, merge: bool = False) -> None:
+    def stamp(self, layer: LayerLike, x: int, y: int, rows: Values, merge: bool = False, width: Optional[int] = None) -> None:
         """Writes rows of values into a tile layer, from a cell on; a value 0 leaves its cell as it is. `rows` is any nested
-        sequence, or an array with two dimensions; with `merge` it is one step with a stamp of the same layer before it. Raises
+        sequence, or an array with two dimensions; or, with the `width` of a row, values row by row: a sequence, or a buffer of values
+        of 32 bits, which is taken as it is. It is one step, and with `merge` one with a stamp of the same layer before it. Raises
         TypeError; ValueError, also for ragged rows and values beyond 32 bits; NotFound; Refused: 31 where it is no tile layer, 33
         for a value without a tileset."""
-        listed = rows_of(rows)
-        parts = list(parts_of(listed))
+        block = block_of(rows, width)
         left, top = words.coordinate(x, 'x'), words.coordinate(y, 'y')
-        words.coordinate(top + parts[-1].first, 'y of the last rows')
 
         def work() -> None:
-            area = CellArea(self._id_of(layer), left, top, len(listed[0]), len(listed))
-            with self._beginning_if(lambda: self._changes(area, listed)):
-                self._stamp_parts(area, parts, listed, merge)
+            area = CellArea(self._id_of(layer), left, top, block.width, block.height)
+            with self._beginning_if(lambda: self._changes(area, block.rows())):
+                self._paint(area, block, merge, self._stroke)
 
         self._do(work)
 
@@ -565,14 +564,14 @@ class Document:
         if not news:
             return
         if False not in news:
-            self._stamp_parts(area, list(parts_of(rows)), rows, False)
+            self._paint(area, block_of(rows), False, None)
         elif not any(map(any, rows)):
-            self._paint(area, '', False, None)
+            self._paint(area, None, False, None)
         else:
             depth = self._open_macro('Write || write tiles', True)
             try:
-                self._paint(area, '', False, None)
-                self._stamp_parts(area, list(parts_of(rows)), rows, False)
+                self._paint(area, None, False, None)
+                self._paint(area, block_of(rows), False, None)
             except BaseException:
                 with contextlib.suppress(Refused, Closed):
                     self._end(depth, is_undone=depth == 1)
@@ -583,32 +582,32 @@ class Document:
         """Says a stamp past every map with the value of rows that is the first to be refused: it changes nothing, and begins no macro."""
         self._say(f'stamp {area.layer} {_NOWHERE} 1 {doubtful(rows)}')
 
-    def _stamp_parts(self, area: CellArea, parts: list[Part], rows: list[list[int]], merge: bool) -> None:
-        if len(parts) == 1:
-            self._paint(area, f'{area.width} {parts[0].values}', merge, self._stroke)
-            return
-        # A value that is refused is refused before the first part.
-        self._try_values(area, rows)
-        stroke = self._stroke or _Stroke()
-        for place, part in enumerate(parts):
-            at = area._replace(y=area.y + part.first, height=part.height)
-            try:
-                self._paint(at, f'{area.width} {part.values}', merge, stroke)
-            except Refused as refusal:
-                call = f'stamp: row {part.first} and those below it of {len(rows)} rows; those above it stand, as a step'
-                raise Refused(refusal.code, refusal.words, call, place, forms=()) from None
-
-    def _paint(self, area: CellArea, rest: str, merge: bool, stroke: Optional[_Stroke]) -> None:
-        """Says a stamp, or an erase where the rest has no values."""
-        word = 'stamp' if ' ' in rest else 'erase'
-        said = f'{area.layer} {area.x} {area.y} {rest if word == "stamp" else f"{area.width} {area.height}"}'
-        if stroke is None or merge:
-            self._say_edit(f'{word}{"+" if merge else ""} {said}')
+    def _paint(self, area: CellArea, block: Optional[Block], merge: bool, stroke: Optional[_Stroke]) -> None:
+        """Stamps a block, or erases where there is none."""
+        follows = merge or stroke is not None and stroke.has_step
+        if block is None:
+            self._say_edit(f'erase{"+" if follows else ""} {area.layer} {area.x} {area.y} {area.width} {area.height}')
         else:
-            self._say_edit(f'{word}{"+" if stroke.has_step else ""} {said}')
+            self._stamp(area, block, follows)
+        if stroke is not None and not merge:
             # A paint that changes nothing leaves the step. Where paints have taken each other back, it is gone.
             became = self._editor._told.became
             stroke.has_step = became != GONE and (stroke.has_step or became in (ADDED, ADDED_AND_DROPPED))
+
+    def _stamp(self, area: CellArea, block: Block, follows: bool) -> None:
+        """Stamps a block, in a turn. Its lines are made where somebody asks for them."""
+        if self._begins:
+            self._begin_now()
+        lines = block.lines(area.layer, area.x, area.y, follows)
+        if self._editor._events.is_telling:
+            self._editor._refuse_in_callback(next(lines))
+        refusal = self._editor._stamped(area, block, follows)
+        if refusal:
+            raise refused_call(refusal, next(lines))
+        if logs.hears_debug():
+            reply = self._editor._copy_bytes('reply') or b''
+            for line in lines:
+                logs.debug('%s: %.200s: %.200s', self._name, line, reply.decode('utf-8', 'replace'))
 
     def _on_map(self, area: CellArea) -> CellArea:
         """A rectangle of cells as far as it is on the map."""
@@ -626,7 +625,7 @@ class Document:
         def work() -> None:
             area = CellArea(self._id_of(layer), left, top, *size)
             with self._beginning_if(lambda: self._changes(area, None)):
-                self._paint(area, '', merge, self._stroke)
+                self._paint(area, None, merge, self._stroke)
 
         self._do(work)
 

@@ -23,8 +23,9 @@ from .map_faults import refused_map
 from .names import document_name
 from .refusals import REFUSALS
 from .rooms import Room
+from .rows import Block
 from .tiled_maps import Members, has_aside, has_taken_name, note_of, origin_of, restored, saved_text, set_aside, without_packing
-from .told import DOCUMENTS, STEP_ROW, StepRow, Told, step_of, told_of
+from .told import DOCUMENTS, STEP_ROW, CellArea, StepRow, Told, step_of, told_of
 from .turns import busy_fault, fork_fault, forks, turn
 from .unsettled import ActiveDocument, TemporaryFile, Unsettled
 from .views import Layer
@@ -183,6 +184,17 @@ class Editor:
             return room.bytes[:size] if size <= room.size else self._long(size), refusal
         finally:
             if self._handles and (told.differs & DOCUMENTS or self._events.watched):
+                self._note()
+
+    def _stamped(self, area: CellArea, block: Block, follows: bool) -> int:
+        """Stamps a block on a layer of the active document, and gives the number of its refusal, 0 where it is done. What it did is noted."""
+        self._call('stamp', area.layer, area.x, area.y, block.width, block.data, block.width * block.height, int(follows))
+        _TELL(self._at, self._told_at)
+        refusal: int = self._told.refusal
+        try:
+            return refusal
+        finally:
+            if self._handles and (self._told.differs & DOCUMENTS or self._events.watched):
                 self._note()
 
     def _long(self, size: int) -> Optional[bytes]:

@@ -1,6 +1,9 @@
 # SPDX-License-Identifier: MIT OR Apache-2.0
 """The words that calls take and give, and rows of values, as types."""
-from typing import Iterable, Literal, Mapping, Protocol, Union
+from typing import TYPE_CHECKING, Iterable, Literal, Mapping, Protocol, Union
+
+if TYPE_CHECKING:
+    from _typeshed import ReadableBuffer
 
 #: The kinds of layers, and those that are added, which are all.
 LayerKind = Literal['tile', 'object', 'group', 'image']
@@ -24,5 +27,7 @@ class _Listed(Protocol):
 
 #: Rows of values: nested sequences, or an array with two dimensions.
 Rows = Union[Iterable[Iterable[int]], _Listed]
+#: The same, or values row by row: a sequence, or a buffer.
+Values = Union[Rows, Iterable[int], 'ReadableBuffer']
 #: Corners of a polygon or of a line of an object, from its place: pairs of numbers, or as a file has them.
 Corners = Iterable[Union[Iterable[float], Mapping[str, float]]]

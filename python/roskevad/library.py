@@ -110,6 +110,7 @@ _PARAMETERS = {
     'step': [_EDITOR, _BYTES, _SIZE, _ROOM, _SIZE],
     'reply': [_EDITOR, _ROOM, _SIZE],
     'run_lines': [_EDITOR, _BYTES, _SIZE, _SIZE, _ROOM, _SIZE, ctypes.POINTER(LinesDone)],
+    'stamp': [_EDITOR, _ID, ctypes.c_int32, ctypes.c_int32, ctypes.c_uint32, _BYTES, _SIZE, _SIZE],
     'put_file': [_EDITOR, _BYTES, _SIZE, _BYTES, _SIZE],
     'file': [_EDITOR, _BYTES, _SIZE, _ROOM, _SIZE],
     'remove_file': [_EDITOR, _BYTES, _SIZE],

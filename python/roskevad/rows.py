@@ -1,9 +1,10 @@
 # SPDX-License-Identifier: MIT OR Apache-2.0
-"""The rows of a stamp, and the lines that say them."""
+"""The values of a stamp, and the lines that say them."""
 import operator
-from typing import Any, Iterable, Iterator, NamedTuple
+from array import array
+from typing import Any, Iterable, Iterator, NamedTuple, Optional, cast
 
-from .kinds import Rows
+from .kinds import Rows, Values
 from .limits import MAX_COORDINATE, MAX_LINE, MAX_NUMBER, MAX_SIDE
 
 #: The bits of a value that are no flags.
@@ -14,12 +15,100 @@ HORIZONTALLY, VERTICALLY, DIAGONALLY, TURNED = 0x8000_0000, 0x4000_0000, 0x2000_
 _LONGEST_HEAD = len(f'stamp+ {MAX_NUMBER} -{MAX_COORDINATE} -{MAX_COORDINATE} {MAX_SIDE} ')
 
 
+# The formats of a buffer's items that are values as the library takes them, and of one that is bytes.
+_VALUES, _BYTES = ('I', 'L'), ('B', 'b', 'c')
+
+
 class Part(NamedTuple):
     """Rows of a stamp that one line says."""
 
     first: int
     height: int
     values: str
+
+
+class Block(NamedTuple):
+    """The values of a stamp, row by row, each in four bytes of the machine's order."""
+
+    width: int
+    height: int
+    data: bytes
+
+    def rows(self) -> list[list[int]]:
+        """The same as a list of rows."""
+        values = memoryview(self.data).cast('I').tolist()
+        return [values[at:at + self.width] for at in range(0, len(values), self.width)]
+
+    def lines(self, layer: int, x: int, y: int, follows: bool) -> Iterator[str]:
+        """The lines that stamp it: all but the first follow the one before."""
+        for part in parts_of(self.rows()):
+            yield f'stamp{"+" if follows or part.first else ""} {layer} {x} {y + part.first} {self.width} {part.values}'
+
+
+def block_of(rows: 'Values', width: Optional[int] = None) -> Block:
+    """The block of rows, or of values row by row where a row has so many. A buffer of values of 32 bits is taken as it is, and so are bytes,
+    each four of which are a value of the machine's order. Raises as `rows_of` does."""
+    block = _block_of_buffer(rows, width) or _block_of_lists(rows, width)
+    return block or _block_of_rows(rows_of(cast(Rows, rows) if width is None else _cut(rows, width)))
+
+
+def _block_of_buffer(rows: Any, width: Optional[int]) -> Optional[Block]:
+    """The block of a buffer; None where it is none, or has other items, or faults."""
+    if isinstance(rows, (list, tuple, str)):
+        return None
+    try:
+        view = memoryview(rows)
+    except TypeError:
+        return None
+    is_flat = width is not None and view.ndim == 1
+    form = view.format.lstrip('@=<')
+    if not (form in _VALUES and view.itemsize == 4 or form in _BYTES and is_flat) or not (is_flat or width is None and view.ndim == 2):
+        return None
+    count = view.nbytes // 4
+    across = _width_of(width) if width is not None else cast(tuple[int, int], view.shape)[1]
+    if not 1 <= across <= MAX_SIDE or count == 0 or count % across or view.nbytes % 4:
+        return None
+    return Block(across, count // across, view.tobytes())
+
+
+def _width_of(width: Any) -> int:
+    """How many values a row has. Raises TypeError, ValueError."""
+    across = operator.index(width)
+    if not 1 <= across <= MAX_SIDE:
+        raise ValueError(f'a row of a stamp has from 1 to {MAX_SIDE} values: {across}')
+    return across
+
+
+def _block_of_lists(rows: Any, width: Optional[int]) -> Optional[Block]:
+    """The block of a list of lists of plain numbers; None where it is none, or faults."""
+    if width is not None or not isinstance(rows, list) or not rows or not isinstance(rows[0], list):
+        return None
+    across, values = len(rows[0]), array('I')
+    if not 1 <= across <= MAX_SIDE or values.itemsize != 4:
+        return None
+    try:
+        for row in rows:
+            if len(row) != across:
+                return None
+            values.fromlist(row)
+    except (TypeError, OverflowError):
+        return None
+    return Block(across, len(rows), values.tobytes())
+
+
+def _block_of_rows(rows: list[list[int]]) -> Block:
+    return Block(len(rows[0]), len(rows), b''.join(array('I', row).tobytes() for row in rows))
+
+
+def _cut(values: Any, width: int) -> list[list[int]]:
+    """Rows of so many of the values. Raises ValueError where the last one is short."""
+    across = _width_of(width)
+    if isinstance(values, (bytes, bytearray)) or getattr(values, 'itemsize', 0) == 1:
+        raise ValueError(f'bytes are rows of {across} values, of four bytes each')
+    listed = list(_listed(values, 'values'))
+    if len(listed) % across:
+        raise ValueError(f'the values of a stamp are rows of {across}: there are {len(listed)}')
+    return [listed[at:at + across] for at in range(0, len(listed), across)]
 
 
 def rows_of(rows: Rows) -> list[list[int]]:

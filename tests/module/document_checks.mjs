@@ -616,7 +616,7 @@ async function loopsOfStamps() {
       document.stamp("Tile Layer 1", at % 100, Math.floor(at / 100), [[5]]);
     }
   });
-  same(stamps, { find: 1000, step: 1000, tell: 1000 });
+  same(stamps, { find: 1000, stamp: 1000, tell: 1000 });
   const strokes = countedCalls(editor, () => {
     for (let at = 0; at < 100; at++) {
       document.stroke(() => {
@@ -625,7 +625,7 @@ async function loopsOfStamps() {
       });
     }
   });
-  same(strokes, { find: 200, step: 200, tell: 400 });
+  same(strokes, { find: 200, stamp: 200, tell: 400 });
   same(document.status.count, 2101);
   editor.close();
 }

@@ -81,6 +81,7 @@ static void check_closed(roskevad_editor *editor)
     uint32_t cells[2] = {7, 8};
     WANT(roskevad_editor_step(editor, "undo", 4, room, 4) == ROSKEVAD_IS_CLOSED);
     WANT(roskevad_editor_reply(editor, room, 4) == ROSKEVAD_IS_CLOSED);
+    WANT(roskevad_editor_stamp(editor, 1, 0, 0, 1, cells, 2, 0) == ROSKEVAD_IS_CLOSED && roskevad_editor_stamp(editor, 1, 0, 0, 1, NULL, 0, 1) == ROSKEVAD_IS_CLOSED);
     WANT(roskevad_editor_put_file(editor, "a", 1, NULL, 0) == ROSKEVAD_IS_CLOSED);
     WANT(roskevad_editor_file(editor, "a", 1, room, 4) == ROSKEVAD_IS_CLOSED);
     WANT(roskevad_editor_remove_file(editor, "a", 1) == ROSKEVAD_IS_CLOSED);
@@ -870,6 +871,25 @@ static void step_at_last(roskevad_editor *editor, const char *line)
     }
 }
 
+/* Stamps a block until there is memory for it. */
+static void stamp_at_last(roskevad_editor *editor)
+{
+    static uint32_t values[60];
+    char reply[64];
+    for (size_t at = 0; at < 60; at++)
+        values[at] = (uint32_t)at % 7 + 1;
+    for (int tries = 0; tries < 3; tries++) {
+        size_t size = roskevad_editor_stamp(editor, 1, 0, 0, 10, values, 60, 0);
+        WANT(roskevad_editor_reply(editor, reply, sizeof reply) == size && size < sizeof reply);
+        if (memcmp(reply, "no 90", 5) != 0) {
+            WANT(fwrite(reply, 1, size, stdout) == size);
+            return;
+        }
+        see_nothing_told(editor);
+    }
+    WANT(!"a stamp has no memory");
+}
+
 /* Steps many lines in calls, and the rest again from a line on for which there was no memory. */
 static void run_at_last(roskevad_editor *editor, const char *lines)
 {
@@ -1018,6 +1038,8 @@ static void run_script(void)
     for (size_t at = 0; at < sizeof SCRIPT / sizeof *SCRIPT; at++)
         step_at_last(&editor, SCRIPT[at]);
     show_outline(&editor);
+    stamp_at_last(&editor);
+    step_at_last(&editor, "undo");
     run_at_last(&editor, MANY_LINES + 1);
     show_things(&editor);
     see_numbers(&editor);
