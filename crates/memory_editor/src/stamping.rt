@@ -7,12 +7,12 @@ ghost use Rattle.session.specs.Words.{are_rows};
 ghost use Rattle.document_lines.specs.Acts.{answer_of};
 ghost use Rattle.document_lines.specs.Machine.{workspace};
 ghost use Rattle.document_lines.specs.Planning.{PlansEdit, edit_change};
-ghost use Rattle.document_lines.specs.Rules.{MachineStep, rule_of};
+ghost use Rattle.document_lines.specs.Rules.{MachineStep, MachineStepOf, rule_of};
 ghost use Rattle.editor.specs.Editors.{IsHeld, IsSound, machine_of};
-ghost use Rattle.editor.specs.Kinds.{StepKinds, kinds_in};
+ghost use Rattle.editor.specs.Kinds.{StepKinds, StepKindsOf, kinds_in};
 ghost use Rattle.editor.specs.Planning.{FitsPlan, PlansBy};
 ghost use Rattle.session_run.specs.Planned.{plan_or_refusal};
-ghost use Rattle.memory_editor.specs.Stamps.{StampsTo, block_of, can_be_said, is_coordinate, stamp_line};
+ghost use Rattle.memory_editor.specs.Stamps.{StampsTo, block_of, can_be_said, is_coordinate, line_or_fault, stamp_line};
 
 use crate::memory_editor::MemoryEditor;
 use editor::{Edit, Editor, Tell};
@@ -161,6 +161,25 @@ fn step_told<T: Tell>(
     }
 }
 
+// Does the step of a stamp, or refuses it for a bad word.
+fn reply_to<T: Tell>(
+    alloc: Global,
+    editor: &mut Editor<Edit>,
+    stamp: &Stamp<'_>,
+    tell: &mut T,
+) -> Reply
+    requires { IsSound edit_change editor.old }
+    ensures sound { IsSound edit_change editor.new }
+    ensures step { (stored : StoreParts) → MachineStepOf (line_or_fault stamp.now.layer (block_of stamp.now) stamp.now.follows)
+        (workspace (machine_of edit_change editor.old) stored) (Some result) (workspace (machine_of edit_change editor.new) stored) }
+    ensures kinds { StepKindsOf (line_or_fault stamp.now.layer (block_of stamp.now) stamp.now.follows) (machine_of edit_change editor.old) (Some result) (machine_of edit_change editor.new) (kinds_in editor.old) (kinds_in editor.new) }
+{
+    match stamp.bad_word() {
+        Some(_) => Reply::Refused(Refusal::Line(LineFault::BadWord)),
+        None => step_told(alloc, editor, stamp, tell),
+    }
+}
+
 impl MemoryEditor {
     /// Does what the line of a stamp asks for, also where that would be longer than a line may be, and keeps the reply to it until
     /// the next line. No text is made. It is refused as its line is, where that has a bad word: where the values are no rows of the
@@ -176,20 +195,12 @@ impl MemoryEditor {
     fn hear_stamp(&mut self, stamp: &Stamp<'_>)
         ensures { StampsTo stamp.now.layer (block_of stamp.now) stamp.now.follows self.old self.new }
     {
-        let bad_word = stamp.bad_word();
-        match bad_word {
-            Some(_) => {
-                self.listening.has_bad_word(bad_word);
-                self.reply = Some(Reply::Refused(Refusal::Line(LineFault::BadWord)));
-            }
-            None => {
-                self.reply = Some(step_told(
-                    self.alloc,
-                    &mut self.editor,
-                    stamp,
-                    &mut self.listening,
-                ));
-            }
-        }
+        self.listening.has_bad_word(stamp.bad_word());
+        self.reply = Some(reply_to(
+            self.alloc,
+            &mut self.editor,
+            stamp,
+            &mut self.listening,
+        ));
     }
 }
