@@ -196,11 +196,6 @@ impl MemoryEditor {
         ensures { StampsTo stamp.now.layer (block_of stamp.now) stamp.now.follows self.old self.new }
     {
         self.listening.has_bad_word(stamp.bad_word());
-        self.reply = Some(reply_to(
-            self.alloc,
-            &mut self.editor,
-            stamp,
-            &mut self.listening,
-        ));
+        self.reply = Some(reply_to(self.alloc, &mut self.editor, stamp, &mut self.listening));
     }
 }
