@@ -1,0 +1,14 @@
+pub mod OneLayer
+pub mod Cells
+pub mod Kept
+pub mod Tiles
+pub mod Members
+pub mod OneObject
+pub mod Named
+pub mod Properties
+pub mod MemberLines
+pub mod ObjectLists
+pub mod ObjectEdits
+pub mod Merging
+pub mod LineLaws
+pub mod Laws

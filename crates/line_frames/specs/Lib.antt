@@ -1,0 +1,4 @@
+pub mod Places
+pub mod Frames
+pub mod MemberLines
+pub mod Lines
